@@ -1,15 +1,14 @@
 -- Lines on a session leave the bay as it is.
-use Rattle.std.proofs.Common.{◌≡◌, ℕ, List, [], refl, sym, ◌∙◌, inl, inr}
+use Rattle.std.proofs.Common.{◌≡◌, ℕ, ◌+◌, List, [], length, refl, sym, ◌∙◌, ap, subst, arith, inl, inr}
 use Rattle.std.specs.Prelude.{IfErr, IfOk, Option, Some, None, Result, Ok, Err}
 use Rattle.std.proofs.lemmas.List.{append-nil}
-use Rattle.logged_disk.specs.declared.device.Disk.{Ghosts as DiskGhosts}
-use Rattle.device_bay.specs.Calls.{BayCall}
-use Rattle.dir_table.specs.declared.directory.Directory.{Ghosts as DirectoryGhosts}
-use Rattle.cache_chronicle.specs.declared.chronicle.Chronicle.{Ghosts as ChronicleGhosts}
+use Rattle.device_bay.specs.Calls.{BayCall, out_of}
+use Rattle.cache_calls.specs.declared.calls.Calls.{Ghosts as CallsGhosts}
 use Rattle.cache_model.specs.State.{State}
 use Rattle.script_lang.specs.declared.step.Step.{Step}
 use Rattle.script_lang.specs.declared.step.Step.TheVariants as step
 use Rattle.script_lang.specs.declared.answer.StepAnswer.{StepAnswer}
+use Rattle.script_lang.specs.declared.answer.StepAnswer.TheVariants as answer
 use Rattle.script_run.specs.Run.{Run}
 use Rattle.script_run.specs.Turn.{Turn}
 use Rattle.script_run.specs.Behind.{behind}
@@ -17,11 +16,14 @@ use Rattle.cache_replay.specs.declared.session.Session.{Session}
 use Rattle.cache_replay.specs.declared.stop.Stop.{Stop}
 use Rattle.cache_replay.specs.declared.stop.Stop.TheVariants.{NoCache, BayFault, Memory}
 use Rattle.cache_replay.specs.Plays.{DeviceEnds, DeviceMoves, Plays, StepEnds, StepMoves}
-use Rattle.script_run.specs.Ledger.{Ledger}
-use Rattle.cache_replay.specs.Session.{AreLater, IsSession, TellsCount, return_of}
-use Rattle.cache_replay.proofs.Outlines.{no_deals, shown_outlines}
+use Rattle.script_run.specs.Ledger.{KeepsOrder, Ledger, ledger_behind}
+use Rattle.cache_replay.specs.Session.{AreLater, IsSession, TellsCount, names_in, return_in, return_of}
+use Rattle.cache_replay.specs.Deals.{AnswersStep}
+use Rattle.cache_replay.proofs.Order.{order_same}
+use Rattle.cache_replay.proofs.Outlines.{moment_outlines, no_deals, shown_outlines}
 use Rattle.cache_replay.proofs.Unharming.{plays_outlined}
-use Rattle.cache_replay.specs.Stop.{IsSessionStop, NeedsSession, RefusesAtStop, StopsStep}
+use Rattle.run_promise.specs.Needs.{NeedsSession}
+use Rattle.cache_replay.specs.Stop.{IsSessionStop, RefusesAtStop, StopsStep}
 
 -- what a run says of devices and of the moment
 pub record SameBeside (run new : Run) : Type 0 where
@@ -39,8 +41,8 @@ same_beside run turn state (step.Now at) needs = absurd needs
 same_beside run turn (Some s) _ needs = record { ended = refl; names = refl; now = refl }
 same_beside run turn None _ needs = same run
 
-module _ {D R C : Type 0} {d : DiskGhosts D} {r : DirectoryGhosts R} {c : ChronicleGhosts C} where
-  moves : (run : Run) (step : Step) (new : Session D R C d r c) (said : StepAnswer) (ledger : Ledger) → NeedsSession step → StepMoves run step new said
+module _ {S W R : Type 0} {c : CallsGhosts S W R} where
+  moves : (run : Run) (step : Step) (new : Session S W R c) (said : StepAnswer) (ledger : Ledger) → NeedsSession step → StepMoves run step new said
       → DeviceMoves run step new said ledger ledger
   moves run step new said ledger needs m =
       let beside = same_beside run m.turn run.state step needs in
@@ -54,7 +56,7 @@ module _ {D R C : Type 0} {d : DiskGhosts D} {r : DirectoryGhosts R} {c : Chroni
       }
 
   -- a line that sets the moment leaves the bay too
-  pub moment_moves : (run : Run) (at : ℕ) (new : Session D R C d r c) (said : StepAnswer) (ledger : Ledger) → StepMoves run (step.Now at) new said
+  pub moment_moves : (run : Run) (at : ℕ) (new : Session S W R c) (said : StepAnswer) (ledger : Ledger) → StepMoves run (step.Now at) new said
       → DeviceMoves run (step.Now at) new said ledger ledger
   moment_moves run at new said ledger m = record {
     moves = m;
@@ -66,15 +68,17 @@ module _ {D R C : Type 0} {d : DiskGhosts D} {r : DirectoryGhosts R} {c : Chroni
   }
 
 -- what is no format and sets no moment works on a session
-pub needs_session : (s : Step) → ((name : List ℕ) (segments buckets content agg reach fragment generation alternates : ℕ) → s ≡ step.Format name segments buckets content agg reach fragment generation alternates → ⊥) → ((at : ℕ) → s ≡ step.Now at → ⊥) → NeedsSession s
-needs_session (step.Format name segments buckets content agg reach fragment generation alternates) h k = absurd (h name segments buckets content agg reach fragment generation alternates refl)
+pub needs_session : (s : Step) → ((name : List ℕ) (segments buckets content agg reach fragment generation alternates : ℕ)
+    → s ≡ step.Format name segments buckets content agg reach fragment generation alternates → ⊥) → ((at : ℕ) → s ≡ step.Now at → ⊥) → NeedsSession s
+needs_session (step.Format name segments buckets content agg reach fragment generation alternates) h k =
+    absurd (h name segments buckets content agg reach fragment generation alternates refl)
 needs_session (step.Now at) h k = absurd (k at refl)
 needs_session _ h k = tt
 
 -- ---- whatever a line answers
 
-module _ {D R C : Type 0} {d : DiskGhosts D} {r : DirectoryGhosts R} {c : ChronicleGhosts C} where
-  pub all_ends : (result : Result StepAnswer Stop) (s : Step) (old new : Session D R C d r c) (ledger : Ledger) → NeedsSession s → IsSession old
+module _ {S W R : Type 0} {c : CallsGhosts S W R} where
+  pub all_ends : (result : Result StepAnswer Stop) (s : Step) (old new : Session S W R c) (ledger : Ledger) → NeedsSession s → IsSession old
       → AreLater (return_of old.part) (return_of new.part) → IfOk result (TellsCount new.part)
       → IfOk result (λ said. (run : Run) → Plays run old → StepEnds run s new said)
       → IfOk result (λ said. (run : Run) → Plays run old → DeviceEnds run s new said ledger ledger)
@@ -90,7 +94,8 @@ module _ {D R C : Type 0} {d : DiskGhosts D} {r : DirectoryGhosts R} {c : Chroni
   all_ends (Err why) s old new ledger needs is later tells h = tt
 
 -- why a line on a session ends the run
-pub all_stops : {D R C : Type 0} {d : DiskGhosts D} {r : DirectoryGhosts R} {c : ChronicleGhosts C} (result : Result StepAnswer Stop) (s : Step) (old : Session D R C d r c) (before now : List BayCall) → NeedsSession s → IfErr result (IsSessionStop old) → IfErr result (StopsStep old s before now)
+pub all_stops : {S W R : Type 0} {c : CallsGhosts S W R} (result : Result StepAnswer Stop) (s : Step) (old : Session S W R c)
+    (before now : List BayCall) → NeedsSession s → IfErr result (IsSessionStop old) → IfErr result (StopsStep old s before now)
 all_stops (Ok said) s old before now needs h = tt
 all_stops (Err NoCache) s old before now needs h = (needs, h)
 all_stops (Err BayFault) s old before now needs h = absurd h
@@ -100,3 +105,22 @@ all_stops (Err Memory) s old before now needs h = tt
 pub all_refuse_none : (result : Result StepAnswer Stop) (past : List BayCall) → RefusesAtStop past past result
 all_refuse_none (Ok said) past = refl
 all_refuse_none (Err why) past = λ other. refl
+
+-- ---- the moment
+
+module _ {S W R : Type 0} {c : CallsGhosts S W R} where
+  -- the moment is set, and all else stays
+  pub moment_step : (at : ℕ) (s : Step) (old new : Session S W R c) (said : StepAnswer) (past : List BayCall) → s ≡ step.Now at → IsSession new
+      → ((run : Run) → Plays run old → StepMoves run (step.Now at) new said) → said ≡ answer.Now at → new.part ≡ old.part → names_in new ≡ names_in old
+      → AnswersStep s old new past past (Ok said)
+  moment_step at s old new said past is h moves_so told part names = subst (λ x. AnswersStep x old new past past (Ok said)) (sym is) (record {
+    session = h;
+    ends = λ run plays. inl (moment_moves run at new said (ledger_behind past) (moves_so run plays));
+    outline = λ o outlined. moment_outlines o at old new said (ledger_behind past) told part outlined;
+    left = tt;
+    stop = tt;
+    out = ap (λ p. out_of past + length (return_of p)) (sym part);
+    names = omega (arith, ap length names);
+    order = subst (λ p. KeepsOrder (return_in old) past (return_of p) past) (sym part) (order_same (return_in old) past);
+    refusals = refl;
+  })

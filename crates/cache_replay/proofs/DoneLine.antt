@@ -1,109 +1,104 @@
 -- An actor closes its reader.
-use Rattle.std.proofs.Common.{◌≡◌, ℕ, List, [], ◌∷◌, length, refl, sym, ◌∙◌, ap, Bool, cond}
-use Rattle.std.specs.Prelude.{Option, Some, None, if◌then◌else◌, is_some, option_and_then}
+use Rattle.std.proofs.Common.{◌≡◌, ℕ, List, [], ◌∷◌, length, refl, sym, ◌∙◌, ap, subst, Bool, cond, inl, inr, arith, Ok}
+use Rattle.std.specs.Prelude.{Option, Some, None, if◌then◌else◌, is_some}
 use Rattle.std.proofs.lemmas.Bool.{eq-eqb}
-use Rattle.logged_disk.specs.declared.device.Disk.{Ghosts as DiskGhosts}
-use Rattle.dir_table.specs.declared.directory.Directory.{Ghosts as DirectoryGhosts}
-use Rattle.cache_chronicle.specs.declared.chronicle.Chronicle.{Ghosts as ChronicleGhosts}
 use Rattle.actor_table.specs.Table.{Seen, number_of, with_actor}
 use Rattle.cache_model.specs.declared.record.Rec.TheVariants as rec
 use Rattle.cache_model.specs.State.{ReaderRow, State, reader_of, state_after}
-use Rattle.cache_model.specs.Kept.{with_records}
-use Rattle.cache_model.specs.Permit.{Permit, StopReading}
-use Rattle.cache_model.specs.Legal.{IsQuiet}
-use Rattle.model_laws.specs.VectorLaws.{GroupsTell}
+use Rattle.cache_model.specs.Permit.{StopReading}
 use Rattle.cache_model.proofs.ByNumber.{find-without}
-use Rattle.stripe_core.specs.Stripe.{IsStripe, kept_in, state_in}
-use Rattle.stripe_core.specs.Between.{Between}
-use Rattle.stripe_core.proofs.Between.{accounted_is}
-use Rattle.stripe_core.proofs.Covering.{own_permit}
-use Rattle.stripe_read.specs.declared.reader.Reader.{Reader}
-use Rattle.stripe_read.specs.Readers.{ClosesAsAsked}
-use Rattle.stripe_write.proofs.Spending.{state_behind}
+use Rattle.call_laws.specs.Progress.{AllDone, in_full}
+use Rattle.call_laws.specs.Serves.{ServesTold}
+use Rattle.call_laws.proofs.Joined.{state_behind}
+use Rattle.cache_calls.specs.declared.calls.Calls.{Ghosts as CallsGhosts}
+use Rattle.cache_calls.specs.Actors.{ReaderSeen}
+use Rattle.cache_calls.specs.Adds.{Adds, AddsAll, IsOfReader}
+use Rattle.cache_calls.specs.Keeping.{IsAtRest, Keeps}
 use Rattle.script_lang.specs.declared.step.Step.TheVariants as step
 use Rattle.script_lang.specs.declared.answer.StepAnswer.{StepAnswer}
 use Rattle.script_lang.specs.declared.answer.StepAnswer.TheVariants as answer
-use Rattle.script_run.specs.Run.{Run, Reads, held_by, reader_by, reader_in}
+use Rattle.script_run.specs.Run.{Run, Reads, held_by}
 use Rattle.script_run.specs.Asked as asks
 use Rattle.script_run.specs.Answers as says
 use Rattle.script_run.specs.Behind.{still_open}
-use Rattle.script_run.specs.Laws.{StepsOwn}
+use Rattle.cache_replay.specs.declared.session.Holding.{Holding}
 use Rattle.cache_replay.specs.declared.session.Part.{Part}
-use Rattle.cache_replay.specs.Session.{AreApart, IsActive, past_of, slots_of}
-use Rattle.cache_replay.specs.Plays.{PartEnds, PartMoves, PlaysPart}
+use Rattle.cache_replay.specs.Moves.{MovesOrShows}
+use Rattle.cache_replay.specs.OneLine.{AnswersActor}
+use Rattle.cache_replay.specs.Plays.{PartEnds, PlaysPart}
 use Rattle.cache_replay.specs.ReaderLines.{reader_held}
-use Rattle.cache_replay.proofs.ReaderFrames.{closed_leaves, kept_leaves}
-use Rattle.cache_replay.proofs.ReaderLines.{Goes, Took, apart_else, goes_active, held_reader, part_behind, line_ends, reads_none, still_held, still_moves}
+use Rattle.cache_replay.specs.Session.{IsActive, at_in, slots_of, state_in}
+use Rattle.cache_replay.proofs.ActorLines.{names_within, part_behind, still_line}
+use Rattle.cache_replay.proofs.Frames.{reader_leaves}
+use Rattle.cache_replay.proofs.ReaderLines.{Took, Turns, apart_else, held_reader, reader_ends, reads_none, reads_with, still_held, turns_active}
+use Rattle.cache_replay.proofs.Whole.{moves_line, serves_whole}
 
 -- it is closed then
 closed_is_none : (s : State) (reader : ℕ) → reader_of (state_after s (rec.ReadClosed reader)) reader ≡ None
 closed_is_none s reader =
     find-without (λ (x : ReaderRow). x.reader) reader reader s.readers ∙ ap (λ (b : Bool). cond b None (reader_of s reader)) (eq-eqb reader reader refl)
 
-closed_has : (run : Run) (s : State) (name : List ℕ) (reader : ℕ) → held_by run name ≡ Some (Reads reader) → still_open (state_after s (rec.ReadClosed reader)) (held_by run name) ≡ None
+closed_has : (run : Run) (s : State) (name : List ℕ) (reader : ℕ) → held_by run name ≡ Some (Reads reader)
+    → still_open (state_after s (rec.ReadClosed reader)) (held_by run name) ≡ None
 closed_has run s name reader by =
     ap (still_open (state_after s (rec.ReadClosed reader))) by ∙ ap (λ (o : Option ReaderRow). if is_some o then Some (Reads reader) else None) (closed_is_none s reader)
 
-module _ {D R C : Type 0} {d : DiskGhosts D} {r : DirectoryGhosts R} {c : ChronicleGhosts C} where
-  pub done_goes : (old new : Part D R C d r c) (slots later : ℕ → Option Rattle.cache_replay.specs.declared.session.Holding.Holding) (n : ℕ) (r : Reader) → Took slots later n r
-      → kept_in new.stripe ≡ with_records (kept_in old.stripe) (rec.ReadClosed r.reader ∷ []) → AreApart slots
-      → Goes r.reader (state_in old.stripe) (state_in new.stripe) slots later n None
-  done_goes old new slots later n r taken adds apart = record {
-    leaves = kept_leaves (Some r.reader) (kept_in old.stripe) (kept_in new.stripe) (rec.ReadClosed r.reader ∷ []) adds (closed_leaves (state_in old.stripe) r.reader);
-    changed = taken.left;
-    others = apart_else slots n r apart taken.had;
-    number = tt;
-  }
+module _ {S W R : Type 0} {c : CallsGhosts S W R} where
+  module _ (old new : Part S W R c) (before after : Seen (Holding W R)) (name : List ℕ) (n : ℕ) (r : ReaderSeen)
+      (number : n ≡ number_of before.names name) (names : after.names ≡ with_actor before.names name) (taken : Took (slots_of c before) (slots_of c after) n r)
+      (active : IsActive old (slots_of c before)) (keeps : Keeps c.at c.holds old.cache new.cache) (rest : IsAtRest (at_in new))
+      (page : length new.page.items ≡ length old.page.items)
+      (adds : AddsAll (rec.ReadClosed r.reader ∷ []) (at_in old) (at_in new)) (own : Adds (IsOfReader r.reader) (at_in old) (at_in new))
+      (serves : (now : ℕ) → ServesTold now (at_in old) (at_in new) (StopReading r.reader ∷ []) AllDone) where
+    turns : Turns r.reader (state_in old) (state_in new) (slots_of c before) (slots_of c after) n None
+    turns = record {
+      leaves = reader_leaves r.reader (at_in old) (at_in new) own;
+      changed = taken.left;
+      others = apart_else (slots_of c before) n r active.apart taken.had;
+      number = tt;
+    }
 
-  pub done_active : (old new : Part D R C d r c) (slots later : ℕ → Option Rattle.cache_replay.specs.declared.session.Holding.Holding) (n : ℕ) (r : Reader) → Took slots later n r → new.page ≡ old.page
-      → IsStripe new.stripe → IsQuiet (state_in new.stripe)
-      → kept_in new.stripe ≡ with_records (kept_in old.stripe) (rec.ReadClosed r.reader ∷ [])
-      → IsActive old slots → IsActive new later
-  done_active old new slots later n r taken page stripe quiet adds active =
-      let goes = done_goes old new slots later n r taken adds active.apart in
-      goes_active old new slots later n r.reader None active
-      (part_behind old new active.part stripe quiet (ap (λ p. length p.items) page) None (Some r.reader) goes.leaves) goes tt
+    moves : (run : Run) → PlaysPart run old before → MovesOrShows run (step.Done name) (at_in old) (at_in new) answer.Done
+    moves run plays =
+        let reads = reads_with run old before name n number plays r taken.had in
+        moves_line run (step.Done name) (at_in old) (at_in new) run.now active.part_is.plain refl (StopReading r.reader ∷ []) None [] answer.Done
+        (ap (λ (o : Option ℕ). asks.if_has o (λ reader. StopReading reader ∷ [])) reads)
+        (serves_whole None in_full active.part_is.plain rest.quiet plays.at.told (serves run.now)) refl
+        (λ known. ap (λ (o : Option ℕ). says.if_has o (λ reader. answer.Done)) reads)
 
-  pub done_ends : (tell : GroupsTell) (own : StepsOwn) (old new : Part D R C d r c) (before after : Seen Rattle.cache_replay.specs.declared.session.Holding.Holding) (name : List ℕ) (n : ℕ) (r : Reader)
-      → n ≡ number_of before.names name → after.names ≡ with_actor before.names name → Took (slots_of before) (slots_of after) n r
-      → kept_in new.stripe ≡ with_records (kept_in old.stripe) (rec.ReadClosed r.reader ∷ [])
-      → Between old.stripe new.stripe → ClosesAsAsked (state_in old.stripe) r → IsQuiet (state_in new.stripe) → IsActive old (slots_of before)
-      → (run : Run) → PlaysPart run old before → PartEnds run old (step.Done name) new after answer.Done
-  done_ends tell own old new before after name n r number names taken adds stays closes quiet active run plays =
-      let s : State = state_in old.stripe in
-      let p : Permit = own_permit run.now (past_of old) (past_of new) in
-      let by : held_by run name ≡ Some (Reads r.reader) = (held_reader run old before name n r number taken.had plays).0 in
-      let reads : reader_by run name ≡ Some r.reader = ap (option_and_then reader_in) by in
-      line_ends tell own run old new before after (step.Done name) name n (StopReading r.reader) p (rec.ReadClosed r.reader ∷ []) [] r.reader None answer.Done
-      (record {
-        actor = refl;
-        number = number;
-        names = names;
-        streams = refl;
-        behind = state_behind (kept_in old.stripe) (kept_in new.stripe) (rec.ReadClosed r.reader ∷ []) adds;
-        quiet = quiet;
-        plain = refl;
-        unsynced = refl;
-        content = refl;
-        moment = refl;
-        calls = refl;
-        effects = accounted_is (past_of old) (past_of new) (kept_in old.stripe) (kept_in new.stripe) (rec.ReadClosed r.reader ∷ []) stays.accounted adds;
-        asks = ap (λ (o : Option ℕ). asks.if_has o (λ reader. StopReading reader ∷ [])) reads;
-        does = closes p;
-        gives = refl;
-      })
-      (closed_has run s name r.reader by) tt active plays (done_goes old new (slots_of before) (slots_of after) n r taken adds active.apart)
-      (ap (λ (o : Option ℕ). says.if_has o (λ reader. answer.Done)) reads)
+    ends : (run : Run) → PlaysPart run old before → PartEnds run (step.Done name) old new after answer.Done
+    ends run plays = elim (moves run plays) [
+      | inr pair ↦ inr pair
+      | inl m ↦
+          reader_ends run (step.Done name) name refl old new before after n number names active plays r.reader None turns (λ turn. refl)
+          (ap (λ t. still_open t (held_by run name)) (state_behind (at_in old).kept (at_in new).kept (rec.ReadClosed r.reader ∷ []) adds)
+          ∙ closed_has run (state_in old) name r.reader (held_reader run old before name n number plays r taken.had).0) tt answer.Done m
+    ]
+
+    pub done_line : (now : ℕ) → AnswersActor now (step.Done name) old new before after (Ok answer.Done)
+    done_line now = record {
+      active = turns_active old new (slots_of c before) (slots_of c after) n r.reader None active
+          (part_behind old new active.part_is keeps.goes_on rest page None (Some r.reader) turns.leaves) turns tt;
+      goes = keeps.goes_on;
+      ends = λ run moment plays. ends run plays;
+      unharmed = λ run plays. keeps.unharmed;
+      counts = omega arith;
+      stop = tt;
+      names = names_within before.names after.names name names;
+    }
 
   -- an actor without a reader
-  pub done_idle : (part : Part D R C d r c) (before after : Seen Rattle.cache_replay.specs.declared.session.Holding.Holding) (name : List ℕ) (n : ℕ) (said : StepAnswer) → said ≡ says.idle
-      → n ≡ number_of before.names name → after.names ≡ with_actor before.names name → ((m : ℕ) → slots_of after m ≡ slots_of before m) → None ≡ reader_held (slots_of before n)
-      → IsActive part (slots_of before)
-      → (run : Run) → PlaysPart run part before → PartMoves run part (step.Done name) part after said
-  done_idle part before after name n said is number names same none active run plays =
-      let reads : reader_by run name ≡ None = reads_none run part before name n number none plays in
-      still_moves run part before after (step.Done name) name n said refl number names same
-      (ap (λ (o : Option ℕ). asks.if_has o (λ reader. StopReading reader ∷ [])) reads) refl refl
-      (still_held run part before name n number active plays)
-      (ap (λ (o : Option ℕ). says.if_has o (λ reader. answer.Done)) reads ∙ sym is)
-      active.part.quiet plays
+  pub done_idle : (now : ℕ) (part : Part S W R c) (before after : Seen (Holding W R)) (name : List ℕ) (n : ℕ) (said : StepAnswer) → said ≡ says.idle
+      → n ≡ number_of before.names name → after.names ≡ with_actor before.names name → ((m : ℕ) → slots_of c after m ≡ slots_of c before m)
+      → None ≡ reader_held (slots_of c before n) → IsActive part (slots_of c before) → AnswersActor now (step.Done name) part part before after (Ok said)
+  done_idle now part before after name n said is number names same none active =
+      subst (λ x. AnswersActor now (step.Done name) part part before after (Ok x)) (sym is)
+      (still_line part before after (step.Done name) name refl names same active now says.idle (λ run plays.
+      let reads = reads_none run part before name n number plays none in
+      record {
+        asks = ap (λ (o : Option ℕ). asks.if_has o (λ reader. StopReading reader ∷ [])) reads;
+        holds = still_held run part before name n number plays active;
+        streams = λ turn. refl;
+        own = λ turn given. given;
+        says = λ turn. ap (λ (o : Option ℕ). says.if_has o (λ reader. answer.Done)) reads;
+      }) refl)

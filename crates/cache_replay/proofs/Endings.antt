@@ -11,18 +11,19 @@ use Rattle.cache_model.specs.declared.record.Rec.{Rec}
 use Rattle.cache_model.specs.declared.record.Rec.TheVariants as rec
 use Rattle.cache_model.specs.State.{Closed, GivenUp, PutRow, Row, State, after_all, list_of_piece, list_of_put, put_of, state_after, vector_piece, with_cut, with_writing}
 use Rattle.cache_model.specs.Verdict.{cuts_of, is_open}
-use Rattle.cache_model.specs.Permit.{Commit, Done, End, Exhausted, Fails, Faulted, Finish, Fragment, Intent, Lost, ManyFragments, ManyWriters, NoSync, Permit, Reason, Stays, StillMoving, StillOpen, SyncRuns, TooLarge, Weigh, Work, is_cleanup, work_after}
-use Rattle.cache_model.specs.Legal.{Advances, Does, DoesCommit, DoesFinish, DoesFragment, DoesWeigh, MakesRoom, MayGrow, is_writing, more, next_fragment_of, nothing, stays_behind, vector_length, vector_payload}
+use Rattle.cache_model.specs.Permit.{Commit, Done, End, Exhausted, Fails, Faulted, Finish, Fragment, Intent, Lost, ManyFragments, ManyWriters, NoSync, Permit, Reason, Stays}
+use Rattle.cache_model.specs.Permit.{StillMoving, StillOpen, SyncRuns, TooLarge, Weigh, Work, is_cleanup, work_after}
+use Rattle.cache_model.specs.Legal.{Advances, Does, DoesCommit, DoesFinish, DoesFragment, DoesWeigh, MakesRoom, MayGrow, is_writing, more, next_fragment_of, nothing, stays_behind}
+use Rattle.cache_model.specs.Legal.{vector_length, vector_payload}
 use Rattle.cache_model.specs.Due.{due_pieces}
 use Rattle.cache_model.specs.Syncing.{DoesSync, MaySyncBehind, Syncing, Unmarks, WhereDue}
 use Rattle.cache_model.specs.Outcomes.{Copy, Outcome, began_record, copies_of, flush_records, front_of, moved_record, moved_records, records_of}
 use Rattle.cache_model.specs.Room.{MayDisplace, displaced_record, greatest_pin, placed_record}
 use Rattle.cache_model.proofs.Steps.{after_all-append, none_left}
 use Rattle.cache_model.proofs.ByNumber.{find-changed}
-use Rattle.cache_model.proofs.Found.{no_truth}
+use Rattle.cache_model.proofs.Found.{no_truth, number_of}
 use Rattle.cache_model.proofs.Syncing.{flush_among_syncs}
 use Rattle.script_run.proofs.Synced.{AllSyncing, IsSyncing, unmark_syncing}
-use Rattle.stripe_write.proofs.Ended.{own_number}
 
 -- ---- what closing asks of a put
 
@@ -86,9 +87,11 @@ cuts_in o = unwrap_or (option_map (λ (p : PutRow). p.cuts) o) []
 abbrev open_in : Option PutRow → Bool
 open_in o = unwrap_or (option_map is_open o) false
 
-changed_put : (s t : State) (put : ℕ) (f : PutRow → PutRow) → ((x : PutRow) → (f x).put ≡ x.put) → t.puts ≡ Rattle.cache_model.specs.State.change_put put f s.puts → put_of t put ≡ option_map f (put_of s put)
+changed_put : (s t : State) (put : ℕ) (f : PutRow → PutRow) → ((x : PutRow) → (f x).put ≡ x.put) → t.puts ≡ Rattle.cache_model.specs.State.change_put put f s.puts
+    → put_of t put ≡ option_map f (put_of s put)
 changed_put s t put f keeps h =
-    ap (find (λ (p : PutRow). p.put == put)) h ∙ (find-changed (λ (p : PutRow). p.put) f keeps put put s.puts ∙ ap (λ b. cond b (option_map f (put_of s put)) (put_of s put)) (eq-eqb put put refl))
+    ap (find (λ (p : PutRow). p.put == put)) h ∙ (find-changed (λ (p : PutRow). p.put) f keeps put put s.puts
+    ∙ ap (λ b. cond b (option_map f (put_of s put)) (put_of s put)) (eq-eqb put put refl))
 
 closed_in : (o : Option PutRow) → open_in (option_map (with_writing Closed) o) ≡ false
 closed_in None = refl
@@ -113,7 +116,11 @@ committed : (s : State) (put : ℕ) (w : PutRow) (bytes : ℕ) (listed : List St
 committed s put w bytes listed =
     let t : State = state_after s (rec.Committed put w.key bytes listed) in
     let is : put_of t put ≡ option_map (with_writing Closed) (put_of s put) = changed_put s t put (with_writing Closed) (λ x. refl) refl in
-    record { cuts = ap cuts_in is ∙ closed_cuts (put_of s put); key = ap keys_in is ∙ same_keys (with_writing Closed) (put_of s put) (λ x. refl); ended = λ e. ap open_in is ∙ closed_in (put_of s put) }
+    record {
+      cuts = ap cuts_in is ∙ closed_cuts (put_of s put);
+      key = ap keys_in is ∙ same_keys (with_writing Closed) (put_of s put) (λ x. refl);
+      ended = λ e. ap open_in is ∙ closed_in (put_of s put);
+    }
 
 pub record IsGivenUp (s t : State) (put : ℕ) : Type 0 where
   pub ended : is_writing t put ≡ false
@@ -121,7 +128,7 @@ pub record IsGivenUp (s t : State) (put : ℕ) : Type 0 where
 
 given_up : (s : State) (put : ℕ) (w : PutRow) → put_of s put ≡ Some w → IsGivenUp s (after_all s (rec.Aborted w.put w.key ∷ [])) put
 given_up s put w found =
-    let number : w.put ≡ put = own_number put s.puts w found in
+    let number : w.put ≡ put = number_of s put w found in
     let is : put_of (state_after s (rec.Aborted put w.key)) put ≡ option_map (with_writing GivenUp) (put_of s put) =
     changed_put s (state_after s (rec.Aborted put w.key)) put (with_writing GivenUp) (λ x. refl) refl in
     subst (λ n. IsGivenUp s (state_after s (rec.Aborted n w.key)) put) (sym number)
@@ -226,7 +233,8 @@ unmarked_group p s i put added e (Unmarks.exhausted must high is) = tt
 
 rooms_group : (p : Permit) (s : State) (i : Intent) (put bytes : ℕ) (added : List Rec) (e : End) → MakesRoom p s bytes added e → IsGroup i e s (after_all s added) put
 rooms_group p s i put bytes added e (MakesRoom.flushes full may) =
-    subst (λ (rs : List Rec). put_of (after_all s rs) put ≡ put_of s put) (sym may.is) (same_puts s (after_all s (flush_records s (due_pieces s p.now) may.outcomes)) put (flush_puts s (due_pieces s p.now) may.outcomes))
+    subst (λ (rs : List Rec). put_of (after_all s rs) put ≡ put_of s put) (sym may.is) (same_puts s (after_all s (flush_records s (due_pieces s p.now) may.outcomes)) put
+    (flush_puts s (due_pieces s p.now) may.outcomes))
 rooms_group p s i put bytes added e (MakesRoom.stops count full may) = tt
 rooms_group p s i put bytes added e (MakesRoom.exhausted full above none) = tt
 rooms_group p s i put bytes added e (MakesRoom.syncs end full sync is) = subst (λ x. IsGroup i x s (after_all s added) put) (sym is) (synced_group p s i put added end sync)
@@ -234,27 +242,33 @@ rooms_group p s i put bytes added e (MakesRoom.syncs end full sync is) = subst (
 weigh_group : (p : Permit) (s : State) (put rest : ℕ) (added : List Rec) (e : End) → DoesWeigh p s put rest added e → IsGroup (Weigh put rest) e s (after_all s added) put
 weigh_group p s put rest added e (DoesWeigh.weighs w writing read fits none) =
     subst (λ (rs : List Rec). IsDone (Weigh put rest) s (after_all s rs) put) (sym none) (not_a_commit (Weigh put rest) s s put (λ e. cc) (λ rows. refl) refl)
-weigh_group p s put rest added e (DoesWeigh.too_large w writing read above is) = subst (λ (rs : List Rec). IsGivenUp s (after_all s rs) put) (sym is) (given_up s put w writing.found)
+weigh_group p s put rest added e (DoesWeigh.too_large w writing read above is) = subst (λ (rs : List Rec). IsGivenUp s (after_all s rs) put) (sym is)
+    (given_up s put w writing.found)
 weigh_group p s put rest added e (DoesWeigh.damaged w row other writing live damage is) = subst (λ (rs : List Rec). put_of (after_all s rs) put ≡ put_of s put) (sym is) refl
 weigh_group p s put rest added e (DoesWeigh.faulted w row count writing live written counts is) = tt
 
-fragment_group : (p : Permit) (s : State) (put index : ℕ) (payload : List ℕ) (added : List Rec) (e : End) → DoesFragment p s put index payload added e → IsGroup (Fragment put index payload) e s (after_all s added) put
+fragment_group : (p : Permit) (s : State) (put index : ℕ) (payload : List ℕ) (added : List Rec) (e : End) → DoesFragment p s put index payload added e
+    → IsGroup (Fragment put index payload) e s (after_all s added) put
 fragment_group p s put index payload added e (DoesFragment.places done may) =
     let mid : State = state_after s (rec.Cut put index (length payload) (digest_of payload)) in
     let tail : List Rec = placed_record s (next_fragment_of may.w) may.w.pin (total_length may.w.cuts) (length payload) payload ∷ [] in
     let puts : (after_all s added).puts ≡ mid.puts =
-    ap (λ (rs : List Rec). (after_all s rs).puts) may.is ∙ (ap (λ (x : State). x.puts) (after_all-append mid may.displaced tail) ∙ displaced_puts p s _ may.displaced may.displaces mid) in
+    ap (λ (rs : List Rec). (after_all s rs).puts) may.is ∙ (ap (λ (x : State). x.puts) (after_all-append mid may.displaced tail)
+    ∙ displaced_puts p s _ may.displaced may.displaces mid) in
     subst (λ x. IsGroup (Fragment put index payload) x s (after_all s added) put) (sym done)
     (then_same (Fragment put index payload) s mid (after_all s added) put (same_puts mid (after_all s added) put puts) (cut_done s put index payload may.w may.cut.writing.found))
 fragment_group p s put index payload added e (DoesFragment.unmarks w next place unmark) = unmarked_group p s (Fragment put index payload) put added e unmark
 fragment_group p s put index payload added e (DoesFragment.rooms w next room) = rooms_group p s (Fragment put index payload) put (length payload) added e room
-fragment_group p s put index payload added e (DoesFragment.exhausted w fails next nope) = subst (λ x. IsGroup (Fragment put index payload) x s (after_all s added) put) (sym fails) tt
+fragment_group p s put index payload added e (DoesFragment.exhausted w fails next nope) = subst (λ x. IsGroup (Fragment put index payload) x s (after_all s added) put)
+    (sym fails) tt
 
-finish_group : (p : Permit) (s : State) (put fragments : ℕ) (added : List Rec) (e : End) → DoesFinish p s put fragments added e → IsGroup (Finish put fragments) e s (after_all s added) put
+finish_group : (p : Permit) (s : State) (put fragments : ℕ) (added : List Rec) (e : End) → DoesFinish p s put fragments added e
+    → IsGroup (Finish put fragments) e s (after_all s added) put
 finish_group p s put fragments added e (DoesFinish.places done may) =
     let tail : List Rec = placed_record s (vector_piece may.w.key put) (greatest_pin (list_of_put s put)) 0 (vector_length s put) (vector_payload s put) ∷ [] in
     let puts : (after_all s added).puts ≡ s.puts =
-    ap (λ (rs : List Rec). (after_all s rs).puts) may.is ∙ (ap (λ (x : State). x.puts) (after_all-append s may.displaced tail) ∙ displaced_puts p s _ may.displaced may.displaces s) in
+    ap (λ (rs : List Rec). (after_all s rs).puts) may.is ∙ (ap (λ (x : State). x.puts) (after_all-append s may.displaced tail)
+    ∙ displaced_puts p s _ may.displaced may.displaces s) in
     subst (λ x. IsGroup (Finish put fragments) x s (after_all s added) put) (sym done)
     (not_a_commit (Finish put fragments) s (after_all s added) put (λ e. cc) (λ rows. refl) (same_puts s (after_all s added) put puts))
 finish_group p s put fragments added e (DoesFinish.unmarks w cut live place unmark) = unmarked_group p s (Finish put fragments) put added e unmark
@@ -270,7 +284,8 @@ commit_group p s put added e (DoesCommit.commits w found open_ pending is) = sub
 
 group : (p : Permit) (s : State) (i : Intent) (put : ℕ) (added : List Rec) (e : End) → IsClosing put i → Does p s i added e → IsGroup i e s (after_all s added) put
 group p s (Weigh q rest) put added e is does = subst (λ n. IsGroup (Weigh q rest) e s (after_all s added) n) is (weigh_group p s q rest added e does)
-group p s (Fragment q index payload) put added e is does = subst (λ n. IsGroup (Fragment q index payload) e s (after_all s added) n) is (fragment_group p s q index payload added e does)
+group p s (Fragment q index payload) put added e is does = subst (λ n. IsGroup (Fragment q index payload) e s (after_all s added) n) is
+    (fragment_group p s q index payload added e does)
 group p s (Finish q fragments) put added e is does = subst (λ n. IsGroup (Finish q fragments) e s (after_all s added) n) is (finish_group p s q fragments added e does)
 group p s (Commit q) put added e is does = subst (λ n. IsGroup (Commit q) e s (after_all s added) n) is (commit_group p s q added e does)
 group p s _ put added e is does = absurd is
@@ -304,38 +319,46 @@ abbrev Further : ℕ → State → List Rec → Option Reason → Work → Optio
 Further put t rest after between key = (js : List Intent) → between ≡ record { intents = js; refused = None } → AreClosing put js → EndsInCommit put js
     → IsEnded after (after_all t rest) put (rows_then js (cuts_of t put)) (key_of t put)
 
-done_last : (p : Permit) (s t : State) (i : Intent) (put : ℕ) (rest : List Rec) (after : Option Reason) → i ≡ Commit put → IsDone i s t put → MayGrow p t (then_ None) rest (then_ after)
+done_last : (p : Permit) (s t : State) (i : Intent) (put : ℕ) (rest : List Rec) (after : Option Reason) → i ≡ Commit put → IsDone i s t put
+    → MayGrow p t (then_ None) rest (then_ after)
     → IsEnded after (after_all t rest) put (rows_behind i (cuts_of s put)) (key_of s put)
 done_last p s t i put rest after is done grows =
     let none = none_left p t None rest (then_ after) grows in
     subst (λ (o : Option Reason). IsEnded o (after_all t rest) put (rows_behind i (cuts_of s put)) (key_of s put)) none.1
     (subst (λ (rs : List Rec). IsEnded None (after_all t rs) put (rows_behind i (cuts_of s put)) (key_of s put)) (sym none.0) (done.ended is, done.cuts))
 
-step_on : (p : Permit) (s : State) (i : Intent) (is : List Intent) (put : ℕ) (added : List Rec) (e : End) (rest : List Rec) (after : Option Reason) → IsClosing put i → AreClosing put is → EndsInCommit put (i ∷ is)
+step_on : (p : Permit) (s : State) (i : Intent) (is : List Intent) (put : ℕ) (added : List Rec) (e : End) (rest : List Rec) (after : Option Reason) → IsClosing put i
+    → AreClosing put is → EndsInCommit put (i ∷ is)
     → IsGroup i e s (after_all s added) put → MayGrow p (after_all s added) (work_after i is None e) rest (then_ after)
-    → Further put (after_all s added) rest after (work_after i is None e) (key_of s put) → IsEnded after (after_all (after_all s added) rest) put (rows_then (i ∷ is) (cuts_of s put)) (key_of s put)
+    → Further put (after_all s added) rest after (work_after i is None e) (key_of s put) → IsEnded after (after_all (after_all s added) rest) put
+    (rows_then (i ∷ is) (cuts_of s put)) (key_of s put)
 step_on p s i is put added Stays rest after first others ends group_ grows further =
     subst (λ k. IsEnded after (after_all (after_all s added) rest) put (rows_then (i ∷ is) (cuts_of s put)) k) (ap keys_in group_)
-    (subst (λ rows. IsEnded after (after_all (after_all s added) rest) put (rows_then (i ∷ is) rows) (key_of (after_all s added) put)) (ap cuts_in group_) (further (i ∷ is) refl (first, others) ends))
+    (subst (λ rows. IsEnded after (after_all (after_all s added) rest) put (rows_then (i ∷ is) rows) (key_of (after_all s added) put)) (ap cuts_in group_)
+    (further (i ∷ is) refl (first, others) ends))
 step_on p s i [] put added Done rest after first others ends group_ grows further = done_last p s (after_all s added) i put rest after ends group_ grows
 step_on p s i (j ∷ is) put added Done rest after first others ends group_ grows further =
     subst (λ k. IsEnded after (after_all (after_all s added) rest) put (rows_then (j ∷ is) (rows_behind i (cuts_of s put))) k) group_.key
-    (subst (λ rows. IsEnded after (after_all (after_all s added) rest) put (rows_then (j ∷ is) rows) (key_of (after_all s added) put)) group_.cuts (further (j ∷ is) refl others ends))
+    (subst (λ rows. IsEnded after (after_all (after_all s added) rest) put (rows_then (j ∷ is) rows) (key_of (after_all s added) put)) group_.cuts
+    (further (j ∷ is) refl others ends))
 step_on p s i is put added (Fails why) rest after first others ends group_ grows further =
     let none = none_left p (after_all s added) (Some why) rest (then_ after)
     (subst (λ (js : List Intent). MayGrow p (after_all s added) (record { intents = js; refused = Some why }) rest (then_ after)) (no_cleanup put is others) grows) in
     subst (λ (o : Option Reason). IsEnded o (after_all (after_all s added) rest) put (rows_then (i ∷ is) (cuts_of s put)) (key_of s put)) none.1
-    (subst (λ (rs : List Rec). IsEnded (Some why) (after_all (after_all s added) rs) put (rows_then (i ∷ is) (cuts_of s put)) (key_of s put)) (sym none.0) (failed why s (after_all s added) put _ group_))
+    (subst (λ (rs : List Rec). IsEnded (Some why) (after_all (after_all s added) rs) put (rows_then (i ∷ is) (cuts_of s put)) (key_of s put)) (sym none.0)
+    (failed why s (after_all s added) put _ group_))
 
 -- behind all that closing does, the put is complete, or given up, or was refused by the device
-pub ended_along : {p : Permit} {s : State} {w after : Work} {recs : List Rec} → MayGrow p s w recs after → (put : ℕ) (is : List Intent) (why : Option Reason) → w ≡ record { intents = is; refused = None }
+pub ended_along : {p : Permit} {s : State} {w after : Work} {recs : List Rec} → MayGrow p s w recs after → (put : ℕ) (is : List Intent) (why : Option Reason)
+    → w ≡ record { intents = is; refused = None }
     → after ≡ then_ why → AreClosing put is → EndsInCommit put is → IsEnded why (after_all s recs) put (rows_then is (cuts_of s put)) (key_of s put)
 ended_along nothing put [] why e f all ends = absurd ends
 ended_along nothing put (i ∷ is) why e f all ends = let clash : [] ≡ i ∷ is = ap (λ (x : Work). x.intents) (sym f ∙ e) in cc
 ended_along (more {rest = rest} added between one others) put [] why e f all ends = absurd ends
 ended_along {p} {s} {w} {after} (more {rest = rest} added between one others) put (i ∷ is) why e f all ends =
     let first : Advances p s (i ∷ is) None added between = subst (λ (x : Work). Advances p s x.intents x.refused added between) e one in
-    let grows : MayGrow p (after_all s added) (work_after i is None first.0) rest (then_ why) = subst (λ x. MayGrow p (after_all s added) x rest (then_ why)) first.2 (subst (λ x. MayGrow p (after_all s added) between rest x) f others) in
+    let grows : MayGrow p (after_all s added) (work_after i is None first.0) rest (then_ why) = subst (λ x. MayGrow p (after_all s added) x rest (then_ why)) first.2
+    (subst (λ x. MayGrow p (after_all s added) between rest x) f others) in
     subst (λ x. IsEnded why x put (rows_then (i ∷ is) (cuts_of s put)) (key_of s put)) (sym (after_all-append s added rest))
     (step_on p s i is put added first.0 rest why all.0 all.1 ends (group p s i put added first.0 all.0 first.1) grows
     (λ js at closing ends_. ended_along others put js why (first.2 ∙ at) f closing ends_))

@@ -1,29 +1,110 @@
 -- What a writer that is fed does, one write behind the other.
-use Rattle.std.proofs.Common.{◌≡◌, ℕ, ◌+◌, ◌-◌, ◌<◌, ◌≤◌, List, [], ◌∷◌, ◌++◌, inl, inr, refl, sym, ◌∙◌, ap, subst, arith, true, false, length, take, Ok}
-use Rattle.std.specs.Prelude.{Option, Some, option_map, unwrap_or, find, ◌==◌, min, if◌then◌else◌, MatchBool}
-use Rattle.std.proofs.lemmas.Bool.{eqb-true, eq-eqb}
+use Rattle.std.proofs.Common.{◌≡◌, ℕ, ◌+◌, ◌-◌, ◌<◌, ◌≤◌, List, [], ◌∷◌, ◌++◌, inl, inr, refl, sym, ◌∙◌, ap, subst, arith, Bool, true, false, length, take}
+use Rattle.std.specs.Prelude.{Option, Some, option_map, unwrap_or, find, ◌==◌, ◌&&◌, not, min, nat_lt, if◌then◌else◌, MatchBool}
+use Rattle.std.specs.List.{AllByRecursion}
+use Rattle.std.proofs.ByRecursion.{All-append}
+use Rattle.std.proofs.lemmas.Bool.{eqb-true, eq-eqb, ltb-true, lt-ltb}
 use Rattle.std.proofs.lemmas.Bool.Decides.{eqb_tells}
-use Rattle.std.proofs.lemmas.List.{length-append, length-take-le}
-use Rattle.device_log.specs.Calls.{Call}
-use Rattle.logged_disk.specs.Device.{State as Device}
+use Rattle.std.proofs.lemmas.List.{append_assoc, length-append, length-take-le}
 use Rattle.tape_base.specs.Digest.{digest_of}
 use Rattle.fragment_table.specs.Table.{TableRow, made_row}
 use Rattle.cache_model.specs.declared.record.Rec.{Rec}
-use Rattle.cache_model.specs.State.{PutRow, State, after_all, change_put, put_of, with_cut}
+use Rattle.cache_model.specs.declared.record.Rec.TheVariants as rec
+use Rattle.cache_model.specs.State.{PutRow, State, after_all, change_put, most_fragments, put_of, state_after, with_cut}
 use Rattle.cache_model.specs.Kept.{Kept, state_of, with_records}
+use Rattle.cache_model.specs.Permit.{Intent, Overflow}
 use Rattle.cache_model.specs.Verdict.{cuts_of, is_open}
 use Rattle.cache_model.specs.Legal.{is_writing}
 use Rattle.cache_model.proofs.Found.{cuts_found}
 use Rattle.cache_model.proofs.ByNumber.{find-changed}
-use Rattle.stripe_core.specs.declared.refusal.Placed.{Placed}
-use Rattle.stripe_core.specs.Place.{IsCutAs}
-use Rattle.stripe_write.specs.declared.writer.Writer.{Writer}
-use Rattle.stripe_write.specs.Writers.{IsAtHand, IsWriterOf}
-use Rattle.stripe_write.specs.Writes.{CutsNext, GathersAsAsked, WritesAsAsked, WritesWhere, gathered_with, is_cut, next_id, next_start}
-use Rattle.stripe_write.proofs.Cutting.{cut_state, next_no_vector}
-use Rattle.stripe_write.proofs.Ended.{open_put}
-use Rattle.stripe_write.proofs.Flushed.{LeavesActors, flush_leaves}
-use Rattle.stripe_write.proofs.Spending.{nothing_more, state_behind}
+use Rattle.cache_model.proofs.Steps.{after_all-append}
+use Rattle.call_laws.specs.Moments.{At}
+use Rattle.call_laws.specs.Progress.{AllDone}
+use Rattle.call_laws.specs.Serves.{Serves}
+use Rattle.call_laws.proofs.Joined.{state_behind}
+use Rattle.cache_calls.specs.Actors.{IsAtHand, IsWriterOf, WriterSeen}
+use Rattle.cache_calls.specs.Adds.{Adds, IsOfFlush, IsOfPut}
+use Rattle.cache_calls.specs.Asked.{cuts_next, fed_asks, gathered_with, is_cut, is_overflow, next_payload, taken_of, write_asks}
+use Rattle.cache_calls.specs.Keeping.{state_at}
+use Rattle.cache_calls.specs.Writers.{CutsAs, HasTaken, IsTaking, Takes, fragment_records}
+use Rattle.script_run.proofs.Ended.{IsFoundOpen, open_row}
+use Rattle.cache_replay.proofs.CutBodies.{not_most}
+
+-- ---- what is added
+
+-- records of one kind, and then others
+pub adds_then : (P : Rec → Type 0) (a b c : At) → Adds P a b → Adds P b c → Adds P a c
+adds_then P a b c f l = record {
+  added = f.added ++ l.added;
+  adds = l.adds ∙ (ap (λ k. with_records k l.added) f.adds
+      ∙ ap (λ recs. let k : Kept = record { told = a.kept.told; base = a.kept.base; since = recs } in k) (append_assoc a.kept.since f.added l.added));
+  own = All-append P f.added l.added f.own l.own;
+}
+
+-- no put is another behind some records
+pub record SamePuts (s t : State) : Type 0 where
+  pub puts : t.puts ≡ s.puts
+  pub geometry : t.geometry ≡ s.geometry
+
+one_of_flush : (s : State) (r : Rec) → IsOfFlush r → SamePuts s (state_after s r)
+one_of_flush s (rec.Began cursor floor) h = record { puts = refl; geometry = refl }
+one_of_flush s (rec.Moved piece from place digest) h = record { puts = refl; geometry = refl }
+one_of_flush s (rec.Unsaved piece place fault) h = record { puts = refl; geometry = refl }
+one_of_flush s (rec.Damaged piece place kept found) h = record { puts = refl; geometry = refl }
+one_of_flush s (rec.Fault count) h = record { puts = refl; geometry = refl }
+one_of_flush s _ h = absurd h
+
+-- those of a flush
+pub flush_leaves : (s : State) (recs : List Rec) → AllByRecursion IsOfFlush recs → SamePuts s (after_all s recs)
+flush_leaves s [] h = record { puts = refl; geometry = refl }
+flush_leaves s (r ∷ recs) h =
+    let first : SamePuts s (state_after s r) = one_of_flush s r h.0 in
+    let others : SamePuts (state_after s r) (after_all (state_after s r) recs) = flush_leaves (state_after s r) recs h.1 in
+    record { puts = others.puts ∙ first.puts; geometry = others.geometry ∙ first.geometry }
+
+-- ---- what is asked
+
+no_overflow : (w : WriterSeen) (bytes : List ℕ) → (0 < length bytes → length w.cuts < most_fragments) → is_overflow w bytes ≡ false
+no_overflow w bytes few = by (nat_lt 0 (length bytes)) refl
+  where
+    by : (b : Bool) → nat_lt 0 (length bytes) ≡ b → (b && length w.cuts == most_fragments) ≡ false
+    by true e = not_most (length w.cuts) (few (ltb-true 0 (length bytes) e))
+    by false e = refl
+
+module _ (s : State) (w : WriterSeen) (bytes : List ℕ) (taking : IsTaking s w) where
+  asks_fed : write_asks s w bytes ≡ fed_asks s w bytes
+  asks_fed =
+      ap (λ b. if b && not w.sealed then fed_asks s w bytes else []) taking.0 ∙ ap (λ b. if true && not b then fed_asks s w bytes else []) taking.1
+
+  abbrev next : List Intent
+  next = if is_cut s.geometry w (taken_of s.geometry w bytes) then cuts_next w (next_payload s w bytes) ∷ [] else []
+
+  asks_next : (0 < length bytes → length w.cuts < most_fragments) → write_asks s w bytes ≡ next
+  asks_next few = asks_fed ∙ ap (λ b. if b then Overflow w.put ∷ [] else next) (no_overflow w bytes few)
+
+  -- the next fragment, where it has gathered
+  pub asks_cut : (0 < length bytes → length w.cuts < most_fragments) → is_cut s.geometry w (taken_of s.geometry w bytes) ≡ true
+      → write_asks s w bytes ≡ cuts_next w (next_payload s w bytes) ∷ []
+  asks_cut few cut = asks_next few ∙ ap (λ b. if b then cuts_next w (next_payload s w bytes) ∷ [] else []) cut
+
+  -- nothing, where it has not
+  pub asks_none : (0 < length bytes → length w.cuts < most_fragments) → is_cut s.geometry w (taken_of s.geometry w bytes) ≡ false → write_asks s w bytes ≡ []
+  asks_none few cut = asks_next few ∙ ap (λ b. if b then cuts_next w (next_payload s w bytes) ∷ [] else []) cut
+
+  -- one fragment too many
+  pub asks_many : 0 < length bytes → length w.cuts ≡ most_fragments → write_asks s w bytes ≡ Overflow w.put ∷ []
+  asks_many some full = asks_fed ∙ ap (λ b. if b then Overflow w.put ∷ [] else next) over
+    where
+      over : is_overflow w bytes ≡ true
+      over = ap (λ b. b && length w.cuts == most_fragments) (lt-ltb 0 (length bytes) some) ∙ eq-eqb (length w.cuts) most_fragments full
+
+-- a sealed writer is asked nothing
+pub asks_sealed : (s : State) (w : WriterSeen) (bytes : List ℕ) → w.sealed ≡ true → write_asks s w bytes ≡ []
+asks_sealed s w bytes sealed = ap (λ b. if is_writing s w.put && not b then fed_asks s w bytes else []) sealed ∙ nothing (is_writing s w.put)
+  where
+    nothing : (b : Bool) → (if b && false then fed_asks s w bytes else []) ≡ []
+    nothing true = refl
+    nothing false = refl
 
 -- ---- the put behind a cut
 
@@ -35,132 +116,136 @@ found_changed put f puts w keeps found =
 abbrev row_for : List ℕ → TableRow
 row_for payload = made_row (length payload) (digest_of payload).0
 
-module _ (s : State) (w : Writer) (payload : List ℕ) (added : List Rec) (placed : Placed) (c : IsCutAs s (next_id w) w.pin (next_start w) payload added placed) where
-  room_left : LeavesActors s (after_all s c.room)
-  room_left = flush_leaves s c.room c.kinds
+module _ (old new : At) (w : WriterSeen) (payload : List ℕ) (c : CutsAs old new w payload) where
+  abbrev room : State
+  room = after_all (state_at old) c.room
 
-  cut_found : (row : PutRow) → put_of s w.put ≡ Some row → put_of (after_all s added) w.put ≡ Some (with_cut (row_for payload) row)
+  room_left : SamePuts (state_at old) room
+  room_left = flush_leaves (state_at old) c.room c.kinds
+
+  cut_state : state_at new ≡ after_all room (fragment_records room w payload)
+  cut_state =
+      state_behind old.kept new.kept (c.room ++ fragment_records room w payload) c.adds ∙ after_all-append (state_at old) c.room (fragment_records room w payload)
+
+  cut_found : (row : PutRow) → put_of (state_at old) w.put ≡ Some row → put_of (state_at new) w.put ≡ Some (with_cut (row_for payload) row)
   cut_found row found =
-      let room : State = after_all s c.room in
-      ap (λ (x : State). put_of x w.put) (cut_state s (next_id w) w.pin (next_start w) payload added placed (next_no_vector w) c)
+      ap (λ (x : State). put_of x w.put) cut_state
       ∙ found_changed w.put (with_cut (row_for payload)) room.puts row (λ x. refl) (ap (find (λ (p : PutRow). p.put == w.put)) room_left.puts ∙ found)
 
-  cut_geometry : (after_all s added).geometry ≡ s.geometry
-  cut_geometry = ap (λ (x : State). x.geometry) (cut_state s (next_id w) w.pin (next_start w) payload added placed (next_no_vector w) c) ∙ room_left.geometry
+  cut_geometry : (state_at new).geometry ≡ (state_at old).geometry
+  cut_geometry = ap (λ (x : State). x.geometry) cut_state ∙ room_left.geometry
 
 -- ---- a write that took bytes
 
-pub record Wrote (moment : ℕ) (before : List Call) (after : Device) (old new : Kept) (w v : Writer) (bytes : List ℕ) (n : ℕ) : Type 0 where
-  pub own : IsWriterOf (state_of old) w
-  pub takes : WritesWhere (state_of old) w bytes (Ok n)
-  pub does : WritesAsAsked moment old new before after w bytes (Ok n)
-  pub gathers : GathersAsAsked (state_of old).geometry w bytes n v
-  pub next_own : IsWriterOf (state_of new) v
+pub record Wrote (now : ℕ) (old new : At) (w v : WriterSeen) (bytes : List ℕ) (n : ℕ) : Type 0 where
+  pub own : IsWriterOf (state_at old) w
+  pub takes : Takes old new w bytes n
+  pub serves : Serves now old new (write_asks (state_at old) w bytes) AllDone
+  pub adds : Adds (IsOfPut w.put) old new
+  pub gathers : HasTaken (state_at old).geometry w bytes n v
+  pub next_own : IsWriterOf (state_at new) v
 
 -- where it stands then: what the put has cut is what the writer has
-pub record Stands (old new : Kept) (w v : Writer) : Type 0 where
-  pub writing : is_writing (state_of new) w.put ≡ true
-  pub geometry : (state_of new).geometry ≡ (state_of old).geometry
-  pub cuts : cuts_of (state_of new) w.put ≡ v.table.rows
+pub record Stands (old new : At) (w v : WriterSeen) : Type 0 where
+  pub writing : is_writing (state_at new) w.put ≡ true
+  pub geometry : (state_at new).geometry ≡ (state_at old).geometry
+  pub cuts : cuts_of (state_at new) w.put ≡ v.cuts
 
 -- it cut a fragment
-pub record Cuts (old new : Kept) (w v : Writer) (n : ℕ) : Type 0 where
+pub record Cuts (now : ℕ) (old new : At) (w v : WriterSeen) (bytes : List ℕ) (n : ℕ) : Type 0 where
   pub stands : Stands old new w v
-  pub full : length w.gathered.items + n ≡ (state_of old).geometry.fragment
+  pub serves : Serves now old new (cuts_next w (gathered_with w bytes n) ∷ []) AllDone
+  pub full : length w.gathered + n ≡ (state_at old).geometry.fragment
   pub row : TableRow
-  pub rows : v.table.rows ≡ w.table.rows ++ row ∷ []
-  pub size : row.length ≡ (state_of old).geometry.fragment
-  pub empty : v.gathered.items ≡ []
+  pub rows : v.cuts ≡ w.cuts ++ row ∷ []
+  pub size : row.length ≡ (state_at old).geometry.fragment
+  pub empty : v.gathered ≡ []
 
 -- or gathered
-pub record Gathers (old new : Kept) (w v : Writer) (bytes : List ℕ) (n : ℕ) (added : List Rec) : Type 0 where
+pub record Gathers (now : ℕ) (old new : At) (w v : WriterSeen) (bytes : List ℕ) (n : ℕ) : Type 0 where
   pub stands : Stands old new w v
-  pub short : length w.gathered.items + n < (state_of old).geometry.fragment
-  pub rows : v.table.rows ≡ w.table.rows
-  pub items : v.gathered.items ≡ w.gathered.items ++ take n bytes
-  pub nothing : added ≡ []
+  pub serves : Serves now old new [] AllDone
+  pub short : length w.gathered + n < (state_at old).geometry.fragment
+  pub rows : v.cuts ≡ w.cuts
+  pub items : v.gathered ≡ w.gathered ++ take n bytes
 
 -- how many were taken
 pub takes_within : (f g len n : ℕ) → g < f → n ≡ min len (f - g) → (n ≤ len) × (g + n ≤ f)
 takes_within f g len n few is = (omega (arith, is), omega (arith, is, few))
 
-pub put_found : (s : State) (w : Writer) (writing : is_writing s w.put ≡ true) → (row : PutRow) × (put_of s w.put ≡ Some row) × (row.writing ≡ Rattle.cache_model.specs.State.Open)
-put_found s w writing = open_put (put_of s w.put) writing
-
 pub writing_found : (s : State) (put : ℕ) (row : PutRow) → put_of s put ≡ Some row → is_writing s put ≡ is_open row
 writing_found s put row h = ap (λ (o : Option PutRow). unwrap_or (option_map is_open o) false) h
 
-pub few_of : (s : State) (w : Writer) → is_writing s w.put ≡ true → IsWriterOf s w → length w.gathered.items < s.geometry.fragment
-few_of s w writing own = let o = put_found s w writing in (own o.0 o.1 o.2).few
+pub few_of : (s : State) (w : WriterSeen) → is_writing s w.put ≡ true → IsWriterOf s w → length w.gathered < s.geometry.fragment
+few_of s w writing own = let o : IsFoundOpen s w.put = open_row s w.put writing in (own o.w o.found o.is_open).few
 
-module _ (moment : ℕ) (before : List Call) (after : Device) (old new : Kept) (w v : Writer) (bytes : List ℕ) (n : ℕ) (h : Wrote moment before after old new w v bytes n) where
+module _ (now : ℕ) (old new : At) (w v : WriterSeen) (bytes : List ℕ) (n : ℕ) (h : Wrote now old new w v bytes n) where
   abbrev s : State
-  s = state_of old
+  s = state_at old
 
   abbrev t : State
-  t = state_of new
+  t = state_at new
 
-  pub few : length w.gathered.items < s.geometry.fragment
-  few = few_of s w h.takes.0.0 h.own
+  abbrev payload : List ℕ
+  payload = gathered_with w bytes n
 
-  pub within : (n ≤ length bytes) × (length w.gathered.items + n ≤ s.geometry.fragment)
-  within = takes_within s.geometry.fragment (length w.gathered.items) (length bytes) n few h.takes.1
+  pub few : length w.gathered < s.geometry.fragment
+  few = few_of s w h.takes.taking.0 h.own
 
-  taken_size : length (gathered_with w bytes n) ≡ length w.gathered.items + n
-  taken_size = length-append w.gathered.items (take n bytes) ∙ ap (λ k. length w.gathered.items + k) (length-take-le n bytes within.0)
+  pub within : (n ≤ length bytes) × (length w.gathered + n ≤ s.geometry.fragment)
+  within = takes_within s.geometry.fragment (length w.gathered) (length bytes) n few h.takes.count
+
+  taken_size : length payload ≡ length w.gathered + n
+  taken_size = length-append w.gathered (take n bytes) ∙ ap (λ k. length w.gathered + k) (length-take-le n bytes within.0)
 
   -- what it did
-  pub cut_next : is_cut s.geometry w n ≡ true → (placed : Placed) × CutsNext moment s before after w (gathered_with w bytes n) h.does.added (Ok placed)
-  cut_next cut =
-      subst (λ b. MatchBool b ((placed : Placed) × CutsNext moment s before after w (gathered_with w bytes n) h.does.added (Ok placed)) (h.does.added ≡ [])) cut h.does.does
+  cut_as : is_cut s.geometry w n ≡ true → CutsAs old new w payload
+  cut_as cut = subst (λ b. MatchBool b (CutsAs old new w payload) (new.kept ≡ old.kept)) cut h.takes.cuts
 
-  none_next : is_cut s.geometry w n ≡ false → h.does.added ≡ []
-  none_next cut =
-      subst (λ b. MatchBool b ((placed : Placed) × CutsNext moment s before after w (gathered_with w bytes n) h.does.added (Ok placed)) (h.does.added ≡ [])) cut h.does.does
+  as_it_was : is_cut s.geometry w n ≡ false → new.kept ≡ old.kept
+  as_it_was cut = subst (λ b. MatchBool b (CutsAs old new w payload) (new.kept ≡ old.kept)) cut h.takes.cuts
 
-  behind : t ≡ after_all s h.does.added
-  behind = state_behind old new h.does.added h.does.adds
-
-  pub cuts : is_cut s.geometry w n ≡ true → Cuts old new w v n
+  pub cuts : is_cut s.geometry w n ≡ true → Cuts now old new w v bytes n
   cuts cut =
-      let payload : List ℕ = gathered_with w bytes n in
-      let o = put_found s w h.takes.0.0 in
-      let c = cut_next cut in
-      let found : put_of t w.put ≡ Some (with_cut (row_for payload) o.0) = ap (λ (x : State). put_of x w.put) behind ∙ cut_found s w payload h.does.added c.0 c.1.shape o.0 o.1 in
-      let there : IsAtHand t.geometry (with_cut (row_for payload) o.0) v = h.next_own (with_cut (row_for payload) o.0) (ap (put_of t) h.gathers.put ∙ found) o.2 in
-      let full : length w.gathered.items + n ≡ s.geometry.fragment = eqb-true (length w.gathered.items + n) s.geometry.fragment cut in
+      let o : IsFoundOpen s w.put = open_row s w.put h.takes.taking.0 in
+      let c : CutsAs old new w payload = cut_as cut in
+      let found : put_of t w.put ≡ Some (with_cut (row_for payload) o.w) = cut_found old new w payload c o.w o.found in
+      let there : IsAtHand t.geometry (with_cut (row_for payload) o.w) v = h.next_own (with_cut (row_for payload) o.w) (ap (put_of t) h.gathers.put ∙ found) o.is_open in
+      let full : length w.gathered + n ≡ s.geometry.fragment = eqb-true (length w.gathered + n) s.geometry.fragment cut in
       record {
         stands = record {
-          writing = writing_found t w.put (with_cut (row_for payload) o.0) found ∙ (sym (writing_found s w.put o.0 o.1) ∙ h.takes.0.0);
-          geometry = ap (λ (x : State). x.geometry) behind ∙ cut_geometry s w payload h.does.added c.0 c.1.shape;
-          cuts = cuts_found t w.put (with_cut (row_for payload) o.0) found ∙ there.cuts_are;
+          writing = writing_found t w.put (with_cut (row_for payload) o.w) found ∙ (sym (writing_found s w.put o.w o.found) ∙ h.takes.taking.0);
+          geometry = cut_geometry old new w payload c;
+          cuts = cuts_found t w.put (with_cut (row_for payload) o.w) found ∙ there.cuts_are;
         };
+        serves =
+            subst (λ is. Serves now old new is AllDone)
+            (asks_cut s w bytes h.takes.taking h.takes.few (subst (λ k. is_cut s.geometry w k ≡ true) h.takes.count cut)
+            ∙ ap (λ k. cuts_next w (gathered_with w bytes k) ∷ []) (sym h.takes.count)) h.serves;
         full = full;
         row = row_for payload;
-        rows = sym there.cuts_are ∙ ap (λ cs. cs ++ row_for payload ∷ []) (h.own o.0 o.1 o.2).cuts_are;
+        rows = sym there.cuts_are ∙ ap (λ cs. cs ++ row_for payload ∷ []) (h.own o.w o.found o.is_open).cuts_are;
         size = taken_size ∙ full;
         empty = h.gathers.gathered ∙ ap (λ b. if b then [] else payload) cut;
       }
 
-  pub gathers : is_cut s.geometry w n ≡ false → Gathers old new w v bytes n h.does.added
+  pub gathers : is_cut s.geometry w n ≡ false → Gathers now old new w v bytes n
   gathers cut =
-      let payload : List ℕ = gathered_with w bytes n in
-      let o = put_found s w h.takes.0.0 in
-      let none : h.does.added ≡ [] = none_next cut in
-      let same : new ≡ old = h.does.adds ∙ (ap (with_records old) none ∙ nothing_more old) in
-      let state : t ≡ s = ap state_of same in
-      let found : put_of t w.put ≡ Some o.0 = ap (λ (x : State). put_of x w.put) state ∙ o.1 in
-      let there : IsAtHand t.geometry o.0 v = h.next_own o.0 (ap (put_of t) h.gathers.put ∙ found) o.2 in
+      let o : IsFoundOpen s w.put = open_row s w.put h.takes.taking.0 in
+      let state : t ≡ s = ap state_of (as_it_was cut) in
+      let found : put_of t w.put ≡ Some o.w = ap (λ (x : State). put_of x w.put) state ∙ o.found in
+      let there : IsAtHand t.geometry o.w v = h.next_own o.w (ap (put_of t) h.gathers.put ∙ found) o.is_open in
       record {
         stands = record {
-          writing = ap (λ (x : State). is_writing x w.put) state ∙ h.takes.0.0;
+          writing = ap (λ (x : State). is_writing x w.put) state ∙ h.takes.taking.0;
           geometry = ap (λ (x : State). x.geometry) state;
-          cuts = cuts_found t w.put o.0 found ∙ there.cuts_are;
+          cuts = cuts_found t w.put o.w found ∙ there.cuts_are;
         };
-        short = below (length w.gathered.items + n) s.geometry.fragment cut within.1;
-        rows = sym there.cuts_are ∙ (h.own o.0 o.1 o.2).cuts_are;
+        serves = subst (λ is. Serves now old new is AllDone)
+            (asks_none s w bytes h.takes.taking h.takes.few (subst (λ k. is_cut s.geometry w k ≡ false) h.takes.count cut)) h.serves;
+        short = below (length w.gathered + n) s.geometry.fragment cut within.1;
+        rows = sym there.cuts_are ∙ (h.own o.w o.found o.is_open).cuts_are;
         items = h.gathers.gathered ∙ ap (λ b. if b then [] else payload) cut;
-        nothing = none;
       }
     where
       below : (a b : ℕ) → (a == b) ≡ false → a ≤ b → a < b
@@ -168,7 +253,7 @@ module _ (moment : ℕ) (before : List Call) (after : Device) (old new : Kept) (
 
   -- where bytes are left, a fragment was cut
   pub cut_or_all : n < length bytes → is_cut s.geometry w n ≡ true
-  cut_or_all left = eq-eqb (length w.gathered.items + n) s.geometry.fragment (all s.geometry.fragment (length w.gathered.items) (length bytes) n few h.takes.1 left)
+  cut_or_all left = eq-eqb (length w.gathered + n) s.geometry.fragment (all s.geometry.fragment (length w.gathered) (length bytes) n few h.takes.count left)
     where
       all : (f g len k : ℕ) → g < f → k ≡ min len (f - g) → k < len → g + k ≡ f
       all f g len k few is left = omega (arith, few, is, left)

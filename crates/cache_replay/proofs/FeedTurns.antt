@@ -1,129 +1,125 @@
 -- A writer that is fed, between two writes.
-use Rattle.std.proofs.Common.{◌≡◌, ℕ, ◌+◌, ◌<◌, ◌≤◌, List, ◌++◌, sym, ◌∙◌, ap, subst, arith, true, length, drop, take, ◌-◌, Err}
+use Rattle.std.proofs.Common.{◌≡◌, ℕ, ◌+◌, ◌-◌, ◌<◌, ◌≤◌, List, sym, subst, arith, true, length, drop, take, Err}
 use Rattle.std.specs.Prelude.{Option, Some, None}
-use Rattle.std.proofs.lemmas.List.{append_assoc, drop-drop, length-drop, take_all}
-use Rattle.device_log.specs.Calls.{Call}
-use Rattle.logged_disk.specs.Device.{State as Device}
-use Rattle.logged_disk.specs.declared.device.Disk.{Ghosts as DiskGhosts}
-use Rattle.dir_table.specs.declared.directory.Directory.{Ghosts as DirectoryGhosts}
-use Rattle.cache_chronicle.specs.declared.chronicle.Chronicle.{Ghosts as ChronicleGhosts}
-use Rattle.cache_model.specs.Kept.{Kept}
+use Rattle.std.proofs.lemmas.List.{drop-drop, length-drop, take_all}
 use Rattle.cache_model.specs.Legal.{is_writing}
-use Rattle.stripe_core.specs.declared.stripe.Stripe.{Stripe}
-use Rattle.stripe_core.specs.declared.refusal.Refusal.{Refusal}
-use Rattle.stripe_core.specs.Stripe.{kept_in, seen_in, state_in}
-use Rattle.stripe_core.specs.Between.{Rests}
-use Rattle.stripe_core.proofs.Continuing.{rests_then}
-use Rattle.stripe_write.specs.declared.writer.Writer.{Writer}
-use Rattle.stripe_write.specs.Writers.{IsWriterOf}
-use Rattle.stripe_write.specs.Writes.{SameWriter, WritesAsAsked, WritesWhere}
+use Rattle.call_laws.specs.Moments.{At}
+use Rattle.call_laws.specs.Serves.{Serves}
+use Rattle.cache_calls.specs.declared.calls.Refusal.{Refusal}
+use Rattle.cache_calls.specs.Actors.{IsWriterOf, WriterSeen}
+use Rattle.cache_calls.specs.Adds.{Adds, IsOfPut}
+use Rattle.cache_calls.specs.Asked.{refused_at, write_asks}
+use Rattle.cache_calls.specs.Keeping.{Keeps, state_at}
+use Rattle.cache_calls.specs.Writers.{Writes}
+use Rattle.cache_calls.proofs.Keeping.{keeps_then}
+use Rattle.cache_replay.specs.Feeding.{HasFed}
 use Rattle.cache_replay.proofs.FeedRounds.{Cuts, Wrote, cut_or_all, cuts, few, within}
 use Rattle.cache_replay.proofs.FeedEnds.{Ends, then_ends}
 use Rattle.cache_replay.proofs.FeedWhole.{last_ends}
 use Rattle.cache_replay.proofs.FeedRefused.{refused_ends}
 
--- however it ends with what is left, so it ends with all
-abbrev pub Onward : (moment : ℕ) (before mid : List Call) (old now : Kept) (w v : Writer) (bytes : List ℕ) (taken : ℕ) → Type 0
-Onward moment before mid old now w v bytes taken =
-    (after : Device) (new : Kept) (end : Writer) (more : ℕ) (why : Option Refusal) (made : List Call) → after.past ≡ made ++ mid
-    → Ends moment mid after now new v end (drop taken bytes) more why → Ends moment before after old new w end bytes (taken + more) why
+-- what is left, as the code names it
+abbrev pub part : List ℕ → ℕ → List ℕ
+part bytes taken = take (length bytes - taken) (drop taken bytes)
 
-pub record Turned {D R C : Type 0} {d : DiskGhosts D} {r : DirectoryGhosts R} {c : ChronicleGhosts C} (moment : ℕ) (first now : Stripe D R C d r c) (w v : Writer) (bytes : List ℕ) (taken : ℕ) : Type 0 where
-  pub rests : Rests first now
-  pub writer : IsWriterOf (state_in now) v
-  pub writing : is_writing (state_in now) v.put ≡ true
-  pub within : taken ≤ length bytes
-  pub onward : Onward moment (seen_in first).device.past (seen_in now).device.past (kept_in first) (kept_in now) w v bytes taken
+-- however it ends with what is left, so it ends with all
+abbrev pub Onward : (now : ℕ) (old mid : At) (w v : WriterSeen) (bytes : List ℕ) (taken : ℕ) → Type 0
+Onward now old mid w v bytes taken =
+    (new : At) (end : WriterSeen) (more : ℕ) (why : Option Refusal) → Ends now mid new v end (drop taken bytes) more why → Ends now old new w end bytes (taken + more) why
 
 -- a write that left bytes over
-pub one_more : (moment : ℕ) (before mid : List Call) (next : Device) (old now then_ : Kept) (w v u : Writer) (bytes : List ℕ) (taken n : ℕ) (made : List Call) → next.past ≡ made ++ mid → n < length (drop taken bytes)
-    → Wrote moment mid next now then_ v u (drop taken bytes) n → Onward moment before mid old now w v bytes taken → Onward moment before next.past old then_ w u bytes (taken + n)
-one_more moment before mid next old now then_ w v u bytes taken n made earlier left h onward = λ after new end more why further later ends.
-    let cut = cut_or_all moment mid next now then_ v u (drop taken bytes) n h left in
-    let rest : Ends moment next.past after then_ new u end (drop n (drop taken bytes)) more why =
-    subst (λ xs. Ends moment next.past after then_ new u end xs more why) (sym (drop-drop n taken bytes)) ends in
-    subst (λ m. Ends moment before after old new w end bytes m why) (sum taken n more)
-    (onward after new end (n + more) why (further ++ made) (later ∙ (ap (λ calls. further ++ calls) earlier ∙ sym (append_assoc further made mid)))
-    (then_ends moment mid next after now then_ new v u end (drop taken bytes) n h (cuts moment mid next now then_ v u (drop taken bytes) n h cut) cut made further earlier later more why rest))
+one_more : (now : ℕ) (old mid next : At) (w v u : WriterSeen) (bytes : List ℕ) (taken n : ℕ) → n < length (drop taken bytes) → Wrote now mid next v u (drop taken bytes) n
+    → Onward now old mid w v bytes taken → Onward now old next w u bytes (taken + n)
+one_more now old mid next w v u bytes taken n left h onward = λ new end more why ends.
+    let rest : Ends now next new u end (drop n (drop taken bytes)) more why = subst (λ xs. Ends now next new u end xs more why) (sym (drop-drop n taken bytes)) ends in
+    subst (λ m. Ends now old new w end bytes m why) (sum taken n more)
+    (onward new end (n + more) why
+    (then_ends now mid next new v u end (drop taken bytes) n h
+    (cuts now mid next v u (drop taken bytes) n h (cut_or_all now mid next v u (drop taken bytes) n h left)) more why rest))
   where
     sum : (a b c : ℕ) → a + (b + c) ≡ (a + b) + c
     sum a b c = omega arith
 
--- ---- a stripe between two writes
+-- the first cache, and the one behind the writes so far
+pub record Turned {S : Type 0} (at : S → At) (holds : S → Type 0) (now : ℕ) (first mid : S) (w v : WriterSeen) (bytes : List ℕ) (taken : ℕ) : Type 0 where
+  pub keeps : Keeps at holds first mid
+  pub writer : IsWriterOf (state_at (at mid)) v
+  pub writing : is_writing (state_at (at mid)) v.put ≡ true
+  pub within : taken ≤ length bytes
+  pub onward : Onward now (at first) (at mid) w v bytes taken
 
-module _ {D R C : Type 0} {d : DiskGhosts D} {r : DirectoryGhosts R} {c : ChronicleGhosts C} (moment : ℕ) (first now next : Stripe D R C d r c) (w v u : Writer) (bytes : List ℕ) (taken : ℕ)
-    (turned : Turned moment first now w v bytes taken) where
-  abbrev before : List Call
-  before = (seen_in first).device.past
+-- what is known at the end
+pub fed_at : (now : ℕ) (old new : At) (w v : WriterSeen) (bytes : List ℕ) (taken : ℕ) (why : Option Refusal) → Ends now old new w v bytes taken why → taken ≤ length bytes
+    → IsWriterOf (state_at new) v → HasFed old new w bytes taken why v
+fed_at now old new w v bytes taken why ends most own = record {
+  own = ends.own;
+  writer = own;
+  fed = ends.fed;
+  most = most;
+  taken_is = ends.takes;
+  cut = ends.cut;
+  writing = ends.writing;
+  counts = ends.counts;
+}
 
-  abbrev mid : List Call
-  mid = (seen_in now).device.past
-
-  abbrev after : Device
-  after = (seen_in next).device
-
+module _ {S : Type 0} (at : S → At) (holds : S → Type 0) (now : ℕ) (first mid next : S) (w v u : WriterSeen) (bytes : List ℕ) (taken : ℕ)
+    (turned : Turned at holds now first mid w v bytes taken) where
   abbrev left : List ℕ
   left = drop taken bytes
 
-  abbrev Writes : ℕ → Type 0
-  Writes n = Wrote moment mid after (kept_in now) (kept_in next) v u left n
-
-  -- what is left, as the code names it
-  abbrev part : List ℕ
-  part = take (length bytes - taken) (drop taken bytes)
-
-  part_is : part ≡ left
+  part_is : part bytes taken ≡ left
   part_is = let cut : length left ≡ length bytes - taken = length-drop taken bytes in take_all (length bytes - taken) left (omega (arith, cut))
-
-  pub wrote : (n : ℕ) → Wrote moment mid after (kept_in now) (kept_in next) v u part n → Writes n
-  wrote n h = subst (λ xs. Wrote moment mid after (kept_in now) (kept_in next) v u xs n) part_is h
 
   left_size : length left + taken ≡ length bytes
   left_size = let cut : length left ≡ length bytes - taken = length-drop taken bytes in let in_time : taken ≤ length bytes = turned.within in omega (arith, cut, in_time)
 
-  -- what a write takes is no more than what is left, and something where it leaves some
-  pub bounds : (n : ℕ) → Writes n → taken + n ≤ length bytes
-  bounds n h = let most : n ≤ length left = (within moment mid after (kept_in now) (kept_in next) v u left n h).0 in omega (arith, most, left_size)
-
-  leaves_some : (n : ℕ) → Writes n → (taken + n ≡ length bytes → ⊥) → n < length left
-  leaves_some n h other = below n taken (length bytes) (length left) (bounds n h) other left_size
-    where
-      below : (k m b c : ℕ) → m + k ≤ b → (m + k ≡ b → ⊥) → c + m ≡ b → k < c
-      below k m b c le ne sum = omega (arith, le, ne, sum)
-
-  pub some_taken : (n : ℕ) → Writes n → (taken + n ≡ length bytes → ⊥) → 0 < n
-  some_taken n h other =
-      let cut = cut_or_all moment mid after (kept_in now) (kept_in next) v u left n h (leaves_some n h other) in
-      let full = (cuts moment mid after (kept_in now) (kept_in next) v u left n h cut).full in
-      let less = few moment mid after (kept_in now) (kept_in next) v u left n h in
-      omega (arith, full, less)
-
-  pub all_ends : (n : ℕ) → Writes n → taken + n ≡ length bytes → (made : List Call) → after.past ≡ made ++ mid → Ends moment before after (kept_in first) (kept_in next) w u bytes (taken + n) None
-  all_ends n h whole made later =
-      turned.onward after (kept_in next) u n None made later
-      (last_ends moment mid after (kept_in now) (kept_in next) v u left n h (omega (arith, whole, left_size)))
-
-  pub fails_ends : (why : Refusal) → WritesWhere (state_in now) v part (Err why) → WritesAsAsked moment (kept_in now) (kept_in next) mid after v part (Err why)
-      → SameWriter v u → (made : List Call) → after.past ≡ made ++ mid → Ends moment before after (kept_in first) (kept_in next) w u bytes taken (Some why)
-  fails_ends why where_ does same made later =
-      subst (λ m. Ends moment before after (kept_in first) (kept_in next) w u bytes m (Some why)) (no_more taken)
-      (turned.onward after (kept_in next) u 0 (Some why) made later
-      (refused_ends moment mid after (kept_in now) (kept_in next) v u left turned.writer turned.writing same why
-      (subst (λ xs. WritesWhere (state_in now) v xs (Err why)) part_is where_)
-      (subst (λ xs. WritesAsAsked moment (kept_in now) (kept_in next) mid after v xs (Err why)) part_is does)))
+  pub refuses : (why : Refusal) → Writes (at mid) (at next) v (part bytes taken) (Err why)
+      → Serves now (at mid) (at next) (write_asks (state_at (at mid)) v (part bytes taken)) (refused_at v.put (write_asks (state_at (at mid)) v (part bytes taken)) why)
+      → Adds (IsOfPut v.put) (at mid) (at next) → u ≡ v → Ends now (at first) (at next) w u bytes taken (Some why)
+  refuses why gives serves adds same =
+      subst (λ m. Ends now (at first) (at next) w u bytes m (Some why)) (no_more taken)
+      (turned.onward (at next) u 0 (Some why)
+      (subst (λ x. Ends now (at mid) (at next) v x left 0 (Some why)) (sym same)
+      (refused_ends now (at mid) (at next) v left turned.writer turned.writing why
+      (subst (λ xs. Writes (at mid) (at next) v xs (Err why)) part_is gives)
+      (subst (λ xs. Serves now (at mid) (at next) (write_asks (state_at (at mid)) v xs) (refused_at v.put (write_asks (state_at (at mid)) v xs) why)) part_is serves) adds)))
     where
       no_more : (k : ℕ) → k + 0 ≡ k
       no_more k = omega arith
 
-  pub goes_on : (n : ℕ) → Writes n → (taken + n ≡ length bytes → ⊥) → Rests now next → Turned moment first next w u bytes (taken + n)
-  goes_on n h other rests =
-      let some : n < length left = leaves_some n h other in
-      let cut = cut_or_all moment mid after (kept_in now) (kept_in next) v u left n h some in
-      let c : Cuts (kept_in now) (kept_in next) v u n = cuts moment mid after (kept_in now) (kept_in next) v u left n h cut in
-      record {
-        rests = rests_then first now next turned.rests rests;
-        writer = h.next_own;
-        writing = subst (λ q. is_writing (state_in next) q ≡ true) (sym h.gathers.put) c.stands.writing;
-        within = bounds n h;
-        onward = one_more moment before mid after (kept_in first) (kept_in now) (kept_in next) w v u bytes taken n rests.between.goes.made rests.between.goes.past some h turned.onward;
-      }
+  module _ (n : ℕ) (told : Wrote now (at mid) (at next) v u (part bytes taken) n) where
+    h : Wrote now (at mid) (at next) v u left n
+    h = subst (λ xs. Wrote now (at mid) (at next) v u xs n) part_is told
+
+    -- what a write takes is no more than what is left, and something where it leaves some
+    pub bounds : taken + n ≤ length bytes
+    bounds = let most : n ≤ length left = (within now (at mid) (at next) v u left n h).0 in omega (arith, most, left_size)
+
+    leaves_some : (taken + n ≡ length bytes → ⊥) → n < length left
+    leaves_some other = below n taken (length bytes) (length left) bounds other left_size
+      where
+        below : (k m b c : ℕ) → m + k ≤ b → (m + k ≡ b → ⊥) → c + m ≡ b → k < c
+        below k m b c le ne sum = omega (arith, le, ne, sum)
+
+    cut_some : (taken + n ≡ length bytes → ⊥) → Cuts now (at mid) (at next) v u left n
+    cut_some other = cuts now (at mid) (at next) v u left n h (cut_or_all now (at mid) (at next) v u left n h (leaves_some other))
+
+    -- so less is left each time
+    pub smaller : (taken + n ≡ length bytes → ⊥) → length bytes - (taken + n) < length bytes - taken
+    smaller other =
+        let full = (cut_some other).full in
+        let less = few now (at mid) (at next) v u left n h in
+        let le = bounds in
+        omega (arith, full, less, le)
+
+    pub all_ends : taken + n ≡ length bytes → Ends now (at first) (at next) w u bytes (taken + n) None
+    all_ends whole = turned.onward (at next) u n None (last_ends now (at mid) (at next) v u left n h (omega (arith, whole, left_size)))
+
+    pub goes_on : (taken + n ≡ length bytes → ⊥) → Keeps at holds mid next → Turned at holds now first next w u bytes (taken + n)
+    goes_on other keeps = record {
+      keeps = keeps_then turned.keeps keeps;
+      writer = h.next_own;
+      writing = subst (λ q. is_writing (state_at (at next)) q ≡ true) (sym h.gathers.put) (cut_some other).stands.writing;
+      within = bounds;
+      onward = one_more now (at first) (at mid) (at next) w v u bytes taken n (leaves_some other) h turned.onward;
+    }

@@ -1,41 +1,45 @@
-mod Unsynced
-mod Shown
+mod ActorLines
+mod ActorReads
+mod ActorWriters
+mod Beginnings
+mod Closings
 mod Counts
-mod Outlines
-pub mod Saying
-pub mod Unharming
-mod Calls
-mod Frames
+mod CutBodies
 mod Dispatch
+mod DoneLine
+mod Endings
+mod Fed
+mod FeedEnds
+mod FeedRefused
+mod FeedRounds
+mod FeedTurns
+mod FeedWhole
+mod Formats
+mod Frames
+mod Free
+mod GivingBack
+mod NextLine
+mod OnPart
+mod OnSession
+mod OpenLine
+mod Openings
+pub mod Order
+mod OtherNext
+mod Outlines
+mod Owned
 mod Plain
 mod PlainTurns
-mod OnSession
-mod Formats
-pub mod Order
-pub mod ReaderFrames
-pub mod ReaderLines
-mod OtherNext
-mod OnPart
-mod DoneLine
-mod NextLine
-mod OpenLine
-mod CutBodies
-mod FeedRounds
-mod FeedEnds
-mod FeedWhole
-mod FeedRefused
-mod FeedTurns
-mod Lines
-mod WriterSteps
-mod Fed
-mod Endings
-mod Closings
-mod Openings
-mod WholeReads
-mod WholeGets
-mod WholeLines
 mod PutEnds
 mod PutLine
-mod PutWhole
 mod PutOpens
+mod PutWhole
+mod ReaderLines
+mod ReadsOn
+pub mod Unharming
+mod Unsynced
+mod Whole
+mod WholeGets
+mod WholeLines
+mod WholeReads
 mod Witnesses
+mod WriterSteps

@@ -1,107 +1,133 @@
 -- A line on a part and its actors, as a line on a session.
-use Rattle.std.proofs.Common.{◌≡◌, ◌≤◌, inl, inr, refl, sym, ◌∙◌, subst, Result, Ok, Err}
-use Rattle.std.specs.Prelude.{Some, None, IfErr, IfOk}
-use Rattle.logged_disk.specs.Device.{IsAfter}
-use Rattle.logged_disk.specs.declared.device.Disk.{Ghosts as DiskGhosts}
-use Rattle.dir_table.specs.declared.directory.Directory.{Ghosts as DirectoryGhosts}
-use Rattle.cache_chronicle.specs.declared.chronicle.Chronicle.{Ghosts as ChronicleGhosts}
+use Rattle.std.proofs.Common.{◌≡◌, ◌++◌, inl, inr, refl, sym, ◌∙◌, ap, subst, length, Result, Ok, Err}
+use Rattle.std.specs.Prelude.{Some, IfErr, IfOk}
 use Rattle.cache_model.specs.State.{State, after_all}
-use Rattle.stripe_core.specs.Stripe.{seen_in, state_in}
-use Rattle.stripe_core.specs.Between.{Between}
-use Rattle.stripe_core.specs.Covers.{calls_since}
+use Rattle.cache_calls.specs.declared.calls.Calls.{Ghosts as CallsGhosts}
+use Rattle.cache_calls.specs.Keeping.{Goes, IsUnharmed, StaysUnharmed}
+use Rattle.actor_table.specs.Table.{Seen}
 use Rattle.script_lang.specs.declared.step.Step.{Step}
+use Rattle.script_lang.specs.declared.step.Step.TheVariants as step
 use Rattle.script_lang.specs.declared.answer.StepAnswer.{StepAnswer}
 use Rattle.script_run.specs.Run.{Run}
 use Rattle.script_run.specs.Turn.{Turn}
 use Rattle.script_run.specs.Answers.{session_said, step_said}
 use Rattle.script_run.specs.Behind as then
 use Rattle.script_run.specs.Behind.{in_session}
-use Rattle.script_run.specs.Takes.{SessionTakes, Takes}
-use Rattle.cache_replay.specs.declared.session.Session.{Session}
+use Rattle.script_run.specs.Takes.{SessionTakes, StepShows, Takes}
+use Rattle.cache_replay.specs.declared.session.Holding.{Holding}
 use Rattle.cache_replay.specs.declared.session.Part.{Part}
+use Rattle.cache_replay.specs.declared.session.Session.{Session}
 use Rattle.cache_replay.specs.declared.stop.Stop.{Stop}
 use Rattle.cache_replay.specs.declared.stop.Stop.TheVariants.{Memory}
-use Rattle.cache_replay.specs.Session.{AreLater, past_of, return_of, slots_in}
-use Rattle.cache_replay.specs.Plays.{PartEnds, Plays, PlaysAt, PlaysPart, StepEnds, StepMoves}
+use Rattle.cache_replay.specs.Session.{AreLater, IsActive, IsAt, IsSession, at_in, past_of, return_of, slots_in, state_in}
+use Rattle.cache_replay.specs.Moves.{ShowsIn}
+use Rattle.cache_replay.specs.Plays.{CallsAt, IsUnharmedAt, PartEnds, PartMoves, Plays, PlaysAt, PlaysPart, StepEnds, StepMoves, StepPair}
+use Rattle.cache_replay.specs.OneLine.{AnswersActor, AnswersLine}
+use Rattle.run_promise.specs.Needs.{NeedsSession}
 use Rattle.cache_replay.specs.Stop.{IsSessionStop}
-use Rattle.cache_replay.proofs.OnSession.{IsOnSession, shows_step}
-use Rattle.cache_replay.proofs.Unharming.{session_calls, session_unharmed}
 
-module _ {D R C : Type 0} {d : DiskGhosts D} {r : DirectoryGhosts R} {c : ChronicleGhosts C} where
-  pub part_plays : (run : Run) (session : Session D R C d r c) (part : Part D R C d r c) → session.part ≡ Some part → Plays run session → PlaysPart run part session.actors
-  part_plays run session part is plays = record { names = plays.names; at = subst (λ o. PlaysAt run o (slots_in session)) is plays.at }
+-- ---- lines that need a session
 
-  -- ---- a line that ended well
+-- where there is one a line is as its records say
+pub record IsOnSession (step : Step) : Type 0 where
+  pub takes : (run : Run) (s : State) (turn : Turn) → SessionTakes run s turn step → Takes run turn (Some s) step
+  pub says : (run : Run) (s : State) (turn : Turn) → step_said run turn (Some s) step ≡ session_said run s (after_all s turn.added) turn step
+  pub behind : (run : Run) (s : State) (turn : Turn) → then.behind run turn (Some s) step ≡ in_session run s (after_all s turn.added) turn step
 
-  -- it did what it must, and no more pieces were told as damaged
-  pub line_moved : (run : Run) (old new : Session D R C d r c) (before after : Part D R C d r c) (step : Step) (said : StepAnswer) (turn : Turn) → IsOnSession step
-      → old.part ≡ Some before → new.part ≡ Some after → new.now ≡ old.now → Plays run old → Between before.stripe after.stripe
-      → SessionTakes run (state_in before.stripe) turn step
-      → turn.device.events ≡ calls_since (past_of before) (past_of after)
-      → PlaysPart (in_session run (state_in before.stripe) (after_all (state_in before.stripe) turn.added) turn step) after new.actors
-      → session_said run (state_in before.stripe) (after_all (state_in before.stripe) turn.added) turn step ≡ said
-      → StepMoves run step new said
-  line_moved run old new before after step said turn on was is kept plays stays takes calls there says =
-      let s : State = state_in before.stripe in
-      let later : Run = in_session run s (after_all s turn.added) turn step in
-      let state : run.state ≡ Some s = (part_plays run old before was plays).at.state in
-      record {
-        turn = turn;
-        takes = subst (λ o. Takes run turn o step) (sym state) (on.takes run s turn takes);
-        plays = subst (λ o. Plays (then.behind run turn o step) new) (sym state)
-            (subst (λ r. Plays r new) (sym (on.behind run s turn))
-            (record {
-              names = there.names;
-              now = plays.now ∙ sym kept;
-              at = subst (λ o. PlaysAt later o (slots_in new)) (sym is) there.at;
-              unharmed = session_unharmed old new before after was is stays plays.unharmed;
-              calls = session_calls run later old new before after turn.device.events was is stays.goes calls refl plays.calls;
-            }));
-        says = subst (λ o. step_said run turn o step ≡ said) (sym state) (on.says run s turn ∙ says);
-      }
+pub on_session : (step : Step) → NeedsSession step → IsOnSession step
+on_session (step.Format name segments buckets content agg reach fragment generation alternates) needs = absurd needs
+on_session (step.Now moment) needs = absurd needs
+on_session _ needs = record { takes = λ run s turn h. h; says = λ run s turn. refl; behind = λ run s turn. refl }
 
-  line_ends : (run : Run) (old new : Session D R C d r c) (before after : Part D R C d r c) (step : Step) (said : StepAnswer) → IsOnSession step → old.part ≡ Some before → new.part ≡ Some after → new.now ≡ old.now → Plays run old
-      → Between before.stripe after.stripe
-      → PartEnds run before step after new.actors said → StepEnds run step new said
-  line_ends run old new before after step said on was is kept plays stays (inr shown) = inr (shows_step run old new before after step was is stays.goes plays shown)
-  line_ends run old new before after step said on was is kept plays stays (inl m) = inl (line_moved run old new before after step said m.turn on was is kept plays stays m.takes m.calls m.plays m.says)
+module _ {S W R : Type 0} {c : CallsGhosts S W R} where
+  -- ---- a session that has a part
 
-  -- whatever it answers
-  pub line_answers : (old new : Session D R C d r c) (before after : Part D R C d r c) (step : Step) (result : Result StepAnswer Stop) → IsOnSession step → old.part ≡ Some before → new.part ≡ Some after → new.now ≡ old.now
-      → ((run : Run) → PlaysPart run before old.actors → Between before.stripe after.stripe)
-      → IfOk result (λ said. (run : Run) → PlaysPart run before old.actors → PartEnds run before step after new.actors said)
-      → IfOk result (λ said. (run : Run) → Plays run old → StepEnds run step new said)
-  line_answers old new before after step (Ok said) on was is kept stays ends = λ run plays.
-      let there = part_plays run old before was plays in
-      line_ends run old new before after step said on was is kept plays (stays run there) (ends run there)
-  line_answers old new before after step (Err why) on was is kept stays ends = tt
+  pub active : (session : Session S W R c) (part : Part S W R c) → session.part ≡ Some part → IsSession session → IsActive part (slots_in session)
+  active session part is h = subst (λ p. IsAt p (slots_in session)) is h
 
-  -- one that does so at the session's moment
-  pub moment_answers : (old new : Session D R C d r c) (before after : Part D R C d r c) (step : Step) (result : Result StepAnswer Stop) → IsOnSession step → old.part ≡ Some before → new.part ≡ Some after → new.now ≡ old.now
-      → Between before.stripe after.stripe
-      → IfOk result (λ said. (run : Run) → run.now ≡ old.now → PlaysPart run before old.actors → PartEnds run before step after new.actors said)
-      → IfOk result (λ said. (run : Run) → Plays run old → StepEnds run step new said)
-  moment_answers old new before after step (Ok said) on was is kept stays ends = λ run plays.
-      line_ends run old new before after step said on was is kept plays stays (ends run plays.now (part_plays run old before was plays))
-  moment_answers old new before after step (Err why) on was is kept stays ends = tt
+  pub part_plays : (run : Run) (session : Session S W R c) (part : Part S W R c) → session.part ≡ Some part → Plays run session → PlaysPart run part session.actors
+  part_plays run session part is plays = record { names = plays.names; at = subst (λ p. PlaysAt run p (slots_in session)) is plays.at }
 
-  -- ---- the device of a session
+  part_unharmed : (session : Session S W R c) (part : Part S W R c) → session.part ≡ Some part → IsUnharmedAt session.part → IsUnharmed (at_in part)
+  part_unharmed session part is h = subst (λ p. IsUnharmedAt p) is h
 
-  -- it goes on behind a call on its part
-  pub line_device : (old : Session D R C d r c) (before after : Part D R C d r c) → old.part ≡ Some before
-      → (seen_in before.stripe).device.faults ≤ (seen_in after.stripe).device.faults
-      → IsAfter (seen_in before.stripe).device (seen_in after.stripe).device
-      → AreLater (return_of old.part) (return_of (Some after))
-  line_device old before after was more goes =
-      subst (λ o. AreLater (return_of o) (return_of (Some after))) (sym was) (record { faults = more; goes = goes }, tt)
+  part_calls : (run : Run) (session : Session S W R c) (part : Part S W R c) → session.part ≡ Some part → CallsAt run session.part → past_of part ≡ run.calls
+  part_calls run session part is h = subst (λ p. CallsAt run p) is h
 
-  -- and stays where there is none
-  pub no_device : (old : Session D R C d r c) → old.part ≡ None → AreLater (return_of old.part) (return_of old.part)
-  no_device old none = subst (λ o. AreLater (return_of o) (return_of o)) (sym none) tt
+  -- ---- a line on it
 
-  -- ---- a line that ended the run
+  module _ (session : Session S W R c) (before after : Part S W R c) (actors : Seen (Holding W R)) (was : session.part ≡ Some before) where
+    -- the session behind it
+    abbrev behind_it : Session S W R c
+    behind_it = record session { part = Some after; actors = actors }
 
-  -- only memory was wanting
-  pub line_stops : (session : Session D R C d r c) (result : Result StepAnswer Stop) → IfErr result (λ why. why ≡ Memory) → IfErr result (IsSessionStop session)
-  line_stops session (Ok said) wanting = tt
-  line_stops session (Err why) wanting = subst (IsSessionStop session) (sym wanting) tt
+    -- it did what it must, and no more pieces were told as damaged
+    moved : (run : Run) (step : Step) (said : StepAnswer) → NeedsSession step → Plays run session → StaysUnharmed (at_in before) (at_in after)
+        → PartMoves run step before after actors said → StepMoves run step behind_it said
+    moved run step said needs plays stays m =
+        let s : State = state_in before in
+        let turn : Turn = m.moves.turn in
+        let on = on_session step needs in
+        let state : run.state ≡ Some s = (part_plays run session before was plays).at.state in
+        let later : then.behind run turn (Some s) step ≡ in_session run s (state_in after) turn step =
+        on.behind run s turn ∙ ap (λ t. in_session run s t turn step) (sym m.moves.state) in
+        record {
+          turn = turn;
+          takes = subst (λ o. Takes run turn o step) (sym state) (on.takes run s turn m.moves.takes);
+          plays = subst (λ o. Plays (then.behind run turn o step) behind_it) (sym state)
+              (subst (λ r. Plays r behind_it) (sym later) (record {
+                names = m.plays.names;
+                now = plays.now;
+                at = m.plays.at;
+                unharmed = stays (part_unharmed session before was plays.unharmed);
+                calls = m.moves.calls ∙ ap (λ older. turn.device.events ++ older) (part_calls run session before was plays.calls);
+              }));
+          says = subst (λ o. step_said run turn o step ≡ said) (sym state)
+              (on.says run s turn ∙ (ap (λ t. session_said run s t turn step) (sym m.moves.state) ∙ m.moves.says));
+        }
+
+    -- or it showed a pair
+    pub shown : (run : Run) (step : Step) → Plays run session → ShowsIn run step (at_in before) (at_in after) → StepPair run step behind_it
+    shown run step plays h = record {
+      turn = h.turn;
+      shows = subst (λ o. StepShows run h.turn o step) (sym (part_plays run session before was plays).at.state) h.shows;
+      calls = h.calls ∙ ap (λ older. h.turn.device.events ++ older) (part_calls run session before was plays.calls);
+    }
+
+    pub part_ends : (run : Run) (step : Step) (said : StepAnswer) → NeedsSession step → Plays run session → StaysUnharmed (at_in before) (at_in after)
+        → PartEnds run step before after actors said → StepEnds run step behind_it said
+    part_ends run step said needs plays stays (inl m) = inl (moved run step said needs plays stays m)
+    part_ends run step said needs plays stays (inr h) = inr (shown run step plays h)
+
+    -- its device goes on
+    pub device_goes : Goes c.at c.holds before.cache after.cache → AreLater (return_of session.part) (return_of (Some after))
+    device_goes goes = subst (λ o. AreLater (return_of o) (return_of (Some after))) (sym was) (record { faults = goes.later; goes = goes.goes }, tt)
+
+    -- a session with a part has one device
+    pub same_devices : length (return_of behind_it.part) ≡ length (return_of session.part)
+    same_devices = sym (ap (λ o. length (return_of o)) was)
+
+    -- only memory was wanting
+    pub wanting_stops : (result : Result StepAnswer Stop) → IfErr result (λ why. why ≡ Memory) → IfErr result (IsSessionStop session)
+    wanting_stops (Ok said) wanting = tt
+    wanting_stops (Err why) wanting = subst (IsSessionStop session) (sym wanting) tt
+
+    actor_ends : (step : Step) (result : Result StepAnswer Stop) → NeedsSession step → AnswersActor session.now step before after session.actors actors result
+        → IfOk result (λ said. (run : Run) → Plays run session → StepEnds run step behind_it said)
+    actor_ends step (Ok said) needs h = λ run plays.
+        let there = part_plays run session before was plays in
+        part_ends run step said needs plays (h.unharmed run there) (h.ends run plays.now there)
+    actor_ends step (Err why) needs h = tt
+
+    -- a line of an actor
+    pub actor_line : (step : Step) (result : Result StepAnswer Stop) → NeedsSession step → AnswersActor session.now step before after session.actors actors result
+        → AnswersLine step session behind_it result
+    actor_line step result needs h = record {
+      session = h.active;
+      ends = actor_ends step result needs h;
+      counts = h.counts;
+      device = device_goes h.goes;
+      stop = wanting_stops result h.stop;
+      devices = same_devices;
+      names = h.names;
+    }

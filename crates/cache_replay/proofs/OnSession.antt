@@ -1,247 +1,185 @@
--- A call of a stripe as a line on a session.
-use Rattle.std.proofs.Common.{◌≡◌, ℕ, List, ◌++◌, refl, sym, ◌∙◌, ap, subst, ◌⊎◌, inl, inr, true, Result, Ok, Err}
-use Rattle.std.specs.Prelude.{Option, Some, None, IfSome, IfOk, option_and_then}
-use Rattle.logged_disk.specs.Device.{IsAfter}
-use Rattle.logged_disk.specs.declared.device.Disk.{Ghosts as DiskGhosts}
-use Rattle.dir_table.specs.declared.directory.Directory.{Ghosts as DirectoryGhosts}
-use Rattle.cache_chronicle.specs.declared.chronicle.Chronicle.{Ghosts as ChronicleGhosts}
-use Rattle.device_log.specs.Calls.{Call}
+-- A line without an actor, as a line on a session.
+use Rattle.std.proofs.Common.{◌≡◌, ℕ, List, refl, sym, ◌∙◌, ap, subst, ◌⊎◌, inl, inr, Bool, true, false, arith, Result, Ok, Err}
+use Rattle.std.specs.Prelude.{Option, Some, None, IfSome, IfOk, ◌==◌, if◌then◌else◌, option_and_then}
+use Rattle.std.proofs.lemmas.Bool.{eqb-true}
 use Rattle.tape_base.specs.declared.keys.Key.{Key}
-use Rattle.cache_model.specs.State.{State, after_all}
-use Rattle.cache_model.specs.Legal.{IsQuiet, is_writing}
-use Rattle.cache_model.specs.Tape.{IsSound}
+use Rattle.alternate_vector.specs.Field.{Field}
+use Rattle.actor_table.specs.Table.{number_of}
+use Rattle.cache_model.specs.State.{State}
+use Rattle.cache_model.specs.Legal.{is_writing}
 use Rattle.cache_model.specs.Vectors.{AreTold}
-use Rattle.model_laws.specs.VectorLaws.{StepsTell}
-use Rattle.stripe_core.specs.Stripe.{seen_in, state_in}
-use Rattle.stripe_core.specs.Between.{Between}
-use Rattle.stripe_core.specs.Covers.{calls_since}
+use Rattle.model_laws.proofs.ToldGroups.{told_step}
+use Rattle.cache_calls.specs.declared.calls.Calls.{Ghosts as CallsGhosts}
 use Rattle.script_lang.specs.declared.step.Step.{Step}
 use Rattle.script_lang.specs.declared.step.Step.TheVariants as step
 use Rattle.script_lang.specs.declared.answer.StepAnswer.{StepAnswer}
-use Rattle.script_run.specs.Run.{Run, put_in}
+use Rattle.script_run.specs.Run.{Run, Stream, actor_of, put_in}
 use Rattle.script_run.specs.Asked.{asked}
 use Rattle.script_run.specs.Turn.{Turn}
-use Rattle.script_run.specs.Answers.{session_said, step_said}
-use Rattle.script_run.specs.Behind as then
-use Rattle.script_run.specs.Behind.{in_session, streams_behind}
+use Rattle.script_run.specs.Behind.{in_session, streams_behind, with_bytes}
 use Rattle.script_run.specs.Own.{AreOwn, AreWriting}
-use Rattle.script_run.specs.Takes.{SessionTakes, StepShows, Takes, streams_with}
-use Rattle.script_run.specs.Laws.{StepsOwn}
-use Rattle.cache_replay.specs.declared.session.Session.{Session}
+use Rattle.script_run.specs.Takes.{streams_with}
 use Rattle.cache_replay.specs.declared.session.Part.{Part}
-use Rattle.cache_replay.specs.declared.session.Holding.{Holding}
+use Rattle.cache_replay.specs.declared.session.Session.{Session}
 use Rattle.cache_replay.specs.declared.stop.Stop.{Stop}
-use Rattle.cache_replay.specs.declared.session.Holding.TheVariants as holding
-use Rattle.cache_replay.specs.Session.{AreHeld, IsActive, IsAt, IsHeld, IsPart, IsSession, LeavesBut, names_in, past_of, slots_in}
-use Rattle.cache_replay.specs.Plays.{IsHeldAs, Plays, PlaysAt, PlaysIn, StepEnds, StepMoves, StepPair}
-use Rattle.cache_replay.specs.Plain.{Plainly}
-use Rattle.cache_replay.specs.Outline.{called}
-use Rattle.cache_replay.specs.Shown.{ShowsIn}
-use Rattle.cache_replay.proofs.Shown.{shows_placed}
-use Rattle.cache_replay.specs.Stop.{NeedsSession}
-use Rattle.cache_replay.proofs.Frames.{some_is}
-use Rattle.cache_replay.proofs.Plain.{none_else, still_held, still_plays}
-use Rattle.cache_replay.proofs.Unharming.{session_calls, session_unharmed}
+use Rattle.cache_replay.specs.Session.{AreHeld, HoldingSeen, IsActive, IsHeld, IsPart, IsSession, ReaderHeld, WriterHeld, at_in, slots_in, state_in}
+use Rattle.cache_replay.specs.Moves.{Moves, MovesOrShows, ShowsIn}
+use Rattle.cache_replay.specs.Plays.{IsHeldAs, PartEnds, Plays, PlaysIn, PlaysPart, StepEnds}
+use Rattle.cache_replay.specs.OneLine.{AnswersLine, AnswersPlainly}
+use Rattle.run_promise.specs.Needs.{NeedsSession}
+use Rattle.cache_replay.proofs.Frames.{SameStreams, some_is}
+use Rattle.cache_replay.proofs.Free.{none_reads_next, none_writes_next}
+use Rattle.cache_replay.proofs.OnPart.{active, device_goes, part_ends, part_plays, same_devices, shown, wanting_stops}
+use Rattle.cache_replay.proofs.Owned.{own_stays}
+use Rattle.cache_replay.proofs.Plain.{AllElse, none_else, still_held, still_plays}
+use Rattle.cache_replay.proofs.Whole.{shows_placed}
 
 -- ---- each put that an actor writes is open
 
-writes_at : (run : Run) (s : State) (n put : ℕ) (o : Option Holding) → IsHeldAs run s n o → IfSome o (IsHeld s) → option_and_then put_in (run.held n) ≡ Some put → is_writing s put ≡ true
+writes_at : (run : Run) (s : State) (n put : ℕ) (o : Option HoldingSeen) → IsHeldAs run s n o → IfSome o (IsHeld s) → option_and_then put_in (run.held n) ≡ Some put
+    → is_writing s put ≡ true
 writes_at run s n put None holds held is = let no : None ≡ Some put = ap (option_and_then put_in) (sym holds) ∙ is in cc no
-writes_at run s n put (Some (holding.Writer w)) holds held is =
+writes_at run s n put (Some (WriterHeld w)) holds held is =
     let e : Some w.put ≡ Some put = ap (option_and_then put_in) (sym holds.0) ∙ is in
-    subst (λ q. is_writing s q ≡ true) (some_is w.put put e) held.0
-writes_at run s n put (Some (holding.Reader r)) holds held is = let no : None ≡ Some put = ap (option_and_then put_in) (sym holds.0) ∙ is in cc no
+    subst (λ q. is_writing s q ≡ true) (some_is w.put put e) held.writing
+writes_at run s n put (Some (ReaderHeld r)) holds held is = let no : None ≡ Some put = ap (option_and_then put_in) (sym holds.0) ∙ is in cc no
 
-pub are_writing : (run : Run) (s : State) (slots : ℕ → Option Holding) → PlaysIn run s slots → AreHeld s slots → AreWriting run s
+pub are_writing : (run : Run) (s : State) (slots : ℕ → Option HoldingSeen) → PlaysIn run s slots → AreHeld s slots → AreWriting run s
 are_writing run s slots plays held = λ name put is.
-    let n : ℕ = Rattle.actor_table.specs.Table.number_of run.actors name in
+    let n : ℕ = number_of run.actors name in
     writes_at run s n put (slots n) (plays.held n) (held n) is
 
--- ---- behind a line
+-- ---- what stands behind a line
 
--- vectors and puts are told behind a line, or it shows two documents of one SHA-256
-pub told_behind : (tell : StepsTell) (run : Run) (before after : List Call) (s t : State) (turn : Turn) (step : Step) → turn.device.events ≡ calls_since before after → SessionTakes run s turn step → after_all s turn.added ≡ t → IsSound s → AreTold s
-    → AreTold t ⊎ ShowsIn run before after (Some s) step
-told_behind tell run before after s t turn step calls takes is sound told =
-    elim (tell turn.device s (asked run s step) turn.added turn.refused sound told takes.legal) [
-      | inl kept ↦ inl (subst AreTold is kept)
-      | inr v ↦ inr (record {
-        turn = turn;
-        calls = calls;
-        shows = record { plain = takes.plain; unsynced = takes.unsynced; content = takes.content; moment = takes.moment; shows = shows_placed (streams_with run s step) turn.device s (asked run s step) turn.added v };
-      })
-    ]
+module _ {S W R : Type 0} {c : CallsGhosts S W R} where
+  -- vectors are told, and what stands belongs to what writers took
+  pub record StandsBehind (run : Run) (step : Step) (old new : Part S W R c) (turn : Turn) : Type 0 where
+    pub told : AreTold (state_in new)
+    pub own : AreOwn (state_in new) (in_session run (state_in old) (state_in new) turn step).streams
 
--- and so does what stands belong to what writers took
-pub own_behind : (own : StepsOwn) (run : Run) (before after : List Call) (s t : State) (turn : Turn) (step : Step) (slots : ℕ → Option Holding) → turn.device.events ≡ calls_since before after → SessionTakes run s turn step → after_all s turn.added ≡ t
-    → IsSound s → IsQuiet s → AreHeld s slots → PlaysIn run s slots → AreOwn t (streams_behind run s (after_all s turn.added) turn step) ⊎ ShowsIn run before after (Some s) step
-own_behind own run before after s t turn step slots calls takes is sound quiet held plays =
-    elim (own run s turn step sound plays.told quiet plays.own (are_writing run s slots plays held) takes.legal) [
-      | inl kept ↦ inl (subst (λ u. AreOwn u (streams_behind run s (after_all s turn.added) turn step)) is kept)
-      | inr shows ↦ inr (record { turn = turn; calls = calls; shows = record { plain = takes.plain; unsynced = takes.unsynced; content = takes.content; moment = takes.moment; shows = shows } })
-    ]
+  module _ (run : Run) (step : Step) (old new : Part S W R c) (said : StepAnswer) (m : Moves run step (at_in old) (at_in new) said) where
+    -- a pair of the turn is one that the line shows
+    shows_so : Rattle.cache_model.specs.Pair.ShowsPair (Rattle.script_run.specs.Own.IsPlacedAs (streams_with run (state_in old) step)) m.turn.device (state_in old)
+        (asked run (state_in old) step) m.turn.added
+        → ShowsIn run step (at_in old) (at_in new)
+    shows_so pair = record {
+      turn = m.turn;
+      calls = m.calls;
+      shows = record { plain = m.takes.plain; unsynced = m.takes.unsynced; content = m.takes.content; moment = m.takes.moment; shows = pair };
+    }
 
--- what stands behind a line
-abbrev pub StandsBehind : Run → (s t : State) → Turn → Step → Type 0
-StandsBehind run s t turn step = AreTold t × AreOwn t (streams_behind run s (after_all s turn.added) turn step)
+    pub stands_behind : (slots : ℕ → Option HoldingSeen) → IsActive old slots → PlaysIn run (state_in old) slots
+        → StandsBehind run step old new m.turn ⊎ ShowsIn run step (at_in old) (at_in new)
+    stands_behind slots a plays =
+        let s : State = state_in old in
+        elim (told_step m.turn.device s (asked run s step) m.turn.added m.turn.refused a.part_is.rest.sound plays.told m.takes.legal) [
+          | inr pair ↦ inr (shows_so (shows_placed (streams_with run s step) m.turn.device s (asked run s step) m.turn.added pair))
+          | inl told ↦ elim (own_stays run s m.turn step a.part_is.rest.sound plays.told a.part_is.rest.quiet plays.own (are_writing run s slots plays a.held) m.takes.legal) [
+            | inr pair ↦ inr (shows_so pair)
+            | inl own ↦ inl (record {
+              told = subst AreTold (sym m.state) told;
+              own = subst (λ t. AreOwn t (streams_behind run s t m.turn step)) (sym m.state) own;
+            })
+          ]
+        ]
 
-pub stands_behind : (tell : StepsTell) (own : StepsOwn) (run : Run) (before after : List Call) (s t : State) (turn : Turn) (step : Step) (slots : ℕ → Option Holding) → turn.device.events ≡ calls_since before after → SessionTakes run s turn step → after_all s turn.added ≡ t
-    → IsSound s → IsQuiet s → AreHeld s slots → PlaysIn run s slots → StandsBehind run s t turn step ⊎ ShowsIn run before after (Some s) step
-stands_behind tell own run before after s t turn step slots calls takes is sound quiet held plays =
-    elim (told_behind tell run before after s t turn step calls takes is sound plays.told) [
-      | inl told ↦ elim (own_behind own run before after s t turn step slots calls takes is sound quiet held plays) [
-        | inl owned ↦ inl (told, owned)
-        | inr shows ↦ inr shows
-      ]
-      | inr shows ↦ inr shows
-    ]
+-- ---- lines that no actor has anything to do with
 
--- ---- lines that need a session
+-- it has no actor, of the streams it changes only that of this put, and no actor has that put or that reader
+pub record IsWithout (put reader : Option ℕ) (step : Step) (s : State) : Type 0 where
+  pub needs : NeedsSession step
+  pub actor : actor_of step ≡ None
+  pub streams : (run : Run) (t : State) (turn : Turn) → SameStreams put run (in_session run s t turn step)
+  pub others : (slots : ℕ → Option HoldingSeen) → AreHeld s slots → AllElse slots put reader
 
--- where there is one a line is as its records say
-pub record IsOnSession (step : Step) : Type 0 where
-  pub takes : (run : Run) (s : State) (turn : Turn) → SessionTakes run s turn step → Takes run turn (Some s) step
-  pub says : (run : Run) (s : State) (turn : Turn) → step_said run turn (Some s) step ≡ session_said run s (after_all s turn.added) turn step
-  pub behind : (run : Run) (s : State) (turn : Turn) → then.behind run turn (Some s) step ≡ in_session run s (after_all s turn.added) turn step
+-- of the streams only that of the new put is another
+other_stream : (streams : ℕ → Stream) (put q : ℕ) (body : List ℕ) → (Some put ≡ Some q → ⊥) → with_bytes streams put body q ≡ streams q
+other_stream streams put q body other = by (q == put) refl
+  where
+    by : (b : Bool) → (q == put) ≡ b → (if b then record { bytes = body; sealed = false } else streams q) ≡ streams q
+    by true e = absurd (other (ap Some (sym (eqb-true q put e))))
+    by false e = refl
 
-pub on_session : (step : Step) → NeedsSession step → IsOnSession step
-on_session (step.Format name segments buckets content agg reach fragment generation alternates) needs = absurd needs
-on_session (step.Now moment) needs = absurd needs
-on_session _ needs = record { takes = λ run s turn h. h; says = λ run s turn. refl; behind = λ run s turn. refl }
-
-module _ {D R C : Type 0} {d : DiskGhosts D} {r : DirectoryGhosts R} {c : ChronicleGhosts C} where
-  -- ---- a session that has a cache
-
-  pub active : (session : Session D R C d r c) (part : Part D R C d r c) → session.part ≡ Some part → IsSession session → IsActive part (slots_in session)
-  active session part is h = subst (λ p. IsAt p (slots_in session)) is h
-
-  pub playing : (run : Run) (session : Session D R C d r c) (part : Part D R C d r c) → session.part ≡ Some part → Plays run session → PlaysIn run (state_in part.stripe) (slots_in session)
-  playing run session part is h = subst (λ p. PlaysAt run p (slots_in session)) is h.at
-
-  -- ---- lines
-
-  -- a line on a part that shows a pair, as a step on the session
-  pub shows_step : (run : Run) (old new : Session D R C d r c) (before after : Part D R C d r c) (step : Step) → old.part ≡ Some before → new.part ≡ Some after → IsAfter (seen_in before.stripe).device (seen_in after.stripe).device
-      → Plays run old → ShowsIn run (past_of before) (past_of after) (Some (state_in before.stripe)) step → StepPair run step new
-  shows_step run old new before after step was is goes plays h = record {
-    turn = h.turn;
-    shows = subst (λ o. StepShows run h.turn o step) (sym (playing run old before was plays).state) h.shows;
-    calls = session_calls run (called run h.turn) old new before after h.turn.device.events was is goes h.calls refl plays.calls;
+module _ {S W R : Type 0} {c : CallsGhosts S W R} where
+  pub put_without : (part : Part S W R c) (key : Key) (body : List ℕ) (request response : List Field) → IsPart part
+      → IsWithout (Some (state_in part).next_put) None (step.Put key body request response) (state_in part)
+  put_without part key body request response h = record {
+    needs = tt;
+    actor = refl;
+    streams = λ run t turn q other. other_stream run.streams (state_in part).next_put q body other;
+    others = λ slots held. none_writes_next (at_in part) h.rest slots held;
   }
 
-  -- where there is a session a line is as its records say
-  pub moves : (run : Run) (s : State) (turn : Turn) (step : Step) (new : Session D R C d r c) (said : StepAnswer) → run.state ≡ Some s → Takes run turn (Some s) step → step_said run turn (Some s) step ≡ said
-      → Plays (then.behind run turn (Some s) step) new → StepMoves run step new said
-  moves run s turn step new said state takes says plays = record {
-    turn = turn;
-    takes = subst (λ o. Takes run turn o step) (sym state) takes;
-    plays = subst (λ o. Plays (then.behind run turn o step) new) (sym state) plays;
-    says = subst (λ o. step_said run turn o step ≡ said) (sym state) says;
+  pub get_without : (part : Part S W R c) (key : Key) (request : List Field) → IsPart part
+      → IsWithout None (Some (state_in part).next_reader) (step.Get key request) (state_in part)
+  get_without part key request h = record {
+    needs = tt;
+    actor = refl;
+    streams = λ run t turn q other. refl;
+    others = λ slots held. none_reads_next (at_in part) h.rest slots held;
   }
 
-  -- ---- lines without an actor that leave all puts and readers
+pub remove_without : (s : State) (key : Key) → IsWithout None None (step.Remove key) s
+remove_without s key = record { needs = tt; actor = refl; streams = λ run t turn q other. refl; others = λ slots held. none_else slots }
 
-  pub line_session : (session : Session D R C d r c) (old new : Part D R C d r c) → session.part ≡ Some old → LeavesBut None None (state_in old.stripe) (state_in new.stripe)
-      → IsSession session → IsPart new → IsActive new (slots_in session)
-  line_session session old new is leaves h part =
-      let a = active session old is h in
-      record { part = part; held = still_held None None (state_in old.stripe) (state_in new.stripe) (slots_in session) leaves (none_else (slots_in session)) a.held; apart = a.apart }
+pub flush_without : (s : State) → IsWithout None None step.Flush s
+flush_without s = record { needs = tt; actor = refl; streams = λ run t turn q other. refl; others = λ slots held. none_else slots }
 
-  -- what a removal or a flush is for a session
-  pub line_plays : (run : Run) (session new : Session D R C d r c) (old part : Part D R C d r c) → session.part ≡ Some old → new.part ≡ Some part
-      → names_in new ≡ names_in session → new.now ≡ session.now → ((n : ℕ) → slots_in new n ≡ slots_in session n)
-      → LeavesBut None None (state_in old.stripe) (state_in part.stripe) → Between old.stripe part.stripe → Plays run session
-      → (later : Run) (events : List Call) → events ≡ calls_since (past_of old) (past_of part) → later.calls ≡ events ++ run.calls
-      → later.actors ≡ run.actors → later.now ≡ run.now → later.streams ≡ run.streams → later.held ≡ run.held → later.state ≡ Some (state_in part.stripe)
-      → AreTold (state_in part.stripe) → AreOwn (state_in part.stripe) run.streams → Plays later new
-  line_plays run session new old part is now names kept slots leaves stays plays later events are calls actors moment streams held state told owned =
-      let t : State = state_in part.stripe in
-      let own : AreOwn t later.streams = subst (AreOwn t) (sym streams) owned in
-      let here : PlaysIn later t (slots_in session) = still_plays None None run later (state_in old.stripe) t (slots_in session) leaves (none_else (slots_in session))
-      (λ q no. ap (λ (f : ℕ → Rattle.script_run.specs.Run.Stream). f q) streams)
-      (λ m. ap (λ (f : ℕ → Option Rattle.script_run.specs.Run.Holding). f m) held) state told own (playing run session old is plays) in
-      record {
-        names = actors ∙ (plays.names ∙ sym names);
-        now = moment ∙ (plays.now ∙ sym kept);
-        at = subst (λ o. PlaysAt later o (slots_in new)) (sym now) (record {
-          state = here.state;
-          told = here.told;
-          own = here.own;
-          held = λ n. subst (IsHeldAs later t n) (sym (slots n)) (here.held n);
-        });
-        unharmed = session_unharmed session new old part is now stays plays.unharmed;
-        calls = session_calls run later session new old part events is now stays.goes are calls plays.calls;
-      }
+-- ---- as a line on a session
 
--- ---- lines that are one call and have no actor
+module _ {S W R : Type 0} {c : CallsGhosts S W R} where
+  module _ (session : Session S W R c) (before after : Part S W R c) (was : session.part ≡ Some before) (h : IsSession session)
+      (put reader : Option ℕ) (step : Step) (without : IsWithout put reader step (state_in before)) where
+    -- what no actor has to do with is so for the actors
+    plays_on : (run : Run) (said : StepAnswer) (m : Moves run step (at_in before) (at_in after) said) (now : ℕ) (result : Result StepAnswer Stop)
+        → AnswersPlainly now step put reader before after result → PlaysPart run before session.actors → StandsBehind run step before after m.turn
+        → PlaysPart (in_session run (state_in before) (state_in after) m.turn step) after session.actors
+    plays_on run said m now result answers plays there =
+        let later : Run = in_session run (state_in before) (state_in after) m.turn step in
+        record {
+          names = ap (Rattle.script_run.specs.Behind.actors_behind run.actors) without.actor ∙ plays.names;
+          at = still_plays put reader run later (state_in before) (state_in after) (slots_in session) answers.leaves
+              (without.others (slots_in session) (active session before was h).held) (without.streams run (state_in after) m.turn)
+              (λ n. ap (λ o. Rattle.script_run.specs.Behind.held_behind run (state_in before) (state_in after) step o n) without.actor)
+              refl there.told there.own plays.at;
+        }
 
--- what a line makes of a run where there is a session, and what it leaves
-pub record IsPlain (step : Step) : Type 0 where
-  pub on : IsOnSession step
-  pub actors : (run : Run) (s : State) (turn : Turn) → (then.behind run turn (Some s) step).actors ≡ run.actors
-  pub moment : (run : Run) (s : State) (turn : Turn) → (then.behind run turn (Some s) step).now ≡ run.now
-  pub streams : (run : Run) (s : State) (turn : Turn) → (then.behind run turn (Some s) step).streams ≡ run.streams
-  pub held : (run : Run) (s : State) (turn : Turn) → (then.behind run turn (Some s) step).held ≡ run.held
-  pub calls : (run : Run) (s : State) (turn : Turn) → (then.behind run turn (Some s) step).calls ≡ turn.device.events ++ run.calls
-  pub state : (run : Run) (s : State) (turn : Turn) → (then.behind run turn (Some s) step).state ≡ Some (after_all s turn.added)
-  pub same : (run : Run) (s t : State) (turn : Turn) → streams_behind run s t turn step ≡ run.streams
+    plain_moves : (run : Run) (said : StepAnswer) (result : Result StepAnswer Stop) → AnswersPlainly session.now step put reader before after result → Plays run session
+        → MovesOrShows run step (at_in before) (at_in after) said → PartEnds run step before after session.actors said
+    plain_moves run said result answers plays (inr pair) = inr pair
+    plain_moves run said result answers plays (inl m) =
+        let there = part_plays run session before was plays in
+        elim (stands_behind run step before after said m (slots_in session) (active session before was h) there.at) [
+          | inr pair ↦ inr pair
+          | inl stands ↦ inl (record { moves = m; plays = plays_on run said m session.now result answers there stands })
+        ]
 
-pub remove_plain : (key : Key) → IsPlain (step.Remove key)
-remove_plain key = record {
-  on = on_session (step.Remove key) tt;
-  actors = λ run s turn. refl;
-  moment = λ run s turn. refl;
-  streams = λ run s turn. refl;
-  held = λ run s turn. refl;
-  calls = λ run s turn. refl;
-  state = λ run s turn. refl;
-  same = λ run s t turn. refl;
-}
+    plain_ends : (result : Result StepAnswer Stop) → AnswersPlainly session.now step put reader before after result
+        → IfOk result (λ said. (run : Run) → Plays run session → StepEnds run step (record session { part = Some after }) said)
+    plain_ends (Ok said) answers = λ run plays.
+        let there = part_plays run session before was plays in
+        elim (answers.unharmed run plays.now there.at.told there.at.own) [
+          | inr pair ↦ inr (shown session before after session.actors was run step plays pair)
+          | inl stays ↦ part_ends session before after session.actors was run step said without.needs plays stays
+              (plain_moves run said (Ok said) answers plays (answers.ends run plays.now there.at.told there.at.own))
+        ]
+    plain_ends (Err why) answers = tt
 
-pub flush_plain : IsPlain step.Flush
-flush_plain = record {
-  on = on_session step.Flush tt;
-  actors = λ run s turn. refl;
-  moment = λ run s turn. refl;
-  streams = λ run s turn. refl;
-  held = λ run s turn. refl;
-  calls = λ run s turn. refl;
-  state = λ run s turn. refl;
-  same = λ run s t turn. refl;
-}
-
--- what is so of each run is so of each at that moment
-pub at_moment : (step : Step) (before after : List Call) (s t : State) (moment : ℕ) (result : Result StepAnswer Stop) → IfOk result (λ said. (run : Run) → Plainly run step before after s t said)
-    → IfOk result (λ said. (run : Run) → run.now ≡ moment → Plainly run step before after s t said)
-at_moment step before after s t moment (Ok said) ends = λ run is. ends run
-at_moment step before after s t moment (Err why) ends = tt
-
-module _ {D R C : Type 0} {d : DiskGhosts D} {r : DirectoryGhosts R} {c : ChronicleGhosts C} where
-  plain_ends : (tell : StepsTell) (owns : StepsOwn) (session new : Session D R C d r c) (old part : Part D R C d r c) (step : Step) (said : StepAnswer) → IsPlain step → session.part ≡ Some old → new.part ≡ Some part
-      → names_in new ≡ names_in session → new.now ≡ session.now → ((n : ℕ) → slots_in new n ≡ slots_in session n) → LeavesBut None None (state_in old.stripe) (state_in part.stripe)
-      → Between old.stripe part.stripe → IsSession session
-      → ((run : Run) → run.now ≡ session.now → Plainly run step (past_of old) (past_of part) (state_in old.stripe) (state_in part.stripe) said)
-      → (run : Run) → Plays run session → StepEnds run step new said
-  plain_ends tell owns session new old part step said plain is now names kept slots leaves stays h ends run plays =
-      let s : State = state_in old.stripe in
-      let t : State = state_in part.stripe in
-      let e = ends run plays.now in
-      let a = active session old is h in
-      let p = playing run session old is plays in
-      elim (stands_behind tell owns run (past_of old) (past_of part) s t e.turn step (slots_in session) e.calls e.takes e.behind a.part.stripe.pieces.sound a.part.quiet a.held p) [
-        | inl there ↦
-            inl (moves run s e.turn step new said p.state (plain.on.takes run s e.turn e.takes)
-            (plain.on.says run s e.turn ∙ (ap (λ u. session_said run s u e.turn step) e.behind ∙ e.says))
-            (line_plays run session new old part is now names kept slots leaves stays plays (then.behind run e.turn (Some s) step) e.turn.device.events e.calls (plain.calls run s e.turn)
-            (plain.actors run s e.turn) (plain.moment run s e.turn) (plain.streams run s e.turn) (plain.held run s e.turn) (plain.state run s e.turn ∙ ap Some e.behind)
-            there.0 (subst (AreOwn t) (plain.same run s (after_all s e.turn.added) e.turn) there.1)))
-        | inr shows ↦ inr (shows_step run session new old part step is now stays.goes plays shows)
-      ]
-
-  pub line_ends : (tell : StepsTell) (owns : StepsOwn) (session new : Session D R C d r c) (old part : Part D R C d r c) (step : Step) (result : Result StepAnswer Stop) → IsPlain step → session.part ≡ Some old → new.part ≡ Some part
-      → names_in new ≡ names_in session → new.now ≡ session.now → ((n : ℕ) → slots_in new n ≡ slots_in session n) → LeavesBut None None (state_in old.stripe) (state_in part.stripe)
-      → Between old.stripe part.stripe → IsSession session
-      → IfOk result (λ said. (run : Run) → run.now ≡ session.now → Plainly run step (past_of old) (past_of part) (state_in old.stripe) (state_in part.stripe) said)
-      → IfOk result (λ said. (run : Run) → Plays run session → StepEnds run step new said)
-  line_ends tell owns session new old part step (Ok said) plain is now names kept slots leaves stays h ends = plain_ends tell owns session new old part step said plain is now names kept slots leaves stays h ends
-  line_ends tell owns session new old part step (Err why) plain is now names kept slots leaves stays h ends = tt
+    -- a line without an actor
+    pub plain_line : (result : Result StepAnswer Stop) → AnswersPlainly session.now step put reader before after result
+        → AnswersLine step session (record session { part = Some after }) result
+    plain_line result answers =
+        let a = active session before was h in
+        record {
+          session = record {
+            part_is = answers.part;
+            held = still_held put reader (state_in before) (state_in after) (slots_in session) answers.leaves (without.others (slots_in session) a.held) a.held;
+            apart = a.apart;
+          };
+          ends = plain_ends result answers;
+          counts = answers.counts;
+          device = device_goes session before after session.actors was answers.goes;
+          stop = wanting_stops session before after session.actors was result answers.stop;
+          devices = same_devices session before after session.actors was;
+          names = omega arith;
+        }

@@ -5,9 +5,7 @@ use Rattle.std.proofs.lemmas.List.{append-nil, append_assoc}
 use Rattle.device_log.specs.Calls.{Call}
 use Rattle.logged_disk.specs.Device.{State as Device, IsAfter}
 use Rattle.logged_disk.proofs.GoingOn.{told_before}
-use Rattle.logged_disk.specs.declared.device.Disk.{Ghosts as DiskGhosts}
-use Rattle.dir_table.specs.declared.directory.Directory.{Ghosts as DirectoryGhosts}
-use Rattle.cache_chronicle.specs.declared.chronicle.Chronicle.{Ghosts as ChronicleGhosts}
+use Rattle.cache_calls.specs.declared.calls.Calls.{Ghosts as CallsGhosts}
 use Rattle.tape_base.specs.declared.geometries.BadGeometry.{BadGeometry}
 use Rattle.tape_base.specs.Limits.{first_refusal}
 use Rattle.cache_model.specs.State.{State}
@@ -24,9 +22,10 @@ use Rattle.cache_replay.specs.declared.session.Session.{Session}
 use Rattle.cache_replay.specs.declared.session.Part.{Part}
 use Rattle.cache_replay.specs.declared.stop.Stop.{Stop}
 use Rattle.cache_replay.specs.declared.stop.Stop.TheVariants.{BayFault, Memory, NoCache}
-use Rattle.cache_replay.specs.Outline.{IsAnswerOf, Outline, called, outline_in, begun, begun_by, count_in, format_answer, joined, outline_after, raised, told_of}
+use Rattle.run_promise.specs.Outline.{IsAnswerOf, Outline, called, outline_in, begun, begun_by, count_in, format_answer, joined, outline_after, raised, told_of}
 use Rattle.cache_replay.specs.Session.{AreLater, TellsCount, return_of}
-use Rattle.cache_replay.specs.Stop.{AttachesAs, IsSessionStop, NeedsSession}
+use Rattle.run_promise.specs.Needs.{AttachesAs, NeedsSession}
+use Rattle.cache_replay.specs.Stop.{IsSessionStop}
 use Rattle.cache_replay.specs.Plays.{CallsAt, IsLeft, IsOutlined, Outlines, stays, tried}
 use Rattle.script_run.specs.Ledger.{AreReached, Deals, GoesOnFrom, Ledger}
 use Rattle.cache_replay.proofs.Unharming.{reached_loosely}
@@ -86,7 +85,8 @@ no_session : (session : Option Harm) (count : ℕ) → IsSome session → sessio
 no_session None count some none = cc
 no_session (Some harm) count some none = cc
 
-some_still : (state : Option State) (calls others : List Call) → IsSome (option_map (λ s. loosened (harm_in calls s)) state) → IsSome (option_map (λ s. loosened (harm_in others s)) state)
+some_still : (state : Option State) (calls others : List Call) → IsSome (option_map (λ s. loosened (harm_in calls s)) state)
+    → IsSome (option_map (λ s. loosened (harm_in others s)) state)
 some_still None calls others h = h
 some_still (Some s) calls others h = refl
 
@@ -96,34 +96,50 @@ joins_none None returns h = h
 joins_none (Some harm) [] h = absurd h
 joins_none (Some harm) (d ∷ returns) h = (record { made = h.0.made; all = λ no. cc; counted = omega (arith, h.0.counted); unharmed = h.0.unharmed }, h.1)
 
-module _ {D R C : Type 0} {d : DiskGhosts D} {r : DirectoryGhosts R} {c : ChronicleGhosts C} where
-  abbrev Returns : Option (Part D R C d r c) → List Device
+module _ {S W R : Type 0} {c : CallsGhosts S W R} where
+  abbrev Returns : Option (Part S W R c) → List Device
   Returns part = return_of part
 
   -- the count that is told is one that the device reached
-  joins : (session : Option Harm) (count : ℕ) (old new : Option (Part D R C d r c)) (said : StepAnswer) → count ≡ count_in said → AreLater (Returns old) (Returns new) → TellsCount new said
+  joins : (session : Option Harm) (count : ℕ) (old new : Option (Part S W R c)) (said : StepAnswer) → count ≡ count_in said → AreLater (Returns old) (Returns new)
+      → TellsCount new said
       → AreReached (told_of session) (Returns old) → AreReached (told_of (option_map (raised count) session)) (Returns new)
   joins session count old None said is later tells h = absurd tells
   joins None count None (Some b) said is later tells h = absurd later
   joins None count (Some a) (Some b) said is later tells h = absurd h
   joins (Some harm) count None (Some b) said is later tells h = absurd h
-  joins (Some harm) count (Some a) (Some b) said is later tells h =
-      (record { made = from_later harm.calls _ _ later.0.goes h.0.made; all = λ no. cc; counted = omega (arith, h.0.counted, later.0.faults, tells, is); unharmed = λ told. h.0.unharmed (told_before _ _ later.0.goes told) }, tt)
+  joins (Some harm) count (Some a) (Some b) said is later tells h = (
+    record {
+      made = from_later harm.calls _ _ later.0.goes h.0.made;
+      all = λ no. cc;
+      counted = omega (arith, h.0.counted, later.0.faults, tells, is);
+      unharmed =
+          λ told. h.0.unharmed (told_before _ _ later.0.goes told);
+    },
+    tt,
+  )
 
-  has_session : (session : Option Harm) (old new : Option (Part D R C d r c)) (said : StepAnswer) → AreLater (Returns old) (Returns new) → TellsCount new said → AreReached (told_of session) (Returns old) → IsSome session
+  has_session : (session : Option Harm) (old new : Option (Part S W R c)) (said : StepAnswer) → AreLater (Returns old) (Returns new) → TellsCount new said
+      → AreReached (told_of session) (Returns old) → IsSome session
   has_session session old None said later tells h = absurd tells
   has_session None None (Some b) said later tells h = absurd later
   has_session None (Some a) (Some b) said later tells h = absurd h
   has_session (Some harm) old (Some b) said later tells h = refl
 
   -- a line on a session, behind which so much is told of its device
-  joined_outlines : (o : Outline) (s : Step) (new : Session D R C d r c) (said : StepAnswer) (ledger : Ledger) → NeedsSession s → IsSome o.session → AreReached (told_of (option_map (raised (count_in said)) o.session)) (Returns new.part)
+  joined_outlines : (o : Outline) (s : Step) (new : Session S W R c) (said : StepAnswer) (ledger : Ledger) → NeedsSession s → IsSome o.session
+      → AreReached (told_of (option_map (raised (count_in said)) o.session)) (Returns new.part)
       → Outlines o s new said ledger ledger
   joined_outlines o s new said ledger needs some h =
       let same : begun_by o s ≡ o = begun_none o s needs in
       let after : outline_after o s said ≡ joined o (count_in said) = ap (λ x. joined x (count_in said)) same in
       record {
-        answered = record { session = λ x. some; none = λ none. no_session o.session (count_in said) some (ap (λ (x : Outline). x.session) (sym same) ∙ none); fixed = answer_free s said needs };
+        answered = record {
+          session = λ x. some;
+          none = λ none. no_session o.session (count_in said) some (ap (λ (x : Outline). x.session) (sym same) ∙ none);
+          fixed =
+              answer_free s said needs;
+        };
         outlined = subst (λ (x : Outline). AreReached (told_of x.session) (Returns new.part)) (sym after) h;
         harms = [];
         ended = ap (λ (x : Outline). x.ended) after ∙ sym (append-nil o.ended);
@@ -132,13 +148,15 @@ module _ {D R C : Type 0} {d : DiskGhosts D} {r : DirectoryGhosts R} {c : Chroni
         deals = no_deals ledger;
       }
 
-  session_outlines : (o : Outline) (s : Step) (old new : Session D R C d r c) (said : StepAnswer) (ledger : Ledger) → NeedsSession s → AreLater (Returns old.part) (Returns new.part) → TellsCount new.part said
+  session_outlines : (o : Outline) (s : Step) (old new : Session S W R c) (said : StepAnswer) (ledger : Ledger) → NeedsSession s
+      → AreLater (Returns old.part) (Returns new.part) → TellsCount new.part said
       → IsOutlined o old → Outlines o s new said ledger ledger
   session_outlines o s old new said ledger needs later tells h =
-      joined_outlines o s new said ledger needs (has_session o.session old.part new.part said later tells h) (joins o.session (count_in said) old.part new.part said refl later tells h)
+      joined_outlines o s new said ledger needs (has_session o.session old.part new.part said later tells h)
+      (joins o.session (count_in said) old.part new.part said refl later tells h)
 
   -- where the calls of a device are those of another run, they are told of it
-  recalled : (state : Option State) (calls : List Call) (later : Run) (count : ℕ) (part : Option (Part D R C d r c)) → CallsAt later part
+  recalled : (state : Option State) (calls : List Call) (later : Run) (count : ℕ) (part : Option (Part S W R c)) → CallsAt later part
       → AreReached (told_of (option_map (raised count) (option_map (λ s. loosened (harm_in calls s)) state))) (Returns part)
       → AreReached (told_of (option_map (raised count) (option_map (λ s. loosened (harm_in later.calls s)) state))) (Returns part)
   recalled None calls later count part are h = h
@@ -146,26 +164,30 @@ module _ {D R C : Type 0} {d : DiskGhosts D} {r : DirectoryGhosts R} {c : Chroni
   recalled (Some s) calls later count (Some part) are h = (record { made = record { later = []; is = are }; all = λ no. cc; counted = h.0.counted; unharmed = h.0.unharmed }, tt)
 
   -- a line on a session that showed a pair: the calls of its turn are told of the device as well
-  pub shown_outlines : (run : Run) (turn : Turn) (s : Step) (old new : Session D R C d r c) (said : StepAnswer) (ledger : Ledger) → NeedsSession s → AreLater (Returns old.part) (Returns new.part) → TellsCount new.part said
+  pub shown_outlines : (run : Run) (turn : Turn) (s : Step) (old new : Session S W R c) (said : StepAnswer) (ledger : Ledger) → NeedsSession s
+      → AreLater (Returns old.part) (Returns new.part) → TellsCount new.part said
       → CallsAt (called run turn) new.part → IsOutlined (outline_in run) old → Outlines (outline_in (called run turn)) s new said ledger ledger
   shown_outlines run turn s old new said ledger needs later tells calls h =
-      joined_outlines (outline_in (called run turn)) s new said ledger needs (some_still run.state run.calls (called run turn).calls (has_session (outline_in run).session old.part new.part said later tells h))
+      joined_outlines (outline_in (called run turn)) s new said ledger needs
+      (some_still run.state run.calls (called run turn).calls (has_session (outline_in run).session old.part new.part said later tells h))
       (recalled run.state run.calls (called run turn) (count_in said) new.part calls (joins (outline_in run).session (count_in said) old.part new.part said refl later tells h))
 
-  pub all_outlines : (result : Result StepAnswer Stop) (s : Step) (old new : Session D R C d r c) (ledger : Ledger) → NeedsSession s → AreLater (Returns old.part) (Returns new.part)
+  pub all_outlines : (result : Result StepAnswer Stop) (s : Step) (old new : Session S W R c) (ledger : Ledger) → NeedsSession s → AreLater (Returns old.part) (Returns new.part)
       → IfOk result (TellsCount new.part)
       → IfOk result (λ said. (o : Outline) → IsOutlined o old → Outlines o s new said ledger ledger)
   all_outlines (Ok said) s old new ledger needs later tells = λ o h. session_outlines o s old new said ledger needs later tells h
   all_outlines (Err why) s old new ledger needs later tells = tt
 
   -- without a session there is no device of which anything was told
-  none_left : (harms : List Harm) (old new : Option (Part D R C d r c)) → old ≡ None → AreLater (Returns old) (Returns new) → AreReached harms (Returns old) → AreReached harms (Returns new)
+  none_left : (harms : List Harm) (old new : Option (Part S W R c)) → old ≡ None → AreLater (Returns old) (Returns new) → AreReached harms (Returns old)
+      → AreReached harms (Returns new)
   none_left harms (Some part) new none later h = cc
   none_left [] None None none later h = tt
   none_left [] None (Some part) none later h = absurd later
   none_left (harm ∷ harms) None new none later h = absurd h
 
-  pub all_left : (result : Result StepAnswer Stop) (s : Step) (old new : Session D R C d r c) (ledger : Ledger) → NeedsSession s → IfErr result (IsSessionStop old) → AreLater (Returns old.part) (Returns new.part)
+  pub all_left : (result : Result StepAnswer Stop) (s : Step) (old new : Session S W R c) (ledger : Ledger) → NeedsSession s → IfErr result (IsSessionStop old)
+      → AreLater (Returns old.part) (Returns new.part)
       → IfErr result (λ why. (harms : List Harm) → AreReached harms (Returns old.part) → IsLeft harms s new ledger ledger why)
   all_left (Ok said) s old new ledger needs stop later = tt
   all_left (Err Memory) s old new ledger needs stop later = λ harms h. tried needs refl (reached_later harms (Returns old.part) (Returns new.part) later h) refl
@@ -173,13 +195,14 @@ module _ {D R C : Type 0} {d : DiskGhosts D} {r : DirectoryGhosts R} {c : Chroni
   all_left (Err BayFault) s old new ledger needs stop later = absurd stop
 
   -- a format that ended the run before it did anything, whatever it answered
-  pub all_stays_left : {T : Type 0} (result : Result T Stop) (name : List ℕ) (session : Session D R C d r c) (before now : Ledger) → now ≡ before
+  pub all_stays_left : {T : Type 0} (result : Result T Stop) (name : List ℕ) (session : Session S W R c) (before now : Ledger) → now ≡ before
       → IfErr result (λ why. (harms : List Harm) (s : Step) → AttachesAs name s → AreReached harms (Returns session.part) → IsLeft harms s session before now why)
   all_stays_left (Ok x) name session before now same = tt
   all_stays_left (Err why) name session before now same = λ harms s attaches h. stays h same
 
   -- a line that begins no session and tells no count
-  still_outlines : (o : Outline) (s : Step) (new : Session D R C d r c) (said : StepAnswer) (ledger : Ledger) → (NeedsSession s → ⊥) → begun_by o s ≡ o → count_in said ≡ 0 → IsAnswerOf s said
+  still_outlines : (o : Outline) (s : Step) (new : Session S W R c) (said : StepAnswer) (ledger : Ledger) → (NeedsSession s → ⊥) → begun_by o s ≡ o → count_in said ≡ 0
+      → IsAnswerOf s said
       → AreReached (told_of o.session) (Returns new.part) → Outlines o s new said ledger ledger
   still_outlines o s new said ledger free same none fixed h =
       let after : outline_after o s said ≡ joined o 0 = ap (λ x. joined x (count_in said)) same ∙ ap (joined o) none in
@@ -194,32 +217,38 @@ module _ {D R C : Type 0} {d : DiskGhosts D} {r : DirectoryGhosts R} {c : Chroni
       }
 
   -- the moment is set
-  pub moment_outlines : (o : Outline) (at : ℕ) (old new : Session D R C d r c) (said : StepAnswer) (ledger : Ledger) → said ≡ answer.Now at → new.part ≡ old.part → IsOutlined o old
+  pub moment_outlines : (o : Outline) (at : ℕ) (old new : Session S W R c) (said : StepAnswer) (ledger : Ledger) → said ≡ answer.Now at → new.part ≡ old.part → IsOutlined o old
       → Outlines o (step.Now at) new said ledger ledger
   moment_outlines o at old new said ledger is same h =
       still_outlines o (step.Now at) new said ledger (λ needs. needs) refl (ap count_in is) is (subst (λ part. AreReached (told_of o.session) (Returns part)) (sym same) h)
 
   -- numbers that are refused change nothing
-  pub refused_outlines : (o : Outline) (name : List ℕ) (segments buckets content agg reach fragment generation alternates number : ℕ) (bad : BadGeometry) (session : Session D R C d r c) (ledger : Ledger)
+  pub refused_outlines : (o : Outline) (name : List ℕ) (segments buckets content agg reach fragment generation alternates number : ℕ) (bad : BadGeometry)
+      (session : Session S W R c) (ledger : Ledger)
       → first_refusal segments buckets content agg reach fragment alternates ≡ Some bad → number ≡ number_of_bad bad → IsOutlined o session
       → Outlines o (step.Format name segments buckets content agg reach fragment generation alternates) session (answer.Refused (refused.Geometry number) None) ledger ledger
   refused_outlines o name segments buckets content agg reach fragment generation alternates number bad session ledger is numbered h =
-      still_outlines o (step.Format name segments buckets content agg reach fragment generation alternates) session (answer.Refused (refused.Geometry number) None) ledger (λ needs. needs) (ap (begun o name) is) refl
+      still_outlines o (step.Format name segments buckets content agg reach fragment generation alternates) session (answer.Refused (refused.Geometry number) None) ledger
+      (λ needs. needs) (ap (begun o name) is) refl
       (ap (λ n. answer.Refused (refused.Geometry n) None) numbered ∙ ap (format_answer content agg) (sym is)) h
 
   -- a session begins
-  pub format_outlines : (o : Outline) (name : List ℕ) (segments buckets content agg reach fragment generation alternates cursor floor : ℕ) (new : Session D R C d r c) (before now : Ledger)
-      → first_refusal segments buckets content agg reach fragment alternates ≡ None → cursor ≡ content → floor ≡ agg → AreReached (no_harm ∷ []) (Returns new.part) → Deals before now (told_of o.session) (name ∷ [])
+  pub format_outlines : (o : Outline) (name : List ℕ) (segments buckets content agg reach fragment generation alternates cursor floor : ℕ) (new : Session S W R c)
+      (before now : Ledger)
+      → first_refusal segments buckets content agg reach fragment alternates ≡ None → cursor ≡ content → floor ≡ agg → AreReached (no_harm ∷ []) (Returns new.part)
+      → Deals before now (told_of o.session) (name ∷ [])
       → Outlines o (step.Format name segments buckets content agg reach fragment generation alternates) new (answer.Formatted 1 cursor floor) before now
   format_outlines o name segments buckets content agg reach fragment generation alternates cursor floor new before now is at low h deals =
-      let after : outline_after o (step.Format name segments buckets content agg reach fragment generation alternates) (answer.Formatted 1 cursor floor) ≡ joined (begun o name None) 0 = ap (λ x. joined (begun o name x) 0) is in
+      let after : outline_after o (step.Format name segments buckets content agg reach fragment generation alternates) (answer.Formatted 1 cursor floor) ≡ joined
+      (begun o name None) 0 = ap (λ x. joined (begun o name x) 0) is in
       record {
         answered = record {
           session = λ needs. absurd needs;
           none = λ gone. refl;
           fixed = ap (λ n. answer.Formatted 1 n floor) at ∙ (ap (answer.Formatted 1 content) low ∙ ap (format_answer content agg) (sym is));
         };
-        outlined = subst (λ (x : Outline). AreReached (told_of x.session) (Returns new.part)) (sym after) (joins_none (Some (loosened no_harm)) (Returns new.part) (reached_loosely (no_harm ∷ []) (Returns new.part) h));
+        outlined = subst (λ (x : Outline). AreReached (told_of x.session) (Returns new.part)) (sym after)
+            (joins_none (Some (loosened no_harm)) (Returns new.part) (reached_loosely (no_harm ∷ []) (Returns new.part) h));
         harms = told_of o.session;
         ended = ap (λ (x : Outline). x.ended) after;
         names = name ∷ [];

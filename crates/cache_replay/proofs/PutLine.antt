@@ -1,171 +1,114 @@
--- A whole put as a line on a session.
-use Rattle.std.proofs.Common.{◌≡◌, ℕ, List, [], refl, sym, ◌∙◌, ap, subst, Bool, true, false, ◌⊎◌, inl, inr, Result, Ok, Err}
-use Rattle.std.specs.Prelude.{Option, Some, None, IfOk, ◌==◌, if◌then◌else◌}
-use Rattle.std.proofs.lemmas.Bool.{eqb-true}
-use Rattle.device_log.specs.Calls.{Call}
-use Rattle.logged_disk.specs.declared.device.Disk.{Ghosts as DiskGhosts}
-use Rattle.dir_table.specs.declared.directory.Directory.{Ghosts as DirectoryGhosts}
-use Rattle.cache_chronicle.specs.declared.chronicle.Chronicle.{Ghosts as ChronicleGhosts}
+-- The line of a whole put, on a part.
+use Rattle.std.proofs.Common.{◌≡◌, ℕ, ◌≤◌, List, [], arith, subst, refl, inl, length, Ok, Err, Result}
+use Rattle.std.specs.Prelude.{IfErr, IfSome, Option, Some, None}
 use Rattle.tape_base.specs.declared.keys.Key.{Key}
 use Rattle.alternate_vector.specs.Field.{Field}
-use Rattle.cache_model.specs.State.{State, after_all}
-use Rattle.cache_model.specs.Kept.{Kept, state_of}
-use Rattle.cache_model.specs.Permit.{Permit}
-use Rattle.cache_model.specs.Legal.{IsQuiet}
-use Rattle.cache_model.specs.Vectors.{AreTold}
-use Rattle.model_laws.specs.VectorLaws.{StepsTell}
-use Rattle.stripe_core.specs.declared.refusal.Refusal.{Refusal}
-use Rattle.stripe_core.specs.declared.refusal.Refusal.TheVariants as refusal
-use Rattle.stripe_core.specs.Stripe.{state_in}
-use Rattle.stripe_core.specs.Between.{Between}
-use Rattle.stripe_core.specs.Faults.{IsAccounted}
-use Rattle.stripe_core.proofs.Between.{accounted_is}
-use Rattle.stripe_core.proofs.Covering.{own_covers, own_permit}
-use Rattle.stripe_write.specs.declared.finishing.Receipt.{Receipt}
-use Rattle.stripe_write.proofs.Spending.{state_behind}
-use Rattle.script_lang.specs.declared.step.Step.TheVariants as step
+use Rattle.cache_model.specs.Permit.{Reason}
+use Rattle.cache_model.specs.Vectors.{AreTold, IsVectorAs}
+use Rattle.call_laws.specs.Moments.{IsToldAt}
+use Rattle.call_laws.specs.Progress
+use Rattle.call_laws.specs.Progress.{EndsWith}
+use Rattle.call_laws.specs.Serves.{ServesFrom}
+use Rattle.cache_calls.specs.declared.calls.Calls.{Ghosts as CallsGhosts}
+use Rattle.cache_calls.specs.declared.calls.Receipt.{Receipt}
+use Rattle.cache_calls.specs.declared.calls.Refusal.{Refusal}
+use Rattle.cache_calls.specs.declared.calls.Refusal.TheVariants as refusal
+use Rattle.cache_calls.specs.Keeping.{IsAtRest, Keeps}
 use Rattle.script_lang.specs.declared.answer.StepAnswer.{StepAnswer}
-use Rattle.script_run.specs.Run.{Run, Stream}
-use Rattle.script_run.specs.Answers.{session_said}
-use Rattle.script_run.specs.Behind.{in_session, with_bytes}
-use Rattle.script_run.specs.Laws.{StepsOwn}
-use Rattle.cache_replay.specs.declared.session.Session.{Session}
-use Rattle.cache_replay.specs.declared.session.Part.{Part}
-use Rattle.cache_replay.specs.declared.session.Holding.{Holding}
-use Rattle.cache_replay.specs.declared.stop.Stop.{Stop}
-use Rattle.cache_replay.specs.Session.{IsActive, IsHeld, IsPart, IsSession, LeavesBut, names_in, past_of, slots_in}
-use Rattle.cache_replay.specs.Plays.{Plays, PlaysAt, PlaysIn, StepEnds}
-use Rattle.cache_replay.specs.Plain.{Plainly}
+use Rattle.script_lang.specs.declared.step.Step.{Step}
+use Rattle.script_lang.specs.declared.step.Step.TheVariants as step
 use Rattle.script_run.specs.Asked.{put_intents}
-use Rattle.cache_replay.specs.Putting.{PutsAsAsked, PutsWhere, receipt_answer}
-use Rattle.cache_replay.specs.Shown.{ShowsIn}
-use Rattle.cache_replay.proofs.Shown.{shows_in, shows_placed}
-use Rattle.cache_replay.specs.WriterLines.{closed_answer}
-use Rattle.cache_replay.proofs.Frames.{some_is}
-use Rattle.cache_replay.proofs.Lines.{free_of, next_is_free}
-use Rattle.cache_replay.proofs.OnSession.{StandsBehind, active, moves, playing, shows_step, stands_behind}
-use Rattle.cache_replay.proofs.Plain.{AllElse, still_held, still_plays}
-use Rattle.cache_replay.proofs.Unharming.{session_calls, session_unharmed}
-use Rattle.cache_replay.proofs.Unsynced.{unsynced_step}
+use Rattle.script_run.specs.Run.{Run}
+use Rattle.cache_replay.specs.declared.session.Part.{Part}
+use Rattle.cache_replay.specs.declared.stop.Stop.TheVariants.{Memory}
+use Rattle.cache_replay.specs.Moves.{MovesOrShows}
+use Rattle.cache_replay.specs.OneLine.{AnswersPlainly}
+use Rattle.run_promise.specs.Outline.{count_in}
+use Rattle.cache_replay.specs.Replies.{closed_answer, count_of_refusal, receipt_answer}
+use Rattle.cache_replay.specs.Putting.{IsSaidAs, PutsWhere, TellsOfPut, progress_with, reason_of}
+use Rattle.cache_replay.specs.Session.{IsPart, at_in, state_in}
+use Rattle.cache_replay.proofs.ActorLines.{part_behind}
+use Rattle.cache_replay.proofs.Fed.{refused_counts}
+use Rattle.cache_replay.proofs.Frames.{put_leaves}
+use Rattle.cache_replay.proofs.Whole.{moves_line, serves_whole}
 
--- ---- what a put is for a cache
+ends_with : (why : Option Reason) → EndsWith (progress_with why) why
+ends_with None = Progress.EndsWith.in_full
+ends_with (Some why) = Progress.EndsWith.refused why
 
-abbrev Ends : Run → (before after : List Call) → (s t : State) → Key → List ℕ → (request response : List Field) → StepAnswer → Type 0
-Ends run before after s t key body request response said = Plainly run (step.Put key body request response) before after s t said ⊎ ShowsIn run before after (Some s) (step.Put key body request response)
+-- ---- the counts that are told
 
-module _ (now : ℕ) (before after : List Call) (k new : Kept) (accounted : IsAccounted before after k new) (quiet : IsQuiet (state_of new)) (key : Key) (body : List ℕ) (request response : List Field) (run : Run) (moment : run.now ≡ now) (told : AreTold (state_of k)) where
-  asked_puts : (result : Result Receipt Refusal) (said : StepAnswer) → receipt_answer result ≡ said → PutsAsAsked now before after k new key body request response result
-      → Ends run before after (state_of k) (state_of new) key body request response said
-  asked_puts result said is puts =
-      let p : Permit = own_permit run.now before after in
-      elim (puts.does p moment (own_covers run.now before after) told) [
-        | inl x ↦ inl (record {
-          turn = record { added = x.added; refused = x.why; device = p; given = [] };
-          takes = record {
-            plain = refl;
-            unsynced = refl;
-            content = refl;
-            moment = refl;
-            legal = unsynced_step p (state_of k) _ x.added x.why refl x.grows (subst IsQuiet (state_behind k new x.added x.adds) quiet) (accounted_is before after k new x.added accounted x.adds);
-            own = refl;
-          };
-          calls = refl;
-          behind = sym (state_behind k new x.added x.adds);
-          says = x.says ∙ is;
-        })
-        | inr pair ↦ inr (shows_in run before after (state_of k) (step.Put key body request response) (record {
-          device = p;
-          plain = refl;
-          unsynced = refl;
-          moment = refl;
-          content = refl;
-          calls = refl;
-          shows = (pair.0, shows_placed (with_bytes run.streams (state_of k).next_put body) p (state_of k) (put_intents (state_of k) key body request response) pair.0 pair.1);
-        }))
-      ]
-
-  -- a put that is answered
-  pub puts : (result : Result Receipt Refusal) (said : StepAnswer) → closed_answer result ≡ Some said → PutsWhere now before after k new key body request response result
-      → Ends run before after (state_of k) (state_of new) key body request response said
-  puts (Ok receipt) said is h = asked_puts (Ok receipt) said (some_is (receipt_answer (Ok receipt)) said is) h
-  puts (Err (refusal.Memory e)) said is h = cc is
-  puts (Err refusal.TooManyWriters) said is h = asked_puts (Err refusal.TooManyWriters) said (some_is (receipt_answer (Err refusal.TooManyWriters)) said is) h
-  puts (Err refusal.TooManyFragments) said is h = asked_puts (Err refusal.TooManyFragments) said (some_is (receipt_answer (Err refusal.TooManyFragments)) said is) h
-  puts (Err (refusal.VectorTooLarge bytes)) said is h = asked_puts (Err (refusal.VectorTooLarge bytes)) said (some_is (receipt_answer (Err (refusal.VectorTooLarge bytes))) said is) h
-  puts (Err (refusal.Lost index why)) said is h = asked_puts (Err (refusal.Lost index why)) said (some_is (receipt_answer (Err (refusal.Lost index why))) said is) h
-  puts (Err refusal.Sealed) said is h = asked_puts (Err refusal.Sealed) said (some_is (receipt_answer (Err refusal.Sealed)) said is) h
-  puts (Err (refusal.Exhausted number)) said is h = asked_puts (Err (refusal.Exhausted number)) said (some_is (receipt_answer (Err (refusal.Exhausted number))) said is) h
-  puts (Err (refusal.DeviceFault count)) said is h = asked_puts (Err (refusal.DeviceFault count)) said (some_is (receipt_answer (Err (refusal.DeviceFault count))) said is) h
-  puts (Err refusal.NoSuchWriter) said is h = asked_puts (Err refusal.NoSuchWriter) said (some_is (receipt_answer (Err refusal.NoSuchWriter)) said is) h
-
--- ---- no actor has anything to do with it
-
--- of the streams only that of the new put is another
-other_stream : (streams : ℕ → Stream) (put q : ℕ) (body : List ℕ) → (Some put ≡ Some q → ⊥) → with_bytes streams put body q ≡ streams q
-other_stream streams put q body other = by (q == put) refl
+receipt_counts : (result : Result Receipt Refusal) (n : ℕ) → IfErr result (λ why. count_of_refusal why ≤ n) → IfSome (closed_answer result) (λ said. count_in said ≤ n)
+receipt_counts (Ok receipt) n h = zero_below n
   where
-    by : (b : Bool) → (q == put) ≡ b → (if b then record { bytes = body; sealed = false } else streams q) ≡ streams q
-    by true e = absurd (other (ap Some (sym (eqb-true q put e))))
-    by false e = refl
+    zero_below : (n : ℕ) → 0 ≤ n
+    zero_below n = omega arith
+receipt_counts (Err why) n h = refused_counts why None n h
 
-module _ {D R C : Type 0} {d : DiskGhosts D} {r : DirectoryGhosts R} {c : ChronicleGhosts C} where
-  -- no actor writes the next put
-  none_writes : (part : Part D R C d r c) (slots : ℕ → Option Holding) → IsActive part slots → AllElse slots (Some (state_in part.stripe).next_put) None
-  none_writes part slots a = λ m h is.
-      let s : State = state_in part.stripe in
-      free_of s h (next_is_free s a.part.stripe.actors.puts_fall) (subst (λ o. Rattle.std.specs.Prelude.IfSome o (IsHeld s)) is (a.held m))
+err_now : {X E N : Type 0} (P : E → Type 0) (result : Result X E) → N → IfErr result (λ why. N → P why) → IfErr result P
+err_now P (Ok x) n h = tt
+err_now P (Err why) n h = h n
 
-  pub put_session : (session : Session D R C d r c) (old new : Part D R C d r c) → session.part ≡ Some old → LeavesBut (Some (state_in old.stripe).next_put) None (state_in old.stripe) (state_in new.stripe)
-      → IsSession session → IsPart new → IsActive new (slots_in session)
-  put_session session old new is leaves h part =
-      let s : State = state_in old.stripe in
-      let a = active session old is h in
-      record { part = part; held = still_held (Some s.next_put) None s (state_in new.stripe) (slots_in session) leaves (none_writes old (slots_in session) a) a.held; apart = a.apart }
+module _ {S W R : Type 0} {c : CallsGhosts S W R} (now : ℕ) (old new : Part S W R c) (key : Key) (body : List ℕ) (request response : List Field)
+    (part : IsPart old) (rest : IsAtRest (at_in new)) where
+  abbrev line : Step
+  line = step.Put key body request response
 
-  put_plays : (run : Run) (session : Session D R C d r c) (old part : Part D R C d r c) (key : Key) (body : List ℕ) (request response : List Field) (said : StepAnswer) → session.part ≡ Some old
-      → LeavesBut (Some (state_in old.stripe).next_put) None (state_in old.stripe) (state_in part.stripe) → IsSession session → Plays run session
-      → (x : Plainly run (step.Put key body request response) (past_of old) (past_of part) (state_in old.stripe) (state_in part.stripe) said)
-      → StandsBehind run (state_in old.stripe) (state_in part.stripe) x.turn (step.Put key body request response)
-      → PlaysIn (in_session run (state_in old.stripe) (after_all (state_in old.stripe) x.turn.added) x.turn (step.Put key body request response)) (state_in part.stripe) (slots_in session)
-  put_plays run session old part key body request response said is leaves h plays x there =
-      let s : State = state_in old.stripe in
-      let t : State = state_in part.stripe in
-      let later : Run = in_session run s (after_all s x.turn.added) x.turn (step.Put key body request response) in
-      still_plays (Some s.next_put) None run later s t (slots_in session) leaves (none_writes old (slots_in session) (active session old is h))
-      (λ q other. other_stream run.streams s.next_put q body other) (λ m. refl) (ap Some x.behind) there.0 there.1 (playing run session old is plays)
+  abbrev put : ℕ
+  put = (state_in old).next_put
 
-  put_moves : (tell : StepsTell) (owns : StepsOwn) (session new : Session D R C d r c) (old part : Part D R C d r c) (key : Key) (body : List ℕ) (request response : List Field) (said : StepAnswer) → session.part ≡ Some old → new.part ≡ Some part
-      → names_in new ≡ names_in session → new.now ≡ session.now → slots_in new ≡ slots_in session → LeavesBut (Some (state_in old.stripe).next_put) None (state_in old.stripe) (state_in part.stripe)
-      → Between old.stripe part.stripe → IsSession session
-      → ((run : Run) → run.now ≡ session.now → AreTold (state_in old.stripe) → Ends run (past_of old) (past_of part) (state_in old.stripe) (state_in part.stripe) key body request response said)
-      → (run : Run) → Plays run session → StepEnds run (step.Put key body request response) new said
-  put_moves tell owns session new old part key body request response said is now names kept slots leaves stays h ends run plays =
-      let s : State = state_in old.stripe in
-      let t : State = state_in part.stripe in
-      let line = step.Put key body request response in
-      let a = active session old is h in
-      let p = playing run session old is plays in
-      elim (ends run plays.now p.told) [
-        | inl x ↦ elim (stands_behind tell owns run (past_of old) (past_of part) s t x.turn line (slots_in session) x.calls x.takes x.behind a.part.stripe.pieces.sound a.part.quiet a.held p) [
-          | inl there ↦
-              let later : Run = in_session run s (after_all s x.turn.added) x.turn line in
-              inl (moves run s x.turn line new said p.state x.takes (ap (λ u. session_said run s u x.turn line) x.behind ∙ x.says) (record {
-                names = plays.names ∙ sym names;
-                now = plays.now ∙ sym kept;
-                at = subst (λ o. PlaysAt later o (slots_in new)) (sym now)
-                    (subst (PlaysIn later t) (sym slots) (put_plays run session old part key body request response said is leaves h plays x there));
-                unharmed = session_unharmed session new old part is now stays plays.unharmed;
-                calls = session_calls run later session new old part x.turn.device.events is now stays.goes x.calls refl plays.calls;
-              }))
-          | inr shows ↦ inr (shows_step run session new old part line is now stays.goes plays shows)
-        ]
-        | inr shows ↦ inr (shows_step run session new old part line is now stays.goes plays shows)
-      ]
+  -- what it was asked has come there, and this is told
+  moves : (result : Result Receipt Refusal)
+      → ServesFrom IsVectorAs now (at_in old) (at_in new) (put_intents (state_in old) key body request response)
+      (progress_with (reason_of put result)) IsToldAt (IsSaidAs put result)
+      → (run : Run) → run.now ≡ now → AreTold (state_in old) → MovesOrShows run line (at_in old) (at_in new) (receipt_answer result)
+  moves result serves run moment told =
+      moves_line run line (at_in old) (at_in new) now part.plain moment {known = IsSaidAs put result} (put_intents (state_in old) key body request response)
+      (reason_of put result) [] (receipt_answer result) refl (serves_whole (reason_of put result) (ends_with (reason_of put result)) part.plain rest.quiet told serves) refl
+      (λ known. known)
 
-  pub put_ends : (tell : StepsTell) (owns : StepsOwn) (session new : Session D R C d r c) (old part : Part D R C d r c) (key : Key) (body : List ℕ) (request response : List Field) (result : Result StepAnswer Stop) → session.part ≡ Some old → new.part ≡ Some part
-      → names_in new ≡ names_in session → new.now ≡ session.now → slots_in new ≡ slots_in session → LeavesBut (Some (state_in old.stripe).next_put) None (state_in old.stripe) (state_in part.stripe)
-      → Between old.stripe part.stripe → IsSession session
-      → IfOk result (λ said. (run : Run) → run.now ≡ session.now → AreTold (state_in old.stripe) → Ends run (past_of old) (past_of part) (state_in old.stripe) (state_in part.stripe) key body request response said)
-      → IfOk result (λ said. (run : Run) → Plays run session → StepEnds run (step.Put key body request response) new said)
-  put_ends tell owns session new old part key body request response (Ok said) is now names kept slots leaves stays h ends = put_moves tell owns session new old part key body request response said is now names kept slots leaves stays h ends
-  put_ends tell owns session new old part key body request response (Err why) is now names kept slots leaves stays h ends = tt
+  puts : (result : Result Receipt Refusal) → PutsWhere now (at_in old) (at_in new) key body request response result
+      → IfSome (closed_answer result) (λ said. (run : Run) → run.now ≡ now → AreTold (state_in old) → MovesOrShows run line (at_in old) (at_in new) said)
+  puts (Ok receipt) serves = moves (Ok receipt) serves
+  puts (Err refusal.TooManyWriters) serves = moves (Err refusal.TooManyWriters) serves
+  puts (Err refusal.TooManyFragments) serves = moves (Err refusal.TooManyFragments) serves
+  puts (Err (refusal.VectorTooLarge bytes)) serves = moves (Err (refusal.VectorTooLarge bytes)) serves
+  puts (Err (refusal.Lost index why)) serves = moves (Err (refusal.Lost index why)) serves
+  puts (Err (refusal.DeviceFault count)) serves = moves (Err (refusal.DeviceFault count)) serves
+  puts (Err (refusal.Exhausted number)) serves = moves (Err (refusal.Exhausted number)) serves
+  puts (Err (refusal.Memory e)) serves = tt
+  puts (Err refusal.Sealed) serves = absurd serves
+  puts (Err refusal.NoSuchWriter) serves = absurd serves
+
+  module _ (given : Result Receipt Refusal) (page : length new.page.items ≡ length old.page.items) (keeps : Keeps c.at c.holds old.cache new.cache)
+      (tells : TellsOfPut (at_in old) (at_in new) put given) where
+    -- it is answered
+    pub put_said : (said : StepAnswer) → closed_answer given ≡ Some said → PutsWhere now (at_in old) (at_in new) key body request response given
+        → AnswersPlainly now line (Some put) None old new (Ok said)
+    put_said said is serves =
+        let leaves = put_leaves put (at_in old) (at_in new) tells.own in
+        record {
+          part = part_behind old new part keeps.goes_on rest page (Some put) None leaves;
+          goes = keeps.goes_on;
+          leaves = leaves;
+          ends = λ run moment told own. subst (λ o. IfSome o (λ x. (r : Run) → r.now ≡ now → AreTold (state_in old) → MovesOrShows r line (at_in old) (at_in new) x)) is
+              (puts given serves) run moment told;
+          unharmed = λ run moment told own. inl keeps.unharmed;
+          counts = subst (λ o. IfSome o (λ x. count_in x ≤ (at_in new).device.faults)) is
+              (receipt_counts given (at_in new).device.faults (err_now (λ why. count_of_refusal why ≤ (at_in new).device.faults) given part.losses tells.counts));
+          stop = tt;
+        }
+
+    -- or memory was wanting
+    pub put_wants : AnswersPlainly now line (Some put) None old new (Err Memory)
+    put_wants =
+        let leaves = put_leaves put (at_in old) (at_in new) tells.own in
+        record {
+          part = part_behind old new part keeps.goes_on rest page (Some put) None leaves;
+          goes = keeps.goes_on;
+          leaves = leaves;
+          ends = tt;
+          unharmed = λ run moment told own. inl keeps.unharmed;
+          counts = tt;
+          stop = refl;
+        }

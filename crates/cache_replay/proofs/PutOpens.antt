@@ -1,178 +1,114 @@
 -- A whole put: it is opened and ends, or is not opened.
-use Rattle.std.proofs.Common.{◌≡◌, ℕ, List, [], ◌∷◌, ◌++◌, length, refl, sym, ◌∙◌, ap, subst, false, inl, inr, Ok, Err, Result}
-use Rattle.std.specs.Prelude.{Some, None, filter}
-use Rattle.std.proofs.lemmas.List.{append_assoc}
-use Rattle.device_log.specs.Calls.{Call}
+use Rattle.std.proofs.Common.{◌≡◌, ℕ, ◌≤◌, List, [], ◌∷◌, ◌++◌, refl, sym, ◌∙◌, ap, subst, arith, true, false, Err, Result}
+use Rattle.std.proofs.lemmas.List.Elements.{filter-append}
 use Rattle.tape_base.specs.declared.keys.Key.{Key}
 use Rattle.tape_base.specs.declared.actors.Actor.{Actor}
 use Rattle.alternate_vector.specs.Field.{Field}
-use Rattle.cache_model.specs.declared.record.Rec.{Rec}
-use Rattle.cache_model.specs.State.{Row, State, after_all}
-use Rattle.cache_model.specs.Kept.{Kept, state_of, with_records}
-use Rattle.cache_model.specs.Permit.{Done, Exhausted, Fails, GiveUp, Intent, ManyWriters, Permit, Reason, Write, is_cleanup, to_do}
-use Rattle.cache_model.specs.Legal.{Does, DoesGiveUp, IsQuiet, MayGrow}
+use Rattle.cache_model.specs.State.{State, state_after}
+use Rattle.cache_model.specs.Kept.{state_of}
+use Rattle.cache_model.specs.Permit.{Done, Exhausted, GiveUp, Intent, ManyWriters, Reason, Write, is_cleanup}
+use Rattle.cache_model.specs.Legal.{DoesGiveUp, IsQuiet, is_writing}
 use Rattle.cache_model.specs.Tape.{IsSound}
-use Rattle.cache_model.specs.Pair.{IsPairNext}
-use Rattle.cache_model.specs.ToRead.{IsToRead}
-use Rattle.cache_model.specs.Vectors.{AreTold, IsVectorAs}
-use Rattle.model_laws.specs.VectorLaws.{GroupsTell}
-use Rattle.cache_model.proofs.Found.{no_truth, none_is}
-use Rattle.cache_model.proofs.Steps.{after_all-append, grows_by, grows_on}
-use Rattle.stripe_actors.specs.Actors.{FallBelow, put_numbers}
-use Rattle.stripe_core.specs.declared.refusal.Refusal.{Refusal}
-use Rattle.stripe_core.specs.declared.refusal.Refusal.TheVariants as refusal
-use Rattle.stripe_core.specs.Acts.{OpensAsAsked, opened_record}
-use Rattle.stripe_core.proofs.Covering.{covers_last}
-use Rattle.stripe_write.specs.declared.finishing.Receipt.{Receipt}
-use Rattle.stripe_write.specs.declared.writer.Writer.{Writer}
-use Rattle.stripe_write.specs.Others.{AddsOfPut, OthersStay}
-use Rattle.stripe_write.specs.Writers.{IsWriterOf}
-use Rattle.stripe_write.proofs.Spending.{nothing_more, state_behind, then_more}
-use Rattle.stripe_write.proofs.Owning.{then_owns}
-use Rattle.script_run.specs.Asked.{feed_intents, put_intents, rest_behind, whole_fragments, close_intents as closing_of}
-use Rattle.script_run.specs.Answers.{put_said, said}
-use Rattle.cache_replay.specs.Session.{LeavesBut}
-use Rattle.cache_replay.specs.Putting.{BodyEnds, BodyEndsAsAsked, BodyEndsWhere, IsFresh, Puts, PutsAsAsked, PutsWhere, ending_intents, receipt_answer}
-use Rattle.cache_replay.specs.Shown.{Shows}
-use Rattle.cache_replay.proofs.Shown.{shows_behind}
-use Rattle.cache_replay.proofs.CutBodies.{no_cleanup}
-use Rattle.cache_replay.proofs.Lines.{leaves_but, next_is_free}
-use Rattle.cache_replay.proofs.Openings.{nothing_cut, owns_opened}
-use Rattle.cache_replay.proofs.PutEnds.{closing_is_work}
-use Rattle.cache_replay.proofs.PutWhole.{cleaned}
+use Rattle.cache_model.specs.Vectors.{IsVectorAs}
+use Rattle.model_laws.proofs.ToldGroups.{told_group}
+use Rattle.call_laws.specs.Moments.{At, IsToldAt, NothingKnown}
+use Rattle.call_laws.specs.Progress.{AllDone, Stops, cleanups}
+use Rattle.call_laws.specs.Serves.{ServesFrom, ServesTold}
+use Rattle.call_laws.proofs.Groups.{serves_none}
+use Rattle.call_laws.proofs.Joined.{state_behind}
+use Rattle.call_laws.proofs.Kept.{told_serves}
+use Rattle.call_laws.proofs.Known.{serves_known}
+use Rattle.call_laws.proofs.Served.{serves_fails, serves_first}
+use Rattle.cache_calls.specs.declared.calls.Receipt.{Receipt}
+use Rattle.cache_calls.specs.declared.calls.Refusal.{Refusal}
+use Rattle.cache_calls.specs.declared.calls.Refusal.TheVariants as refusal
+use Rattle.cache_calls.specs.Actors.{IsWriterOf, WriterSeen}
+use Rattle.cache_calls.specs.Adds.{IsAsItWas}
+use Rattle.cache_calls.specs.Asked.{refused_at}
+use Rattle.cache_calls.specs.Keeping.{IsAtRest, state_at}
+use Rattle.cache_calls.specs.Writers.{HasBegun, OpensNone, opened_record}
+use Rattle.script_run.specs.Asked.{body_intents, close_intents, feed_intents, put_intents, rest_behind, whole_fragments}
+use Rattle.cache_replay.specs.Replies.{count_of_refusal}
+use Rattle.cache_replay.specs.Putting.{BodyEndsWhere, IsFresh, IsSaidAs, PutsWhere, Says, ending_intents, progress_with, reason_of}
+use Rattle.cache_replay.specs.Session.{IsOpenWriter}
+use Rattle.cache_replay.proofs.FeedRefused.{feed_cleans_none}
+use Rattle.cache_replay.proofs.Free.{next_is_free}
+use Rattle.cache_replay.proofs.Openings.{nothing_cut, writes_it}
+use Rattle.cache_replay.proofs.PutEnds.{closing_cleans_none}
+use Rattle.cache_replay.proofs.PutWhole.{unless_as}
 
 -- ---- it is opened
 
-module _ (old now : Kept) (who : Actor) (key : Key) (request response : List Field) (w : Writer)
-    (adds : now ≡ with_records old (opened_record (state_of old) who key request response 0 ∷ [])) where
+module _ (old mid : At) (who : Actor) (key : Key) (request response : List Field) (w : WriterSeen)
+    (begun : HasBegun old mid (opened_record (state_at old) who key request response 0) w) where
   abbrev s : State
-  s = state_of old
+  s = state_at old
 
-  abbrev opened : List Rec
-  opened = opened_record s who key request response 0 ∷ []
+  there : state_at mid ≡ state_after s (opened_record s who key request response 0)
+  there = state_behind old.kept mid.kept (opened_record s who key request response 0 ∷ []) begun.adds
 
-  there : state_of now ≡ after_all s opened
-  there = state_behind old now opened adds
+  pub is_open : IsOpenWriter (state_at mid) w
+  is_open = record {
+    writing = subst (λ q. is_writing (state_at mid) q ≡ true) (sym begun.put) (ap (λ x. is_writing x s.next_put) there ∙ writes_it s who key request response 0);
+    writer = begun.writer;
+  }
 
-  pub is_fresh : w.put ≡ s.next_put → IsWriterOf (state_of now) w → w.gathered.items ≡ [] → w.sealed ≡ false → IsFresh w
-  is_fresh is own none unsealed =
-      record { rows = nothing_cut s who key request response 0 w is (subst (λ x. IsWriterOf x w) there own); gathered = none; unsealed = unsealed }
+  pub is_fresh : IsFresh w
+  is_fresh =
+      record { cuts = nothing_cut s who key request response 0 w begun.put (subst (λ x. IsWriterOf x w) there begun.writer); gathered = begun.empty; unsealed = begun.unsealed }
 
-  pub leaves_opened : (new : Kept) → OthersStay → w.put ≡ s.next_put → AddsOfPut w.put now new → LeavesBut (Some s.next_put) None s (state_of new)
-  leaves_opened new stay is own =
-      leaves_but s.next_put old new stay
-      (then_owns s.next_put old now new (owns_opened old now who key request response 0 adds) (subst (λ q. AddsOfPut q now new) is own))
-
-  module _ (moment : ℕ) (before mid after : List Call) (new : Kept) (body : List ℕ) (tells : GroupsTell) (sound : IsSound (state_of old)) (number : who.0 ≡ 0)
-      (does : OpensAsAsked s who key request response 0 (Ok w.put)) (made : List Call) (earlier : mid ≡ made ++ before) where
-    abbrev ending : List Intent
-    ending = ending_intents (state_of now) w.put body
-
-    same_ending : ending ≡ ending_intents s s.next_put body
-    same_ending = ap (λ x. ending_intents x w.put body) there ∙ ap (λ n. ending_intents s n body) does.0
-
-    asked_is : Write who.0 key request response 0 ∷ ending ≡ put_intents s key body request response
-    asked_is = ap (λ is. Write who.0 key request response 0 ∷ is) same_ending ∙ ap (λ n. Write n key request response 0 ∷ ending_intents s s.next_put body) number
-
-    -- nothing is read to open a writer
-    none_read : (p : Permit) (row : Row) → IsToRead p s (Write who.0 key request response 0) row → ⊥
-    none_read p row (IsToRead.asked_for e) = none_is e
-    none_read p row (IsToRead.copied flushes able came) = no_truth (sym flushes)
-
-    told : (p : Permit) → AreTold s → AreTold (state_of now)
-    told p h =
-        elim (tells p s (Write who.0 key request response 0) opened Done sound h (does.1 p)) [
-          | inl all ↦ subst AreTold (sym there) all
-          | inr pair ↦ absurd (none_read p pair.row pair.read)
-        ]
-
-    first : (p : Permit) → MayGrow p s (to_do (Write who.0 key request response 0 ∷ ending)) opened (to_do ending)
-    first p = grows_by p s (to_do (Write who.0 key request response 0 ∷ ending)) (to_do ending) opened (Done, does.1 p, refl)
-
-    goes_on : (p : Permit) (more : List Rec) (left : Rattle.cache_model.specs.Permit.Work) → MayGrow p (state_of now) (to_do ending) more left
-        → MayGrow p s (to_do (put_intents s key body request response)) (opened ++ more) left
-    goes_on p more left grows =
-        subst (λ is. MayGrow p s (to_do is) (opened ++ more) left) asked_is (grows_on (first p) (subst (λ x. MayGrow p x (to_do ending) more left) there grows))
-
-    puts_behind : (p : Permit) (result : Result Receipt Refusal) → BodyEnds p now new w.put body result → Puts p old new key body request response result
-    puts_behind p result b =
-        record {
-          added = opened ++ b.added;
-          why = b.why;
-          adds = then_more old now new opened b.added adds b.adds;
-          grows = goes_on p b.added (record { intents = []; refused = b.why }) b.grows;
-          says = subst (λ n. said (state_of new) None b.why (put_said (state_of new) n) ≡ receipt_answer result) does.0 b.says;
-        }
-
-    shows_then : (p : Permit) → Shows IsVectorAs p (state_of now) ending → Shows IsVectorAs p s (put_intents s key body request response)
-    shows_then p v =
-        let recs : List Rec = v.1.before in
-        shows_behind IsVectorAs p s (put_intents s key body request response) (opened ++ recs) v.1.left (goes_on p recs v.1.left v.1.grows)
-        (subst (λ x. IsPairNext IsVectorAs p x v.1.left.intents) (ap (λ x. after_all x recs) there ∙ sym (after_all-append s opened recs)) v.1.pair)
-
-    puts_as : (result : Result Receipt Refusal) → BodyEndsAsAsked moment mid after now new w.put body result → PutsAsAsked moment before after old new key body request response result
-    puts_as result b = record {
-      does = λ p at covers h.
-          elim (b.does p at (covers_last p before mid after made earlier covers) (told p h)) [
-            | inl ends ↦ inl (puts_behind p result ends)
-            | inr pair ↦ inr (shows_then p pair)
-          ];
-    }
-
-    pub puts_opened : (result : Result Receipt Refusal) → BodyEndsWhere moment mid after now new w.put body result → PutsWhere moment before after old new key body request response result
-    puts_opened (Err (refusal.Memory e)) b = tt
-    puts_opened (Ok receipt) b = puts_as (Ok receipt) b
-    puts_opened (Err (refusal.VectorTooLarge bytes)) b = puts_as (Err (refusal.VectorTooLarge bytes)) b
-    puts_opened (Err (refusal.Lost index why)) b = puts_as (Err (refusal.Lost index why)) b
-    puts_opened (Err (refusal.DeviceFault count)) b = puts_as (Err (refusal.DeviceFault count)) b
-    puts_opened (Err (refusal.Exhausted number_)) b = puts_as (Err (refusal.Exhausted number_)) b
-    puts_opened (Err refusal.NoSuchWriter) b = puts_as (Err refusal.NoSuchWriter) b
-    puts_opened (Err refusal.TooManyWriters) b = puts_as (Err refusal.TooManyWriters) b
-    puts_opened (Err refusal.TooManyFragments) b = puts_as (Err refusal.TooManyFragments) b
-    puts_opened (Err refusal.Sealed) b = puts_as (Err refusal.Sealed) b
+  pub puts_opened : (now : ℕ) (new : At) (body : List ℕ) → IsSound s → who.0 ≡ 0 → ServesTold now old mid (Write who.0 key request response 0 ∷ []) AllDone
+      → (result : Result Receipt Refusal) → BodyEndsWhere now mid new w.put body result → PutsWhere now old new key body request response result
+  puts_opened now new body sound nobody opens result ends =
+      let same : ending_intents (state_at mid) w.put body ≡ ending_intents s s.next_put body =
+      ap (λ (x : State). ending_intents x w.put body) there ∙ ap (λ n. ending_intents s n body) begun.put in
+      unless_as result
+      (λ (f : ServesFrom IsVectorAs now mid new (ending_intents (state_at mid) w.put body) (progress_with (reason_of w.put result)) IsToldAt (IsSaidAs w.put result)).
+      subst (λ n. ServesFrom IsVectorAs now old new (Write n key request response 0 ∷ ending_intents s s.next_put body)
+      (progress_with (reason_of s.next_put result)) IsToldAt (IsSaidAs s.next_put result)) nobody
+      (serves_first (told_serves told_group sound opens)
+      (subst (λ q. ServesFrom IsVectorAs now mid new (ending_intents s s.next_put body) (progress_with (reason_of q result)) IsToldAt (IsSaidAs q result)) begun.put
+      (subst (λ (is : List Intent). ServesFrom IsVectorAs now mid new is (progress_with (reason_of w.put result)) IsToldAt (IsSaidAs w.put result)) same f)))) ends
 
 -- ---- it is not opened
 
-ending_cleaned : (s : State) (put : ℕ) (body : List ℕ) → filter is_cleanup (ending_intents s put body) ≡ GiveUp put ∷ []
+-- of a body that ends only the giving up is a clean-up
+ending_cleaned : (s : State) (put : ℕ) (body : List ℕ) → cleanups (ending_intents s put body) ≡ GiveUp put ∷ []
 ending_cleaned s put body =
-    let f = s.geometry.fragment in
-    let closing = closing_of put (whole_fragments f body) (rest_behind f body) in
-    ap (filter is_cleanup) (append_assoc (feed_intents f put 0 body) closing (GiveUp put ∷ []))
-    ∙ (no_cleanup (length body) f put 0 body (closing ++ GiveUp put ∷ []) ∙ closing_is_work put (whole_fragments f body) (rest_behind f body) (GiveUp put ∷ []))
+    let f : ℕ = s.geometry.fragment in
+    let closing : List Intent = close_intents put (whole_fragments f body) (rest_behind f body) in
+    filter-append is_cleanup (body_intents f put body) (GiveUp put ∷ [])
+    ∙ ap (λ (is : List Intent). is ++ GiveUp put ∷ [])
+    (filter-append is_cleanup (feed_intents f put 0 body) closing
+    ∙ (ap (λ (is : List Intent). is ++ cleanups closing) (feed_cleans_none f put 0 body) ∙ closing_cleans_none put (whole_fragments f body) (rest_behind f body)))
 
-module _ (moment : ℕ) (before after : List Call) (old new : Kept) (who : Actor) (key : Key) (body : List ℕ) (request response : List Field) (number : who.0 ≡ 0) (same : new ≡ old)
-    (quiet : IsQuiet (state_of new)) (fall : FallBelow (state_of old).next_put (put_numbers (state_of old).puts)) where
-  abbrev u : State
-  u = state_of old
+module _ (now : ℕ) (old new : At) (rest : IsAtRest old) (quiet : IsQuiet (state_at new)) (who : Actor) (key : Key) (body : List ℕ) (request response : List Field)
+    (nobody : who.0 ≡ 0) (same : IsAsItWas old new) where
+  abbrev put : ℕ
+  put = (state_at old).next_put
 
-  still : IsQuiet u
-  still = subst IsQuiet (ap state_of same) quiet
+  stops : (why : Refusal) (reason : Reason) → ((t : State) → Says t put (Err why))
+      → ServesTold now old new (Write who.0 key request response 0 ∷ []) (Stops reason)
+      → ServesFrom IsVectorAs now old new (put_intents (state_at old) key body request response) (Stops reason) IsToldAt (IsSaidAs put (Err why))
+  stops why reason says serves =
+      let none : is_writing (state_at new) put ≡ false = ap (λ k. is_writing (state_of k) put) same ∙ next_is_free old rest in
+      let ending : List Intent = ending_intents (state_at old) put body in
+      subst (λ n. ServesFrom IsVectorAs now old new (Write n key request response 0 ∷ ending) (Stops reason) IsToldAt (IsSaidAs put (Err why))) nobody
+      (serves_fails ending serves
+      (subst (λ (is : List Intent). ServesFrom IsVectorAs now new new is AllDone NothingKnown (IsSaidAs put (Err why))) (sym (ending_cleaned (state_at old) put body))
+      (serves_known (IsSaidAs put (Err why)) (λ past k. says (state_at new))
+      (serves_none (GiveUp put) Done (record { kept = refl; past = refl; setting = refl }) (λ p. DoesGiveUp.over quiet none refl)))))
 
-  fails_at : (p : Permit) (why : Reason) → Does p u (Write who.0 key request response 0) [] (Fails why)
-      → MayGrow p u (to_do (put_intents u key body request response)) [] (record { intents = []; refused = Some why })
-  fails_at p why does =
-      let rest = ending_intents u u.next_put body in
-      let gone : MayGrow p u (record { intents = filter is_cleanup rest; refused = Some why }) [] (record { intents = []; refused = Some why }) =
-      subst (λ is. MayGrow p u (record { intents = is; refused = Some why }) [] (record { intents = []; refused = Some why })) (sym (ending_cleaned u u.next_put body))
-      (grows_by p u (cleaned u.next_put (Some why)) (record { intents = []; refused = Some why }) [] (Done, DoesGiveUp.over still (next_is_free u fall) refl, refl)) in
-      subst (λ n. MayGrow p u (to_do (Write n key request response 0 ∷ rest)) [] (record { intents = []; refused = Some why })) number
-      (grows_on (grows_by p u (to_do (Write who.0 key request response 0 ∷ rest)) (record { intents = filter is_cleanup rest; refused = Some why }) [] (Fails why, does, refl)) gone)
+  pub puts_refused : (why : Refusal) → OpensNone (state_at old) why
+      → ServesTold now old new (Write who.0 key request response 0 ∷ []) (refused_at put (Write who.0 key request response 0 ∷ []) why)
+      → PutsWhere now old new key body request response (Err why)
+  puts_refused refusal.TooManyWriters none serves = stops refusal.TooManyWriters ManyWriters (λ t. refl) serves
+  puts_refused (refusal.Exhausted number) none serves = stops (refusal.Exhausted number) Exhausted (λ t. refl) serves
+  puts_refused (refusal.Memory e) none serves = tt
+  puts_refused _ none serves = absurd none
 
-  refused_at : (why : Reason) (result : Refusal) → ((p : Permit) → Does p u (Write who.0 key request response 0) [] (Fails why))
-      → said (state_of new) None (Some why) (put_said (state_of new) u.next_put) ≡ receipt_answer (Err result) → PutsAsAsked moment before after old new key body request response (Err result)
-  refused_at why result does says = record {
-    does = λ p at covers told.
-        inl (record {
-          added = [];
-          why = Some why;
-          adds = same ∙ sym (nothing_more old);
-          grows = fails_at p why (does p);
-          says = says;
-        });
-  }
-
-  pub puts_refused : (why : Refusal) → OpensAsAsked u who key request response 0 (Err why) → PutsWhere moment before after old new key body request response (Err why)
-  puts_refused refusal.TooManyWriters does = refused_at ManyWriters refusal.TooManyWriters does.1 refl
-  puts_refused (refusal.Exhausted number_) does = refused_at Exhausted (refusal.Exhausted number_) does.1 refl
-  puts_refused (refusal.Memory e) does = tt
-  puts_refused _ does = absurd does
+-- nor is a count told then
+pub open_counts : (s : State) (why : Refusal) (n : ℕ) → OpensNone s why → count_of_refusal why ≤ n
+open_counts s (refusal.DeviceFault count) n none = absurd none
+open_counts s (refusal.Lost index why) n none = absurd none
+open_counts s _ n none = omega arith

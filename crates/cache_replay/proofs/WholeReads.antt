@@ -1,13 +1,13 @@
 -- One fragment after the other, up to the end.
-use Rattle.std.proofs.Common.{◌≡◌, ℕ, zero, suc, min, ◌+◌, ◌-◌, ◌*◌, ◌<◌, ◌≤◌, List, [], ◌∷◌, ◌++◌, length, take, refl, sym, ◌∙◌, ap, subst, Bool, true, false, cond, ◌⊎◌, inl, inr, arith}
-use Rattle.std.specs.Prelude.{Option, Some, None, if◌then◌else◌, is_some, option_map, option_and_then, unwrap_or, slice_get}
-use Rattle.std.proofs.lemmas.List.{append_assoc}
+use Rattle.std.proofs.Common.{◌≡◌, ℕ, zero, suc, min, ◌+◌, ◌-◌, ◌*◌, ◌<◌, ◌≤◌, List, [], ◌∷◌, ◌++◌, length}
+use Rattle.std.proofs.Common.{length-take, take, refl, sym, ◌∙◌, ap, subst, Bool, true, false, cond, ◌⊎◌, inl, inr, arith}
+use Rattle.std.specs.Prelude.{Err, Ok, Option, Result, Some, None, if◌then◌else◌, is_some, option_map, option_and_then, unwrap_or, slice_get}
+use Rattle.std.specs.declared.alloc.AllocError.{AllocError}
 use Rattle.std.proofs.Math.Nat.{add-mul}
 use Rattle.std.proofs.Math.Seq.{take-add}
 use Rattle.device_log.specs.Calls.{Call}
-use Rattle.logged_disk.specs.Device.{State as Device}
 use Rattle.tape_base.specs.declared.geometries.Geometry.{Geometry}
-use Rattle.fragment_table.specs.Table.{Table, TableRow}
+use Rattle.fragment_table.specs.Table.{TableRow}
 use Rattle.cache_model.specs.declared.cause.Cause.{Cause}
 use Rattle.cache_model.specs.declared.answer.ReadAnswer.{ReadAnswer}
 use Rattle.cache_model.specs.declared.answer.ReadAnswer.TheVariants as read
@@ -15,38 +15,46 @@ use Rattle.cache_model.specs.declared.answer.NextAnswer.{NextAnswer}
 use Rattle.cache_model.specs.declared.answer.NextAnswer.TheVariants as next
 use Rattle.cache_model.specs.declared.record.Rec.{Rec}
 use Rattle.cache_model.specs.declared.record.Rec.TheVariants as rec
-use Rattle.cache_model.specs.State.{ReaderRow, Row, State, live_row_of, reader_of}
-use Rattle.cache_model.specs.Kept.{Kept, state_of, with_records}
+use Rattle.cache_model.specs.State.{ReaderRow, Row, State, after_all, live_row_of, reader_of}
+use Rattle.cache_model.specs.Kept.{state_of, with_records}
 use Rattle.cache_model.specs.Verdict
 use Rattle.cache_model.specs.Verdict.{next_piece, next_row}
 use Rattle.cache_model.specs.Permit.{Done, End, Intent, Permit, ReadAll, ReadOn, Stays, StopReading, Work, to_do, work_after}
 use Rattle.cache_model.specs.Legal
-use Rattle.cache_model.specs.Legal.{Does, IsQuiet, IsReading, MayGrow, MayReadOn, answer_record, has_hit, is_given, live_next}
+use Rattle.cache_model.specs.Legal.{Advances, Does, IsQuiet, IsReading, MayGrow, MayReadOn, answer_record, has_hit, is_given, live_next, more, nothing}
+use Rattle.cache_model.specs.Pair.{Documents, IsPair, IsPairNext, ShowsPair}
+use Rattle.cache_model.specs.Tape.{IsSound}
+use Rattle.cache_model.specs.ToRead
+use Rattle.cache_model.specs.ToRead.{to_read, IsToRead}
+use Rattle.cache_model.specs.Vectors.{AreTold, IsVectorAs}
+use Rattle.cache_model.proofs.Found.{none_is, no_truth, same_some}
+use Rattle.cache_model.proofs.Steps.{after_all-append, alone, grows_by, grows_on, seen}
 use Rattle.model_laws.proofs.Answered.{end_is_whole}
-use Rattle.cache_model.proofs.Found.{none_is, no_truth}
-use Rattle.cache_model.proofs.Steps.{grows_by, grows_on}
-use Rattle.stripe_core.specs.Covers.{Covers}
-use Rattle.stripe_core.proofs.Covering.{covers_first, covers_last, own_covers, own_permit}
-use Rattle.stripe_read.specs.declared.reader.Reader.{Reader}
-use Rattle.stripe_read.specs.declared.reading.NextPiece.{NextPiece}
-use Rattle.stripe_read.specs.declared.reading.NextPiece.TheVariants as piece
-use Rattle.stripe_read.specs.Readers.{IsReaderOf, as_row, row_by, rows_in}
-use Rattle.stripe_read.specs.Nexts.{GoesOn, IsFragment, ReadsOn, listed_length, noted, read_adds, trouble_with}
-use Rattle.stripe_write.proofs.Spending.{state_behind, then_more}
+use Rattle.model_laws.proofs.Pairs.{also_pair}
+use Rattle.model_laws.proofs.ToldGroups.{told_group}
+use Rattle.call_laws.specs.Moments.{At, NothingKnown, permit_of}
+use Rattle.call_laws.specs.Progress.{AllDone}
+use Rattle.call_laws.specs.Serves.{InStep, IsCall, ServesFrom, Upshots}
+use Rattle.call_laws.proofs.Grown.{shown_first}
+use Rattle.call_laws.proofs.Joined.{call_as, call_then, state_behind}
+use Rattle.cache_calls.specs.declared.calls.NextPiece.{NextPiece}
+use Rattle.cache_calls.specs.declared.calls.NextPiece.TheVariants as piece
+use Rattle.cache_calls.specs.Actors.{IsReaderOf, ReaderSeen, as_row, row_by}
+use Rattle.cache_calls.specs.Adds.{Adds, IsOfReader}
+use Rattle.cache_calls.specs.Keeping.{IsAtRest, IsPlain, state_at}
+use Rattle.cache_calls.specs.Readers.{GoesOn, GoesOnReading, HasRead, IsFragment, IsGivenAs, IsToldTo, ReaderGoesOn, listed_length, next_trouble, noted, read_adds}
+use Rattle.cache_calls.proofs.Keeping.{plain_has_steps}
+use Rattle.cache_calls.proofs.Others.{reads_leave_others}
 use Rattle.script_run.specs.Run.{Run}
 use Rattle.script_run.specs.Turn.{is_told, later, lookup_in, told_in}
 use Rattle.script_run.specs.Answers.{broken_said}
-use Rattle.script_run.specs.Laws.{AllIsGiven, ReadIsOwn, ReadsOwn}
 use Rattle.script_run.specs.Own.{AreOwn, IsPlacedAs, piece_of}
+use Rattle.script_run.proofs.OnlyReading.{reads_own}
+use Rattle.script_run.proofs.Reading.{all_is_given, read_is_own}
 use Rattle.script_lang.specs.declared.answer.StepAnswer.{StepAnswer}
 use Rattle.script_lang.specs.declared.answer.StepAnswer.TheVariants as answer
-use Rattle.cache_model.specs.ToRead.{to_read, IsToRead}
-use Rattle.cache_model.specs.Pair.{IsPair, IsPairOf}
-use Rattle.cache_replay.specs.Getting.{Answered, Began, IsAnswered, IsUnderway, Underway, rows_left}
-use Rattle.cache_replay.specs.Shown.{Shows}
-use Rattle.cache_replay.proofs.Shown.{shows_behind}
-use Rattle.cache_replay.proofs.Frames.{some_is}
-use Rattle.cache_replay.proofs.ReaderFrames.{read_leaves}
+use Rattle.cache_replay.proofs.Frames.{same_added}
+use Rattle.cache_replay.specs.Getting.{Answers, Comes, IsAnswered, IsHit, IsKnownTo, IsUnderway, Knowing, Underway, rows_left}
 
 -- ---- what was answered among records
 
@@ -140,20 +148,18 @@ same_answer : (a b : List Rec) (n : ℕ) (x y : NextAnswer) → a ++ answer_reco
 same_answer a b n x y h =
     let same : answer_record n x ≡ answer_record n y =
     sym (last_is a (answer_record n x) (rec.Fault 0)) ∙ (ap (last_of (rec.Fault 0)) h ∙ last_is b (answer_record n y) (rec.Fault 0)) in
-    some_is y x (sym (answer_is n y) ∙ (ap as_answer (sym same) ∙ answer_is n x))
+    same_some y x (Some y) refl (sym (answer_is n y) ∙ (ap as_answer (sym same) ∙ answer_is n x))
 
-may_read : (p : Permit) (s : State) (n : ℕ) (before : List Rec) (a : NextAnswer) → Does p s (ReadOn n) (before ++ answer_record n a ∷ []) Done → MayReadOn p s n a (before ++ answer_record n a ∷ [])
+may_read : (p : Permit) (s : State) (n : ℕ) (before : List Rec) (a : NextAnswer) → Does p s (ReadOn n) (before ++ answer_record n a ∷ []) Done
+    → MayReadOn p s n a (before ++ answer_record n a ∷ [])
 may_read p s n before a (Legal.DoesReadOn.reads_on x m) = subst (λ y. MayReadOn p s n y (before ++ answer_record n a ∷ [])) (same_answer before m.before n a x m.is) m
 
-some_rows : (o : Option Table) → is_some (option_map (λ (t : Table). t.rows) o) ≡ is_some o
-some_rows None = refl
-some_rows (Some t) = refl
+hit_is : (s : State) (r : ReaderSeen) → IsReaderOf s r → is_some r.table ≡ true → has_hit s r.reader ≡ true
+hit_is s r own hit = ap (λ (o : Option ReaderRow). is_some (option_and_then (λ (x : ReaderRow). x.table) o)) own.found ∙ hit
 
-hit_is : (s : State) (r : Reader) → IsReaderOf s r → is_some r.table ≡ true → has_hit s r.reader ≡ true
-hit_is s r own hit = ap (λ (o : Option ReaderRow). is_some (option_and_then (λ (x : ReaderRow). x.table) o)) own.found ∙ (some_rows r.table ∙ hit)
-
-reads_all : (p : Permit) (s : State) (r : Reader) (before : List Rec) (a : NextAnswer) → IsReaderOf s r → is_some r.table ≡ true
-    → Does p s (ReadOn r.reader) (before ++ answer_record r.reader a ∷ []) Done → Does p s (ReadAll r.reader) (before ++ answer_record r.reader a ∷ []) (cond (is_given a) Stays Done)
+reads_all : (p : Permit) (s : State) (r : ReaderSeen) (before : List Rec) (a : NextAnswer) → IsReaderOf s r → is_some r.table ≡ true
+    → Does p s (ReadOn r.reader) (before ++ answer_record r.reader a ∷ []) Done
+    → Does p s (ReadAll r.reader) (before ++ answer_record r.reader a ∷ []) (cond (is_given a) Stays Done)
 reads_all p s r before a own hit d = Legal.DoesReadAll.reads_on a (hit_is s r own hit) (may_read p s r.reader before a d) refl
 
 -- the verdict on a reader that hit something
@@ -186,13 +192,16 @@ pub more_front : (fragment index : ℕ) (bytes body part : List ℕ) → 1 ≤ i
 more_front fragment index bytes body part some front here =
     let e : index + 1 - 1 ≡ (index - 1) + 1 = omega arith in
     let one : 1 * fragment ≡ fragment = omega arith in
-    let size : (index + 1 - 1) * fragment ≡ (index - 1) * fragment + fragment = ap (λ n. n * fragment) e ∙ (add-mul (index - 1) 1 fragment ∙ ap (λ n. (index - 1) * fragment + n) one) in
-    ap (λ xs. xs ++ part) front ∙ (ap (λ xs. take ((index - 1) * fragment) bytes ++ xs) here ∙ (sym (take-add ((index - 1) * fragment) fragment bytes) ∙ ap (λ n. take n bytes) (sym size)))
+    let size : (index + 1 - 1) * fragment ≡ (index - 1) * fragment + fragment =
+    ap (λ n. n * fragment) e ∙ (add-mul (index - 1) 1 fragment ∙ ap (λ n. (index - 1) * fragment + n) one) in
+    ap (λ xs. xs ++ part) front ∙ (ap (λ xs. take ((index - 1) * fragment) bytes ++ xs) here
+    ∙ (sym (take-add ((index - 1) * fragment) fragment bytes) ∙ ap (λ n. take n bytes) (sym size)))
 
 -- ---- what is read next
 
 -- the fragment that a reader takes next, where it is live
-pub next_reads : (s : State) (n : ℕ) (r : ReaderRow) (entry : TableRow) (row : Row) → reader_of s n ≡ Some r → next_row s r ≡ Some entry → live_row_of s (next_piece r) ≡ Some row → to_read s (ReadOn n) ≡ Some row
+pub next_reads : (s : State) (n : ℕ) (r : ReaderRow) (entry : TableRow) (row : Row) → reader_of s n ≡ Some r → next_row s r ≡ Some entry
+    → live_row_of s (next_piece r) ≡ Some row → to_read s (ReadOn n) ≡ Some row
 next_reads s n r entry row found cut live =
     ap (option_and_then (live_next s)) found ∙ (ap (option_and_then (λ (e : TableRow). live_row_of s (next_piece r))) cut ∙ live)
 
@@ -200,188 +209,301 @@ next_reads s n r entry row found cut live =
 all_reads : (s : State) (n : ℕ) → has_hit s n ≡ true → to_read s (ReadAll n) ≡ to_read s (ReadOn n)
 all_reads s n hit = ap (λ (b : Bool). if b then to_read s (ReadOn n) else None) hit
 
--- some way into a whole read, a pair of what is read next
-pub shows_read : (p : Permit) (b : Began) (run : Run) (k : Kept) (r : Reader) (body : List ℕ) (way : Underway p b k run r body) → is_some r.table ≡ true
-    → (row : Row) → to_read (state_of k) (ReadOn r.reader) ≡ Some row → IsPairOf (IsPlacedAs run.streams) p (state_of k) row → Shows (IsPlacedAs run.streams) p (state_of b.kept) b.asks
-shows_read p b run k r body way hit row reads pair =
-    let first : IsPair (IsPlacedAs run.streams) p (state_of k) (ReadAll r.reader) =
-    record { row = row; read = IsToRead.asked_for (all_reads (state_of k) r.reader (hit_is (state_of k) r way.reader hit) ∙ reads); pair = pair } in
-    shows_behind (IsPlacedAs run.streams) p (state_of b.kept) b.asks way.added (to_do (ReadAll r.reader ∷ StopReading r.reader ∷ [])) way.grows
-    (subst (λ t. IsPair (IsPlacedAs run.streams) p t (ReadAll r.reader)) (state_behind b.kept k way.added way.adds) first)
+-- ---- one call behind another
+
+-- what comes of both, where no pair is shown in the first
+pub knows_then : {now : ℕ} {run : Run} {asks : List Intent} {first a b : At} {one last all : Upshots}
+    → ((p : Permit) (earlier calls more : List Call) (added others : List Rec)
+    → one (record { step = p; earlier = earlier; calls = calls; state = state_of first.kept; added = added })
+    → last (record { step = p; earlier = calls ++ earlier; calls = more; state = after_all (state_of first.kept) added; added = others })
+    → all (record { step = p; earlier = earlier; calls = more ++ calls; state = state_of first.kept; added = added ++ others })
+    ⊎ ShowsPair (IsPlacedAs run.streams) p (state_of first.kept) asks (added ++ others))
+    → IsCall now first a (Knowing run asks one) → IsCall now a b last → IsCall now first b (Knowing run asks all)
+knows_then {run = run} {asks = asks} {first = first} law f l = call_then (λ p earlier calls more added others tells known next. λ is. elim (known is) [
+  | inr pair ↦ inr (shown_first (IsPlacedAs run.streams) p (state_of first.kept) (to_do asks) added others pair)
+  | inl way ↦ law p earlier calls more added others way next
+]) f l
+
+-- what is asked alone, and is done by one group
+abbrev pub IsDoneAtOnce : Intent → Type 0
+IsDoneAtOnce i = (p : Permit) (s : State) (added : List Rec) (e : End) → Does p s i added e → e ≡ Done
+
+pub one_done : (i : Intent) → IsDoneAtOnce i → (p : Permit) (s : State) (added : List Rec) → MayGrow p s (to_do (i ∷ [])) added (to_do []) → Does p s i added Done
+one_done i done p s added grows =
+    let d : (e : End) × Does p s i added e = alone p s i added None (λ recs e does stays. clash (sym (done p s recs e does) ∙ stays)) grows in
+    subst (λ e. Does p s i added e) (done p s added d.0 d.1) d.1
+  where
+    clash : Done ≡ Stays → ⊥
+    clash e = cc
+
+none_left : (p : Permit) {s : State} {w after : Work} {added : List Rec} → w.intents ≡ [] → MayGrow p s w added after → after.intents ≡ []
+none_left p e nothing = e
+none_left p {s} {w} e (more added between one others) = absurd (subst (λ is. Advances p s is w.refused added between) e one)
+
+-- a pair that it shows is shown before its group
+pub one_pair : (P : Documents) (i : Intent) → IsDoneAtOnce i → (p : Permit) (s : State) (added : List Rec) → ShowsPair P p s (i ∷ []) added → IsPair P p s i
+one_pair P i done p s added h = elim (seen h.grows) [
+  | inl e ↦ subst (λ (w : Work). IsPairNext P p s w.intents) (sym e.1) (subst (λ recs. IsPairNext P p (after_all s recs) h.left.intents) e.0 h.pair)
+  | inr v ↦
+      let over : v.between.intents ≡ [] =
+      ap (λ (w : Work). w.intents) (v.first.2 ∙ ap (work_after i [] None) (done p s v.added v.first.0 v.first.1)) in
+      absurd (subst (λ is. IsPairNext P p (after_all s h.before) is) (none_left p over v.behind) h.pair)
+]
+
+-- one group behind the others
+pub grown : (p : Permit) (s t : State) (a b : List Rec) (w : Work) (i : Intent) (rest : List Intent) (e : End) → after_all s a ≡ t
+    → MayGrow p s w a (to_do (i ∷ rest)) → Does p t i b e → MayGrow p s w (a ++ b) (work_after i rest None e)
+grown p s t a b w i rest e is grows d =
+    grows_on grows (subst (λ u. MayGrow p u (to_do (i ∷ rest)) b (work_after i rest None e)) (sym is) (grows_by p t (to_do (i ∷ rest)) _ b (e, d, refl)))
+
+-- a pair of a vector is one of a piece
+pub placed_pair : (run : Run) (p : Permit) (s : State) (i : Intent) → IsPair IsVectorAs p s i → IsPair (IsPlacedAs run.streams) p s i
+placed_pair run p s i pair = also_pair IsVectorAs (IsPlacedAs run.streams) (λ s row document is. inl is) p s i pair
+
+-- what is read for a reader that reads on
+on_reads : (p : Permit) (s : State) (n : ℕ) (row : Row) → IsToRead p s (ReadOn n) row → to_read s (ReadOn n) ≡ Some row
+on_reads p s n row (ToRead.IsToRead.asked_for found) = found
+on_reads p s n row (ToRead.IsToRead.copied first can came) = no_truth (sym first)
+
+-- ---- a reader is closed behind its answer
+
+-- its record closes it
+record Closing (n : ℕ) (c : InStep) : Type 0 where
+  does : Does c.step c.state (StopReading n) c.added Done
+  is : c.added ≡ rec.ReadClosed n ∷ []
+
+pub closes_hit : {first a b : At} {asks : List Intent} {given : List ℕ} {said : StepAnswer} {served : ℕ → Upshots} (n : ℕ) (row : ReaderRow)
+    → IsQuiet (state_at a) → reader_of (state_at a) n ≡ Some row → b.kept ≡ with_records a.kept (rec.ReadClosed n ∷ [])
+    → ((now : ℕ) → IsCall now a b (served now)) → IsAnswered first a asks (StopReading n ∷ []) given said → IsAnswered first b asks [] given said
+closes_hit {first} {a} {b} {asks} {given} {said} n row quiet found adds serves answered = λ now run.
+    let closing : IsCall now a b (Closing n) = call_as (λ p earlier calls added step happens h.
+    let is : added ≡ rec.ReadClosed n ∷ [] = same_added a.kept b.kept added (rec.ReadClosed n ∷ []) happens.adds adds in
+    record { does = Legal.DoesStopReading.closes row quiet found is; is = is }) (serves now) in
+    knows_then (λ p earlier calls more added others way last.
+    let told : told_in (added ++ others) ≡ told_in added = ap (λ recs. told_in (added ++ recs)) last.is ∙ told_append added (rec.ReadClosed n ∷ []) in
+    let found : lookup_in (added ++ others) ≡ lookup_in added =
+    ap (λ recs. lookup_in (added ++ recs)) last.is ∙ lookup_stays added (rec.ReadClosed n ∷ []) refl in
+    inl (record {
+      grows = grown p (state_of first.kept) (after_all (state_of first.kept) added) added others (to_do asks) (StopReading n) [] Done refl way.grows last.does;
+      body = rw (told, found) way.body;
+      says = rw (told, found) way.says;
+    })) (answered now run) closing
+
+-- ---- a call that reads on
+
+reads_done : (n : ℕ) → IsDoneAtOnce (ReadOn n)
+reads_done n p s added e (Legal.DoesReadOn.reads_on a m) = refl
+
+-- it is one of this state, by these records, which may come there, or a pair is shown; a fragment that it gives is that of the records
+record ReadsIn (s : State) (r : ReaderSeen) (a : NextPiece) (into : List ℕ) (c : InStep) : Type 0 where
+  state : c.state ≡ s
+  is : c.added ≡ read_adds s r a
+  does : AreTold s → IsReaderOf s r → Does c.step s (ReadOn r.reader) (read_adds s r a) Done ⊎ IsPair IsVectorAs c.step s (ReadOn r.reader)
+  given : IsGivenAs c.step s r a into
+
+reads_in : {now : ℕ} {a b : At} {r : ReaderSeen} {next : NextPiece} {into : List ℕ} → HasRead a b r next into
+    → ServesFrom IsVectorAs now a b (ReadOn r.reader ∷ []) AllDone (IsToldTo r) NothingKnown → IsCall now a b (ReadsIn (state_at a) r next into)
+reads_in {now} {a} {b} {r} {next} {into} reads serves = call_as (λ p earlier calls added step happens h.
+    let is : added ≡ read_adds (state_at a) r next = same_added a.kept b.kept added (read_adds (state_at a) r next) happens.adds reads.adds in
+    record {
+      state = refl;
+      is = is;
+      does = λ told own. elim (h.from (told, own)) [
+        | inl v ↦ inl (subst (λ recs. Does p (state_at a) (ReadOn r.reader) recs Done) is (one_done (ReadOn r.reader) (reads_done r.reader) p (state_at a) added v.spends))
+        | inr pair ↦ inr (one_pair IsVectorAs (ReadOn r.reader) (reads_done r.reader) p (state_at a) added pair)
+      ];
+      given = reads.given now p earlier calls happens.past step;
+    }) serves
 
 -- ---- the step
 
--- one group behind the others
-pub grown : (p : Permit) (k k1 : Kept) (a b : List Rec) (w : Work) (i : Intent) (rest : List Intent) (e : End) → k1 ≡ with_records k a
-    → MayGrow p (state_of k) w a (to_do (i ∷ rest)) → Does p (state_of k1) i b e → MayGrow p (state_of k) w (a ++ b) (work_after i rest None e)
-grown p k k1 a b w i rest e is grows d =
-    grows_on grows (subst (λ s. MayGrow p s (to_do (i ∷ rest)) b (work_after i rest None e)) (state_behind k k1 a is) (grows_by p (state_of k1) (to_do (i ∷ rest)) _ b (e, d, refl)))
+module _ (p : Permit) (earlier calls : List Call) (run : Run) (asks : List Intent) (s0 s t : State) (added : List Rec) (r : ReaderSeen) (body : List ℕ)
+    (at : after_all s0 added ≡ s) (way : Underway asks r body run (record { step = p; earlier = earlier; calls = calls; state = s0; added = added }))
+    (hit : is_some r.table ≡ true) (some : 1 ≤ r.next) where
+  told_there : AreTold s
+  told_there = subst AreTold at way.known.told
 
-module _ (owns : ReadsOwn) (reads_own_bytes : ReadIsOwn) (given_all : AllIsGiven) (p : Permit) (b : Began) (run : Run) (k k2 : Kept) (r : Reader) (body : List ℕ)
-    (way : Underway p b k run r body) (hit : is_some r.table ≡ true) (some : 1 ≤ r.next) where
+  own_there : AreOwn s run.streams
+  own_there = subst (λ u. AreOwn u run.streams) at way.known.own
+
+  reader_there : IsReaderOf s r
+  reader_there = subst (λ u. IsReaderOf u r) at way.reader
+
   abbrev adds_of : NextPiece → List Rec
-  adds_of a = read_adds (state_of k) r a
+  adds_of a = read_adds s r a
 
-  group_of : (a : NextPiece) → Does p (state_of k) (ReadOn r.reader) (adds_of a) Done
-      → Does p (state_of k) (ReadAll r.reader) (adds_of a) (cond (is_given (noted (listed_length (state_of k) r) a)) Stays Done)
-  group_of a d = reads_all p (state_of k) r (trouble_with (live_next (state_of k) (as_row r)) a) (noted (listed_length (state_of k) r) a) way.reader hit d
+  abbrev ReadsAs : NextPiece → Type 0
+  ReadsAs a = Does p s (ReadOn r.reader) (adds_of a) Done
 
-  reading_of : (a : NextPiece) → Does p (state_of k) (ReadOn r.reader) (adds_of a) Done
-      → MayReadOn p (state_of k) r.reader (noted (listed_length (state_of k) r) a) (adds_of a)
-  reading_of a d = may_read p (state_of k) r.reader (trouble_with (live_next (state_of k) (as_row r)) a) (noted (listed_length (state_of k) r) a) d
+  -- a pair of what is read next
+  shows_read : (a : NextPiece) → IsPair (IsPlacedAs run.streams) p s (ReadOn r.reader) → ShowsPair (IsPlacedAs run.streams) p s0 asks (added ++ adds_of a)
+  shows_read a pair =
+      let all : IsPair (IsPlacedAs run.streams) p s (ReadAll r.reader) = record {
+        row = pair.row;
+        read = IsToRead.asked_for (all_reads s r.reader (hit_is s r reader_there hit) ∙ on_reads p s r.reader pair.row pair.read);
+        pair = pair.pair;
+      } in
+      record {
+        before = added;
+        rest = adds_of a;
+        left = to_do (ReadAll r.reader ∷ StopReading r.reader ∷ []);
+        is = refl;
+        grows = way.grows;
+        pair = subst (λ u. IsPair (IsPlacedAs run.streams) p u (ReadAll r.reader)) (sym at) all;
+      }
+
+  group_of : (a : NextPiece) → ReadsAs a → Does p s (ReadAll r.reader) (adds_of a) (cond (is_given (noted (listed_length s r) a)) Stays Done)
+  group_of a d = reads_all p s r (next_trouble (live_next s (as_row r)) a) (noted (listed_length s r) a) reader_there hit d
+
+  reading_of : (a : NextPiece) → ReadsAs a → MayReadOn p s r.reader (noted (listed_length s r) a) (adds_of a)
+  reading_of a d = may_read p s r.reader (next_trouble (live_next s (as_row r)) a) (noted (listed_length s r) a) d
 
   -- the reader of the records is the one at hand
-  row_is : (a : NextPiece) (m : MayReadOn p (state_of k) r.reader (noted (listed_length (state_of k) r) a) (adds_of a)) → m.r ≡ row_by way.reader.actor r
-  row_is a m = some_is m.r (row_by way.reader.actor r) (sym m.reading ∙ way.reader.found)
+  row_is : (a : NextPiece) (m : MayReadOn p s r.reader (noted (listed_length s r) a) (adds_of a)) → m.r ≡ row_by reader_there.actor r
+  row_is a m = same_some m.r (row_by reader_there.actor r) (reader_of s r.reader) m.reading reader_there.found
 
-  -- what is left behind a piece
-  pub piece_grows : (index size : ℕ) → Does p (state_of k) (ReadOn r.reader) (adds_of (piece.Piece index size)) Done
-      → MayGrow p (state_of b.kept) (to_do b.asks) (way.added ++ adds_of (piece.Piece index size)) (to_do (ReadAll r.reader ∷ StopReading r.reader ∷ []))
-  piece_grows index size d = grown p b.kept k way.added (adds_of (piece.Piece index size)) (to_do b.asks) (ReadAll r.reader) (StopReading r.reader ∷ []) Stays way.adds way.grows (group_of (piece.Piece index size) d)
+  hit_behind : (a : NextPiece) → lookup_in (added ++ adds_of a) ≡ Some (read.Hit r.put)
+  hit_behind a = lookup_first added (adds_of a) (read.Hit r.put) way.hit
 
-  pub piece_way : (index size : ℕ) (into : List ℕ) (r2 : Reader) → k2 ≡ with_records k (adds_of (piece.Piece index size)) → Does p (state_of k) (ReadOn r.reader) (adds_of (piece.Piece index size)) Done
-      → GoesOn r (piece.Piece index size) r2 → IsReaderOf (state_of k2) r2 → IsFragment p (state_of k) r index size into
-      → Underway p b k2 run r2 (body ++ take size into) ⊎ Shows (IsPlacedAs run.streams) p (state_of b.kept) b.asks
-  piece_way index size into r2 is d goes own f =
-      elim (reads_own_bytes p (state_of k) run.streams (as_row r) f.row size into way.own some f.live f.document) [
-        | inl same ↦ inl (record {
-          added = way.added ++ adds_of (piece.Piece index size);
-          adds = then_more b.kept k k2 way.added (adds_of (piece.Piece index size)) way.adds is;
-          grows = subst (λ n. MayGrow p (state_of b.kept) (to_do b.asks) (way.added ++ adds_of (piece.Piece index size)) (to_do (ReadAll n ∷ StopReading n ∷ []))) (sym goes.reader) (piece_grows index size d);
-          own = subst (λ t. AreOwn t run.streams) (sym (state_behind k k2 (adds_of (piece.Piece index size)) is)) (owns p (state_of k) run.streams (ReadOn r.reader) (adds_of (piece.Piece index size)) Done refl way.own d);
-          reader = own;
-          hit = lookup_first way.added (adds_of (piece.Piece index size)) (read.Hit r2.put) (way.hit ∙ ap (λ n. Some (read.Hit n)) (sym goes.put));
-          front = front_behind index size into r2 is goes same;
-        })
-        | inr other ↦ inr (shows_read p b run k r body way hit f.row (next_reads (state_of k) r.reader (row_by way.reader.actor r) f.entry f.row way.reader.found f.cut f.live) other)
-      ]
-    where
-      front_behind : (index size : ℕ) (into : List ℕ) (r2 : Reader) → k2 ≡ with_records k (adds_of (piece.Piece index size)) → GoesOn r (piece.Piece index size) r2
-          → take size into ≡ piece_of (state_of k).geometry.fragment (run.streams r.put).bytes r.next
-          → body ++ take size into ≡ take ((r2.next - 1) * (state_of k2).geometry.fragment) (run.streams r2.put).bytes
-      front_behind index size into r2 is goes same =
-          let geometry : (state_of k2).geometry ≡ (state_of k).geometry =
-          ap (λ (t : State). t.geometry) (state_behind k k2 (adds_of (piece.Piece index size)) is) ∙ (read_leaves (state_of k) r (piece.Piece index size)).geometry in
-          more_front (state_of k).geometry.fragment r.next (run.streams r.put).bytes body (take size into) some way.front same
-          ∙ (ap (λ n. take ((n - 1) * (state_of k).geometry.fragment) (run.streams r.put).bytes) (sym goes.next)
-          ∙ (ap (λ (g : Geometry). take ((r2.next - 1) * g.fragment) (run.streams r.put).bytes) (sym geometry)
-          ∙ ap (λ n. take ((r2.next - 1) * (state_of k2).geometry.fragment) (run.streams n).bytes) (sym goes.put)))
+  told_behind : (a : NextPiece) → told_in (added ++ adds_of a) ≡ Some (answer_record r.reader (noted (listed_length s r) a))
+  told_behind a = told_last added (next_trouble (live_next s (as_row r)) a) r.reader (noted (listed_length s r) a)
 
   -- what is left behind an answer that gives nothing
-  stop_grows : (a : NextPiece) → is_given (noted (listed_length (state_of k) r) a) ≡ false → Does p (state_of k) (ReadOn r.reader) (adds_of a) Done
-      → MayGrow p (state_of b.kept) (to_do b.asks) (way.added ++ adds_of a) (to_do (StopReading r.reader ∷ []))
-  stop_grows a none d = grown p b.kept k way.added (adds_of a) (to_do b.asks) (ReadAll r.reader) (StopReading r.reader ∷ []) Done way.adds way.grows (subst (λ x. Does p (state_of k) (ReadAll r.reader) (adds_of a) (cond x Stays Done)) none (group_of a d))
+  stop_grows : (a : NextPiece) → is_given (noted (listed_length s r) a) ≡ false → ReadsAs a
+      → MayGrow p s0 (to_do asks) (added ++ adds_of a) (to_do (StopReading r.reader ∷ []))
+  stop_grows a none d = grown p s0 s added (adds_of a) (to_do asks) (ReadAll r.reader) (StopReading r.reader ∷ []) Done at way.grows
+      (subst (λ x. Does p s (ReadAll r.reader) (adds_of a) (cond x Stays Done)) none (group_of a d))
 
-  abbrev found_hit : NextPiece → Type 0
-  found_hit a = lookup_in (way.added ++ adds_of a) ≡ Some (read.Hit r.put)
-
-  hit_behind : (a : NextPiece) → found_hit a
-  hit_behind a = lookup_first way.added (adds_of a) (read.Hit r.put) way.hit
-
-  told_behind : (a : NextPiece) → told_in (way.added ++ adds_of a) ≡ Some (answer_record r.reader (noted (listed_length (state_of k) r) a))
-  told_behind a = told_last way.added (trouble_with (live_next (state_of k) (as_row r)) a) r.reader (noted (listed_length (state_of k) r) a)
-
-  pub end_way : (size : ℕ) → IsQuiet (state_of k) → k2 ≡ with_records k (adds_of (piece.End size)) → Does p (state_of k) (ReadOn r.reader) (adds_of (piece.End size)) Done
-      → Answered p b k2 run (StopReading r.reader ∷ []) body (answer.Got r.put size body)
-  end_way size quiet is d =
+  end_way : (size : ℕ) → IsQuiet s → ReadsAs (piece.End size)
+      → Answers asks (StopReading r.reader ∷ []) body (answer.Got r.put size body) run
+      (record { step = p; earlier = earlier; calls = calls; state = s0; added = added ++ adds_of (piece.End size) })
+  end_way size quiet d =
       let m = reading_of (piece.End size) d in
-      let none : next_row (state_of k) (row_by way.reader.actor r) ≡ None =
-      subst (λ (x : ReaderRow). next_row (state_of k) x ≡ None) (row_is (piece.End size) m) (ends_behind p (state_of k) m.r m.before (next.Ended size) size refl m.right) in
-      let all : take ((r.next - 1) * (state_of k).geometry.fragment) (run.streams r.put).bytes ≡ (run.streams r.put).bytes = all_of r.table refl hit none in
+      let none : next_row s (row_by reader_there.actor r) ≡ None =
+      subst (λ (x : ReaderRow). next_row s x ≡ None) (row_is (piece.End size) m) (ends_behind p s m.r m.before (next.Ended size) size refl m.right) in
+      let front : body ≡ take ((r.next - 1) * s.geometry.fragment) (run.streams r.put).bytes =
+      subst (λ (u : State). body ≡ take ((r.next - 1) * u.geometry.fragment) (run.streams r.put).bytes) at way.front in
       record {
-        added = way.added ++ adds_of (piece.End size);
-        adds = then_more b.kept k k2 way.added (adds_of (piece.End size)) way.adds is;
         grows = stop_grows (piece.End size) refl d;
-        body = rw (told_behind (piece.End size), hit_behind (piece.End size)) (way.front ∙ all);
+        body = rw (told_behind (piece.End size), hit_behind (piece.End size)) (front ∙ all_of r.table refl hit none);
         says = rw (told_behind (piece.End size), hit_behind (piece.End size)) refl;
       }
     where
-      all_of : (o : Option Table) → r.table ≡ o → is_some o ≡ true → next_row (state_of k) (row_by way.reader.actor r) ≡ None
-          → take ((r.next - 1) * (state_of k).geometry.fragment) (run.streams r.put).bytes ≡ (run.streams r.put).bytes
+      all_of : (o : Option (List TableRow)) → r.table ≡ o → is_some o ≡ true → next_row s (row_by reader_there.actor r) ≡ None
+          → take ((r.next - 1) * s.geometry.fragment) (run.streams r.put).bytes ≡ (run.streams r.put).bytes
       all_of None e h none = no_truth (sym h)
-      all_of (Some t) e h none =
-          given_all (state_of k) run.streams r.reader (row_by way.reader.actor r) t.rows way.own quiet some way.reader.found (ap (option_map (λ (x : Table). x.rows)) e) none
+      all_of (Some rows) e h none = all_is_given s run.streams r.reader (row_by reader_there.actor r) rows own_there quiet some reader_there.found e none
 
-  pub broken_way : (why : Cause) → k2 ≡ with_records k (adds_of (piece.Broken why)) → Does p (state_of k) (ReadOn r.reader) (adds_of (piece.Broken why)) Done
-      → Answered p b k2 run (StopReading r.reader ∷ []) [] (broken_said why)
-  broken_way why is d = record {
-    added = way.added ++ adds_of (piece.Broken why);
-    adds = then_more b.kept k k2 way.added (adds_of (piece.Broken why)) way.adds is;
+  broken_way : (why : Cause) → ReadsAs (piece.Broken why)
+      → Answers asks (StopReading r.reader ∷ []) [] (broken_said why) run
+      (record { step = p; earlier = earlier; calls = calls; state = s0; added = added ++ adds_of (piece.Broken why) })
+  broken_way why d = record {
     grows = stop_grows (piece.Broken why) refl d;
     body = rw (told_behind (piece.Broken why)) refl;
     says = rw (told_behind (piece.Broken why), hit_behind (piece.Broken why)) refl;
   }
 
-  pub waits_way : {X : Type 0} (cut : ℕ) → Does p (state_of k) (ReadOn r.reader) (adds_of (piece.NotYet cut)) Done → X
+  waits_way : {X : Type 0} (cut : ℕ) → ReadsAs (piece.NotYet cut) → X
   waits_way cut d =
       let m = reading_of (piece.NotYet cut) d in
-      absurd (never_waits p (state_of k) m.r m.before (next.Waited cut) cut (ap (λ (x : ReaderRow). is_some x.table) (row_is (piece.NotYet cut) m) ∙ (some_rows r.table ∙ hit)) refl m.right)
+      absurd (never_waits p s m.r m.before (next.Waited cut) cut (ap (λ (x : ReaderRow). is_some x.table) (row_is (piece.NotYet cut) m) ∙ hit) refl m.right)
+
+  -- what is known behind a piece
+  known_behind : (a : NextPiece) → t ≡ after_all s (adds_of a) → IsSound s → ReadsAs a → IsKnownTo run t ⊎ ShowsPair (IsPlacedAs run.streams) p s0 asks (added ++ adds_of a)
+  known_behind a is sound d = elim (told_group p s (ReadOn r.reader) (adds_of a) Done sound told_there d) [
+    | inr pair ↦ inr (shows_read a (placed_pair run p s (ReadOn r.reader) pair))
+    | inl told ↦ inl (record {
+      told = subst AreTold (sym is) told;
+      own = subst (λ u. AreOwn u run.streams) (sym is) (reads_own p s run.streams (ReadOn r.reader) (adds_of a) Done refl own_there d);
+    })
+  ]
+
+  piece_way : (index size : ℕ) (into : List ℕ) (r2 : ReaderSeen) → t ≡ after_all s (adds_of (piece.Piece index size)) → t.geometry ≡ s.geometry → IsSound s
+      → GoesOn r (piece.Piece index size) r2 → IsReaderOf t r2 → IsFragment p s r index size into → ReadsAs (piece.Piece index size)
+      → Underway asks r2 (body ++ take size into) run (record { step = p; earlier = earlier; calls = calls; state = s0; added = added ++ adds_of (piece.Piece index size) })
+      ⊎ ShowsPair (IsPlacedAs run.streams) p s0 asks (added ++ adds_of (piece.Piece index size))
+  piece_way index size into r2 is geometry sound goes own f d =
+      let a : NextPiece = piece.Piece index size in
+      let there : t ≡ after_all s0 (added ++ adds_of a) = is ∙ (ap (λ u. after_all u (adds_of a)) (sym at) ∙ sym (after_all-append s0 added (adds_of a))) in
+      elim (known_behind a is sound d) [
+        | inr pair ↦ inr pair
+        | inl known ↦ elim (read_is_own p s run.streams (as_row r) f.row size into own_there some f.live f.document) [
+          | inr pair ↦ inr (shows_read a (record {
+            row = f.row;
+            read = IsToRead.asked_for (next_reads s r.reader (row_by reader_there.actor r) f.entry f.row reader_there.found f.cut f.live);
+            pair = pair;
+          }))
+          | inl same ↦ inl (record {
+            grows = subst (λ n. MayGrow p s0 (to_do asks) (added ++ adds_of a) (to_do (ReadAll n ∷ StopReading n ∷ []))) (sym goes.reader)
+                (grown p s0 s added (adds_of a) (to_do asks) (ReadAll r.reader) (StopReading r.reader ∷ []) Stays at way.grows (group_of a d));
+            known = subst (IsKnownTo run) there known;
+            reader = subst (λ u. IsReaderOf u r2) there own;
+            hit = hit_behind a ∙ ap (λ n. Some (read.Hit n)) (sym goes.put);
+            front = subst (λ (u : State). body ++ take size into ≡ take ((r2.next - 1) * u.geometry.fragment) (run.streams r2.put).bytes) there (front_behind same);
+          })
+        ]
+      ]
+    where
+      front_behind : take size into ≡ piece_of s.geometry.fragment (run.streams r.put).bytes r.next
+          → body ++ take size into ≡ take ((r2.next - 1) * t.geometry.fragment) (run.streams r2.put).bytes
+      front_behind same =
+          let front : body ≡ take ((r.next - 1) * s.geometry.fragment) (run.streams r.put).bytes =
+          subst (λ (u : State). body ≡ take ((r.next - 1) * u.geometry.fragment) (run.streams r.put).bytes) at way.front in
+          more_front s.geometry.fragment r.next (run.streams r.put).bytes body (take size into) some front same
+          ∙ (ap (λ n. take ((n - 1) * s.geometry.fragment) (run.streams r.put).bytes) (sym goes.next)
+          ∙ (ap (λ (g : Geometry). take ((r2.next - 1) * g.fragment) (run.streams r.put).bytes) (sym geometry)
+          ∙ ap (λ n. take ((r2.next - 1) * t.geometry.fragment) (run.streams n).bytes) (sym goes.put)))
 
 -- ---- calls
 
-module _ (owns : ReadsOwn) (own_bytes : ReadIsOwn) (given_all : AllIsGiven) (b : Began) (k k2 : Kept) (old new : Device) (r : Reader) (body into : List ℕ)
-    (under : IsUnderway b old.past k r body) (hit : is_some r.table ≡ true) (some : 1 ≤ r.next) (quiet : IsQuiet (state_of k)) (made : List Call) (later : new.past ≡ made ++ old.past) where
-  does_of : (a : NextPiece) (reading : ReadsOn (state_of k) old new r a into) (p : Permit) → Covers p b.past new.past → IsReaderOf (state_of k) r
-      → Does p (state_of k) (ReadOn r.reader) (read_adds (state_of k) r a) Done
-  does_of a reading p covers own = reading.does p (covers_last p b.past old.past new.past under.made under.since covers) own
+-- a reader was read on, at any moment
+abbrev pub ServedOn : (a b : At) → ReaderSeen → Type 0
+ServedOn a b r = (now : ℕ) → ServesFrom IsVectorAs now a b (ReadOn r.reader ∷ []) AllDone (IsToldTo r) NothingKnown
 
-  pub piece_comes : (index size : ℕ) (r2 : Reader) → k2 ≡ with_records k (read_adds (state_of k) r (piece.Piece index size)) → ReadsOn (state_of k) old new r (piece.Piece index size) into
-      → GoesOn r (piece.Piece index size) r2 → (IsReaderOf (state_of k) r → IsReaderOf (state_of k2) r2) → IsUnderway b new.past k2 r2 (body ++ take size into)
-  piece_comes index size r2 is reading goes keeps = record {
-    made = made ++ under.made;
-    since = later ∙ (ap (λ calls. made ++ calls) under.since ∙ sym (append_assoc made under.made b.past));
-    does = λ p run covers told own.
-        elim (under.does p run (covers_first p b.past old.past new.past made later covers) told own) [
-          | inl way ↦ piece_way owns own_bytes given_all p b run k k2 r body way hit some index size into r2 is (does_of (piece.Piece index size) reading p covers way.reader) goes (keeps way.reader)
-              (reading.gives p (covers_last p b.past old.past new.past under.made under.since covers))
-          | inr shows ↦ inr shows
-        ];
-  }
+module _ {first a b : At} {asks : List Intent} {r : ReaderSeen} {body into : List ℕ} (rest : IsAtRest a) (hit : is_some r.table ≡ true) (some : 1 ≤ r.next)
+    (under : IsUnderway first a asks r body) where
+  -- what comes of it, where what was read comes to that
+  read_then : (all : Run → Upshots) (next : NextPiece) → HasRead a b r next into → ServedOn a b r
+      → ((run : Run) (p : Permit) (earlier calls more : List Call) (added : List Rec) (at : after_all (state_at first) added ≡ state_at a)
+      → Underway asks r body run (record { step = p; earlier = earlier; calls = calls; state = state_at first; added = added })
+      → IsGivenAs p (state_at a) r next into → Does p (state_at a) (ReadOn r.reader) (read_adds (state_at a) r next) Done
+      → all run (record { step = p; earlier = earlier; calls = more ++ calls; state = state_at first; added = added ++ read_adds (state_at a) r next })
+      ⊎ ShowsPair (IsPlacedAs run.streams) p (state_at first) asks (added ++ read_adds (state_at a) r next))
+      → Comes first b asks all
+  read_then all next reads serves law now run = knows_then (λ p earlier calls more added others way last.
+      subst (λ recs. all run (record { step = p; earlier = earlier; calls = more ++ calls; state = state_at first; added = added ++ recs })
+      ⊎ ShowsPair (IsPlacedAs run.streams) p (state_at first) asks (added ++ recs)) (sym last.is)
+      (elim (last.does (told_there p earlier calls run asks (state_at first) (state_at a) (state_at b) added r body last.state way hit some)
+      (reader_there p earlier calls run asks (state_at first) (state_at a) (state_at b) added r body last.state way hit some)) [
+        | inl d ↦ law run p earlier calls more added last.state way last.given d
+        | inr pair ↦ inr (shows_read p earlier calls run asks (state_at first) (state_at a) (state_at b) added r body last.state way hit some next
+            (placed_pair run p (state_at a) (ReadOn r.reader) pair))
+      ])) (under now run) (reads_in reads (serves now))
 
-  pub end_comes : (size : ℕ) → k2 ≡ with_records k (read_adds (state_of k) r (piece.End size)) → ReadsOn (state_of k) old new r (piece.End size) into
-      → IsAnswered b new.past k2 (StopReading r.reader ∷ []) body (answer.Got r.put size body)
-  end_comes size is reading = record {
-    does = λ p run covers told own.
-        elim (under.does p run (covers_first p b.past old.past new.past made later covers) told own) [
-          | inl way ↦ inl (end_way owns own_bytes given_all p b run k k2 r body way hit some size quiet is (does_of (piece.End size) reading p covers way.reader))
-          | inr shows ↦ inr shows
-        ];
-  }
+  pub piece_comes : (index size : ℕ) (r2 : ReaderSeen) → HasRead a b r (piece.Piece index size) into → ServedOn a b r
+      → Adds (IsOfReader r.reader) a b → GoesOn r (piece.Piece index size) r2 → (IsReaderOf (state_at a) r → IsReaderOf (state_at b) r2)
+      → IsUnderway first b asks r2 (body ++ take size into)
+  piece_comes index size r2 reads serves own goes keeps = read_then _ (piece.Piece index size) reads serves (λ run p earlier calls more added at way given d.
+      piece_way p earlier (more ++ calls) run asks (state_at first) (state_at a) (state_at b) added r body at
+      (record { grows = way.grows; known = way.known; reader = way.reader; hit = way.hit; front = way.front }) hit some index size into r2
+      (state_behind a.kept b.kept (read_adds (state_at a) r (piece.Piece index size)) reads.adds) (reads_leave_others r.reader a b own).geometry rest.sound goes
+      (keeps (subst (λ u. IsReaderOf u r) at way.reader)) given d)
 
-  pub broken_comes : (why : Cause) → k2 ≡ with_records k (read_adds (state_of k) r (piece.Broken why)) → ReadsOn (state_of k) old new r (piece.Broken why) into
-      → IsAnswered b new.past k2 (StopReading r.reader ∷ []) [] (broken_said why)
-  broken_comes why is reading = record {
-    does = λ p run covers told own.
-        elim (under.does p run (covers_first p b.past old.past new.past made later covers) told own) [
-          | inl way ↦ inl (broken_way owns own_bytes given_all p b run k k2 r body way hit some why is (does_of (piece.Broken why) reading p covers way.reader))
-          | inr shows ↦ inr shows
-        ];
-  }
+  pub end_comes : (size : ℕ) → HasRead a b r (piece.End size) into → ServedOn a b r
+      → IsAnswered first b asks (StopReading r.reader ∷ []) body (answer.Got r.put size body)
+  end_comes size reads serves = read_then _ (piece.End size) reads serves (λ run p earlier calls more added at way given d.
+      inl (end_way p earlier (more ++ calls) run asks (state_at first) (state_at a) (state_at b) added r body at
+      (record { grows = way.grows; known = way.known; reader = way.reader; hit = way.hit; front = way.front }) hit some size rest.quiet d))
 
-  pub waits_comes : (cut : ℕ) → ReadsOn (state_of k) old new r (piece.NotYet cut) into → IsAnswered b new.past k2 (StopReading r.reader ∷ []) [] (answer.Follow r.put)
-  waits_comes cut reading = record {
-    does = λ p run covers told own.
-        elim (under.does p run (covers_first p b.past old.past new.past made later covers) told own) [
-          | inl way ↦ waits_way owns own_bytes given_all p b run k k2 r body way hit some cut (does_of (piece.NotYet cut) reading p covers way.reader)
-          | inr shows ↦ inr shows
-        ];
-  }
+  pub broken_comes : (why : Cause) → HasRead a b r (piece.Broken why) into → ServedOn a b r
+      → IsAnswered first b asks (StopReading r.reader ∷ []) [] (broken_said why)
+  broken_comes why reads serves = read_then _ (piece.Broken why) reads serves (λ run p earlier calls more added at way given d.
+      inl (broken_way p earlier (more ++ calls) run asks (state_at first) (state_at a) (state_at b) added r body at
+      (record { grows = way.grows; known = way.known; reader = way.reader; hit = way.hit; front = way.front }) hit some why d))
 
-pub fragment_of : (s : State) (old new : Device) (r : Reader) (index size : ℕ) (into : List ℕ) (reading : ReadsOn s old new r (piece.Piece index size) into)
-    → IsFragment (own_permit 0 old.past new.past) s r index size into
-fragment_of s old new r index size into reading = reading.gives (own_permit 0 old.past new.past) (own_covers 0 old.past new.past)
-
-pub size_within : (s : State) (old new : Device) (r : Reader) (index size : ℕ) (into : List ℕ) → ReadsOn s old new r (piece.Piece index size) into → size ≤ length into
-size_within s old new r index size into reading =
-    let f = fragment_of s old new r index size into reading in
-    let same : length (take size into) ≡ size = ap length f.document.payload ∙ sym f.document.size_is in
-    let taken : length (take size into) ≡ min size (length into) = Rattle.std.proofs.Common.length-take size into in
-    omega (arith, same, taken)
-
-pub taken_size : (s : State) (old new : Device) (r : Reader) (index size : ℕ) (into : List ℕ) → ReadsOn s old new r (piece.Piece index size) into → size ≡ length (take size into)
-taken_size s old new r index size into reading =
-    let f = fragment_of s old new r index size into reading in
-    sym (ap length f.document.payload ∙ sym f.document.size_is)
+  pub waits_comes : (all : Run → Upshots) (cut : ℕ) → HasRead a b r (piece.NotYet cut) into → ServedOn a b r → Comes first b asks all
+  waits_comes all cut reads serves = read_then all (piece.NotYet cut) reads serves (λ run p earlier calls more added at way given d.
+      waits_way p earlier calls run asks (state_at first) (state_at a) (state_at b) added r body at way hit some cut d)
 
 -- ---- the end
 
@@ -390,40 +512,52 @@ within_list [] i x h = none_is h
 within_list (y ∷ xs) zero x h = omega arith
 within_list (y ∷ xs) (suc i) x h = let k : i < length xs = within_list xs i x h in omega (arith, k)
 
-rows_cut : (s : State) (r : Reader) (o : Option Table) (entry : TableRow) → r.table ≡ o → is_some o ≡ true → next_row s (as_row r) ≡ Some entry → r.next - 1 < length (unwrap_or (rows_in r) [])
+rows_cut : (s : State) (r : ReaderSeen) (o : Option (List TableRow)) (entry : TableRow) → r.table ≡ o → is_some o ≡ true → next_row s (as_row r) ≡ Some entry
+    → r.next - 1 < length (unwrap_or r.table [])
 rows_cut s r None entry e hit cut = no_truth (sym hit)
-rows_cut s r (Some t) entry e hit cut =
-    let there : slice_get t.rows (r.next - 1) ≡ Some entry = rw e at cut in
-    rw e (within_list t.rows (r.next - 1) entry there)
+rows_cut s r (Some rows) entry e hit cut =
+    let there : slice_get rows (r.next - 1) ≡ Some entry = rw e at cut in
+    rw e (within_list rows (r.next - 1) entry there)
 
-pub nearer : (s : State) (old new : Device) (r r2 : Reader) (index size : ℕ) (into : List ℕ) → ReadsOn s old new r (piece.Piece index size) into → GoesOn r (piece.Piece index size) r2 → is_some r.table ≡ true → 1 ≤ r.next
-    → rows_left r2 < rows_left r
-nearer s old new r r2 index size into reading goes hit some =
-    let f = fragment_of s old new r index size into reading in
-    let cut : r.next - 1 < length (unwrap_or (rows_in r) []) = rows_cut s r r.table f.entry refl hit f.cut in
-    let next : r2.next ≡ r.next + 1 = goes.next in
-    let rows : length (unwrap_or (rows_in r2) []) ≡ length (unwrap_or (rows_in r) []) = ap (λ (t : Option Table). length (unwrap_or (option_map (λ (x : Table). x.rows) t) [])) goes.table in
-    omega (arith, cut, next, rows, some)
+-- ---- the fragment in the step of its call alone
 
--- a reader is closed behind its answer
-pub closed_comes : (b : Began) (old now : List Call) (n : ℕ) (k k2 : Kept) (given : List ℕ) (said : StepAnswer) (made : List Call) → now ≡ made ++ old → k2 ≡ with_records k (rec.ReadClosed n ∷ [])
-    → ((p : Permit) → Does p (state_of k) (StopReading n) (rec.ReadClosed n ∷ []) Done) → IsAnswered b old k (StopReading n ∷ []) given said → IsAnswered b now k2 [] given said
-closed_comes b old now n k k2 given said made later is does answered = record {
-  does = λ p run covers told own.
-      elim (answered.does p run (covers_first p b.past old now made later covers) told own) [
-        | inl a ↦ inl (record {
-          added = a.added ++ rec.ReadClosed n ∷ [];
-          adds = then_more b.kept k k2 a.added (rec.ReadClosed n ∷ []) a.adds is;
-          grows = grown p b.kept k a.added (rec.ReadClosed n ∷ []) (to_do b.asks) (StopReading n) [] Done a.adds a.grows (does p);
-          body = rw (told_append a.added (rec.ReadClosed n ∷ []), lookup_stays a.added (rec.ReadClosed n ∷ []) refl) a.body;
-          says = rw (told_append a.added (rec.ReadClosed n ∷ []), lookup_stays a.added (rec.ReadClosed n ∷ []) refl) a.says;
-        })
-        | inr shows ↦ inr shows
-      ];
-}
+module _ {a b : At} {r : ReaderSeen} {index size : ℕ} {into : List ℕ} (reads : HasRead a b r (piece.Piece index size) into) (plain : IsPlain a.setting)
+    (made : List Call) (past : b.device.past ≡ made ++ a.device.past) where
+  fragment_of : IsFragment (permit_of 0 a.setting [] made) (state_at a) r index size into
+  fragment_of = reads.given 0 (permit_of 0 a.setting [] made) [] made past (plain_has_steps a.setting plain 0 [] made)
 
--- the same of the reader and the answer under other names
-pub answered_as : (b : Began) (now : List Call) (k : Kept) (n m : ℕ) (given : List ℕ) (said other : StepAnswer) → n ≡ m → said ≡ other → IsAnswered b now k (StopReading n ∷ []) given said
-    → IsAnswered b now k (StopReading m ∷ []) given other
-answered_as b now k n m given said other same is h =
-    subst (λ x. IsAnswered b now k (StopReading m ∷ []) given x) is (subst (λ i. IsAnswered b now k (StopReading i ∷ []) given said) same h)
+  pub taken_is : length (take size into) ≡ size
+  taken_is = let f = fragment_of in ap length f.document.payload ∙ sym f.document.size_is
+
+  pub size_within : size ≤ length into
+  size_within =
+      let taken : length (take size into) ≡ min size (length into) = length-take size into in
+      omega (arith, taken_is, taken)
+
+  pub nearer : (r2 : ReaderSeen) → GoesOn r (piece.Piece index size) r2 → is_some r.table ≡ true → 1 ≤ r.next → rows_left r2 < rows_left r
+  nearer r2 goes hit some =
+      let f = fragment_of in
+      let cut : r.next - 1 < length (unwrap_or r.table []) = rows_cut (state_at a) r r.table f.entry refl hit f.cut in
+      let next : r2.next ≡ r.next + 1 = goes.next in
+      let rows : length (unwrap_or r2.table []) ≡ length (unwrap_or r.table []) = ap (λ (t : Option (List TableRow)). length (unwrap_or t [])) goes.table in
+      omega (arith, cut, next, rows, some)
+
+-- the same answer of the reader and under other names
+pub answered_as : {first new : At} {asks : List Intent} {given : List ℕ} (n m : ℕ) (said other : StepAnswer) → n ≡ m → said ≡ other
+    → IsAnswered first new asks (StopReading n ∷ []) given said → IsAnswered first new asks (StopReading m ∷ []) given other
+answered_as {first} {new} {asks} {given} n m said other same is h =
+    subst (λ x. IsAnswered first new asks (StopReading m ∷ []) given x) is (subst (λ i. IsAnswered first new asks (StopReading i ∷ []) given said) same h)
+
+-- ---- the reader behind it
+
+hit_same : (result : Result NextPiece AllocError) (r r2 : ReaderSeen) → GoesOnReading r result r2 → (r2.reader ≡ r.reader) × (r2.put ≡ r.put) × (r2.table ≡ r.table)
+hit_same (Ok next) r r2 goes = (goes.reader, goes.put, goes.table)
+hit_same (Err e) r r2 goes = (ap (λ (x : ReaderSeen). x.reader) goes, ap (λ (x : ReaderSeen). x.put) goes, ap (λ (x : ReaderSeen). x.table) goes)
+
+pub same_reader : (result : Result NextPiece AllocError) (s t : State) (r r2 : ReaderSeen) → ReaderGoesOn r result s t r2 → r2.reader ≡ r.reader
+same_reader result s t r r2 goes = (hit_same result r r2 goes.goes).0
+
+pub still_hit : (result : Result NextPiece AllocError) (s t : State) (r r2 : ReaderSeen) → ReaderGoesOn r result s t r2 → is_some r.table ≡ true → IsHit t r2 r.put
+still_hit result s t r r2 goes hit =
+    let same = hit_same result r r2 goes.goes in
+    record { reader = goes.reader; hit = ap is_some same.2 ∙ hit; put_is = sym same.1 }

@@ -1,37 +1,34 @@
 -- What a whole read does in one line.
-use Rattle.std.specs.Prelude.{ℕ, ◌≡◌, ◌+◌, ◌-◌, ◌*◌, ◌<◌, ◌⊎◌, List, [], ◌∷◌, ◌++◌, length, take, Option, Some, unwrap_or}
-use Rattle.device_log.specs.Calls.{Call}
+use Rattle.std.specs.Prelude.{ℕ, ◌≡◌, ◌+◌, ◌-◌, ◌*◌, ◌<◌, ◌≤◌, ◌⊎◌, ◌++◌, true, List, [], ◌∷◌, length, take, Some, is_some, unwrap_or, Result, IfOk}
+use Rattle.std.specs.declared.alloc.AllocError.{AllocError}
 use Rattle.tape_base.specs.declared.keys.Key.{Key}
+use Rattle.device_log.specs.Calls.{Call}
 use Rattle.alternate_vector.specs.Field.{Field}
 use Rattle.cache_model.specs.declared.answer.ReadAnswer.TheVariants as read
 use Rattle.cache_model.specs.declared.record.Rec.{Rec}
 use Rattle.cache_model.specs.State.{State, after_all}
-use Rattle.cache_model.specs.Kept.{Kept, state_of, with_records}
 use Rattle.cache_model.specs.Permit.{Intent, Permit, ReadAll, StopReading, to_do}
 use Rattle.cache_model.specs.Legal.{MayGrow}
+use Rattle.cache_model.specs.Pair.{ShowsPair}
 use Rattle.cache_model.specs.Vectors.{AreTold}
-use Rattle.stripe_core.specs.Covers.{Covers, calls_since}
-use Rattle.stripe_read.specs.declared.reader.Reader.{Reader}
-use Rattle.stripe_read.specs.declared.reading.NextPiece.{NextPiece}
-use Rattle.stripe_read.specs.declared.reading.NextPiece.TheVariants as piece
-use Rattle.stripe_read.specs.Readers.{IsReaderOf, rows_in}
+use Rattle.call_laws.specs.Moments.{At, Encloses}
+use Rattle.call_laws.specs.Serves.{InStep, IsCall, Upshots}
+use Rattle.cache_calls.specs.declared.calls.NextPiece.{NextPiece}
+use Rattle.cache_calls.specs.declared.calls.NextPiece.TheVariants as piece
+use Rattle.cache_calls.specs.Actors.{IsOpenReader, IsReaderOf, ReaderSeen}
+use Rattle.cache_calls.specs.Keeping.{StaysUnharmed, state_at}
 use Rattle.script_lang.specs.declared.answer.StepAnswer.{StepAnswer}
 use Rattle.script_lang.specs.declared.answer.StepAnswer.TheVariants as answer
-use Rattle.script_run.specs.Run.{Run}
-use Rattle.script_run.specs.Turn.{Turn, lookup_in, told_in}
+use Rattle.script_run.specs.Run.{Run, Stream}
 use Rattle.script_run.specs.Asked.{get_intents}
+use Rattle.script_run.specs.Losses.{NoLossIsAFault}
+use Rattle.script_run.specs.Turn.{lookup_in, told_in}
 use Rattle.script_run.specs.Answers.{broken_said, get_said, miss_said}
 use Rattle.script_run.specs.Own.{AreOwn, IsPlacedAs}
-use Rattle.script_lang.specs.declared.step.Step.TheVariants as step
-use Rattle.script_run.specs.Answers.{session_said}
-use Rattle.script_run.specs.Behind.{in_session}
-use Rattle.script_run.specs.Takes.{IsBody, SessionTakes}
-use Rattle.cache_replay.specs.declared.session.Holding.{Holding}
-use Rattle.cache_replay.specs.Plays.{PlaysIn}
-use Rattle.cache_replay.specs.Outline.{count_of}
-use Rattle.cache_replay.specs.Shown.{Shows, ShowsAt}
+use Rattle.script_run.specs.Takes.{IsBody}
 use Rattle.cache_replay.specs.declared.getting.Got.{Got}
 use Rattle.cache_replay.specs.declared.getting.Got.TheVariants as got
+use Rattle.run_promise.specs.Outline.{count_in, count_of}
 
 -- ---- answers
 
@@ -52,90 +49,111 @@ abbrev pub count_in_piece : NextPiece → ℕ
 count_in_piece (piece.Broken why) = count_of why
 count_in_piece _ = 0
 
+-- ---- what is known of a run
+
+-- vectors list their alternates, and what stands belongs to what writers took
+pub record IsKnownTo (run : Run) (s : State) : Type 0 where
+  pub told : AreTold s
+  pub own : AreOwn s run.streams
+
+-- what comes of a call in a step where that is known before it, or two documents of one SHA-256 are shown in it
+abbrev pub Knowing : Run → List Intent → Upshots → Upshots
+Knowing run asks comes = λ (c : InStep).
+    IsKnownTo run c.state → comes c ⊎ ShowsPair (IsPlacedAs run.streams) c.step c.state asks c.added
+
+-- the same at any moment beside any run, from one moment of a cache to another
+abbrev pub Comes : (old new : At) → List Intent → (Run → Upshots) → Type 0
+Comes old new asks comes = (now : ℕ) (run : Run) → IsCall now old new (Knowing run asks (comes run))
+
+-- the step of a permit begins with the calls between two moments
+pub record HasCalls (now : ℕ) (old new : At) (p : Permit) : Type 0 where
+  pub calls : List Call
+  pub past : new.device.past ≡ calls ++ old.device.past
+  pub step : Encloses now old.setting p [] calls
+
+-- some records show such a pair in a step
+pub record ShowsBy (run : Run) (p : Permit) (s : State) (asks : List Intent) : Type 0 where
+  pub added : List Rec
+  pub shows : ShowsPair (IsPlacedAs run.streams) p s asks added
+
+-- what was asked from the first of three moments on leaves the cache unharmed between the other two, where that is known
+-- there; or a pair is shown in each step that begins with the calls up to the last
+abbrev pub StaysSound : (first old new : At) → List Intent → Type 0
+StaysSound first old new asks = (now : ℕ) (run : Run) (p : Permit) → IsKnownTo run (state_at first) → HasCalls now first new p
+    → StaysUnharmed old new ⊎ ShowsBy run p (state_at first) asks
+
 -- ---- a whole read
 
--- all that was asked was done, by groups of records as of a legal history, with this answer, and the body is what the
--- put's writer took
-pub record Gets (p : Permit) (old new : Kept) (run : Run) (key : Key) (request : List Field) (got : Got) : Type 0 where
-  pub added : List Rec
-  pub adds : new ≡ with_records old added
-  pub grows : MayGrow p (state_of old) (to_do (get_intents (state_of old) key request)) added (to_do [])
-  pub body : IsBody run (given_in got) (told_in added) (lookup_in added)
-  pub says : get_said (given_in got) (told_in added) (lookup_in added) ≡ got_answer got
+-- by these records as much was done as leaves this, with this answer and these bytes: those that the put's writer took
+pub record Answers (asks left : List Intent) (given : List ℕ) (said : StepAnswer) (run : Run) (c : InStep) : Type 0 where
+  pub grows : MayGrow c.step c.state (to_do asks) c.added (to_do left)
+  pub body : IsBody run given (told_in c.added) (lookup_in c.added)
+  pub says : get_said given (told_in c.added) (lookup_in c.added) ≡ said
 
--- what came of it in any step that covers the call; or two documents of one SHA-256 are shown
-pub record GetsAsAsked (before after : List Call) (old new : Kept) (key : Key) (request : List Field) (got : Got) : Type 0 where
-  pub does : (p : Permit) (run : Run) → Covers p before after → AreTold (state_of old) → AreOwn (state_of old) run.streams
-      → Gets p old new run key request got ⊎ Shows (IsPlacedAs run.streams) p (state_of old) (get_intents (state_of old) key request)
+-- so it is from the moment on at which it was asked
+abbrev pub IsAnswered : (first new : At) → (asks left : List Intent) → List ℕ → StepAnswer → Type 0
+IsAnswered first new asks left given said = Comes first new asks (Answers asks left given said)
 
--- ---- on the way through it
+-- something was hit, the reader has the fragments of the records, and this is the front of what the put's writer took
+pub record Underway (asks : List Intent) (r : ReaderSeen) (body : List ℕ) (run : Run) (c : InStep) : Type 0 where
+  pub grows : MayGrow c.step c.state (to_do asks) c.added (to_do (ReadAll r.reader ∷ StopReading r.reader ∷ []))
+  pub known : IsKnownTo run (after_all c.state c.added)
+  pub reader : IsReaderOf (after_all c.state c.added) r
+  pub hit : lookup_in c.added ≡ Some (read.Hit r.put)
+  pub front : body ≡ take ((r.next - 1) * (after_all c.state c.added).geometry.fragment) (run.streams r.put).bytes
 
--- where it began: the device's log, the records, and what was asked
-pub record Began : Type 0 where
-  pub past : List Call
-  pub kept : Kept
-  pub asks : List Intent
+abbrev pub IsUnderway : (first new : At) → List Intent → ReaderSeen → List ℕ → Type 0
+IsUnderway first new asks r body = Comes first new asks (Underway asks r body)
 
--- something was hit, and this is the front of what the put's writer took
-pub record Underway (p : Permit) (b : Began) (new : Kept) (run : Run) (r : Reader) (body : List ℕ) : Type 0 where
-  pub added : List Rec
-  pub adds : new ≡ with_records b.kept added
-  pub grows : MayGrow p (state_of b.kept) (to_do b.asks) added (to_do (ReadAll r.reader ∷ StopReading r.reader ∷ []))
-  pub own : AreOwn (state_of new) run.streams
-  pub reader : IsReaderOf (state_of new) r
-  pub hit : lookup_in added ≡ Some (read.Hit r.put)
-  pub front : body ≡ take ((r.next - 1) * (state_of new).geometry.fragment) (run.streams r.put).bytes
+-- a reader of this put that hit something and is open
+pub record IsHit (s : State) (r : ReaderSeen) (put : ℕ) : Type 0 where
+  pub reader : IsOpenReader s r
+  pub hit : is_some r.table ≡ true
+  pub put_is : put ≡ r.put
 
--- so it is in any step that covers the calls until then; or two documents of one SHA-256 are shown
-pub record IsUnderway (b : Began) (now : List Call) (new : Kept) (r : Reader) (body : List ℕ) : Type 0 where
-  pub made : List Call
-  pub since : now ≡ made ++ b.past
-  pub does : (p : Permit) (run : Run) → Covers p b.past now → AreTold (state_of b.kept) → AreOwn (state_of b.kept) run.streams
-      → Underway p b new run r body ⊎ Shows (IsPlacedAs run.streams) p (state_of b.kept) b.asks
+-- what reading a hit to its end came to, whatever was asked before it: an answer, and that nothing is harmed meanwhile
+pub record ReadsWhole (old new : At) (r : ReaderSeen) (left : List Intent) (result : Result Got AllocError) : Type 0 where
+  pub answers : IfOk result (λ got. (first : At) (asks : List Intent)
+      → IsUnderway first old asks r [] → IsAnswered first new asks left (given_in got) (got_answer got))
+  pub unharmed : (first : At) (asks : List Intent) → IsUnderway first old asks r [] → StaysSound first old new asks
+  pub counts : IfOk result (λ got. NoLossIsAFault (state_at old) → count_in (got_answer got) ≤ new.device.faults)
 
--- this is answered, with these bytes, and so much is left to be done
-pub record Answered (p : Permit) (b : Began) (new : Kept) (run : Run) (left : List Intent) (given : List ℕ) (said : StepAnswer) : Type 0 where
-  pub added : List Rec
-  pub adds : new ≡ with_records b.kept added
-  pub grows : MayGrow p (state_of b.kept) (to_do b.asks) added (to_do left)
-  pub body : IsBody run given (told_in added) (lookup_in added)
-  pub says : get_said given (told_in added) (lookup_in added) ≡ said
+-- a reader of a hit is closed: what was left to be done of a read is done
+abbrev pub ClosesHit : (old new : At) → ℕ → Type 0
+ClosesHit old new reader = (first : At) (asks : List Intent) (given : List ℕ) (said : StepAnswer)
+    → IsAnswered first old asks (StopReading reader ∷ []) given said → IsAnswered first new asks [] given said
 
--- so it is in any step that covers the calls; or two documents of one SHA-256 are shown
-pub record IsAnswered (b : Began) (now : List Call) (new : Kept) (left : List Intent) (given : List ℕ) (said : StepAnswer) : Type 0 where
-  pub does : (p : Permit) (run : Run) → Covers p b.past now → AreTold (state_of b.kept) → AreOwn (state_of b.kept) run.streams
-      → Answered p b new run left given said ⊎ Shows (IsPlacedAs run.streams) p (state_of b.kept) b.asks
+-- what a whole read came to
+pub record Gets (old new : At) (key : Key) (request : List Field) (result : Result Got AllocError) : Type 0 where
+  pub answers : IfOk result (λ got. IsAnswered old new (get_intents (state_at old) key request) [] (given_in got) (got_answer got))
+  pub unharmed : StaysSound old old new (get_intents (state_at old) key request)
+  pub counts : IfOk result (λ got. NoLossIsAFault (state_at old) → count_in (got_answer got) ≤ new.device.faults)
 
 -- ---- one fragment after the other
 
 -- what comes of the next one, by what the reader was told; none that hit something waits
-abbrev pub ComesOf : Began → List Call → Kept → ℕ → Reader → List ℕ → NextPiece → Type 0
-ComesOf b now new put r body (piece.Piece index size) = IsUnderway b now new r body
-ComesOf b now new put r body (piece.End size) = IsAnswered b now new (StopReading r.reader ∷ []) body (answer.Got put size body)
-ComesOf b now new put r body (piece.NotYet cut) = IsAnswered b now new (StopReading r.reader ∷ []) [] (answer.Follow put)
-ComesOf b now new put r body (piece.Broken why) = IsAnswered b now new (StopReading r.reader ∷ []) [] (broken_said why)
+abbrev pub ComesOf : (first new : At) → List Intent → ℕ → ReaderSeen → List ℕ → NextPiece → Type 0
+ComesOf first new asks put r body (piece.Piece index size) = IsUnderway first new asks r body
+ComesOf first new asks put r body (piece.End size) = IsAnswered first new asks (StopReading r.reader ∷ []) body (answer.Got put size body)
+ComesOf first new asks put r body (piece.NotYet cut) = IsAnswered first new asks (StopReading r.reader ∷ []) [] (answer.Follow put)
+ComesOf first new asks put r body (piece.Broken why) = IsAnswered first new asks (StopReading r.reader ∷ []) [] (broken_said why)
 
 -- how many fragments of what it hit it was not given yet
-abbrev pub rows_left : Reader → ℕ
-rows_left r = length (unwrap_or (rows_in r) []) + 1 - r.next
+abbrev pub rows_left : ReaderSeen → ℕ
+rows_left r = length (unwrap_or r.table []) + 1 - r.next
 
 -- a fragment that was given leaves fewer to be given, so that the read ends
-abbrev pub IsNearer : Reader → NextPiece → Reader → Type 0
+abbrev pub IsNearer : ReaderSeen → NextPiece → ReaderSeen → Type 0
 IsNearer old (piece.Piece index size) new = rows_left new < rows_left old
 IsNearer old _ new = Unit {0}
 
--- ---- the line
-
--- it did what it must, by the calls of the device between two moments of its log, and this is its answer
-pub record LineGets (run : Run) (before after : List Call) (s t : State) (key : Key) (request : List Field) (slots : ℕ → Option Holding) (said : StepAnswer) : Type 0 where
-  pub turn : Turn
-  pub takes : SessionTakes run s turn (step.Get key request)
-  pub calls : turn.device.events ≡ calls_since before after
-  pub plays : PlaysIn (in_session run s (after_all s turn.added) turn (step.Get key request)) t slots
-  pub says : session_said run s (after_all s turn.added) turn (step.Get key request) ≡ said
-
--- so it is, or two documents of one SHA-256 are shown
-abbrev pub LineEnds : Run → (before after : List Call) → (s t : State) → Key → List Field → (ℕ → Option Holding) → StepAnswer → Type 0
-LineEnds run before after s t key request slots said =
-    LineGets run before after s t key request slots said
-    ⊎ ShowsAt (IsPlacedAs run.streams) run.now before after s (get_intents s key request)
+-- what reading the next fragment came to: what comes of the read, the reader of the same hit, and that nothing is harmed where
+-- the fragment belongs to what its writer took
+pub record ReadsMore (old new : At) (r later : ReaderSeen) (body more : List ℕ) (result : Result NextPiece AllocError) : Type 0 where
+  pub comes : IfOk result (λ next. (first : At) (asks : List Intent)
+      → IsUnderway first old asks r body → ComesOf first new asks r.put later more next)
+  pub hit : IsHit (state_at new) later r.put
+  pub same : later.reader ≡ r.reader
+  pub nearer : IfOk result (λ next. IsNearer r next later)
+  pub unharmed : (streams : ℕ → Stream) → AreOwn (state_at old) streams → IsReaderOf (state_at old) r → StaysUnharmed old new
+  pub counts : IfOk result (λ next. NoLossIsAFault (state_at old) → count_in_piece next ≤ new.device.faults)

@@ -1,12 +1,12 @@
 pub mod Stop
-pub mod Outline
-pub mod Lines
-pub mod Shown
+pub mod Replies
 pub mod Session
+pub mod Moves
 pub mod Plays
+pub mod OneLine
+pub mod Deals
 pub mod Feeding
 pub mod Putting
 pub mod Getting
-pub mod Plain
 pub mod ReaderLines
 pub mod WriterLines

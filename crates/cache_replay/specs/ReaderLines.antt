@@ -1,57 +1,57 @@
--- What the lines of readers make of a part, and of what the actors have.
-use Rattle.std.specs.Prelude.{ℕ, ◌≡◌, ◌⊎◌, ◌≤◌, false, List, [], ◌∷◌, length, take, Option, Some, None, option_map}
-use Rattle.device_log.specs.Calls.{Call}
-use Rattle.cache_model.specs.declared.record.Rec.{Rec}
-use Rattle.cache_model.specs.State.{State, after_all}
-use Rattle.cache_model.specs.Permit.{Done, Permit, ReadOn}
-use Rattle.cache_model.specs.Legal.{Does}
-use Rattle.cache_model.specs.Given.{effects_in, effects_told}
-use Rattle.stripe_core.specs.Covers.{calls_since}
-use Rattle.stripe_read.specs.declared.reader.Reader.{Reader}
-use Rattle.stripe_read.specs.declared.opening.Opened.{Opened}
-use Rattle.stripe_read.specs.declared.opening.Opened.TheVariants as opened
-use Rattle.stripe_read.specs.declared.reading.NextPiece.{NextPiece}
-use Rattle.stripe_read.specs.declared.reading.NextPiece.TheVariants as piece
-use Rattle.stripe_read.specs.Readers.{IsReaderOf}
+-- What the lines of readers make of a cache, and of what the actors have.
+use Rattle.std.specs.Prelude.{ℕ, ◌≡◌, ◌⊎◌, ◌*◌, ◌≤◌, List, length, take, Option, Some, None, option_map, Result, IfOk}
+use Rattle.tape_base.specs.Geometry.{budget_of}
+use Rattle.cache_model.specs.State.{State}
+use Rattle.cache_model.specs.Vectors.{AreTold}
+use Rattle.call_laws.specs.Moments.{At}
+use Rattle.cache_calls.specs.declared.calls.Calls.{Ghosts as CallsGhosts}
+use Rattle.cache_calls.specs.declared.calls.NextPiece.{NextPiece}
+use Rattle.cache_calls.specs.declared.calls.NextPiece.TheVariants as piece
+use Rattle.cache_calls.specs.declared.calls.Opened.{Opened}
+use Rattle.cache_calls.specs.declared.calls.Opened.TheVariants as opened
+use Rattle.cache_calls.specs.Actors.{IsOpenReader, IsReaderOf, ReaderSeen}
+use Rattle.cache_calls.specs.Adds.{Adds, IsOfReader}
+use Rattle.cache_calls.specs.Keeping.{Goes, StaysUnharmed, state_at}
 use Rattle.script_lang.specs.declared.answer.StepAnswer.{StepAnswer}
 use Rattle.script_lang.specs.declared.answer.StepAnswer.TheVariants as answer
-use Rattle.script_run.specs.Run.{Run}
-use Rattle.script_run.specs.Turn.{told_in}
-use Rattle.script_run.specs.Answers.{broken_said, miss_said, next_said}
-use Rattle.script_run.specs.Own.{IsPlacedAs}
-use Rattle.script_run.specs.Takes.{IsPiece}
-use Rattle.cache_replay.specs.Shown.{ShowsAt}
-use Rattle.cache_replay.specs.declared.session.Holding.{Holding}
-use Rattle.cache_replay.specs.declared.session.Holding.TheVariants as holding
+use Rattle.script_lang.specs.declared.step.Step.TheVariants as step
+use Rattle.script_run.specs.Run.{Run, Stream, reader_by}
+use Rattle.script_run.specs.Answers.{broken_said, miss_said}
+use Rattle.script_run.specs.Losses.{NoLossIsAFault}
+use Rattle.script_run.specs.Own.{AreOwn}
+use Rattle.cache_replay.specs.declared.stop.Stop.{Stop}
+use Rattle.cache_replay.specs.Moves.{Moves, ShowsIn}
+use Rattle.run_promise.specs.Outline.{count_in}
+use Rattle.cache_replay.specs.Session.{HoldingSeen, ReaderHeld, WriterHeld}
 
 -- ---- what an actor has
 
 -- what an actor has that has a reader
-abbrev pub as_held : Option Reader → Option Holding
-as_held reader = option_map (λ (r : Reader). holding.Reader r) reader
+abbrev pub as_held : Option ReaderSeen → Option HoldingSeen
+as_held reader = option_map (λ (r : ReaderSeen). ReaderHeld r) reader
 
 -- the reader that an actor has
-abbrev pub reader_held : Option Holding → Option Reader
+abbrev pub reader_held : Option HoldingSeen → Option ReaderSeen
 reader_held None = None
-reader_held (Some (holding.Writer w)) = None
-reader_held (Some (holding.Reader r)) = Some r
+reader_held (Some (WriterHeld w)) = None
+reader_held (Some (ReaderHeld r)) = Some r
 
 -- what is left where its reader is taken
-abbrev pub without_reader : Option Holding → Option Holding
+abbrev pub without_reader : Option HoldingSeen → Option HoldingSeen
 without_reader None = None
-without_reader (Some (holding.Writer w)) = Some (holding.Writer w)
-without_reader (Some (holding.Reader r)) = None
+without_reader (Some (WriterHeld w)) = Some (WriterHeld w)
+without_reader (Some (ReaderHeld r)) = None
 
 -- ---- answers
 
 -- the reader that was opened
-abbrev pub reader_opened : Opened → Option Reader
+abbrev pub reader_opened : {R : Type 0} → Opened R → Option R
 reader_opened (opened.Hit reader put length) = Some reader
 reader_opened (opened.Follow reader put) = Some reader
 reader_opened (opened.Miss why) = None
 
 -- what a lookup answers; the length is told of a hit alone, since a put that is followed may grow
-abbrev pub opened_answer : Opened → StepAnswer
+abbrev pub opened_answer : {R : Type 0} → Opened R → StepAnswer
 opened_answer (opened.Hit reader put length) = answer.Hit put length
 opened_answer (opened.Follow reader put) = answer.Follow put
 opened_answer (opened.Miss why) = miss_said why
@@ -70,25 +70,37 @@ IsWithin _ into = Unit {0}
 
 -- ---- a reader that reads on
 
--- its records are a step of a legal history by the calls of the device between two moments of its log, and what it is
--- given is what was put
-pub record NextMoves (run : Run) (before after : List Call) (s t : State) (r new : Reader) (said : StepAnswer) : Type 0 where
-  pub device : Permit
-  pub added : List Rec
-  pub given : List ℕ
-  pub plain : device.packed ≡ false
-  pub unsynced : device.syncs ≡ false
-  pub moment : device.now ≡ run.now
-  pub content : device.area ≡ 0
-  pub calls : device.events ≡ calls_since before after
-  pub effects : effects_told added ≡ effects_in device.events
-  pub behind : t ≡ after_all s added
-  pub does : Does device s (ReadOn r.reader) added Done
-  pub own : IsPiece run s r.reader given (told_in added)
-  pub says : next_said given (told_in added) ≡ said
-  pub keeps : IsReaderOf t new
+module _ {S W R : Type 0} (c : CallsGhosts S W R) where
+  -- a cache between calls, and a page that takes any piece
+  pub record IsReady (cache : S) (page : List ℕ) : Type 0 where
+    pub holds : c.holds cache
+    pub page_is : length page ≡ 512 * budget_of (state_at (c.at cache)).geometry
 
--- or two documents of one SHA-256 are shown
-abbrev pub NextEnds : Run → (before after : List Call) → (s t : State) → (r new : Reader) → StepAnswer → Type 0
-NextEnds run before after s t r new said =
-    NextMoves run before after s t r new said ⊎ ShowsAt (IsPlacedAs run.streams) run.now before after s (ReadOn r.reader ∷ [])
+  -- what was read left a cache that goes on, and its records are of this reader alone
+  pub record LeavesReader (old new : S) (number : ℕ) : Type 0 where
+    pub goes : Goes c.at c.holds old new
+    pub own : Adds (IsOfReader number) (c.at old) (c.at new)
+
+-- it is the reader that the run says that the actor has, and what stands belongs to what writers took
+pub record IsReadBy (run : Run) (name : List ℕ) (s : State) (r : ReaderSeen) : Type 0 where
+  pub held : reader_by run name ≡ Some r.reader
+  pub told : AreTold s
+  pub own : AreOwn s run.streams
+  pub reader : IsReaderOf s r
+
+-- a line gave the reader what it must, which still has the fragments of the records
+pub record NextMoves (run : Run) (name : List ℕ) (old new : At) (later : ReaderSeen) (said : StepAnswer) : Type 0 where
+  pub moves : Moves run (step.Next name) old new said
+  pub keeps : IsReaderOf (state_at new) later
+
+-- so it is, or two documents of one SHA-256 are shown
+abbrev pub NextEnds : Run → List ℕ → (old new : At) → ReaderSeen → StepAnswer → Type 0
+NextEnds run name old new later said = NextMoves run name old new later said ⊎ ShowsIn run (step.Next name) old new
+
+-- what a line made of a reader that is open
+pub record ReadsOnLine (old new : At) (r later : ReaderSeen) (result : Result StepAnswer Stop) : Type 0 where
+  pub reader : IsOpenReader (state_at new) later
+  pub same : later.reader ≡ r.reader
+  pub ends : IfOk result (λ said. (run : Run) (name : List ℕ) → IsReadBy run name (state_at old) r → NextEnds run name old new later said)
+  pub unharmed : (streams : ℕ → Stream) → AreOwn (state_at old) streams → IsReaderOf (state_at old) r → StaysUnharmed old new
+  pub counts : IfOk result (λ said. NoLossIsAFault (state_at old) → count_in said ≤ new.device.faults)

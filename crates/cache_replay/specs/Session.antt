@@ -1,105 +1,127 @@
 -- What holds of a session between lines, whatever its device gave.
-use Rattle.std.specs.Prelude.{ℕ, ◌≡◌, ◌*◌, ◌≤◌, ⊤, true, List, [], ◌∷◌, length, Option, Some, None, IfSome}
+use Rattle.std.specs.Prelude.{ℕ, ◌≡◌, ◌*◌, ◌≤◌, ⊤, true, List, [], ◌∷◌, length, Option, Some, None, IfSome, option_map}
 use Rattle.tape_base.specs.Geometry.{budget_of}
 use Rattle.device_log.specs.Calls.{Call}
 use Rattle.logged_disk.specs.Device.{State as Device, IsAfter}
-use Rattle.logged_disk.specs.declared.device.Disk.{Ghosts as DiskGhosts}
-use Rattle.dir_table.specs.declared.directory.Directory.{Ghosts as DirectoryGhosts}
-use Rattle.cache_chronicle.specs.declared.chronicle.Chronicle.{Ghosts as ChronicleGhosts}
 use Rattle.cache_model.specs.State.{State, put_of, reader_of}
-use Rattle.cache_model.specs.Legal.{IsQuiet, is_writing}
-use Rattle.stripe_core.specs.Stripe.{IsStripe, seen_in, state_in}
-use Rattle.stripe_write.specs.Writers.{IsWriterOf}
-use Rattle.stripe_read.specs.Readers.{IsOpenReader}
+use Rattle.cache_model.specs.Legal.{is_writing}
+use Rattle.call_laws.specs.Moments.{At}
+use Rattle.cache_calls.specs.declared.calls.Calls.{Ghosts as CallsGhosts}
+use Rattle.cache_calls.specs.Actors.{IsOpenReader, IsWriterOf, ReaderSeen, WriterSeen}
+use Rattle.cache_calls.specs.Keeping.{IsAtRest, plain_setting, state_at}
 use Rattle.actor_table.specs.Table.{Seen, slot_of}
 use Rattle.script_lang.specs.declared.answer.StepAnswer.{StepAnswer}
 use Rattle.script_run.specs.Losses.{NoLossIsAFault}
-use Rattle.cache_replay.specs.Outline.{count_in}
-use Rattle.cache_replay.specs.declared.session.Session.{Session}
-use Rattle.cache_replay.specs.declared.session.Part.{Part}
 use Rattle.cache_replay.specs.declared.session.Holding.{Holding}
 use Rattle.cache_replay.specs.declared.session.Holding.TheVariants as holding
+use Rattle.cache_replay.specs.declared.session.Part.{Part}
+use Rattle.cache_replay.specs.declared.session.Session.{Session}
+use Rattle.run_promise.specs.Outline.{count_in}
 
 -- ---- what actors have
 
+-- what an actor has, as contracts see it
+pub data HoldingSeen : Type 0 where
+  WriterHeld : (w : WriterSeen) → HoldingSeen
+  ReaderHeld : (r : ReaderSeen) → HoldingSeen
+
+-- the put of an open writer, which is what the records say of it
+pub record IsOpenWriter (s : State) (w : WriterSeen) : Type 0 where
+  pub writing : is_writing s w.put ≡ true
+  pub writer : IsWriterOf s w
+
 -- what an actor has is open
-abbrev pub IsHeld : State → Holding → Type 0
-IsHeld s (holding.Writer w) = (is_writing s w.put ≡ true) × IsWriterOf s w
-IsHeld s (holding.Reader r) = IsOpenReader s r
+abbrev pub IsHeld : State → HoldingSeen → Type 0
+IsHeld s (WriterHeld w) = IsOpenWriter s w
+IsHeld s (ReaderHeld r) = IsOpenReader s r
 
 -- so it is of each actor that has something
-abbrev pub AreHeld : State → (ℕ → Option Holding) → Type 0
+abbrev pub AreHeld : State → (ℕ → Option HoldingSeen) → Type 0
 AreHeld s slots = (n : ℕ) → IfSome (slots n) (IsHeld s)
 
 -- two of them are writers of two puts, or two readers, or one of each
-abbrev pub Differ : Holding → Holding → Type 0
-Differ (holding.Writer w) (holding.Writer v) = w.put ≡ v.put → ⊥
-Differ (holding.Reader r) (holding.Reader q) = r.reader ≡ q.reader → ⊥
+abbrev pub Differ : HoldingSeen → HoldingSeen → Type 0
+Differ (WriterHeld w) (WriterHeld v) = w.put ≡ v.put → ⊥
+Differ (ReaderHeld r) (ReaderHeld q) = r.reader ≡ q.reader → ⊥
 Differ _ _ = ⊤
 
 -- no two actors have the same
-abbrev pub AreApart : (ℕ → Option Holding) → Type 0
-AreApart slots = (m n : ℕ) (a b : Holding) → (m ≡ n → ⊥) → slots m ≡ Some a → slots n ≡ Some b → Differ a b
+abbrev pub AreApart : (ℕ → Option HoldingSeen) → Type 0
+AreApart slots = (m n : ℕ) (a b : HoldingSeen) → (m ≡ n → ⊥) → slots m ≡ Some a → slots n ≡ Some b → Differ a b
 
 -- ---- a session
 
--- what the actor of a number has, from 1; nothing where there is no such actor
-abbrev pub slots_of : Seen Holding → ℕ → Option Holding
-slots_of actors n = slot_of actors.slots n
+module _ {S W R : Type 0} (c : CallsGhosts S W R) where
+  -- what an actor has, by what its cache tells of writers and readers
+  abbrev pub holding_seen : Holding W R → HoldingSeen
+  holding_seen (holding.Writer w) = WriterHeld (c.written w)
+  holding_seen (holding.Reader r) = ReaderHeld (c.reading r)
 
--- how many things there are, where there may be one
-abbrev pub parts_of : {X : Type 0} → Option X → ℕ
-parts_of None = 0
-parts_of (Some x) = 1
+  -- what the actor of a number has, from 1; nothing where there is no such actor
+  abbrev pub slots_of : Seen (Holding W R) → ℕ → Option HoldingSeen
+  slots_of actors n = option_map holding_seen (slot_of actors.slots n)
 
-module _ {D R C : Type 0} {d : DiskGhosts D} {r : DirectoryGhosts R} {c : ChronicleGhosts C} where
+module _ {S W R : Type 0} {c : CallsGhosts S W R} where
+  -- the records of a part and its device
+  abbrev pub at_in : Part S W R c → At
+  at_in part = c.at part.cache
+
+  -- what these records stand for
+  abbrev pub state_in : Part S W R c → State
+  state_in part = state_at (at_in part)
+
+  -- the calls that the device of a part made since its attach, the newest first
+  abbrev pub past_of : Part S W R c → List Call
+  past_of part = (at_in part).device.past
+
   -- the names of the actors, in the order of their first steps
-  abbrev pub names_in : Session D R C d r c → List (List ℕ)
+  abbrev pub names_in : Session S W R c → List (List ℕ)
   names_in session = session.actors.names
 
   -- what the actor of a number has in a session
-  abbrev pub slots_in : Session D R C d r c → ℕ → Option Holding
-  slots_in session n = slots_of session.actors n
+  abbrev pub slots_in : Session S W R c → ℕ → Option HoldingSeen
+  slots_in session n = slots_of c session.actors n
 
-  -- how many devices a session has: that of its part, once a format began one
-  abbrev pub devices_of : Session D R C d r c → ℕ
-  devices_of session = parts_of session.part
-
-  -- the calls that the device of a part made since its attach, the newest first
-  abbrev pub past_of : Part D R C d r c → List Call
-  past_of part = (seen_in part.stripe).device.past
-
-  -- its stripe, none of whose pieces was lost by a fault of the device, and a page that takes any piece
-  pub record IsPart (part : Part D R C d r c) : Type 0 where
-    pub stripe : IsStripe part.stripe
-    pub quiet : IsQuiet (state_in part.stripe)
-    pub losses : NoLossIsAFault (state_in part.stripe)
-    pub page : length part.page.items ≡ 512 * budget_of (state_in part.stripe).geometry
+  -- a plain cache at rest, none of whose pieces was lost by a fault of the device, and a page that takes any piece
+  pub record IsPart (part : Part S W R c) : Type 0 where
+    pub holds : c.holds part.cache
+    pub rest : IsAtRest (at_in part)
+    pub plain : (at_in part).setting ≡ plain_setting
+    pub losses : NoLossIsAFault (state_in part)
+    pub page : length part.page.items ≡ 512 * budget_of (state_in part).geometry
 
   -- a part beside what the actors have, which is open in it, and no two have the same
-  pub record IsActive (p : Part D R C d r c) (slots : ℕ → Option Holding) : Type 0 where
-    pub part : IsPart p
-    pub held : AreHeld (state_in p.stripe) slots
+  pub record IsActive (part : Part S W R c) (slots : ℕ → Option HoldingSeen) : Type 0 where
+    pub part_is : IsPart part
+    pub held : AreHeld (state_in part) slots
     pub apart : AreApart slots
 
   -- without a cache no actor has anything
-  abbrev pub IsAt : Option (Part D R C d r c) → (ℕ → Option Holding) → Type 0
+  abbrev pub IsAt : Option (Part S W R c) → (ℕ → Option HoldingSeen) → Type 0
   IsAt None slots = (n : ℕ) → slots n ≡ None
   IsAt (Some part) slots = IsActive part slots
 
   -- what holds of a session between lines
-  abbrev pub IsSession : Session D R C d r c → Type 0
+  abbrev pub IsSession : Session S W R c → Type 0
   IsSession session = IsAt session.part (slots_in session)
 
-  -- the device of a session, as it would be given back
-  abbrev pub return_of : Option (Part D R C d r c) → List Device
+  -- the device of a part, as it would be given back
+  abbrev pub return_of : Option (Part S W R c) → List Device
   return_of None = []
-  return_of (Some part) = (seen_in part.stripe).device ∷ []
+  return_of (Some part) = (at_in part).device ∷ []
+
+  -- and of a session
+  abbrev pub return_in : Session S W R c → List Device
+  return_in session = return_of session.part
+
+  -- how many devices a session has: that of its part, once a format began one
+  abbrev pub devices_of : Session S W R c → ℕ
+  devices_of session = length (return_in session)
 
   -- the count of a fault that an answer tells is no higher than that of the session's device
-  abbrev pub TellsCount : Option (Part D R C d r c) → StepAnswer → Type 0
+  abbrev pub TellsCount : Option (Part S W R c) → StepAnswer → Type 0
   TellsCount None said = ⊥
-  TellsCount (Some part) said = count_in said ≤ (seen_in part.stripe).device.faults
+  TellsCount (Some part) said = count_in said ≤ (at_in part).device.faults
 
 -- ---- a device that goes on
 

@@ -2,13 +2,11 @@
 ghost use Rattle.std.specs.Prelude.{◌≡◌};
 ghost use Rattle.script_lang.specs.declared.answer.StepAnswer.TheVariants as answer;
 ghost use Rattle.script_run.specs.Answers.{broken_said, miss_said};
-ghost use Rattle.cache_replay.specs.Putting.{refusal_answer};
-ghost use Rattle.cache_replay.specs.WriterLines.{closed_answer, refused_answer};
+ghost use Rattle.cache_replay.specs.Replies.{closed_answer, refusal_answer, refused_answer};
 
+use cache_calls::{Receipt, Refusal};
 use cache_model::Cause;
 use script_lang::{Refused, StepAnswer};
-use stripe_core::Refusal;
-use stripe_write::Receipt;
 
 /// What a line answers that was refused, with how many bytes were taken where that is told.
 pub(crate) fn refusal_answer(why: Refusal, took: Option<u64>) -> StepAnswer

@@ -1,11 +1,10 @@
 //! Sessions: the steps of a script on a cache, whose device comes from a bay.
-#![tactic(auto, using(logged_disk::proofs::GoingOn::stays_as, stripe_core::proofs::Between::between_same, stripe_core::proofs::Continuing::continues_same, stripe_core::proofs::Continuing::rests_same))]
+#![tactic(auto, using(logged_disk::proofs::GoingOn::stays_as))]
 
 mod answers;
 mod beginning;
 mod feeding;
 mod getting;
-mod laws;
 mod plain_lines;
 mod put_line;
 mod putting;
@@ -16,7 +15,6 @@ mod stop;
 mod writer_lines;
 
 pub use beginning::{begin, close, plays_reach};
-pub use laws::{counts_are_kept, texts_are_output};
-pub use session::{Cache, Session};
+pub use session::Session;
 pub use stepping::step;
 pub use stop::Stop;

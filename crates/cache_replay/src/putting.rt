@@ -1,76 +1,57 @@
 // Whole bodies are put.
-ghost use Rattle.std.specs.Prelude.{◌≡◌, ◌≤◌, Some, None, true, IfErr};
-ghost use Rattle.cache_model.specs.Legal.{is_writing};
-ghost use Rattle.stripe_core.specs.Stripe.{kept_in, seen_in, state_in};
-ghost use Rattle.stripe_core.specs.Between.{IsResting, Rests};
-ghost use Rattle.stripe_write.specs.Others.{AddsOfPut};
-ghost use Rattle.stripe_write.specs.Writers.{IsWriterOf};
-ghost use Rattle.script_run.specs.Losses.{NoLossIsAFault};
-ghost use Rattle.cache_replay.specs.Outline.{count_of_refusal};
-ghost use Rattle.cache_replay.specs.Session.{LeavesBut};
-ghost use Rattle.cache_replay.specs.Putting.{BodyEndsWhere, FillsWhere, IsFresh, PutsWhere, unless_memory};
+ghost use Rattle.std.specs.Prelude.{◌≡◌};
+ghost use Rattle.cache_calls.specs.Actors.{IsWriterOf};
+ghost use Rattle.cache_calls.specs.Keeping.{Keeps, state_at};
+ghost use Rattle.cache_replay.specs.Putting.{BodyEndsWhere, FillsWhere, IsFresh, PutsWhere, TellsOfPut, unless_memory};
+ghost use Rattle.cache_replay.specs.Session.{IsOpenWriter};
 
 use crate::feeding::feed;
 use alternate_vector::Fields;
-use cache_chronicle::Chronicle;
-use dir_table::Directory;
-use logged_disk::Disk;
-use model_laws::groups_tell;
-use stripe_core::{Refusal, Stripe};
-use stripe_write::{Receipt, Writer, abort_write, close_write, open_write, others_stay};
+use cache_calls::{Calls, Receipt, Refusal};
 use tape_base::{Actor, Key};
 
 /// Puts a body whole, and gives the put up where that is refused.
-pub(crate) fn put<D: Disk, R: Directory + Drop, C: Chronicle>(
-    stripe: &mut Stripe<D, R, C>,
+pub(crate) fn put<S: Calls>(
+    cache: &mut S,
     key: Key,
     body: &[u8],
     request: Fields,
     response: Fields,
     now: u64,
 ) -> Result<Receipt, Refusal>
-    requires resting { IsResting stripe.old }
-    ensures rests { Rests stripe.old stripe.new }
-    ensures puts { PutsWhere now (seen_in stripe.old).device.past (seen_in stripe.new).device.past
-        (kept_in stripe.old) (kept_in stripe.new) key body.now request response result }
-    ensures leaves { LeavesBut (Some (state_in stripe.old).next_put) None (state_in stripe.old)
-        (state_in stripe.new) }
-    ensures counts { IfErr result (λ why. NoLossIsAFault (state_in stripe.old)
-        → count_of_refusal why ≤ (seen_in stripe.new).device.faults) }
+    requires holds { S.holds cache.old }
+    ensures keeps { Keeps S.at S.holds cache.old cache.new }
+    ensures puts { PutsWhere now (S.at cache.old) (S.at cache.new) key body.now request response
+        result }
+    ensures tells { let put = (state_at (S.at cache.old)).next_put in
+        TellsOfPut (S.at cache.old) (S.at cache.new) put result }
 {
-    // The laws tell that other puts and all readers stay, and that what the records keep may be kept when the
-    // put is open.
-    others_stay();
-    groups_tell();
-    match open_write(stripe, Actor(0), key, request, response, 0) {
-        Ok(mut writer) => put_open(stripe, &mut writer, body, now),
+    match cache.open_write(Actor(0), key, request, response, 0) {
+        Ok(mut writer) => put_open(cache, &mut writer, body, now),
         Err(why) => Err(why),
     }
 }
 
 // Puts a body with its new writer, and gives the put up where that is still open.
-fn put_open<D: Disk, R: Directory + Drop, C: Chronicle>(
-    stripe: &mut Stripe<D, R, C>,
-    writer: &mut Writer,
+fn put_open<S: Calls>(
+    cache: &mut S,
+    writer: &mut S::Writer,
     body: &[u8],
     now: u64,
 ) -> Result<Receipt, Refusal>
-    requires resting { IsResting stripe.old }
-    requires writer { IsWriterOf (state_in stripe.old) writer.old }
-    requires writing { is_writing (state_in stripe.old) writer.old.put ≡ true }
-    requires fresh { IsFresh writer.old }
-    ensures rests { Rests stripe.old stripe.new }
-    ensures ends { BodyEndsWhere now (seen_in stripe.old).device.past
-        (seen_in stripe.new).device.past (kept_in stripe.old)
-        (kept_in stripe.new) writer.old.put body.now result }
-    ensures own { AddsOfPut writer.old.put (kept_in stripe.old) (kept_in stripe.new) }
-    ensures counts { IfErr result (λ why. NoLossIsAFault (state_in stripe.old)
-        → count_of_refusal why ≤ (seen_in stripe.new).device.faults) }
+    requires holds { S.holds cache.old }
+    requires writer { IsOpenWriter (state_at (S.at cache.old)) (S.written writer.old) }
+    requires fresh { IsFresh (S.written writer.old) }
+    ensures keeps { Keeps S.at S.holds cache.old cache.new }
+    ensures ends { BodyEndsWhere now (S.at cache.old) (S.at cache.new) (S.written writer.old).put
+        body.now result }
+    ensures tells { TellsOfPut (S.at cache.old) (S.at cache.new) (S.written writer.old).put
+        result }
 {
-    match fill(stripe, writer, body, now) {
+    match fill(cache, writer, body, now) {
         Ok(receipt) => Ok(receipt),
         Err(why) => {
-            let end = abort_write(stripe, writer);
+            let end = cache.abort_write(writer);
             Err(unless_memory(end, why))
         }
     }
@@ -87,27 +68,25 @@ fn unless_memory(end: Result<u64, Refusal>, why: Refusal) -> Refusal
 }
 
 // Feeds all of a body to the new writer of an open put, and closes it.
-fn fill<D: Disk, R: Directory + Drop, C: Chronicle>(
-    stripe: &mut Stripe<D, R, C>,
-    writer: &mut Writer,
+fn fill<S: Calls>(
+    cache: &mut S,
+    writer: &mut S::Writer,
     body: &[u8],
     now: u64,
 ) -> Result<Receipt, Refusal>
-    requires resting { IsResting stripe.old }
-    requires writer { IsWriterOf (state_in stripe.old) writer.old }
-    requires writing { is_writing (state_in stripe.old) writer.old.put ≡ true }
-    requires fresh { IsFresh writer.old }
-    ensures rests { Rests stripe.old stripe.new }
-    ensures writer { IsWriterOf (state_in stripe.new) writer.new }
-    ensures put { writer.new.put ≡ writer.old.put }
-    ensures fills { FillsWhere now (seen_in stripe.old).device.past (seen_in stripe.new).device.past
-        (kept_in stripe.old) (kept_in stripe.new) writer.old body.now result }
-    ensures own { AddsOfPut writer.old.put (kept_in stripe.old) (kept_in stripe.new) }
-    ensures counts { IfErr result (λ why. NoLossIsAFault (state_in stripe.old)
-        → count_of_refusal why ≤ (seen_in stripe.new).device.faults) }
+    requires holds { S.holds cache.old }
+    requires writer { IsOpenWriter (state_at (S.at cache.old)) (S.written writer.old) }
+    requires fresh { IsFresh (S.written writer.old) }
+    ensures keeps { Keeps S.at S.holds cache.old cache.new }
+    ensures writer { IsWriterOf (state_at (S.at cache.new)) (S.written writer.new) }
+    ensures put { (S.written writer.new).put ≡ (S.written writer.old).put }
+    ensures fills { FillsWhere now (S.at cache.old) (S.at cache.new) (S.written writer.old)
+        body.now result }
+    ensures tells { TellsOfPut (S.at cache.old) (S.at cache.new) (S.written writer.old).put
+        result }
 {
-    match feed(stripe, writer, body, now).refused {
-        None => close_write(stripe, writer, now),
+    match feed(cache, writer, body, now).refused {
+        None => cache.close_write(writer, now),
         Some(why) => Err(why),
     }
 }

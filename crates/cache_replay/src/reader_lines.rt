@@ -1,103 +1,82 @@
 // The lines of readers: they open, read on and are closed.
-ghost use Rattle.std.specs.Prelude.{◌≡◌, ◌==◌, ◌+◌, ◌-◌, ◌*◌, ◌^◌, ◌<◌, ◌≤◌, ℕ, length, Some, None, IfOk, IfErr, if◌then◌else◌, is_some};
-ghost use Rattle.tape_base.specs.Geometry.{budget_of};
-ghost use Rattle.stripe_core.specs.Stripe.{seen_in, state_in};
-ghost use Rattle.stripe_core.specs.Between.{Between, IsResting, Proceeds, Rests};
-ghost use Rattle.stripe_read.specs.Readers.{IsOpenReader, IsReaderOf};
+ghost use Rattle.std.specs.Prelude.{ℕ, ◌≡◌, ◌==◌, ◌-◌, ◌^◌, ◌<◌, ◌≤◌, length, None, IfOk, IfErr, if◌then◌else◌, is_some, option_map};
+ghost use Rattle.cache_calls.specs.Actors.{IsOpenReader};
+ghost use Rattle.cache_calls.specs.Keeping.{plain_setting, state_at};
 ghost use Rattle.script_lang.specs.declared.step.Step.TheVariants as step;
 ghost use Rattle.script_lang.specs.declared.answer.StepAnswer.TheVariants as answer;
-ghost use Rattle.script_run.specs.Run.{Run};
-ghost use Rattle.script_run.specs.Losses.{NoLossIsAFault};
-ghost use Rattle.script_run.specs.Own.{AreOwn};
 ghost use Rattle.cache_replay.specs.declared.stop.Stop.TheVariants as stop;
-ghost use Rattle.cache_replay.specs.Outline.{count_in};
-ghost use Rattle.cache_replay.specs.Session.{AreLater, IsActive, IsPart, IsSession, LeavesBut, TellsCount, devices_of, names_in, past_of, return_of, slots_of};
-ghost use Rattle.cache_replay.specs.Plays.{PartEnds, Plays, PlaysPart, StepEnds};
-ghost use Rattle.cache_replay.specs.Stop.{IsSessionStop};
-ghost use Rattle.cache_replay.specs.ReaderLines.{IsWithin, NextEnds, as_held, next_answer, opened_answer, reader_held, reader_opened, without_reader};
+ghost use Rattle.cache_replay.specs.OneLine.{AnswersActor, AnswersLine};
+ghost use Rattle.cache_replay.specs.ReaderLines.{IsReady, IsWithin, LeavesReader, ReadsOnLine, as_held, next_answer, opened_answer, reader_held, reader_opened, without_reader};
+ghost use Rattle.cache_replay.specs.Session.{IsActive, IsSession, names_in, slots_of};
 
 use crate::answers::{broken_said, miss_said};
 use crate::session::{Holding, Part, Session};
 use crate::stop::Stop;
 use actor_table::Actors;
 use alternate_vector::Fields;
-use cache_chronicle::Chronicle;
-use dir_table::Directory;
-use logged_disk::Disk;
-use model_laws::groups_tell;
+use cache_calls::{Calls, NextPiece, Opened};
 use script_lang::{ByteList, Refused, StepAnswer};
-use script_run::{own_is_as_listed, read_is_own, steps_own};
 use std::alloc::{AllocError, Global};
-use stripe_core::Stripe;
-use stripe_read::{NextPiece, Opened, Reader, close_read, open_read, read_next};
 use tape_base::{Actor, Key};
 
 /// Opens a reader for an actor that has nothing.
-pub(crate) fn open_read_line<D: Disk, R: Directory + Drop, C: Chronicle>(
-    session: &mut Session<D, R, C>,
+pub(crate) fn open_read_line<S: Calls>(
+    session: &mut Session<S>,
     actor: &[u8],
     key: Key,
     request: Fields,
 ) -> Result<StepAnswer, Stop>
     requires session { IsSession session.old }
     requires few { length (names_in session.old) < 2 ^ 32 - 1 }
-    ensures session { IsSession session.new }
-    ensures ends { IfOk result (λ said. (run : Run) → Plays run session.old
-        → StepEnds run (step.OpenRead actor.now key request) session.new said) }
-    ensures counts { IfOk result (TellsCount session.new.part) }
-    ensures device { AreLater (return_of session.old.part) (return_of session.new.part) }
-    ensures stop { IfErr result (IsSessionStop session.old) }
-    ensures devices { devices_of session.new ≡ devices_of session.old }
-    ensures names { length (names_in session.new) ≤ length (names_in session.old) + 1 }
+    ensures line { AnswersLine (step.OpenRead actor.now key request)
+        session.old session.new result }
 {
     match &mut session.part {
-        Some(part) => open_reader(part, &mut session.actors, actor, key, request),
+        Some(part) => open_reader(part, &mut session.actors, actor, key, request, session.now),
         None => Err(Stop::NoCache),
     }
 }
 
 // Opens it, where there is a cache.
-fn open_reader<D: Disk, R: Directory + Drop, C: Chronicle>(
-    part: &mut Part<D, R, C>,
-    actors: &mut Actors<Holding>,
+fn open_reader<S: Calls>(
+    part: &mut Part<S>,
+    actors: &mut Actors<Holding<S::Writer, S::Reader>>,
     actor: &[u8],
     key: Key,
     request: Fields,
+    now: u64,
 ) -> Result<StepAnswer, Stop>
-    requires active { IsActive part.old (slots_of actors.old) }
+    requires active { IsActive part.old (slots_of S.Calls actors.old) }
     requires few { length actors.old.names < 2 ^ 32 - 1 }
-    ensures active { IsActive part.new (slots_of actors.new) }
-    ensures ends { IfOk result (λ said. (run : Run) → PlaysPart run part.old actors.old
-        → PartEnds run part.old (step.OpenRead actor.now key request) part.new actors.new said) }
-    ensures rests { Rests part.old.stripe part.new.stripe }
-    ensures stop { IfErr result (λ why. why ≡ stop.Memory) }
-    ensures names { length actors.new.names ≤ length actors.old.names + 1 }
-    ensures counts { IfOk result (TellsCount (Some part.new)) }
+    ensures line { AnswersActor now (step.OpenRead actor.now key request)
+        part.old part.new actors.old actors.new result }
 {
-    groups_tell();
-    steps_own();
     let number = actors.number(actor)?;
-    if has_something(actors, number) {
+    if has_something::<S>(actors, number) {
         return Ok(refused(Refused::Busy));
     }
-    let opened = open_read(&mut part.stripe, Actor(number), key, request)?;
-    Ok(give_reader(actors, number, opened))
+    let opened = part.cache.open_read(Actor(number), key, request)?;
+    Ok(give_reader::<S>(actors, number, opened))
 }
 
-fn has_something(actors: &Actors<Holding>, number: u32) -> bool
-    ensures { result ≡ is_some (slots_of actors.now number) }
+fn has_something<S: Calls>(actors: &Actors<Holding<S::Writer, S::Reader>>, number: u32) -> bool
+    ensures { result ≡ is_some (slots_of S.Calls actors.now number) }
 {
     actors.get(number).is_some()
 }
 
 // Gives an actor that has nothing the reader that was opened.
-fn give_reader(actors: &mut Actors<Holding>, number: u32, opened: Opened) -> StepAnswer
+fn give_reader<S: Calls>(
+    actors: &mut Actors<Holding<S::Writer, S::Reader>>,
+    number: u32,
+    opened: Opened<S::Reader>,
+) -> StepAnswer
     requires known { 0 < number }
     requires within { number ≤ length actors.old.names }
-    requires free { slots_of actors.old number ≡ None }
+    requires free { slots_of S.Calls actors.old number ≡ None }
     ensures answer { result ≡ opened_answer opened }
     ensures names { actors.new.names ≡ actors.old.names }
-    ensures slots { (n : ℕ) → slots_of actors.new n ≡ (if n == number then as_held (reader_opened opened) else slots_of actors.old n) }
+    ensures slots { (n : ℕ) → slots_of S.Calls actors.new n ≡ (if n == number then as_held (option_map S.reading (reader_opened opened)) else slots_of S.Calls actors.old n) }
 {
     match opened {
         Opened::Hit {
@@ -117,52 +96,37 @@ fn give_reader(actors: &mut Actors<Holding>, number: u32, opened: Opened) -> Ste
 }
 
 /// Gives the reader of an actor its next piece.
-pub(crate) fn next_line<D: Disk, R: Directory + Drop, C: Chronicle>(
-    session: &mut Session<D, R, C>,
+pub(crate) fn next_line<S: Calls>(
+    session: &mut Session<S>,
     actor: &[u8],
 ) -> Result<StepAnswer, Stop>
     requires session { IsSession session.old }
     requires few { length (names_in session.old) < 2 ^ 32 - 1 }
-    ensures session { IsSession session.new }
-    ensures ends { IfOk result (λ said. (run : Run) → Plays run session.old
-        → StepEnds run (step.Next actor.now) session.new said) }
-    ensures counts { IfOk result (TellsCount session.new.part) }
-    ensures device { AreLater (return_of session.old.part) (return_of session.new.part) }
-    ensures stop { IfErr result (IsSessionStop session.old) }
-    ensures devices { devices_of session.new ≡ devices_of session.old }
-    ensures names { length (names_in session.new) ≤ length (names_in session.old) + 1 }
+    ensures line { AnswersLine (step.Next actor.now) session.old session.new result }
 {
     match &mut session.part {
-        Some(part) => next(part, &mut session.actors, actor, session.alloc),
+        Some(part) => next(part, &mut session.actors, actor, session.alloc, session.now),
         None => Err(Stop::NoCache),
     }
 }
 
 // Gives it, where there is a cache.
-fn next<D: Disk, R: Directory + Drop, C: Chronicle>(
-    part: &mut Part<D, R, C>,
-    actors: &mut Actors<Holding>,
+fn next<S: Calls>(
+    part: &mut Part<S>,
+    actors: &mut Actors<Holding<S::Writer, S::Reader>>,
     actor: &[u8],
     alloc: Global,
+    now: u64,
 ) -> Result<StepAnswer, Stop>
-    requires active { IsActive part.old (slots_of actors.old) }
+    requires active { IsActive part.old (slots_of S.Calls actors.old) }
     requires few { length actors.old.names < 2 ^ 32 - 1 }
-    ensures active { IsActive part.new (slots_of actors.new) }
-    ensures ends { IfOk result (λ said. (run : Run) → PlaysPart run part.old actors.old
-        → PartEnds run part.old (step.Next actor.now) part.new actors.new said) }
-    ensures unharmed { (run : Run) → PlaysPart run part.old actors.old
-        → Between part.old.stripe part.new.stripe }
-    ensures proceeds { Proceeds part.old.stripe part.new.stripe }
-    ensures stop { IfErr result (λ why. why ≡ stop.Memory) }
-    ensures names { length actors.new.names ≤ length actors.old.names + 1 }
-    ensures counts { IfOk result (TellsCount (Some part.new)) }
+    ensures line { AnswersActor now (step.Next actor.now)
+        part.old part.new actors.old actors.new result }
 {
-    groups_tell();
-    steps_own();
     let number = actors.number(actor)?;
-    match take_reader(actors, number) {
+    match take_reader::<S>(actors, number) {
         Some(mut reader) => {
-            let said = read_on(part, &mut reader, alloc);
+            let said = read_on(&mut part.cache, &mut reader, &mut part.page, alloc);
             actors.set(number, Holding::Reader(reader));
             said
         }
@@ -171,61 +135,22 @@ fn next<D: Disk, R: Directory + Drop, C: Chronicle>(
 }
 
 // Reads the next piece to the page, and copies it.
-fn read_on<D: Disk, R: Directory + Drop, C: Chronicle>(
-    part: &mut Part<D, R, C>,
-    reader: &mut Reader,
-    alloc: Global,
-) -> Result<StepAnswer, Stop>
-    requires part { IsPart part.old }
-    requires reader { IsOpenReader (state_in part.old.stripe) reader.old }
-    ensures part { IsPart part.new }
-    ensures reader { IsOpenReader (state_in part.new.stripe) reader.new }
-    ensures same { reader.new.reader ≡ reader.old.reader }
-    ensures leaves { LeavesBut None (Some reader.old.reader) (state_in part.old.stripe)
-        (state_in part.new.stripe) }
-    ensures ends { IfOk result (λ said. (run : Run) → AreOwn (state_in part.old.stripe) run.streams
-        → IsReaderOf (state_in part.old.stripe) reader.old
-        → NextEnds run (past_of part.old) (past_of part.new) (state_in part.old.stripe)
-        (state_in part.new.stripe) reader.old reader.new said) }
-    ensures unharmed { (run : Run) → AreOwn (state_in part.old.stripe) run.streams
-        → IsReaderOf (state_in part.old.stripe) reader.old
-        → Between part.old.stripe part.new.stripe }
-    ensures proceeds { Proceeds part.old.stripe part.new.stripe }
-    ensures stop { IfErr result (λ why. why ≡ stop.Memory) }
-    ensures counts { IfOk result (TellsCount (Some part.new)) }
-{
-    read_to(&mut part.stripe, reader, &mut part.page, alloc)
-}
-
-fn read_to<D: Disk, R: Directory + Drop, C: Chronicle>(
-    stripe: &mut Stripe<D, R, C>,
-    reader: &mut Reader,
+fn read_on<S: Calls>(
+    cache: &mut S,
+    reader: &mut S::Reader,
     page: &mut [u8],
     alloc: Global,
 ) -> Result<StepAnswer, Stop>
-    requires resting { IsResting stripe.old }
-    requires reader { IsOpenReader (state_in stripe.old) reader.old }
-    requires page { length page.old ≡ 512 * budget_of (state_in stripe.old).geometry }
-    ensures resting { IsResting stripe.new }
-    ensures proceeds { Proceeds stripe.old stripe.new }
-    ensures reader { IsOpenReader (state_in stripe.new) reader.new }
-    ensures same { reader.new.reader ≡ reader.old.reader }
-    ensures leaves { LeavesBut None (Some reader.old.reader) (state_in stripe.old)
-        (state_in stripe.new) }
-    ensures ends { IfOk result (λ said. (run : Run) → AreOwn (state_in stripe.old) run.streams
-        → IsReaderOf (state_in stripe.old) reader.old
-        → NextEnds run (seen_in stripe.old).device.past (seen_in stripe.new).device.past
-        (state_in stripe.old) (state_in stripe.new) reader.old reader.new said) }
-    ensures unharmed { (run : Run) → AreOwn (state_in stripe.old) run.streams
-        → IsReaderOf (state_in stripe.old) reader.old
-        → Between stripe.old stripe.new }
+    requires ready { IsReady S.Calls cache.old page.old }
+    requires plain { (S.at cache.old).setting ≡ plain_setting }
+    requires reader { IsOpenReader (state_at (S.at cache.old)) (S.reading reader.old) }
+    ensures leaves { LeavesReader S.Calls cache.old cache.new (S.reading reader.old).reader }
+    ensures reads { ReadsOnLine (S.at cache.old) (S.at cache.new) (S.reading reader.old)
+        (S.reading reader.new) result }
+    ensures page { length page.new ≡ length page.old }
     ensures stop { IfErr result (λ why. why ≡ stop.Memory) }
-    ensures counts { IfOk result (λ said. NoLossIsAFault (state_in stripe.old)
-        → count_in said ≤ (seen_in stripe.new).device.faults) }
 {
-    read_is_own();
-    own_is_as_listed();
-    let piece = read_next(stripe, reader, page)?;
+    let piece = cache.read_next(reader, page)?;
     Ok(piece_said(piece, page, alloc)?)
 }
 
@@ -250,48 +175,35 @@ fn piece_said(piece: NextPiece, page: &[u8], alloc: Global) -> Result<StepAnswer
 }
 
 /// Closes the reader of an actor.
-pub(crate) fn done_line<D: Disk, R: Directory + Drop, C: Chronicle>(
-    session: &mut Session<D, R, C>,
+pub(crate) fn done_line<S: Calls>(
+    session: &mut Session<S>,
     actor: &[u8],
 ) -> Result<StepAnswer, Stop>
     requires session { IsSession session.old }
     requires few { length (names_in session.old) < 2 ^ 32 - 1 }
-    ensures session { IsSession session.new }
-    ensures ends { IfOk result (λ said. (run : Run) → Plays run session.old
-        → StepEnds run (step.Done actor.now) session.new said) }
-    ensures counts { IfOk result (TellsCount session.new.part) }
-    ensures device { AreLater (return_of session.old.part) (return_of session.new.part) }
-    ensures stop { IfErr result (IsSessionStop session.old) }
-    ensures devices { devices_of session.new ≡ devices_of session.old }
-    ensures names { length (names_in session.new) ≤ length (names_in session.old) + 1 }
+    ensures line { AnswersLine (step.Done actor.now) session.old session.new result }
 {
     match &mut session.part {
-        Some(part) => done(part, &mut session.actors, actor),
+        Some(part) => done(part, &mut session.actors, actor, session.now),
         None => Err(Stop::NoCache),
     }
 }
 
 // Closes the reader of an actor, where there is a cache.
-fn done<D: Disk, R: Directory + Drop, C: Chronicle>(
-    part: &mut Part<D, R, C>,
-    actors: &mut Actors<Holding>,
+fn done<S: Calls>(
+    part: &mut Part<S>,
+    actors: &mut Actors<Holding<S::Writer, S::Reader>>,
     actor: &[u8],
+    now: u64,
 ) -> Result<StepAnswer, Stop>
-    requires active { IsActive part.old (slots_of actors.old) }
+    requires active { IsActive part.old (slots_of S.Calls actors.old) }
     requires few { length actors.old.names < 2 ^ 32 - 1 }
-    ensures active { IsActive part.new (slots_of actors.new) }
-    ensures ends { IfOk result (λ said. (run : Run) → PlaysPart run part.old actors.old
-        → PartEnds run part.old (step.Done actor.now) part.new actors.new said) }
-    ensures rests { Rests part.old.stripe part.new.stripe }
-    ensures stop { IfErr result (λ why. why ≡ stop.Memory) }
-    ensures names { length actors.new.names ≤ length actors.old.names + 1 }
-    ensures counts { IfOk result (TellsCount (Some part.new)) }
+    ensures line { AnswersActor now (step.Done actor.now)
+        part.old part.new actors.old actors.new result }
 {
-    groups_tell();
-    steps_own();
     let number = actors.number(actor)?;
-    match take_reader(actors, number) {
-        Some(reader) => match close_read(&mut part.stripe, reader) {
+    match take_reader::<S>(actors, number) {
+        Some(reader) => match part.cache.close_read(reader) {
             Ok(()) => Ok(StepAnswer::Done),
             Err((_, reader)) => {
                 actors.set(number, Holding::Reader(reader));
@@ -303,12 +215,16 @@ fn done<D: Disk, R: Directory + Drop, C: Chronicle>(
 }
 
 // Takes the reader of an actor, where it has one.
-fn take_reader(actors: &mut Actors<Holding>, number: u32) -> Option<Reader>
+fn take_reader<S: Calls>(
+    actors: &mut Actors<Holding<S::Writer, S::Reader>>,
+    number: u32,
+) -> Option<S::Reader>
     requires known { 0 < number }
     requires within { number ≤ length actors.old.names }
-    ensures reader { result ≡ reader_held (slots_of actors.old number) }
+    ensures reader { option_map S.reading result
+        ≡ reader_held (slots_of S.Calls actors.old number) }
     ensures names { actors.new.names ≡ actors.old.names }
-    ensures slots { (n : ℕ) → slots_of actors.new n ≡ (if n == number then without_reader (slots_of actors.old number) else slots_of actors.old n) }
+    ensures slots { (n : ℕ) → slots_of S.Calls actors.new n ≡ (if n == number then without_reader (slots_of S.Calls actors.old number) else slots_of S.Calls actors.old n) }
 {
     match actors.take(number) {
         Some(Holding::Reader(reader)) => Some(reader),

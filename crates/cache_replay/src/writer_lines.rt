@@ -1,20 +1,14 @@
 // Lines on the writers of actors: they open, take bytes, close and are given up.
-ghost use Rattle.std.specs.Prelude.{ℕ, ◌≡◌, ◌==◌, ◌+◌, ◌-◌, ◌^◌, ◌<◌, ◌≤◌, true, Some, None, length, if◌then◌else◌, IfOk, IfErr, IfSome};
+ghost use Rattle.std.specs.Prelude.{ℕ, ◌≡◌, ◌==◌, ◌-◌, ◌^◌, ◌<◌, ◌≤◌, Some, None, length, if◌then◌else◌, option_map, IfOk, IfErr};
 ghost use Rattle.cache_model.specs.Legal.{is_writing};
-ghost use Rattle.stripe_core.specs.Stripe.{IsStripe, kept_in, seen_in, state_in};
-ghost use Rattle.stripe_core.specs.Between.{IsResting, Rests};
-ghost use Rattle.stripe_write.specs.Others.{AddsOfPut};
-ghost use Rattle.stripe_write.specs.Writers.{IsWriterOf};
+ghost use Rattle.cache_calls.specs.Keeping.{plain_setting, state_at};
 ghost use Rattle.script_lang.specs.declared.step.Step.TheVariants as step;
-ghost use Rattle.script_run.specs.Run.{Run};
 ghost use Rattle.script_run.specs.Answers.{busy, idle};
-ghost use Rattle.script_run.specs.Losses.{NoLossIsAFault};
-ghost use Rattle.cache_replay.specs.Outline.{count_in};
-ghost use Rattle.cache_replay.specs.Session.{AreLater, IsActive, IsSession, TellsCount, devices_of, names_in, return_of, slots_of};
-ghost use Rattle.cache_replay.specs.Plays.{PartEnds, Plays, PlaysPart, StepEnds};
-ghost use Rattle.cache_replay.specs.Stop.{IsSessionStop};
+ghost use Rattle.cache_replay.specs.OneLine.{AnswersActor, AnswersLine};
+ghost use Rattle.cache_replay.specs.Replies.{fed_answer};
+ghost use Rattle.cache_replay.specs.Session.{IsActive, IsOpenWriter, IsSession, names_in, slots_of};
 ghost use Rattle.cache_replay.specs.declared.stop.Stop.TheVariants as stop;
-ghost use Rattle.cache_replay.specs.WriterLines.{Closes, Feeds, GivesUp, IsLeft, OpenDoes, Opens, TakesWriter, WriterDoes, closed_answer, fed_answer, held_in};
+ghost use Rattle.cache_replay.specs.WriterLines.{Closes, Feeds, GivesUp, LeavesWriter, OpenDoes, Opens, TakesWriter, WriterDoes, held_in};
 
 use crate::answers::{answer_unless_memory, closed_answer};
 use crate::feeding::{Fed, feed};
@@ -22,33 +16,29 @@ use crate::session::{Holding, Part, Session};
 use crate::stop::Stop;
 use actor_table::Actors;
 use alternate_vector::Fields;
-use cache_chronicle::Chronicle;
-use dir_table::Directory;
-use logged_disk::Disk;
-use model_laws::{steps_tell, writer_is_ended};
-use open_directory::PutState;
+use cache_calls::{Calls, Refusal};
 use script_lang::{Refused, StepAnswer};
-use script_run::steps_own;
-use stripe_core::{Refusal, Stripe};
-use stripe_write::{Receipt, Writer, abort_write, close_write, open_write, others_stay};
 use tape_base::{Actor, Key};
 
 // What came of a line on a writer: its answer, where memory is not wanting, and the writer, where that
 // is still open.
-#[derive(Debug, Drop)]
-struct Outcome {
+#[derive(Drop)]
+struct Outcome<W: Drop> {
     answer: Option<StepAnswer>,
-    left: Option<Writer>,
+    left: Option<W>,
 }
 
 // ---- all lines on a writer
 
 // Takes the writer that an actor has.
-fn take_writer(actors: &mut Actors<Holding>, number: u32) -> Option<Writer>
+fn take_writer<S: Calls>(
+    actors: &mut Actors<Holding<S::Writer, S::Reader>>,
+    number: u32,
+) -> Option<S::Writer>
     requires known { 0 < number }
     requires within { number ≤ length actors.old.names }
     ensures names { actors.new.names ≡ actors.old.names }
-    ensures takes { TakesWriter actors.old actors.new number result }
+    ensures takes { TakesWriter S.Calls actors.old actors.new number result }
 {
     match actors.take(number) {
         Some(Holding::Writer(writer)) => Some(writer),
@@ -61,29 +51,37 @@ fn take_writer(actors: &mut Actors<Holding>, number: u32) -> Option<Writer>
 }
 
 // Gives an actor back the writer that is left, and tells the answer.
-fn set_back(actors: &mut Actors<Holding>, number: u32, outcome: Outcome) -> Result<StepAnswer, Stop>
+fn set_back<S: Calls>(
+    actors: &mut Actors<Holding<S::Writer, S::Reader>>,
+    number: u32,
+    outcome: Outcome<S::Writer>,
+) -> Result<StepAnswer, Stop>
     requires known { 0 < number }
     requires within { number ≤ length actors.old.names }
-    requires none { slots_of actors.old number ≡ None }
+    requires none { slots_of S.Calls actors.old number ≡ None }
     ensures names { actors.new.names ≡ actors.old.names }
-    ensures slots { (n : ℕ) → slots_of actors.new n ≡ (if n == number then held_in outcome.left else slots_of actors.old n) }
+    ensures slots { (n : ℕ) → slots_of S.Calls actors.new n ≡ (if n == number then held_in (option_map S.written outcome.left) else slots_of S.Calls actors.old n) }
     ensures said { IfOk result (λ said. outcome.answer ≡ Some said) }
     ensures stop { IfErr result (λ why. why ≡ stop.Memory) }
 {
     let Outcome { answer, left } = outcome;
-    put_left(actors, number, left);
+    put_left::<S>(actors, number, left);
     match answer {
         Some(said) => Ok(said),
         None => Err(Stop::Memory),
     }
 }
 
-fn put_left(actors: &mut Actors<Holding>, number: u32, left: Option<Writer>)
+fn put_left<S: Calls>(
+    actors: &mut Actors<Holding<S::Writer, S::Reader>>,
+    number: u32,
+    left: Option<S::Writer>,
+)
     requires known { 0 < number }
     requires within { number ≤ length actors.old.names }
-    requires none { slots_of actors.old number ≡ None }
+    requires none { slots_of S.Calls actors.old number ≡ None }
     ensures names { actors.new.names ≡ actors.old.names }
-    ensures slots { (n : ℕ) → slots_of actors.new n ≡ (if n == number then held_in left else slots_of actors.old n) }
+    ensures slots { (n : ℕ) → slots_of S.Calls actors.new n ≡ (if n == number then held_in (option_map S.written left) else slots_of S.Calls actors.old n) }
 {
     match left {
         Some(writer) => actors.set(number, Holding::Writer(writer)),
@@ -110,35 +108,22 @@ fn busy() -> StepAnswer
 }
 
 // The writer, where its put is open.
-fn keep_open<D: Disk, R: Directory + Drop, C: Chronicle>(
-    stripe: &Stripe<D, R, C>,
-    writer: Writer,
-) -> Option<Writer>
-    requires { IsStripe stripe.now }
-    ensures { result ≡ (if is_writing (state_in stripe.now) writer.put then Some writer else None) }
+fn keep_open<S: Calls>(cache: &S, writer: S::Writer) -> Option<S::Writer>
+    requires { S.holds cache.now }
+    ensures { result ≡ (if is_writing (state_at (S.at cache.now)) (S.written writer).put then Some writer else None) }
 {
-    if is_open(stripe, writer.put()) {
+    if cache.is_open(&writer) {
         Some(writer)
     } else {
         None
     }
 }
 
-fn is_open<D: Disk, R: Directory + Drop, C: Chronicle>(stripe: &Stripe<D, R, C>, put: u64) -> bool
-    requires { IsStripe stripe.now }
-    ensures { result ≡ is_writing (state_in stripe.now) put }
-{
-    matches!(
-        stripe.open_directory().put_state(put),
-        Some(PutState::Open { .. })
-    )
-}
-
 // ---- open-write
 
 /// Opens a writer for an actor that has nothing.
-pub(crate) fn open_write_line<D: Disk, R: Directory + Drop, C: Chronicle>(
-    session: &mut Session<D, R, C>,
+pub(crate) fn open_write_line<S: Calls>(
+    session: &mut Session<S>,
     actor: &[u8],
     key: Key,
     pin: u64,
@@ -147,14 +132,8 @@ pub(crate) fn open_write_line<D: Disk, R: Directory + Drop, C: Chronicle>(
 ) -> Result<StepAnswer, Stop>
     requires session { IsSession session.old }
     requires few { length (names_in session.old) < 2 ^ 32 - 1 }
-    ensures session { IsSession session.new }
-    ensures ends { IfOk result (λ said. (run : Run) → Plays run session.old
-        → StepEnds run (step.OpenWrite actor.now key pin request response) session.new said) }
-    ensures counts { IfOk result (TellsCount session.new.part) }
-    ensures device { AreLater (return_of session.old.part) (return_of session.new.part) }
-    ensures stop { IfErr result (IsSessionStop session.old) }
-    ensures devices { devices_of session.new ≡ devices_of session.old }
-    ensures names { length (names_in session.new) ≤ length (names_in session.old) + 1 }
+    ensures line { AnswersLine (step.OpenWrite actor.now key pin request response)
+        session.old session.new result }
 {
     match &mut session.part {
         Some(part) => open_write_in(
@@ -165,34 +144,27 @@ pub(crate) fn open_write_line<D: Disk, R: Directory + Drop, C: Chronicle>(
             pin,
             request,
             response,
+            session.now,
         ),
         None => Err(Stop::NoCache),
     }
 }
 
-fn open_write_in<D: Disk, R: Directory + Drop, C: Chronicle>(
-    part: &mut Part<D, R, C>,
-    actors: &mut Actors<Holding>,
+fn open_write_in<S: Calls>(
+    part: &mut Part<S>,
+    actors: &mut Actors<Holding<S::Writer, S::Reader>>,
     actor: &[u8],
     key: Key,
     pin: u64,
     request: Fields,
     response: Fields,
+    now: u64,
 ) -> Result<StepAnswer, Stop>
-    requires active { IsActive part.old (slots_of actors.old) }
+    requires active { IsActive part.old (slots_of S.Calls actors.old) }
     requires few { length actors.old.names < 2 ^ 32 - 1 }
-    ensures active { IsActive part.new (slots_of actors.new) }
-    ensures ends { IfOk result (λ said. (run : Run) → PlaysPart run part.old actors.old
-        → PartEnds run part.old (step.OpenWrite actor.now key pin request response) part.new
-        actors.new said) }
-    ensures stop { IfErr result (λ why. why ≡ stop.Memory) }
-    ensures counts { IfOk result (TellsCount (Some part.new)) }
-    ensures rests { Rests part.old.stripe part.new.stripe }
-    ensures names { length actors.new.names ≤ length actors.old.names + 1 }
+    ensures line { AnswersActor now (step.OpenWrite actor.now key pin request response)
+        part.old part.new actors.old actors.new result }
 {
-    steps_own();
-    steps_tell();
-    others_stay();
     let number = match actors.number(actor) {
         Ok(number) => number,
         Err(_) => return Err(Stop::Memory),
@@ -200,37 +172,36 @@ fn open_write_in<D: Disk, R: Directory + Drop, C: Chronicle>(
     match actors.get(number) {
         Some(_) => Ok(busy()),
         None => {
-            let outcome = begin(&mut part.stripe, Actor(number), key, pin, request, response);
-            set_back(actors, number, outcome)
+            let outcome = begin(&mut part.cache, Actor(number), key, pin, request, response);
+            set_back::<S>(actors, number, outcome)
         }
     }
 }
 
 // Opens a writer of the next put.
-fn begin<D: Disk, R: Directory + Drop, C: Chronicle>(
-    stripe: &mut Stripe<D, R, C>,
+fn begin<S: Calls>(
+    cache: &mut S,
     actor: Actor,
     key: Key,
     pin: u64,
     request: Fields,
     response: Fields,
-) -> Outcome
-    requires resting { IsResting stripe.old }
-    ensures rests { Rests stripe.old stripe.new }
-    ensures counts { IfSome result.answer (λ said. NoLossIsAFault (state_in stripe.old)
-        → count_in said ≤ (seen_in stripe.new).device.faults) }
-    ensures own { AddsOfPut (state_in stripe.old).next_put (kept_in stripe.old)
-        (kept_in stripe.new) }
-    ensures left { IsLeft (state_in stripe.new) (state_in stripe.old).next_put result.left }
-    ensures does { OpenDoes (seen_in stripe.old).device.past (seen_in stripe.new).device.past
-        (state_in stripe.old) (state_in stripe.new) actor.0
-        (Opens key pin request response) result.left result.answer }
+) -> Outcome<S::Writer>
+    requires holds { S.holds cache.old }
+    requires plain { (S.at cache.old).setting ≡ plain_setting }
+    ensures leaves { let put = (state_at (S.at cache.old)).next_put in
+        LeavesWriter S.Calls cache.old cache.new put result.left result.answer }
+    ensures does { OpenDoes (S.at cache.old) (S.at cache.new) actor.0
+        (Opens key pin request response) (option_map S.written result.left) result.answer }
 {
-    match open_write(stripe, actor, key, request, response, pin) {
-        Ok(writer) => Outcome {
-            answer: Some(StepAnswer::Writer { put: writer.put() }),
-            left: Some(writer),
-        },
+    match cache.open_write(actor, key, request, response, pin) {
+        Ok(writer) => {
+            let put = cache.put_of(&writer);
+            Outcome {
+                answer: Some(StepAnswer::Writer { put }),
+                left: Some(writer),
+            }
+        }
         Err(why) => Outcome {
             answer: answer_unless_memory(why, None),
             left: None,
@@ -241,21 +212,14 @@ fn begin<D: Disk, R: Directory + Drop, C: Chronicle>(
 // ---- data
 
 /// Gives bytes to the writer of an actor.
-pub(crate) fn data_line<D: Disk, R: Directory + Drop, C: Chronicle>(
-    session: &mut Session<D, R, C>,
+pub(crate) fn data_line<S: Calls>(
+    session: &mut Session<S>,
     actor: &[u8],
     body: &[u8],
 ) -> Result<StepAnswer, Stop>
     requires session { IsSession session.old }
     requires few { length (names_in session.old) < 2 ^ 32 - 1 }
-    ensures session { IsSession session.new }
-    ensures ends { IfOk result (λ said. (run : Run) → Plays run session.old
-        → StepEnds run (step.Feed actor.now body.now) session.new said) }
-    ensures counts { IfOk result (TellsCount session.new.part) }
-    ensures device { AreLater (return_of session.old.part) (return_of session.new.part) }
-    ensures stop { IfErr result (IsSessionStop session.old) }
-    ensures devices { devices_of session.new ≡ devices_of session.old }
-    ensures names { length (names_in session.new) ≤ length (names_in session.old) + 1 }
+    ensures line { AnswersLine (step.Feed actor.now body.now) session.old session.new result }
 {
     match &mut session.part {
         Some(part) => data_in(part, &mut session.actors, actor, body, session.now),
@@ -263,63 +227,50 @@ pub(crate) fn data_line<D: Disk, R: Directory + Drop, C: Chronicle>(
     }
 }
 
-fn data_in<D: Disk, R: Directory + Drop, C: Chronicle>(
-    part: &mut Part<D, R, C>,
-    actors: &mut Actors<Holding>,
+fn data_in<S: Calls>(
+    part: &mut Part<S>,
+    actors: &mut Actors<Holding<S::Writer, S::Reader>>,
     actor: &[u8],
     body: &[u8],
     now: u64,
 ) -> Result<StepAnswer, Stop>
-    requires active { IsActive part.old (slots_of actors.old) }
+    requires active { IsActive part.old (slots_of S.Calls actors.old) }
     requires few { length actors.old.names < 2 ^ 32 - 1 }
-    ensures active { IsActive part.new (slots_of actors.new) }
-    ensures ends { IfOk result (λ said. (run : Run) → run.now ≡ now
-        → PlaysPart run part.old actors.old
-        → PartEnds run part.old (step.Feed actor.now body.now) part.new actors.new said) }
-    ensures stop { IfErr result (λ why. why ≡ stop.Memory) }
-    ensures counts { IfOk result (TellsCount (Some part.new)) }
-    ensures rests { Rests part.old.stripe part.new.stripe }
-    ensures names { length actors.new.names ≤ length actors.old.names + 1 }
+    ensures line { AnswersActor now (step.Feed actor.now body.now)
+        part.old part.new actors.old actors.new result }
 {
-    steps_own();
-    steps_tell();
-    others_stay();
     let number = match actors.number(actor) {
         Ok(number) => number,
         Err(_) => return Err(Stop::Memory),
     };
-    match take_writer(actors, number) {
+    match take_writer::<S>(actors, number) {
         Some(writer) => {
-            let outcome = give_bytes(&mut part.stripe, writer, body, now);
-            set_back(actors, number, outcome)
+            let outcome = give_bytes(&mut part.cache, writer, body, now);
+            set_back::<S>(actors, number, outcome)
         }
         None => Ok(idle()),
     }
 }
 
 // Gives bytes to the writer of an open put.
-fn give_bytes<D: Disk, R: Directory + Drop, C: Chronicle>(
-    stripe: &mut Stripe<D, R, C>,
-    mut writer: Writer,
+fn give_bytes<S: Calls>(
+    cache: &mut S,
+    mut writer: S::Writer,
     body: &[u8],
     now: u64,
-) -> Outcome
-    requires resting { IsResting stripe.old }
-    requires writer { IsWriterOf (state_in stripe.old) writer }
-    requires writing { is_writing (state_in stripe.old) writer.put ≡ true }
-    ensures rests { Rests stripe.old stripe.new }
-    ensures counts { IfSome result.answer (λ said. NoLossIsAFault (state_in stripe.old)
-        → count_in said ≤ (seen_in stripe.new).device.faults) }
-    ensures own { AddsOfPut writer.put (kept_in stripe.old) (kept_in stripe.new) }
-    ensures left { IsLeft (state_in stripe.new) writer.put result.left }
-    ensures does { WriterDoes now (seen_in stripe.old).device.past (seen_in stripe.new).device.past
-        (state_in stripe.old) (state_in stripe.new)
-        (Feeds body.now) writer result.left result.answer }
+) -> Outcome<S::Writer>
+    requires holds { S.holds cache.old }
+    requires plain { (S.at cache.old).setting ≡ plain_setting }
+    requires writer { IsOpenWriter (state_at (S.at cache.old)) (S.written writer) }
+    ensures leaves { LeavesWriter S.Calls cache.old cache.new (S.written writer).put
+        result.left result.answer }
+    ensures does { WriterDoes now (S.at cache.old) (S.at cache.new) (Feeds body.now)
+        (S.written writer) (option_map S.written result.left) result.answer }
 {
-    let Fed { taken, refused } = feed(stripe, &mut writer, body, now);
+    let Fed { taken, refused } = feed(cache, &mut writer, body, now);
     Outcome {
         answer: fed_answer(body.len() as u64, taken, refused),
-        left: keep_open(stripe, writer),
+        left: keep_open(cache, writer),
     }
 }
 
@@ -335,20 +286,13 @@ fn fed_answer(size: u64, taken: u64, refused: Option<Refusal>) -> Option<StepAns
 // ---- close
 
 /// Closes the put that an actor writes.
-pub(crate) fn close_line<D: Disk, R: Directory + Drop, C: Chronicle>(
-    session: &mut Session<D, R, C>,
+pub(crate) fn close_line<S: Calls>(
+    session: &mut Session<S>,
     actor: &[u8],
 ) -> Result<StepAnswer, Stop>
     requires session { IsSession session.old }
     requires few { length (names_in session.old) < 2 ^ 32 - 1 }
-    ensures session { IsSession session.new }
-    ensures ends { IfOk result (λ said. (run : Run) → Plays run session.old
-        → StepEnds run (step.Close actor.now) session.new said) }
-    ensures counts { IfOk result (TellsCount session.new.part) }
-    ensures device { AreLater (return_of session.old.part) (return_of session.new.part) }
-    ensures stop { IfErr result (IsSessionStop session.old) }
-    ensures devices { devices_of session.new ≡ devices_of session.old }
-    ensures names { length (names_in session.new) ≤ length (names_in session.old) + 1 }
+    ensures line { AnswersLine (step.Close actor.now) session.old session.new result }
 {
     match &mut session.part {
         Some(part) => close_in(part, &mut session.actors, actor, session.now),
@@ -356,137 +300,99 @@ pub(crate) fn close_line<D: Disk, R: Directory + Drop, C: Chronicle>(
     }
 }
 
-fn close_in<D: Disk, R: Directory + Drop, C: Chronicle>(
-    part: &mut Part<D, R, C>,
-    actors: &mut Actors<Holding>,
+fn close_in<S: Calls>(
+    part: &mut Part<S>,
+    actors: &mut Actors<Holding<S::Writer, S::Reader>>,
     actor: &[u8],
     now: u64,
 ) -> Result<StepAnswer, Stop>
-    requires active { IsActive part.old (slots_of actors.old) }
+    requires active { IsActive part.old (slots_of S.Calls actors.old) }
     requires few { length actors.old.names < 2 ^ 32 - 1 }
-    ensures active { IsActive part.new (slots_of actors.new) }
-    ensures ends { IfOk result (λ said. (run : Run) → run.now ≡ now
-        → PlaysPart run part.old actors.old
-        → PartEnds run part.old (step.Close actor.now) part.new actors.new said) }
-    ensures stop { IfErr result (λ why. why ≡ stop.Memory) }
-    ensures counts { IfOk result (TellsCount (Some part.new)) }
-    ensures rests { Rests part.old.stripe part.new.stripe }
-    ensures names { length actors.new.names ≤ length actors.old.names + 1 }
+    ensures line { AnswersActor now (step.Close actor.now)
+        part.old part.new actors.old actors.new result }
 {
-    steps_own();
-    steps_tell();
-    others_stay();
     let number = match actors.number(actor) {
         Ok(number) => number,
         Err(_) => return Err(Stop::Memory),
     };
-    match take_writer(actors, number) {
+    match take_writer::<S>(actors, number) {
         Some(writer) => {
-            let outcome = finish(&mut part.stripe, writer, now);
-            set_back(actors, number, outcome)
+            let outcome = finish(&mut part.cache, writer, now);
+            set_back::<S>(actors, number, outcome)
         }
         None => Ok(idle()),
     }
 }
 
 // Closes an open put.
-fn finish<D: Disk, R: Directory + Drop, C: Chronicle>(
-    stripe: &mut Stripe<D, R, C>,
-    mut writer: Writer,
-    now: u64,
-) -> Outcome
-    requires resting { IsResting stripe.old }
-    requires writer { IsWriterOf (state_in stripe.old) writer }
-    requires writing { is_writing (state_in stripe.old) writer.put ≡ true }
-    ensures rests { Rests stripe.old stripe.new }
-    ensures counts { IfSome result.answer (λ said. NoLossIsAFault (state_in stripe.old)
-        → count_in said ≤ (seen_in stripe.new).device.faults) }
-    ensures own { AddsOfPut writer.put (kept_in stripe.old) (kept_in stripe.new) }
-    ensures left { IsLeft (state_in stripe.new) writer.put result.left }
-    ensures does { WriterDoes now (seen_in stripe.old).device.past (seen_in stripe.new).device.past
-        (state_in stripe.old) (state_in stripe.new) Closes writer result.left result.answer }
+fn finish<S: Calls>(cache: &mut S, mut writer: S::Writer, now: u64) -> Outcome<S::Writer>
+    requires holds { S.holds cache.old }
+    requires plain { (S.at cache.old).setting ≡ plain_setting }
+    requires writer { IsOpenWriter (state_at (S.at cache.old)) (S.written writer) }
+    ensures leaves { LeavesWriter S.Calls cache.old cache.new (S.written writer).put
+        result.left result.answer }
+    ensures does { WriterDoes now (S.at cache.old) (S.at cache.new) Closes
+        (S.written writer) (option_map S.written result.left) result.answer }
 {
-    let result = close_write(stripe, &mut writer, now);
+    let result = cache.close_write(&mut writer, now);
     Outcome {
         answer: closed_answer(result),
-        left: keep_open(stripe, writer),
+        left: keep_open(cache, writer),
     }
 }
 
 // ---- abort
 
 /// Gives the put up that an actor writes.
-pub(crate) fn abort_line<D: Disk, R: Directory + Drop, C: Chronicle>(
-    session: &mut Session<D, R, C>,
+pub(crate) fn abort_line<S: Calls>(
+    session: &mut Session<S>,
     actor: &[u8],
 ) -> Result<StepAnswer, Stop>
     requires session { IsSession session.old }
     requires few { length (names_in session.old) < 2 ^ 32 - 1 }
-    ensures session { IsSession session.new }
-    ensures ends { IfOk result (λ said. (run : Run) → Plays run session.old
-        → StepEnds run (step.Abort actor.now) session.new said) }
-    ensures counts { IfOk result (TellsCount session.new.part) }
-    ensures device { AreLater (return_of session.old.part) (return_of session.new.part) }
-    ensures stop { IfErr result (IsSessionStop session.old) }
-    ensures devices { devices_of session.new ≡ devices_of session.old }
-    ensures names { length (names_in session.new) ≤ length (names_in session.old) + 1 }
+    ensures line { AnswersLine (step.Abort actor.now) session.old session.new result }
 {
     match &mut session.part {
-        Some(part) => abort_in(part, &mut session.actors, actor),
+        Some(part) => abort_in(part, &mut session.actors, actor, session.now),
         None => Err(Stop::NoCache),
     }
 }
 
-fn abort_in<D: Disk, R: Directory + Drop, C: Chronicle>(
-    part: &mut Part<D, R, C>,
-    actors: &mut Actors<Holding>,
+fn abort_in<S: Calls>(
+    part: &mut Part<S>,
+    actors: &mut Actors<Holding<S::Writer, S::Reader>>,
     actor: &[u8],
+    now: u64,
 ) -> Result<StepAnswer, Stop>
-    requires active { IsActive part.old (slots_of actors.old) }
+    requires active { IsActive part.old (slots_of S.Calls actors.old) }
     requires few { length actors.old.names < 2 ^ 32 - 1 }
-    ensures active { IsActive part.new (slots_of actors.new) }
-    ensures ends { IfOk result (λ said. (run : Run) → PlaysPart run part.old actors.old
-        → PartEnds run part.old (step.Abort actor.now) part.new actors.new said) }
-    ensures stop { IfErr result (λ why. why ≡ stop.Memory) }
-    ensures counts { IfOk result (TellsCount (Some part.new)) }
-    ensures rests { Rests part.old.stripe part.new.stripe }
-    ensures names { length actors.new.names ≤ length actors.old.names + 1 }
+    ensures line { AnswersActor now (step.Abort actor.now)
+        part.old part.new actors.old actors.new result }
 {
-    steps_own();
-    steps_tell();
-    others_stay();
     let number = match actors.number(actor) {
         Ok(number) => number,
         Err(_) => return Err(Stop::Memory),
     };
-    match take_writer(actors, number) {
+    match take_writer::<S>(actors, number) {
         Some(writer) => {
-            let outcome = give_up(&mut part.stripe, writer);
-            set_back(actors, number, outcome)
+            let outcome = give_up(&mut part.cache, writer);
+            set_back::<S>(actors, number, outcome)
         }
         None => Ok(idle()),
     }
 }
 
 // Gives an open put up.
-fn give_up<D: Disk, R: Directory + Drop, C: Chronicle>(
-    stripe: &mut Stripe<D, R, C>,
-    mut writer: Writer,
-) -> Outcome
-    requires resting { IsResting stripe.old }
-    requires writer { IsWriterOf (state_in stripe.old) writer }
-    requires writing { is_writing (state_in stripe.old) writer.put ≡ true }
-    ensures rests { Rests stripe.old stripe.new }
-    ensures counts { IfSome result.answer (λ said. NoLossIsAFault (state_in stripe.old)
-        → count_in said ≤ (seen_in stripe.new).device.faults) }
-    ensures own { AddsOfPut writer.put (kept_in stripe.old) (kept_in stripe.new) }
-    ensures left { IsLeft (state_in stripe.new) writer.put result.left }
-    ensures does { (now : ℕ) → WriterDoes now (seen_in stripe.old).device.past
-        (seen_in stripe.new).device.past (state_in stripe.old)
-        (state_in stripe.new) GivesUp writer result.left result.answer }
+fn give_up<S: Calls>(cache: &mut S, mut writer: S::Writer) -> Outcome<S::Writer>
+    requires holds { S.holds cache.old }
+    requires plain { (S.at cache.old).setting ≡ plain_setting }
+    requires writer { IsOpenWriter (state_at (S.at cache.old)) (S.written writer) }
+    ensures leaves { LeavesWriter S.Calls cache.old cache.new (S.written writer).put
+        result.left result.answer }
+    ensures does { (now : ℕ) → WriterDoes now (S.at cache.old) (S.at cache.new) GivesUp
+        (S.written writer) (option_map S.written result.left) result.answer }
 {
-    writer_is_ended();
-    match abort_write(stripe, &mut writer) {
+    match cache.abort_write(&mut writer) {
         Ok(put) => Outcome {
             answer: Some(StepAnswer::Aborted { put }),
             left: None,

@@ -8,9 +8,8 @@ use Rattle.edge_io.specs.Text.{text_after}
 use Rattle.edge_io.specs.LineReader.{Answers, AreNeeded, Fails, IsDecided}
 use Rattle.edge_io.specs.declared.reader.LineFault.{LineFault}
 use Rattle.edge_io.specs.declared.reader.LineFault.TheVariants as fault
-use Rattle.logged_disk.specs.declared.device.Disk.{Ghosts as DiskGhosts}
-use Rattle.dir_table.specs.declared.directory.Directory.{Ghosts as DirectoryGhosts}
-use Rattle.cache_chronicle.specs.declared.chronicle.Chronicle.{Ghosts as ChronicleGhosts}
+use Rattle.cache_calls.specs.declared.calls.Calls.{Ghosts as CallsGhosts}
+use Rattle.logged_disk.specs.Device.{State as Device}
 use Rattle.device_bay.specs.Calls.{BayCall, refusals_of}
 use Rattle.script_lang.specs.declared.line.BadLine.{BadLine}
 use Rattle.script_lang.specs.declared.line.LineAnswer.TheVariants as line
@@ -22,13 +21,12 @@ use Rattle.script_lang.specs.Grammar.{reading_of}
 use Rattle.script_run.specs.Run.{Harm, Run, fresh, no_harm}
 use Rattle.script_run.specs.Behind.{harm_of}
 use Rattle.script_run.specs.Takes.{run_after}
-use Rattle.cache_replay.specs.Outline.{Outline, blank, told_of}
-use Rattle.cache_replay.specs.Lines.{texts_before, texts_of}
+use Rattle.run_promise.specs.Outline.{Outline, blank, told_of}
+use Rattle.run_promise.specs.Lines.{texts_before, texts_of}
 use Rattle.cache_replay.specs.declared.session.Session.{Session}
 use Rattle.cache_replay.specs.declared.stop.Stop.TheVariants as stop
-use Rattle.cache_replay.specs.declared.session.Part.{Part}
 use Rattle.cache_replay.specs.declared.stop.Stop.{Stop as Stopped}
-use Rattle.cache_replay.specs.Session.{IsSession, devices_of, parts_of, return_of}
+use Rattle.cache_replay.specs.Session.{IsSession, devices_of, return_in, return_of}
 use Rattle.cache_replay.specs.Plays.{IsLeft, IsOutlined, stays, tried, ended, Plays}
 use Rattle.script_run.specs.Ledger.{AreReached, ComeBack, Deals, Ledger}
 use Rattle.cache_tool.specs.declared.run.Ending.{Ending}
@@ -118,17 +116,17 @@ module _ (first now : List SourceRead) (taken_first taken : List SinkWrite) (led
         stopped bay (last.BadScript given' bad) (λ o out. (counted, record { bytes = bytes; next = (unread', known); bad = e }))
 
 -- the next line is a step
-module _ {D R C : Type 0} {d : DiskGhosts D} {r : DirectoryGhosts R} {c : ChronicleGhosts C} (old : Session D R C d r c) (first now : List SourceRead) (taken_first taken : List SinkWrite) (ledger_first ledger : Ledger)
+module _ {S W R : Type 0} {c : CallsGhosts S W R} (old : Session S W R c) (first now : List SourceRead) (taken_first taken : List SinkWrite) (ledger_first ledger : Ledger)
     (unread unread' : List ℕ) (given given' : ℕ)
     (story : GoesOn first taken_first ledger_first now unread given taken ledger (λ o. IsOutlined o old) (λ run. Plays run old))
     (bytes : List ℕ) (known : GivesLine given unread bytes unread') (counted : given' ≡ given + 1)
-    (step : Step) (asks : reading_of bytes ≡ line.Step step) (session : Session D R C d r c) (ledger' : Ledger) (taken' : List SinkWrite) where
+    (step : Step) (asks : reading_of bytes ≡ line.Step step) (session : Session S W R c) (ledger' : Ledger) (taken' : List SinkWrite) where
   -- the session before it
   abbrev Before : Outline → Type 0
   Before = λ o. IsOutlined o old
 
   abbrev Reaches : List Harm → Type 0
-  Reaches = λ harms. AreReached harms (return_of session.part)
+  Reaches = λ harms. AreReached harms (return_in session)
 
   abbrev Wanting : List ℕ → ℕ → Told → Type 0
   Wanting = OwesOrGave ledger_first ledger' (devices_of session) Reaches
@@ -178,7 +176,7 @@ module _ {D R C : Type 0} {d : DiskGhosts D} {r : DirectoryGhosts R} {c : Chroni
           ];
         }
 
-    stays_owes : (t : Told) → Deals ledger_first ledger t.ended t.names → AreReached t.own (return_of session.part) → ledger' ≡ ledger → Owes ledger_first ledger' Reaches t
+    stays_owes : (t : Told) → Deals ledger_first ledger t.ended t.names → AreReached t.own (return_in session) → ledger' ≡ ledger → Owes ledger_first ledger' Reaches t
     stays_owes t deals reached same = record { deals = rw same deals; reached = reached }
 
     not_ended : (by : Stopped) → (by ≡ stop.Memory → ⊥) → (t : Told) → Deals ledger_first ledger t.ended t.names → IsLeft t.own step session ledger ledger' by → Owes ledger_first ledger' Reaches t
@@ -217,16 +215,18 @@ module _ {D R C : Type 0} {d : DiskGhosts D} {r : DirectoryGhosts R} {c : Chroni
     ))
 
     -- without a session there is none in the outline
-    none_found : (told : Option Harm) (part : Option (Part D R C d r c)) → part ≡ None → AreReached (told_of told) (return_of part) → told ≡ None
-    none_found None part e h = refl
-    none_found (Some harm) None e h = absurd h
-    none_found (Some harm) (Some part) e h = cc
+    none_told : (told : Option Harm) → AreReached (told_of told) [] → told ≡ None
+    none_told None h = refl
+    none_told (Some harm) h = absurd h
+
+    none_found : (told : Option Harm) (session : Session S W R c) → session.part ≡ None → AreReached (told_of told) (return_in session) → told ≡ None
+    none_found told session none h = none_told told (subst (λ o. AreReached (told_of told) (return_of o)) none h)
 
     halt_ends : (halt : Halt) → Halts old step session ledger ledger' taken taken' bay_old bay_new halt
         → Ends first now taken_first taken' bay (Owes ledger_first ledger' Reaches) Wanting (ending_of given' halt)
     halt_ends (Stop stop.NoCache) h =
         halted (last.NoCache given') stop.NoCache (λ e. absurd cc) h.0 h.1
-        (λ o is. (counted, record { bytes = bytes; next = (unread', known); step = step; asks = asks; needs = h.2.0; none = none_found o.session old.part h.2.1 is }))
+        (λ o is. (counted, record { bytes = bytes; next = (unread', known); step = step; asks = asks; needs = h.2.0; none = none_found o.session old h.2.1 is }))
     halt_ends (Stop stop.BayFault) h =
         halted last.BayFault stop.BayFault (λ e. absurd cc) h.0 h.1 (λ o is. record { bytes = bytes; next = (unread', known); step = step; asks = asks; refusal = h.2.refusal; attaches = h.2.attaches; refused = ap refusals_of h.2.refuses.past })
     halt_ends (Stop stop.Memory) h = inl (record {
@@ -385,18 +385,18 @@ nothing_ends now taken Devices Wanting back bay = inl (record {
 
 -- ---- the device of the session comes back
 
-module _ {D R C : Type 0} {d : DiskGhosts D} {r : DirectoryGhosts R} {c : ChronicleGhosts C} where
-  returns_none : (part : Option (Part D R C d r c)) → parts_of part ≡ 0 → AreReached [] (return_of part)
-  returns_none None e = tt
-  returns_none (Some part) e = absurd cc
+returns_none : (devices : List Device) → length devices ≡ 0 → AreReached [] devices
+returns_none [] e = tt
+returns_none (d ∷ devices) e = absurd cc
 
-  -- no device is its own
-  pub none_own : (part : Option (Part D R C d r c)) → parts_of part ≡ 0 → return_of part ≡ []
-  none_own None e = refl
-  none_own (Some part) e = absurd cc
+-- no device is its own
+pub none_own : (devices : List Device) → length devices ≡ 0 → devices ≡ []
+none_own [] e = refl
+none_own (d ∷ devices) e = absurd cc
 
+module _ {S W R : Type 0} {c : CallsGhosts S W R} where
   -- with no session nothing more comes back
-  pub gave_settled : (session : Session D R C d r c) (a b c : Ledger) (held : List ℕ) (given : ℕ) (t : Told) → ((harms : List Harm) → AreReached harms (return_of session.part) → ComeBack b.returned c.returned harms)
+  pub gave_settled : (session : Session S W R c) (a b c : Ledger) (held : List ℕ) (given : ℕ) (t : Told) → ((harms : List Harm) → AreReached harms (return_in session) → ComeBack b.returned c.returned harms)
       → c.names ≡ b.names → devices_of session ≡ 0 → GaveBack a b held given t → GaveBack a c held given t
   gave_settled session a b c held given t back same none gave = record {
     bytes = gave.bytes;
@@ -405,5 +405,5 @@ module _ {D R C : Type 0} {d : DiskGhosts D} {r : DirectoryGhosts R} {c : Chroni
     asks = gave.asks;
     name = gave.name;
     attaches = gave.attaches;
-    deals = rw append-nil at (Deals-settled a b c (all_in t ++ no_harm ∷ []) [] (t.names ++ gave.name ∷ []) gave.deals (back [] (returns_none session.part none)) same);
+    deals = rw append-nil at (Deals-settled a b c (all_in t ++ no_harm ∷ []) [] (t.names ++ gave.name ∷ []) gave.deals (back [] (returns_none (return_in session) none)) same);
   }

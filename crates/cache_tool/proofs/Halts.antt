@@ -4,9 +4,7 @@ use Rattle.std.specs.Prelude.{OnOk, IfErr}
 use Rattle.device_log.specs.Faults.{next_count}
 use Rattle.device_log.specs.Streams.{SinkWrite, TookBytes, RefusedWrite, taken_by, refused_writes}
 use Rattle.edge_io.specs.Sink.{FailsToWrite, Grows, NotesWrite}
-use Rattle.logged_disk.specs.declared.device.Disk.{Ghosts as DiskGhosts}
-use Rattle.dir_table.specs.declared.directory.Directory.{Ghosts as DirectoryGhosts}
-use Rattle.cache_chronicle.specs.declared.chronicle.Chronicle.{Ghosts as ChronicleGhosts}
+use Rattle.cache_calls.specs.declared.calls.Calls.{Ghosts as CallsGhosts}
 use Rattle.device_bay.specs.Calls.{BayCall}
 use Rattle.script_lang.specs.declared.step.Step.{Step}
 use Rattle.script_lang.specs.declared.answer.StepAnswer.{StepAnswer}
@@ -14,7 +12,7 @@ use Rattle.script_lang.specs.Texts.{answer_line}
 use Rattle.script_run.specs.Run.{Run}
 use Rattle.cache_replay.specs.declared.session.Session.{Session}
 use Rattle.cache_replay.specs.Session.{IsSession}
-use Rattle.cache_replay.specs.Outline.{Outline}
+use Rattle.run_promise.specs.Outline.{Outline}
 use Rattle.cache_replay.specs.Plays.{DeviceEnds, HasReached, IsOutlined, Outlines, Plays}
 use Rattle.script_run.specs.Ledger.{Ledger}
 use Rattle.cache_replay.proofs.Unharming.{plays_reached}
@@ -39,8 +37,8 @@ pub either-both : {A B S T : Type 0} → (A → B) → (S → T) → A ⊎ S →
 either-both f g (inl a) = inl (f a)
 either-both f g (inr s) = inr (g s)
 
-module _ {D R C : Type 0} {d : DiskGhosts D} {r : DirectoryGhosts R} {c : ChronicleGhosts C} where
-  pub unwritten_halts : (session : Session D R C d r c) (step : Step) (new : Session D R C d r c) (said : StepAnswer) (before now : Ledger) (taken_old taken_new : List SinkWrite) (bay_old bay_new : List BayCall)
+module _ {S W R : Type 0} {c : CallsGhosts S W R} where
+  pub unwritten_halts : (session : Session S W R c) (step : Step) (new : Session S W R c) (said : StepAnswer) (before now : Ledger) (taken_old taken_new : List SinkWrite) (bay_old bay_new : List BayCall)
       → ((o : Outline) → IsOutlined o session → Outlines o step new said before now)
       → ((run : Run) → Plays run session → DeviceEnds run step new said before now)
       → (halt : Halt) → IsUnwritten taken_old taken_new (answer_line said) halt → Halts session step new before now taken_old taken_new bay_old bay_new halt
@@ -49,7 +47,7 @@ module _ {D R C : Type 0} {d : DiskGhosts D} {r : DirectoryGhosts R} {c : Chroni
   unwritten_halts session step new said before now taken_old taken_new bay_old bay_new outlines ends (Stop why) h = absurd h
 
   -- the device of a session is as it was told
-  pub plays_reach : (session : Session D R C d r c) → IsSession session → (run : Run) → Plays run session → HasReached run session
+  pub plays_reach : (session : Session S W R c) → IsSession session → (run : Run) → Plays run session → HasReached run session
   plays_reach session is run plays = plays_reached run session is plays
 
 -- ---- the text so far

@@ -9,8 +9,8 @@ use Rattle.script_run.specs.Run.{Harm, Run}
 use Rattle.script_run.specs.Turn.{Turn}
 use Rattle.script_run.specs.Behind.{after_line}
 use Rattle.script_run.specs.Takes.{LineTakes, IsRun, run_after}
-use Rattle.cache_replay.specs.Outline.{Outline}
-use Rattle.cache_replay.specs.Lines.{AreAnswered, IsReadAs, answers_of, outline_of, outline_read, reading_answer, text_of, texts_before, texts_of}
+use Rattle.run_promise.specs.Outline.{Outline}
+use Rattle.run_promise.specs.Lines.{AreAnswered, IsReadAs, answers_of, outline_of, outline_read, reading_answer, text_of, texts_before, texts_of}
 use Rattle.script_run.specs.Ledger.{AreReached}
 
 take-last : {A : Type 0} (xs : List A) (x : A) → take (length (xs ++ x ∷ []) - 1) (xs ++ x ∷ []) ≡ xs

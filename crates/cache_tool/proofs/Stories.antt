@@ -14,12 +14,10 @@ use Rattle.script_run.specs.Run.{Harm, Run, fresh}
 use Rattle.script_run.specs.Turn.{Turn, no_turn}
 use Rattle.script_run.specs.Behind.{after_line, after_step}
 use Rattle.script_run.specs.Takes.{LineShows, LineTakes, run_after}
-use Rattle.logged_disk.specs.declared.device.Disk.{Ghosts as DiskGhosts}
-use Rattle.dir_table.specs.declared.directory.Directory.{Ghosts as DirectoryGhosts}
-use Rattle.cache_chronicle.specs.declared.chronicle.Chronicle.{Ghosts as ChronicleGhosts}
+use Rattle.cache_calls.specs.declared.calls.Calls.{Ghosts as CallsGhosts}
 use Rattle.cache_replay.specs.declared.session.Session.{Session}
-use Rattle.cache_replay.specs.Outline.{Outline, blank, called, outline_after, outline_in}
-use Rattle.cache_replay.specs.Lines.{AreAnswered, answers_of, outline_of, outline_read, reading_answer, text_of, texts_of}
+use Rattle.run_promise.specs.Outline.{Outline, blank, called, outline_after, outline_in}
+use Rattle.run_promise.specs.Lines.{AreAnswered, answers_of, outline_of, outline_read, reading_answer, text_of, texts_of}
 use Rattle.cache_replay.specs.Plays.{DeviceEnds, IsOutlined, Outlines}
 use Rattle.script_run.specs.Ledger.{ComeBack, Ledger, Deals}
 use Rattle.cache_replay.specs.Plays.{Plays as PlaysNow}
@@ -238,7 +236,7 @@ module _ (first now : List SourceRead) (taken_first taken : List SinkWrite) (led
         → Deals ledger_first ledger ended names → Deals ledger ledger' more others → Deals ledger_first ledger' all called
     deals_all ended more names others all called e n first second = rw (e, n) (Deals-trans ledger_first ledger ledger' ended more names others first second)
 
-    module _ {D R C : Type 0} {d : DiskGhosts D} {r : DirectoryGhosts R} {c : ChronicleGhosts C} (new : Session D R C d r c) where
+    module _ {S W R : Type 0} {c : CallsGhosts S W R} (new : Session S W R c) where
       -- an outline goes on by the answer
       step_follows : (Devices : Told → Type 0) (Behind : Outline → Type 0) (o : Outline) → Outlines o step new said ledger ledger'
           → ((o : Outline) → IsOutlined o new → Deals ledger_first ledger' o.ended o.names → Devices (told_by o)) → ((o : Outline) → IsOutlined o new → Behind o)

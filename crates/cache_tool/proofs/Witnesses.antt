@@ -12,11 +12,11 @@ use Rattle.script_lang.specs.declared.step.Step.TheVariants as step
 use Rattle.script_run.specs.Run.{Run}
 use Rattle.script_run.specs.Turn.{Turn}
 use Rattle.script_run.specs.Takes.{StepShows}
-use Rattle.cache_replay.specs.Outline.{Outline}
+use Rattle.run_promise.specs.Outline.{Outline}
 use Rattle.script_run.specs.Ledger.{Ledger}
 use Rattle.run_promise.specs.declared.status.Status.{Status}
 use Rattle.run_promise.specs.declared.status.Status.TheVariants as status
-use Rattle.cache_replay.specs.Stop.{AttachesAs}
+use Rattle.run_promise.specs.Needs.{AttachesAs}
 use Rattle.script_lang.specs.declared.line.LineAnswer.TheVariants as line
 use Rattle.script_lang.specs.Grammar.{reading_of}
 use Rattle.run_promise.specs.Story.{Because, Refusals, GaveBack, HoldsNoLine, IsBadLine, Taken, Told}

@@ -3,9 +3,7 @@ use Rattle.std.specs.Prelude.{◌≡◌, ℕ, List, [], Bool, false}
 use Rattle.device_log.specs.Streams.{SinkWrite}
 use Rattle.edge_io.specs.declared.reader.LineFault.{LineFault}
 use Rattle.edge_io.specs.declared.reader.LineFault.TheVariants as fault
-use Rattle.logged_disk.specs.declared.device.Disk.{Ghosts as DiskGhosts}
-use Rattle.dir_table.specs.declared.directory.Directory.{Ghosts as DirectoryGhosts}
-use Rattle.cache_chronicle.specs.declared.chronicle.Chronicle.{Ghosts as ChronicleGhosts}
+use Rattle.cache_calls.specs.declared.calls.Calls.{Ghosts as CallsGhosts}
 use Rattle.device_bay.specs.Calls.{BayCall}
 use Rattle.script_lang.specs.declared.step.Step.{Step}
 use Rattle.script_lang.specs.declared.answer.StepAnswer.{StepAnswer}
@@ -16,8 +14,8 @@ use Rattle.script_run.specs.Run.{Harm, Run}
 use Rattle.cache_replay.specs.declared.session.Session.{Session}
 use Rattle.cache_replay.specs.declared.stop.Stop.TheVariants as stop
 use Rattle.cache_replay.specs.declared.stop.Stop.{Stop as Reason}
-use Rattle.cache_replay.specs.Outline.{Outline}
-use Rattle.cache_replay.specs.Session.{return_of}
+use Rattle.run_promise.specs.Outline.{Outline}
+use Rattle.cache_replay.specs.Session.{return_in}
 use Rattle.cache_replay.specs.Plays.{DeviceEnds, IsLeft, IsOutlined, Outlines, Plays}
 use Rattle.script_run.specs.Ledger.{AreReached, Ledger}
 use Rattle.cache_replay.specs.Stop.{StopsStep, is_bay_stop}
@@ -27,22 +25,22 @@ use Rattle.cache_tool.specs.declared.run.Halt.{Halt}
 use Rattle.cache_tool.specs.declared.run.Halt.TheVariants.{Stop, WriteFault, Memory}
 use Rattle.run_promise.specs.Story.{SendsFront}
 
-module _ {D R C : Type 0} {d : DiskGhosts D} {r : DirectoryGhosts R} {c : ChronicleGhosts C} where
+module _ {S W R : Type 0} {c : CallsGhosts S W R} where
   -- A step was answered so: each outline goes on by the answer, and each run that the session plays, or two documents of one
   -- SHA-256 are shown; and this became of the text.
-  pub record Written (old : Session D R C d r c) (step : Step) (new : Session D R C d r c) (before now : Ledger) (Text : List ℕ → Type 0) : Type 0 where
+  pub record Written (old : Session S W R c) (step : Step) (new : Session S W R c) (before now : Ledger) (Text : List ℕ → Type 0) : Type 0 where
     pub said : StepAnswer
     pub outlines : (o : Outline) → IsOutlined o old → Outlines o step new said before now
     pub ends : (run : Run) → Plays run old → DeviceEnds run step new said before now
     pub text : Text (answer_line said)
 
   -- what a step leaves that was not done, whatever was told of the session's device
-  abbrev pub Leaves : (old : Session D R C d r c) → Step → (new : Session D R C d r c) → (before now : Ledger) → Reason → Type 0
+  abbrev pub Leaves : (old : Session S W R c) → Step → (new : Session S W R c) → (before now : Ledger) → Reason → Type 0
   Leaves old step new before now why =
-      (harms : List Harm) → AreReached harms (return_of old.part) → IsLeft harms step new before now why
+      (harms : List Harm) → AreReached harms (return_in old) → IsLeft harms step new before now why
 
   -- what a step that ends the run leaves
-  abbrev pub Halts : (old : Session D R C d r c) → Step → (new : Session D R C d r c) → (before now : Ledger) → (taken_old taken_new : List SinkWrite) → (bay_old bay_new : List BayCall) → Halt → Type 0
+  abbrev pub Halts : (old : Session S W R c) → Step → (new : Session S W R c) → (before now : Ledger) → (taken_old taken_new : List SinkWrite) → (bay_old bay_new : List BayCall) → Halt → Type 0
   Halts old step new before now taken_old taken_new bay_old bay_new (Stop why) = Leaves old step new before now why × (taken_new ≡ taken_old) × StopsStep old step bay_old bay_new why
   Halts old step new before now taken_old taken_new bay_old bay_new WriteFault = Written old step new before now (SendsFront taken_old taken_new [])
   Halts old step new before now taken_old taken_new bay_old bay_new Memory = Written old step new before now (λ text. taken_new ≡ taken_old)

@@ -7,8 +7,8 @@ ghost use Rattle.edge_io.specs.LineReader.{held, lines_given, source_of};
 ghost use Rattle.device_bay.specs.Calls.{out_of, refusals_of};
 ghost use Rattle.script_lang.specs.Texts.{answer_line};
 ghost use Rattle.script_run.specs.Run.{fresh};
-ghost use Rattle.cache_replay.specs.Outline.{blank};
-ghost use Rattle.cache_replay.specs.Session.{IsSession, devices_of, names_in, return_of};
+ghost use Rattle.run_promise.specs.Outline.{blank};
+ghost use Rattle.cache_replay.specs.Session.{IsSession, devices_of, names_in, return_in};
 ghost use Rattle.cache_replay.specs.Plays.{IsOutlined, Plays};
 ghost use Rattle.script_run.specs.Ledger.{AreReached, KeepsOrder, Ledger, ledger_of};
 ghost use Rattle.cache_replay.specs.Stop.{RefusesNone};
@@ -17,7 +17,8 @@ ghost use Rattle.cache_tool.specs.Halt.{IsUnwritten, Written, Halts, is_bay_halt
 ghost use Rattle.cache_tool.specs.Ending.{Ends, FailedReads, IsOfRun, is_bay_ending};
 
 use crate::lines::{Reading, next_reading};
-use cache_replay::{Cache, Stop, step};
+use cache_calls::Formats;
+use cache_replay::{Session, Stop, step};
 use device_bay::Bay;
 use edge_io::{LineFault, LineReader, MAX_LINES, Sink, Source};
 use script_lang::{LastLine, LineAnswer, Step, StepAnswer, answer_text};
@@ -59,11 +60,11 @@ fn write_answer<K: Sink>(alloc: Global, sink: &mut K, said: &StepAnswer) -> Resu
 }
 
 /// Does a step, and writes its answer out.
-fn take_step<K: Sink, B: Bay>(
+fn take_step<K: Sink, B: Bay, C: Formats<B::Dev>>(
     alloc: Global,
     sink: &mut K,
     bay: &mut B,
-    session: &mut Cache<B::Dev>,
+    session: &mut Session<C>,
     asked: Step,
 ) -> Result<(), Halt>
     requires session { IsSession session.old }
@@ -78,8 +79,8 @@ fn take_step<K: Sink, B: Bay>(
     ensures names { length (names_in session.new) ≤ length (names_in session.old) + 1 }
     ensures out { out_of (B.past bay.new) + devices_of session.old ≡ out_of (B.past bay.old) + devices_of session.new }
     ensures sink { Grows (K.writes sink.old) (K.writes sink.new) }
-    ensures order { KeepsOrder (return_of session.old.part) (B.past bay.old)
-        (return_of session.new.part) (B.past bay.new) }
+    ensures order { KeepsOrder (return_in session.old) (B.past bay.old)
+        (return_in session.new) (B.past bay.new) }
     ensures refusals { MatchResult result (λ _. RefusesNone (B.past bay.old) (B.past bay.new))
         (λ halt. is_bay_halt halt ≡ false → RefusesNone (B.past bay.old) (B.past bay.new)) }
 {
@@ -113,12 +114,12 @@ fn ending_of(line: u64, halt: Halt) -> Ending
 }
 
 /// Does what the next line asks for, or ends the run.
-fn line<S: Source, K: Sink, B: Bay>(
+fn line<S: Source, K: Sink, B: Bay, C: Formats<B::Dev>>(
     alloc: Global,
     reader: &mut LineReader<'_, S>,
     sink: &mut K,
     bay: &mut B,
-    session: &mut Cache<B::Dev>,
+    session: &mut Session<C>,
 ) -> Result<(), Ending>
     requires session { IsSession session.old }
     requires held { devices_of session.old ≤ out_of (B.past bay.old) }
@@ -137,9 +138,9 @@ fn line<S: Source, K: Sink, B: Bay>(
         → Ends first (S.reads (source_of reader.new).now) told (K.writes sink.new)
         (refusals (refusals_of (B.past bay.old)) (refusals_of (B.past bay.new)))
         (Owes back (ledger_of B.Bay bay.new)
-        (λ harms. AreReached harms (return_of session.new.part)))
+        (λ harms. AreReached harms (return_in session.new)))
         (OwesOrGave back (ledger_of B.Bay bay.new) (devices_of session.new)
-        (λ harms. AreReached harms (return_of session.new.part))) ending) }
+        (λ harms. AreReached harms (return_in session.new))) ending) }
     ensures begun { IfErr result IsOfRun }
     ensures reads { MatchResult result (λ _. NoReadFailed (S.reads (source_of reader.old).now) (S.reads (source_of reader.new).now))
         (FailedReads (S.reads (source_of reader.old).now) (S.reads (source_of reader.new).now)) }
@@ -150,8 +151,8 @@ fn line<S: Source, K: Sink, B: Bay>(
     ensures out { out_of (B.past bay.new) + devices_of session.old ≡ out_of (B.past bay.old) + devices_of session.new }
     ensures draws { Draws S.reads S.left (source_of reader.old).now (source_of reader.new).now }
     ensures sink { Grows (K.writes sink.old) (K.writes sink.new) }
-    ensures order { KeepsOrder (return_of session.old.part) (B.past bay.old)
-        (return_of session.new.part) (B.past bay.new) }
+    ensures order { KeepsOrder (return_in session.old) (B.past bay.old)
+        (return_in session.new) (B.past bay.new) }
     ensures refusals { MatchResult result (λ _. RefusesNone (B.past bay.old) (B.past bay.new))
         (λ ending. is_bay_ending ending ≡ false → RefusesNone (B.past bay.old) (B.past bay.new)) }
 {
@@ -174,12 +175,12 @@ fn line<S: Source, K: Sink, B: Bay>(
 }
 
 /// Does what each line asks for, up to the end of the script or to what ends the run.
-pub(crate) fn run_lines<S: Source, K: Sink, B: Bay>(
+pub(crate) fn run_lines<S: Source, K: Sink, B: Bay, C: Formats<B::Dev>>(
     alloc: Global,
     reader: &mut LineReader<'_, S>,
     sink: &mut K,
     bay: &mut B,
-    session: &mut Cache<B::Dev>,
+    session: &mut Session<C>,
 ) -> Ending
     requires given { lines_given reader.old ≡ 0 }
     requires held { held reader.old ≡ [] }
@@ -192,17 +193,17 @@ pub(crate) fn run_lines<S: Source, K: Sink, B: Bay>(
         (K.writes sink.old) (K.writes sink.new)
         (refusals (refusals_of (B.past bay.old)) (refusals_of (B.past bay.new)))
         (Owes (ledger_of B.Bay bay.old) (ledger_of B.Bay bay.new)
-        (λ harms. AreReached harms (return_of session.new.part)))
+        (λ harms. AreReached harms (return_in session.new)))
         (OwesOrGave (ledger_of B.Bay bay.old) (ledger_of B.Bay bay.new) (devices_of session.new)
-        (λ harms. AreReached harms (return_of session.new.part))) result }
+        (λ harms. AreReached harms (return_in session.new))) result }
     ensures begun { IsOfRun result }
     ensures reads { FailedReads (S.reads (source_of reader.old).now) (S.reads (source_of reader.new).now) result }
     ensures source { (source_of reader.new).ghost_name ≡ (source_of reader.old).ghost_name }
     ensures out { out_of (B.past bay.new) ≡ out_of (B.past bay.old) + devices_of session.new }
     ensures draws { Draws S.reads S.left (source_of reader.old).now (source_of reader.new).now }
     ensures sink { Grows (K.writes sink.old) (K.writes sink.new) }
-    ensures order { KeepsOrder (return_of session.old.part) (B.past bay.old)
-        (return_of session.new.part) (B.past bay.new) }
+    ensures order { KeepsOrder (return_in session.old) (B.past bay.old)
+        (return_in session.new) (B.past bay.new) }
     ensures refusals { is_bay_ending result ≡ false → RefusesNone (B.past bay.old) (B.past bay.new) }
 {
     'lines: loop {

@@ -11,12 +11,18 @@ ghost use Rattle.cache_tool.specs.Ending.{Ends, FailedReads, IsOfRun, is_bay_end
 ghost use Rattle.run_promise.specs.Top.{IsReplay, WentOut, EachBack, EachBackOrMore, ReadsFailed, status_of, AttachesRefused, ComeBackUnfailed, Concludes};
 
 use crate::run::{Ending, run_lines};
-use cache_replay::{begin, close};
+use cache_chronicle::FullChronicle;
+use cache_replay::{Session, begin, close};
 use device_bay::Bay;
+use dir_table::ListDirectory;
 use edge_io::{LineBuffer, LineReader, Sink, Source};
 use run_promise::Status;
 use script_lang::{LastLine, last_line_text, usage_text};
 use std::alloc::Global;
+use stripe_calls::StripeCache;
+
+// The cache of the program: its directory is a list, and its chronicle keeps each record.
+type Cache<D> = StripeCache<D, ListDirectory, FullChronicle>;
 
 fn is_replay(words: &[String]) -> bool
     ensures { IsTrue result ↔ IsReplay words.now }
@@ -86,7 +92,7 @@ fn replay<S: Source, K: Sink, B: Bay>(
         return Ending::OutOfMemory;
     };
     let mut reader = LineReader::with_buffer(source, buffer);
-    let mut session = begin(alloc);
+    let mut session: Session<Cache<B::Dev>> = begin(alloc);
     let ending = run_lines(alloc, &mut reader, sink, bay, &mut session);
     let _source = reader.into_source();
     close(session, bay);

@@ -3,8 +3,8 @@ use Rattle.std.proofs.Common.{ℕ, List, [], ◌∷◌, refl, sym, ◌∙◌, su
 use Rattle.std.specs.Prelude.{◌≢◌}
 use Rattle.script_run.specs.Run.{Run, fresh}
 use Rattle.script_run.specs.Takes.{run_after}
-use Rattle.cache_replay.specs.Outline.{Outline, blank}
-use Rattle.cache_replay.specs.Lines.{answers_of, outline_of}
+use Rattle.run_promise.specs.Outline.{Outline, blank}
+use Rattle.run_promise.specs.Lines.{answers_of, outline_of}
 use Rattle.run_promise.specs.declared.status.Status.{Status}
 use Rattle.run_promise.specs.declared.status.Status.TheVariants as status
 use Rattle.run_promise.specs.Story.{Because, Recorded, ShownAlong, Story, Told, all_in}

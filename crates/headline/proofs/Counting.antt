@@ -12,8 +12,8 @@ use Rattle.script_lang.specs.declared.answer.StepAnswer.{StepAnswer}
 use Rattle.script_lang.specs.Grammar.{reading_of}
 use Rattle.script_run.specs.Run.{Harm, loosened}
 use Rattle.script_run.specs.Ledger.{IsReached}
-use Rattle.cache_replay.specs.Outline.{IsAnswered, Outline, all_told, blank, count_in, format_answer, outline_after, raised, told_of}
-use Rattle.cache_replay.specs.Lines.{AreAnswered, IsReadAs, outline_of, outline_read}
+use Rattle.run_promise.specs.Outline.{IsAnswered, Outline, all_told, blank, count_in, format_answer, outline_after, raised, told_of}
+use Rattle.run_promise.specs.Lines.{AreAnswered, IsReadAs, outline_of, outline_read}
 use Rattle.headline.specs.Account.{Account, Answers, AreBack, ComeBackFrom, IsDeviceBehind, Logs, sessions_begun}
 use Rattle.headline.proofs.Devices.{come_within}
 use Rattle.headline.proofs.Outlines.{outline_length, outline_split, outline_within, split_answers}

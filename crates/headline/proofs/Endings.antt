@@ -13,8 +13,8 @@ use Rattle.script_lang.specs.declared.last.LastLine.{LastLine}
 use Rattle.script_lang.specs.declared.last.LastLine.TheVariants as last
 use Rattle.script_lang.specs.Grammar.{reading_of}
 use Rattle.script_run.specs.Run.{Harm, Run}
-use Rattle.cache_replay.specs.Outline.{Outline, all_told, blank, told_of}
-use Rattle.cache_replay.specs.Lines.{AreAnswered, IsReadAs, outline_of, outline_read}
+use Rattle.run_promise.specs.Outline.{Outline, all_told, blank, told_of}
+use Rattle.run_promise.specs.Lines.{AreAnswered, IsReadAs, outline_of, outline_read}
 use Rattle.run_promise.specs.declared.status.Status.{Status}
 use Rattle.run_promise.specs.declared.status.Status.TheVariants as status
 use Rattle.run_promise.specs.Story.{Because, CutsLast, HoldsNoLine, IsBadLine, LacksCache, MeetsBayFault, Story, Told}

@@ -14,7 +14,7 @@ use Rattle.script_run.specs.Behind.{harms_of}
 use Rattle.script_run.specs.Takes.{IsRun, output_of, run_after}
 use Rattle.script_run.specs.Ledger.{AreReached}
 use Rattle.script_laws.specs.Agreeing.{NoneHarmed, OutputIsFixed}
-use Rattle.cache_replay.specs.Lines.{TextsAreOutput, texts_of}
+use Rattle.run_promise.specs.Lines.{TextsAreOutput, texts_of}
 use Rattle.run_promise.specs.declared.status.Status.TheVariants as status
 use Rattle.run_promise.specs.Story.{IsReadThrough, Recorded, ShownAlong, Taken, all_in}
 use Rattle.run_promise.specs.Top.{EachBack}

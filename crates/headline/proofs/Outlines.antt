@@ -15,8 +15,8 @@ use Rattle.script_run.specs.Run.{Harm, Run, fresh, loosened, no_harm}
 use Rattle.script_run.specs.Turn.{Turn}
 use Rattle.script_run.specs.Behind.{harm_in, harm_of, harms_of}
 use Rattle.script_run.specs.Takes.{run_after}
-use Rattle.cache_replay.specs.Outline.{Outline, all_told, begun, begun_by, called, count_in, joined, outline_in, raised, told_of}
-use Rattle.cache_replay.specs.Lines.{AreAnswered, IsReadAs, outline_of, outline_read}
+use Rattle.run_promise.specs.Outline.{Outline, all_told, begun, begun_by, called, count_in, joined, outline_in, raised, told_of}
+use Rattle.run_promise.specs.Lines.{AreAnswered, IsReadAs, outline_of, outline_read}
 use Rattle.run_promise.specs.Story.{ShownAlong, Told, all_in}
 use Rattle.headline.specs.Account.{ComeBackFrom, Logs, begun_in, sessions_begun}
 use Rattle.headline.proofs.Devices.{AreWithin, IsWithin, all_within_self, all_within_trans, come_within, goes_on_none, within_behind, within_front}

@@ -18,7 +18,7 @@ use Rattle.script_run.specs.Answers.{format_said, session_said, step_answer, ste
 use Rattle.script_run.specs.Behind.{after_line, after_reading, after_step, behind, in_session}
 use Rattle.script_run.specs.Takes.{IsRun, ReadingTakes, SessionTakes, StepTakes, Takes, run_after}
 use Rattle.script_laws.specs.Runs.{answers_damage, answers_fault}
-use Rattle.cache_replay.specs.Lines.{answers_of, reading_answer}
+use Rattle.run_promise.specs.Lines.{answers_of, reading_answer}
 use Rattle.headline.specs.Account.{Account, Logs, Tells}
 
 -- the line behind these: its turn among the others, and the run that goes on behind it

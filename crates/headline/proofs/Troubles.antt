@@ -31,7 +31,7 @@ use Rattle.script_laws.specs.Causes.{AnswersAreTraced, IsTraced, cause_answered,
 use Rattle.script_laws.specs.Damages.{DamageIsRecorded, DamageStays}
 use Rattle.script_laws.specs.Runs.{answers_damage, answers_fault}
 use Rattle.script_laws.specs.Troubles.{FaultIsRecorded}
-use Rattle.cache_replay.specs.Outline.{count_in}
+use Rattle.run_promise.specs.Outline.{count_in}
 use Rattle.headline.specs.Account.{Account, Answers, ComeBackFrom, IsDeviceBehind, Logs, Tells, sessions_begun}
 use Rattle.headline.specs.Causes.{WasRefused}
 use Rattle.headline.specs.Reads.{DidBefore}

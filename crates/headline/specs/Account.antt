@@ -16,8 +16,8 @@ use Rattle.script_run.specs.Behind.{harms_of}
 use Rattle.script_run.specs.Takes.{IsRun, LineShows, run_after}
 use Rattle.script_run.specs.Ledger.{IsReached, Ledger}
 use Rattle.reader_laws.specs.Along.{begins_session}
-use Rattle.cache_replay.specs.Outline.{all_told, blank, called}
-use Rattle.cache_replay.specs.Lines.{AreAnswered, answers_of, outline_of}
+use Rattle.run_promise.specs.Outline.{all_told, blank, called}
+use Rattle.run_promise.specs.Lines.{AreAnswered, answers_of, outline_of}
 use Rattle.run_promise.specs.declared.status.Status.{Status}
 use Rattle.run_promise.specs.Story.{Refusals, Taken}
 use Rattle.run_promise.specs.Top.{Concludes}

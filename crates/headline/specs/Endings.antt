@@ -17,9 +17,9 @@ use Rattle.script_lang.specs.Texts.{last_line}
 use Rattle.script_lang.specs.Grammar.{reading_of}
 use Rattle.script_run.specs.Run.{fresh}
 use Rattle.script_run.specs.Takes.{run_after}
-use Rattle.cache_replay.specs.Outline.{blank}
-use Rattle.cache_replay.specs.Lines.{outline_of, texts_before, texts_of}
-use Rattle.cache_replay.specs.Stop.{NeedsSession}
+use Rattle.run_promise.specs.Outline.{blank}
+use Rattle.run_promise.specs.Lines.{outline_of, texts_before, texts_of}
+use Rattle.run_promise.specs.Needs.{NeedsSession}
 use Rattle.run_promise.specs.declared.status.Status.{Status}
 use Rattle.run_promise.specs.declared.status.Status.TheVariants as status
 use Rattle.run_promise.specs.Story.{Because, CutsLast, HoldsNoLine, IsBadLine, IsNext, MeetsBayFault, SendsAll, SendsBefore}

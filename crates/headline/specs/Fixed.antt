@@ -9,7 +9,7 @@ use Rattle.script_run.specs.Turn.{Turn}
 use Rattle.script_run.specs.Behind.{harms_of}
 use Rattle.script_run.specs.Takes.{IsRun, LineShows, run_after}
 use Rattle.script_laws.specs.Agreeing.{ShowsOtherAlong}
-use Rattle.cache_replay.specs.Outline.{called}
+use Rattle.run_promise.specs.Outline.{called}
 use Rattle.run_promise.specs.declared.status.Status.TheVariants as status
 use Rattle.run_promise.specs.Story.{Taken}
 use Rattle.headline.specs.Account.{ComeBackFrom, IsConcluded, Logs, OrShown}

@@ -4,7 +4,7 @@ use Rattle.logged_disk.specs.Device.{State as Device, TellsAll}
 use Rattle.script_lang.specs.declared.step.Step.{Step}
 use Rattle.script_lang.specs.declared.answer.StepAnswer.{StepAnswer}
 use Rattle.script_laws.specs.Runs.{answers_damage, answers_fault}
-use Rattle.cache_replay.specs.Outline.{count_in}
+use Rattle.run_promise.specs.Outline.{count_in}
 use Rattle.headline.specs.Account.{Account, Answers, IsDeviceBehind, Logs, Tells}
 
 -- no line answers a count of faults above that with which its device came back; also behind a pair

@@ -5,10 +5,10 @@ ghost use Rattle.headline.specs.Troubles.{CountsAreReached, NoFalseDamage, NoFal
 ghost use Rattle.headline.specs.Endings.{DoneWhereFine, EndsAreCaused, RunsAreTold};
 ghost use Rattle.headline.specs.Fixed.{SourceFixesSink};
 
-use cache_replay::texts_are_output;
 use edge_io::texts_have_lines;
 use model_laws::faults_rise;
 use reader_laws::{damage_is_given, follow_is_asked, got_is_put, hit_is_asked, length_is_told};
+use run_promise::texts_are_output;
 use script_laws::{
     answers_are_traced, damage_is_recorded, damage_stays, fault_is_recorded, output_is_fixed,
 };

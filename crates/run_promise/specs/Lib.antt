@@ -1,2 +1,5 @@
+pub mod Needs
+pub mod Outline
+pub mod Lines
 pub mod Story
 pub mod Top

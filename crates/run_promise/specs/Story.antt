@@ -19,11 +19,11 @@ use Rattle.script_run.specs.Run.{Harm, Run, fresh, loosened, no_harm}
 use Rattle.script_run.specs.Turn.{Turn}
 use Rattle.script_run.specs.Behind.{harm_of}
 use Rattle.script_run.specs.Takes.{IsRun, run_after, LineShows}
-use Rattle.cache_replay.specs.Outline.{Outline, blank, called, outline_in, told_of}
-use Rattle.cache_replay.specs.Lines.{AreAnswered, answers_of, outline_of, texts_before, texts_of}
+use Rattle.run_promise.specs.Outline.{Outline, blank, called, outline_in, told_of}
+use Rattle.run_promise.specs.Lines.{AreAnswered, answers_of, outline_of, texts_before, texts_of}
 use Rattle.script_run.specs.Ledger.{Ledger, Deals}
 use Rattle.device_bay.specs.Calls.{Refusal}
-use Rattle.cache_replay.specs.Stop.{NeedsSession, AttachesAs, AttachesWith}
+use Rattle.run_promise.specs.Needs.{NeedsSession, AttachesAs, AttachesWith}
 
 -- A text is these lines, no more than may be, each with its newline, and then these bytes.
 pub record Taken (text : List ℕ) (lines : List (List ℕ)) (held : List ℕ) : Type 0 where

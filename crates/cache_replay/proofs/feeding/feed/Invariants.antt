@@ -3,7 +3,8 @@ use Rattle.cache_replay.proofs.FeedTurns.{Turned}
 use Rattle.cache_replay.proofs.feeding.feed.Given as goal
 
 abbrev pub invariant-feed : goal.invariant-feed
-invariant-feed g l = Turned l.now l.fn.stripe l.stripe l.fn.writer l.writer l.bytes l.taken
+invariant-feed g l =
+    Turned (g.S.Calls.at) (g.S.Calls.holds) l.now l.fn.cache l.cache (g.S.Calls.written l.fn.writer) (g.S.Calls.written l.writer) l.bytes l.taken
 
 abbrev pub decreases-feed : goal.decreases-feed
 decreases-feed g l = length l.bytes - l.taken

@@ -1,47 +1,58 @@
-use Rattle.std.proofs.Common.{refl}
+use Rattle.std.proofs.Common.{◌≤◌, refl, subst}
 use Rattle.tape_base.specs.declared.actors.Actor.{Actor}
-use Rattle.stripe_core.specs.Stripe.{kept_in, seen_in}
-use Rattle.cache_replay.proofs.PutOpens.{is_fresh, leaves_opened, puts_opened, puts_refused}
-use Rattle.stripe_core.specs.Stripe.{state_in}
-use Rattle.cache_replay.proofs.Counts.{err_after, open_counts}
-use Rattle.cache_replay.proofs.ReaderFrames.{losses_then}
-use Rattle.stripe_core.proofs.Continuing.{rests_then}
+use Rattle.cache_calls.specs.Adds.{Adds, IsOfPut}
+use Rattle.cache_calls.specs.Keeping.{state_at}
+use Rattle.cache_calls.proofs.Keeping.{keeps_then}
+use Rattle.cache_replay.specs.Replies.{count_of_refusal}
+use Rattle.cache_replay.proofs.FeedRounds.{adds_then}
+use Rattle.cache_replay.proofs.Frames.{losses_kept}
+use Rattle.cache_replay.proofs.PutEnds.{err_when}
+use Rattle.cache_replay.proofs.PutOpens.{is_fresh, is_open, open_counts, puts_opened, puts_refused}
 use Rattle.cache_replay.proofs.putting.put.Goals as goal
 
 abbrev nobody : Actor
 nobody = record { 0 = 0 }
 
+pub put_open-requires-clause-writer : goal.put_open-requires-clause-writer
+put_open-requires-clause-writer g c =
+    is_open (g.S.Calls.at c.args.cache.now) (g.S.Calls.at c.open_write.new.self) nobody c.args.key c.args.request c.args.response
+    (g.S.Calls.written c.in-Ok.writer) c.in-Ok.ensures.gives.answers
+
 pub put_open-requires-clause-fresh : goal.put_open-requires-clause-fresh
 put_open-requires-clause-fresh g c =
-    let opened = c.in-Ok.ensures in
-    is_fresh (kept_in c.args.stripe.now) (kept_in c.open_write.new.stripe) nobody c.args.key c.args.request c.args.response c.in-Ok.writer
-    opened.adds opened.does.0 opened.writer opened.empty opened.unsealed
+    is_fresh (g.S.Calls.at c.args.cache.now) (g.S.Calls.at c.open_write.new.self) nobody c.args.key c.args.request c.args.response
+    (g.S.Calls.written c.in-Ok.writer) c.in-Ok.ensures.gives.answers
+
+pub returns-in-Ok-clause-keeps : goal.returns-in-Ok-clause-keeps
+returns-in-Ok-clause-keeps g c = keeps_then c.open_write.ensures.keeps c.put_open.ensures.keeps
 
 pub returns-in-Ok-clause-puts : goal.returns-in-Ok-clause-puts
 returns-in-Ok-clause-puts g c =
-    let opened = c.in-Ok.ensures in
-    puts_opened (kept_in c.args.stripe.now) (kept_in c.open_write.new.stripe) nobody c.args.key c.args.request c.args.response c.in-Ok.writer opened.adds
-    c.args.now (seen_in c.args.stripe.now).device.past (seen_in c.open_write.new.stripe).device.past (seen_in c.put_open.new.stripe).device.past
-    (kept_in c.put_open.new.stripe) c.args.body.now c.groups_tell.ensures c.requires.resting.stripe.pieces.sound refl opened.does c.open_write.ensures.rests.between.goes.made c.open_write.ensures.rests.between.goes.past c.put_open.result c.put_open.ensures.ends
+    puts_opened (g.S.Calls.at c.args.cache.now) (g.S.Calls.at c.open_write.new.self) nobody c.args.key c.args.request c.args.response
+    (g.S.Calls.written c.in-Ok.writer) c.in-Ok.ensures.gives.answers c.args.now (g.S.Calls.at c.put_open.new.cache) c.args.body.now
+    (g.met.S.Calls.at_rest c.args.cache.now c.requires.holds).sound refl (c.in-Ok.ensures.serves c.args.now) c.put_open.result c.put_open.ensures.ends
 
-pub returns-in-Ok-clause-leaves : goal.returns-in-Ok-clause-leaves
-returns-in-Ok-clause-leaves g c =
-    let opened = c.in-Ok.ensures in
-    leaves_opened (kept_in c.args.stripe.now) (kept_in c.open_write.new.stripe) nobody c.args.key c.args.request c.args.response c.in-Ok.writer opened.adds
-    (kept_in c.put_open.new.stripe) c.others_stay.ensures opened.does.0 c.put_open.ensures.own
+pub returns-in-Ok-clause-tells : goal.returns-in-Ok-clause-tells
+returns-in-Ok-clause-tells g c =
+    let old = g.S.Calls.at c.args.cache.now in
+    let mid = g.S.Calls.at c.open_write.new.self in
+    let new = g.S.Calls.at c.put_open.new.cache in
+    let put = (state_at old).next_put in
+    let opened : Adds (IsOfPut put) old mid = c.open_write.ensures.own in
+    record {
+      own = adds_then (IsOfPut put) old mid new opened (subst (λ q. Adds (IsOfPut q) mid new) c.in-Ok.ensures.gives.answers.put c.put_open.ensures.tells.own);
+      counts = err_when (λ why. count_of_refusal why ≤ new.device.faults) c.put_open.result (losses_kept old mid opened.added opened.adds) c.put_open.ensures.tells.counts;
+    }
 
 pub returns-in-Err-clause-puts : goal.returns-in-Err-clause-puts
 returns-in-Err-clause-puts g c =
-    let refused = c.in-Err.ensures in
-    puts_refused c.args.now (seen_in c.args.stripe.now).device.past (seen_in c.open_write.new.stripe).device.past
-    (kept_in c.args.stripe.now) (kept_in c.open_write.new.stripe) nobody c.args.key c.args.body.now c.args.request c.args.response refl
-    refused.err c.open_write.ensures.rests.resting.quiet c.requires.resting.stripe.actors.puts_fall c.in-Err.why refused.does
+    let gives = c.in-Err.ensures.gives.answers in
+    puts_refused c.args.now (g.S.Calls.at c.args.cache.now) (g.S.Calls.at c.open_write.new.self) (g.met.S.Calls.at_rest c.args.cache.now c.requires.holds)
+    (g.met.S.Calls.at_rest c.open_write.new.self c.open_write.ensures.keeps.goes_on.holds_then).quiet nobody c.args.key c.args.body.now
+    c.args.request c.args.response refl gives.0 c.in-Err.why gives.1 (c.in-Err.ensures.serves c.args.now)
 
-pub returns-in-Ok-clause-counts : goal.returns-in-Ok-clause-counts
-returns-in-Ok-clause-counts g c = err_after _ c.put_open.result (losses_then (kept_in c.args.stripe.now) (kept_in c.open_write.new.stripe) _ c.in-Ok.ensures.adds) c.put_open.ensures.counts
-
-pub returns-in-Err-clause-counts : goal.returns-in-Err-clause-counts
-returns-in-Err-clause-counts g c = λ none. open_counts (state_in c.args.stripe.now) nobody c.args.key c.args.request c.args.response 0 _ c.in-Err.why c.in-Err.ensures.does
-
-pub returns-in-Ok-clause-rests : goal.returns-in-Ok-clause-rests
-returns-in-Ok-clause-rests g c = rests_then _ _ _ c.open_write.ensures.rests c.put_open.ensures.rests
+pub returns-in-Err-clause-tells : goal.returns-in-Err-clause-tells
+returns-in-Err-clause-tells g c = record {
+  own = c.open_write.ensures.own;
+  counts = λ none. open_counts (state_at (g.S.Calls.at c.args.cache.now)) c.in-Err.why (g.S.Calls.at c.open_write.new.self).device.faults c.in-Err.ensures.gives.answers.1;
+}

@@ -1,21 +1,9 @@
-use Rattle.std.proofs.Common.{refl}
 use Rattle.script_lang.specs.declared.step.Step.TheVariants as step
-use Rattle.cache_replay.proofs.OnPart.{line_answers, line_device, line_stops, no_device}
-use Rattle.cache_replay.proofs.OnSession.{on_session}
+use Rattle.cache_replay.proofs.OnPart.{actor_line}
 use Rattle.cache_replay.proofs.reader_lines.open_read_line.Goals as goal
 
-pub returns-in-Some-clause-ends : goal.returns-in-Some-clause-ends
-returns-in-Some-clause-ends g c =
-    line_answers c.args.session.now _ c.in-Some.part c.open_reader.new.part (step.OpenRead c.args.actor.now c.args.key c.args.request) c.open_reader.result
-    (on_session (step.OpenRead c.args.actor.now c.args.key c.args.request) tt)
-    c.in-Some.is refl refl (λ run plays. c.open_reader.ensures.rests.between) c.open_reader.ensures.ends
-
-pub returns-in-Some-clause-device : goal.returns-in-Some-clause-device
-returns-in-Some-clause-device g c =
-    line_device c.args.session.now c.in-Some.part c.open_reader.new.part c.in-Some.is c.open_reader.ensures.rests.later c.open_reader.ensures.rests.between.goes
-
-pub returns-in-None-clause-device : goal.returns-in-None-clause-device
-returns-in-None-clause-device g c = no_device c.args.session.now c.in-None.is
-
-pub returns-in-Some-clause-stop : goal.returns-in-Some-clause-stop
-returns-in-Some-clause-stop g c = line_stops c.args.session.now c.open_reader.result c.open_reader.ensures.stop
+pub returns-in-Some : goal.returns-in-Some
+returns-in-Some g c = record {
+  line = actor_line c.args.session.now c.in-Some.part c.open_reader.new.part c.open_reader.new.actors c.in-Some.is
+      (step.OpenRead c.args.actor.now c.args.key c.args.request) c.open_reader.result tt c.open_reader.ensures.line;
+}

@@ -1,20 +1,9 @@
-use Rattle.std.proofs.Common.{refl}
 use Rattle.script_lang.specs.declared.step.Step.TheVariants as step
-use Rattle.cache_replay.proofs.OnPart.{line_answers, line_device, line_stops, no_device}
-use Rattle.cache_replay.proofs.OnSession.{on_session}
+use Rattle.cache_replay.proofs.OnPart.{actor_line}
 use Rattle.cache_replay.proofs.writer_lines.abort_line.Goals as goal
 
-pub returns-in-Some-clause-ends : goal.returns-in-Some-clause-ends
-returns-in-Some-clause-ends g c =
-    line_answers c.args.session.now _ c.in-Some.part c.abort_in.new.part (step.Abort c.args.actor.now) c.abort_in.result
-    (on_session (step.Abort c.args.actor.now) tt) c.in-Some.is refl refl (λ run plays. c.abort_in.ensures.rests.between) c.abort_in.ensures.ends
-
-pub returns-in-Some-clause-device : goal.returns-in-Some-clause-device
-returns-in-Some-clause-device g c =
-    line_device c.args.session.now c.in-Some.part c.abort_in.new.part c.in-Some.is c.abort_in.ensures.rests.later c.abort_in.ensures.rests.between.goes
-
-pub returns-in-None-clause-device : goal.returns-in-None-clause-device
-returns-in-None-clause-device g c = no_device c.args.session.now c.in-None.is
-
-pub returns-in-Some-clause-stop : goal.returns-in-Some-clause-stop
-returns-in-Some-clause-stop g c = line_stops c.args.session.now c.abort_in.result c.abort_in.ensures.stop
+pub returns-in-Some : goal.returns-in-Some
+returns-in-Some g c = record {
+  line = actor_line c.args.session.now c.in-Some.part c.abort_in.new.part c.abort_in.new.actors c.in-Some.is
+      (step.Abort c.args.actor.now) c.abort_in.result tt c.abort_in.ensures.line;
+}

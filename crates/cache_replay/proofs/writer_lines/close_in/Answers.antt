@@ -1,47 +1,20 @@
-use Rattle.std.proofs.Common.{refl, sym, ◌∙◌, subst}
-use Rattle.stripe_core.specs.Stripe.{state_in}
-use Rattle.script_lang.specs.declared.step.Step.TheVariants as step
-use Rattle.cache_replay.specs.Plays.{PartEnds}
-use Rattle.cache_replay.specs.Session.{slots_of}
+use Rattle.std.proofs.Common.{◌∙◌, refl}
 use Rattle.cache_replay.specs.WriterLines.{Closes}
-use Rattle.cache_replay.proofs.Lines.{active_by, ends_by, ends_if, given_back, held_writer, idles_by, no_taken, none_changed, others_else, taken_writer}
-use Rattle.stripe_core.specs.Stripe.{seen_in}
-use Rattle.cache_replay.proofs.Counts.{answer_counts}
+use Rattle.cache_replay.proofs.ActorWriters.{writer_answers, writer_idles}
 use Rattle.cache_replay.proofs.writer_lines.close_in.Goals as goal
 
-pub finish-outcome-requires-clause-writer : goal.finish-outcome-requires-clause-writer
-finish-outcome-requires-clause-writer g c =
-    let mine = taken_writer c.args.actors.now c.number.new.self c.take_writer.new.actors c.in-Ok.number c.in-Some.writer c.number.ensures.slots c.in-Some.ensures.takes in
-    (held_writer (state_in c.args.part.now.stripe) (slots_of c.args.actors.now) c.in-Ok.number c.in-Some.writer c.requires.active.held mine).1
+pub returns-in-Some : goal.returns-in-Some
+returns-in-Some g c = record {
+  line = writer_answers c.args.now Closes tt c.args.part.now _ c.args.actors.now c.number.new.self c.take_writer.new.actors c.set_back.new.actors c.args.actor.now c.in-Ok.number
+      c.in-Some.writer
+      c.finish-outcome.result.left c.finish-outcome.result.answer c.set_back.result c.in-Ok.ensures.number c.number.ensures.slots
+      (c.set_back.ensures.names ∙ (c.in-Some.ensures.names ∙ c.in-Ok.ensures.names)) c.requires.active c.in-Some.ensures.takes c.set_back.ensures.slots refl
+      (g.met.S.Calls.at_rest c.finish-outcome.new.cache c.finish-outcome.ensures.leaves.keeps.goes_on.holds_then) c.finish-outcome.ensures.leaves
+      c.finish-outcome.ensures.does c.set_back.ensures.said c.set_back.ensures.stop;
+}
 
-pub returns-in-Some-clause-active : goal.returns-in-Some-clause-active
-returns-in-Some-clause-active g c =
-    let w = c.in-Some.writer in
-    let n = c.in-Ok.number in
-    let mine = taken_writer c.args.actors.now c.number.new.self c.take_writer.new.actors n w c.number.ensures.slots c.in-Some.ensures.takes in
-    let changed = given_back c.args.actors.now c.number.new.self c.take_writer.new.actors c.set_back.new.actors n w c.finish-outcome.result.left c.number.ensures.slots c.in-Some.ensures.takes c.set_back.ensures.slots in
-    active_by c.others_stay.ensures c.args.part.now _ c.args.actors.now c.set_back.new.actors n w.put c.finish-outcome.result.left c.requires.active
-    (others_else (slots_of c.args.actors.now) n w c.requires.active.apart mine) changed c.finish-outcome.ensures.rests.resting.stripe c.finish-outcome.ensures.rests.resting.quiet refl c.finish-outcome.ensures.own c.finish-outcome.ensures.left
-
-pub returns-in-Some-clause-ends : goal.returns-in-Some-clause-ends
-returns-in-Some-clause-ends g c =
-    let w = c.in-Some.writer in
-    let n = c.in-Ok.number in
-    let mine = taken_writer c.args.actors.now c.number.new.self c.take_writer.new.actors n w c.number.ensures.slots c.in-Some.ensures.takes in
-    let changed = given_back c.args.actors.now c.number.new.self c.take_writer.new.actors c.set_back.new.actors n w c.finish-outcome.result.left c.number.ensures.slots c.in-Some.ensures.takes c.set_back.ensures.slots in
-    ends_if c.set_back.result c.finish-outcome.result.answer _ c.set_back.ensures.said (λ said answered.
-    ends_by c.others_stay.ensures c.args.part.now _ c.args.actors.now c.set_back.new.actors n c.steps_own.ensures c.steps_tell.ensures Closes c.args.actor.now w c.finish-outcome.result.left
-    c.finish-outcome.result.answer said tt answered c.in-Ok.ensures.number c.requires.active mine changed c.finish-outcome.ensures.own (c.set_back.ensures.names ∙ (c.in-Some.ensures.names ∙ c.in-Ok.ensures.names)) c.args.now c.finish-outcome.ensures.does)
-
-pub returns-in-None-clause-ends : goal.returns-in-None-clause-ends
-returns-in-None-clause-ends g c = λ run moment plays.
-    let n = c.in-Ok.number in
-    subst (PartEnds run c.args.part.now (step.Close c.args.actor.now) c.args.part.now c.take_writer.new.actors) (sym c.idle.ensures)
-    (idles_by c.others_stay.ensures c.args.part.now c.args.part.now c.args.actors.now c.take_writer.new.actors n Closes c.args.actor.now tt c.in-Ok.ensures.number c.requires.active
-    (no_taken c.args.actors.now c.number.new.self c.take_writer.new.actors n c.number.ensures.slots c.in-None.ensures.takes)
-    (none_changed c.args.actors.now c.number.new.self c.take_writer.new.actors n c.number.ensures.slots c.in-None.ensures.takes) (c.in-None.ensures.names ∙ c.in-Ok.ensures.names) run plays)
-
-pub returns-in-Some-clause-counts : goal.returns-in-Some-clause-counts
-returns-in-Some-clause-counts g c =
-    ends_if c.set_back.result c.finish-outcome.result.answer _ c.set_back.ensures.said (λ said answered.
-    answer_counts (seen_in c.finish-outcome.new.stripe).device.faults c.finish-outcome.result.answer said answered c.requires.active.part.losses c.finish-outcome.ensures.counts)
+pub returns-in-None : goal.returns-in-None
+returns-in-None g c = record {
+  line = writer_idles c.args.now Closes tt c.args.part.now c.args.actors.now c.number.new.self c.take_writer.new.actors c.args.actor.now c.in-Ok.number c.idle.result c.idle.ensures
+      c.in-Ok.ensures.number c.number.ensures.slots (c.in-None.ensures.names ∙ c.in-Ok.ensures.names) c.requires.active c.in-None.ensures.takes;
+}

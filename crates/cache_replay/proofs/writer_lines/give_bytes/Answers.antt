@@ -1,27 +1,39 @@
-use Rattle.std.proofs.Common.{sym, subst}
-use Rattle.stripe_core.specs.Stripe.{kept_in, state_in}
+use Rattle.std.proofs.Common.{◌≤◌, length, sym, subst}
+use Rattle.std.specs.Prelude.{IfSome, option_map}
+use Rattle.cache_calls.specs.Keeping.{state_at}
+use Rattle.run_promise.specs.Outline.{count_in}
 use Rattle.cache_replay.specs.WriterLines.{Feeds, WriterDoes}
-use Rattle.cache_replay.proofs.WriterSteps.{is_left}
-use Rattle.cache_replay.proofs.Fed.{feeds_line}
-use Rattle.std.proofs.Common.{◌≤◌, length}
-use Rattle.std.specs.Prelude.{IfSome}
-use Rattle.stripe_core.specs.Stripe.{seen_in}
-use Rattle.cache_replay.specs.Outline.{count_in}
-use Rattle.cache_replay.proofs.Counts.{fed_counts, some_when}
+use Rattle.cache_replay.proofs.Closings.{some_when}
+use Rattle.cache_replay.proofs.Fed.{fed_counts, feeds_line}
+use Rattle.cache_replay.proofs.WriterSteps.{is_left, left_seen}
 use Rattle.cache_replay.proofs.writer_lines.give_bytes.Goals as goal
 
-pub returns-clause-left : goal.returns-clause-left
-returns-clause-left g c = is_left (state_in c.feed-taken.new.stripe) c.args.writer.put c.feed-taken.new.writer c.keep_open.result c.feed-taken.ensures.fed.put c.feed-taken.ensures.writer c.keep_open.ensures
+pub returns-clause-leaves : goal.returns-clause-leaves
+returns-clause-leaves g c =
+    let b = g.S.Calls.at c.feed-taken.new.cache in
+    let w = g.S.Calls.written c.args.writer in
+    let last = g.S.Calls.written c.feed-taken.new.writer in
+    let h = c.feed-taken.ensures in
+    record {
+      keeps = h.keeps;
+      own = h.fed.own;
+      left_is = is_left (state_at b) w.put last (option_map g.S.Calls.written c.keep_open.result) h.fed.fed.put h.fed.writer
+          (left_seen g.S.Calls.written (state_at b) c.feed-taken.new.writer c.keep_open.result c.keep_open.ensures);
+      counts = some_when (λ said. count_in said ≤ b.device.faults) c.fed_answer.result (λ none.
+          subst (λ o. IfSome o (λ said. count_in said ≤ b.device.faults)) (sym c.fed_answer.ensures)
+          (fed_counts (length c.args.body.now) c.feed-taken.result.taken c.feed-taken.result.refused b.device.faults h.fed.counts));
+    }
 
 pub returns-clause-does : goal.returns-clause-does
 returns-clause-does g c =
-    subst (WriterDoes c.args.now (seen_in c.args.stripe.now).device.past (seen_in c.feed-taken.new.stripe).device.past (state_in c.args.stripe.now) (state_in c.feed-taken.new.stripe) (Feeds c.args.body.now) c.args.writer c.keep_open.result) (sym c.fed_answer.ensures)
-    (feeds_line c.args.now (kept_in c.args.stripe.now) (kept_in c.feed-taken.new.stripe) _ _ c.feed-taken.ensures.rests.between.accounted c.args.writer c.feed-taken.new.writer c.args.body.now c.feed-taken.result.taken c.keep_open.result
-    c.requires.resting.quiet c.feed-taken.ensures.rests.resting.quiet c.requires.writing c.requires.writer c.feed-taken.ensures.fed c.feed-taken.ensures.most c.keep_open.ensures c.feed-taken.result.refused c.feed-taken.ensures.feeds c.feed-taken.ensures.taken)
-
-pub returns-clause-counts : goal.returns-clause-counts
-returns-clause-counts g c =
-    let faults = (seen_in c.feed-taken.new.stripe).device.faults in
-    some_when (λ said. count_in said ≤ faults) c.fed_answer.result (λ none.
-    subst (λ o. IfSome o (λ said. count_in said ≤ faults)) (sym c.fed_answer.ensures)
-    (fed_counts (length c.args.body.now) c.feed-taken.result.taken c.feed-taken.result.refused faults c.feed-taken.ensures.counts))
+    let a = g.S.Calls.at c.args.cache.now in
+    let b = g.S.Calls.at c.feed-taken.new.cache in
+    let w = g.S.Calls.written c.args.writer in
+    let last = g.S.Calls.written c.feed-taken.new.writer in
+    let left = option_map g.S.Calls.written c.keep_open.result in
+    let h = c.feed-taken.ensures in
+    subst (WriterDoes c.args.now a b (Feeds c.args.body.now) w left) (sym c.fed_answer.ensures)
+    (feeds_line c.args.now a b c.requires.plain (g.met.S.Calls.at_rest c.feed-taken.new.cache h.keeps.goes_on.holds_then).quiet
+    w last c.args.body.now c.feed-taken.result.taken left c.requires.writer h.fed.fed h.fed.most
+    (left_seen g.S.Calls.written (state_at b) c.feed-taken.new.writer c.keep_open.result c.keep_open.ensures)
+    c.feed-taken.result.refused h.feeds h.fed.taken_is)

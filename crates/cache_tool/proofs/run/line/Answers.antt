@@ -1,7 +1,7 @@
 use Rattle.std.proofs.Common.{sym, ◌∙◌, [], refl}
 use Rattle.edge_io.specs.LineReader.{lines_given, held, source_of}
 use Rattle.edge_io.specs.Text.{text_after}
-use Rattle.cache_replay.specs.Session.{devices_of, return_of}
+use Rattle.cache_replay.specs.Session.{devices_of, return_in}
 use Rattle.script_run.specs.Ledger.{AreReached}
 use Rattle.device_bay.specs.Calls.{refusals_of}
 use Rattle.cache_replay.proofs.Order.{order_same}
@@ -19,7 +19,7 @@ returns-in-End-clause-ends g c =
     let next = c.in-End.ensures in
     let more = next.draws.more in
     let unread = text_after (held c.args.reader.now) more in
-    λ first told back story. done_ends first new told _ back _ unread given _ _ (λ harms. AreReached harms (return_of c.args.session.now.part)) (devices_of c.args.session.now) (λ o is. is) (plays_reach c.args.session.now c.requires.session) (read_more first old new more (held c.args.reader.now) given _ _ _ _ next.draws.grew story)
+    λ first told back story. done_ends first new told _ back _ unread given _ _ (λ harms. AreReached harms (return_in c.args.session.now)) (devices_of c.args.session.now) (λ o is. is) (plays_reach c.args.session.now c.requires.session) (read_more first old new more (held c.args.reader.now) given _ _ _ _ next.draws.grew story)
     (refusals [] []) (read_through given more old new unread (held c.next_reading.new.reader) next.draws.grew next.answers)
 
 pub returns-in-Fault-clause-ends : goal.returns-in-Fault-clause-ends
@@ -32,7 +32,7 @@ returns-in-Fault-clause-ends g c =
     let unread = text_after (held c.args.reader.now) more in
     let bay = refusals (refusals_of (g.B.Bay.past c.args.bay.now)) (refusals_of (g.B.Bay.past c.args.bay.now)) in
     rw c.last_of.ensures
-    (λ first told back story. fault_ends first new told _ back _ unread given _ _ (λ harms. AreReached harms (return_of c.args.session.now.part)) (devices_of c.args.session.now) (λ o is. is) (plays_reach c.args.session.now c.requires.session) (read_more first old new more (held c.args.reader.now) given _ _ _ _ next.draws.grew story)
+    (λ first told back story. fault_ends first new told _ back _ unread given _ _ (λ harms. AreReached harms (return_in c.args.session.now)) (devices_of c.args.session.now) (λ o is. is) (plays_reach c.args.session.now c.requires.session) (read_more first old new more (held c.args.reader.now) given _ _ _ _ next.draws.grew story)
     (held c.args.reader.now) old more (held c.next_reading.new.reader) bay c.in-Fault.fault refl next.draws.grew next.needed next.failed next.answers)
 
 pub returns-in-Fault-clause-begun : goal.returns-in-Fault-clause-begun
@@ -49,7 +49,7 @@ returns-in-Memory-clause-ends g c =
     let next = c.in-Memory.ensures.1 in
     let more = next.draws.more in
     let unread = text_after (held c.args.reader.now) more in
-    λ first told back story. memory_ends first new told _ back _ unread given _ _ (λ harms. AreReached harms (return_of c.args.session.now.part)) (devices_of c.args.session.now) (λ o is. is) (plays_reach c.args.session.now c.requires.session) (read_more first old new more (held c.args.reader.now) given _ _ _ _ next.draws.grew story)
+    λ first told back story. memory_ends first new told _ back _ unread given _ _ (λ harms. AreReached harms (return_in c.args.session.now)) (devices_of c.args.session.now) (λ o is. is) (plays_reach c.args.session.now c.requires.session) (read_more first old new more (held c.args.reader.now) given _ _ _ _ next.draws.grew story)
     (refusals [] [])
 
 pub returns-in-Line-Nothing-clause-goes : goal.returns-in-Line-Nothing-clause-goes
@@ -74,7 +74,7 @@ returns-in-Line-Bad-clause-ends g c =
     let unread = text_after (held c.args.reader.now) more in
     let bay = refusals (refusals_of (g.B.Bay.past c.args.bay.now)) (refusals_of (g.B.Bay.past c.args.bay.now)) in
     rw c.lines_given.ensures
-    (λ first told back story. bad_ends first new told _ back _ unread given _ _ (λ harms. AreReached harms (return_of c.args.session.now.part)) (devices_of c.args.session.now) (λ o is. is) (plays_reach c.args.session.now c.requires.session) (read_more first old new more (held c.args.reader.now) given _ _ _ _ next.draws.grew story)
+    (λ first told back story. bad_ends first new told _ back _ unread given _ _ (λ harms. AreReached harms (return_in c.args.session.now)) (devices_of c.args.session.now) (λ o is. is) (plays_reach c.args.session.now c.requires.session) (read_more first old new more (held c.args.reader.now) given _ _ _ _ next.draws.grew story)
     read.0 (held c.next_reading.new.reader) (lines_given c.next_reading.new.reader) next.answers next.given bay c.in-Line-Bad.fault (sym read.1 ∙ c.in-Line-Bad.field-0-is))
 
 pub returns-in-Ok-clause-goes : goal.returns-in-Ok-clause-goes

@@ -4,7 +4,7 @@ use Rattle.edge_io.specs.declared.reader.TheConstants.{MAX_LINES}
 use Rattle.edge_io.specs.Source.{Draws, NoReadFailed}
 use Rattle.edge_io.specs.Sink.{Grows}
 use Rattle.edge_io.specs.LineReader.{held, lines_given, source_of}
-use Rattle.cache_replay.specs.Session.{IsSession, devices_of, names_in, return_of}
+use Rattle.cache_replay.specs.Session.{IsSession, devices_of, names_in, return_in}
 use Rattle.cache_replay.specs.Plays.{IsOutlined, Plays}
 use Rattle.device_bay.specs.Calls.{out_of, refusals_of}
 use Rattle.script_run.specs.Ledger.{KeepsOrder, ledger_of}
@@ -22,8 +22,8 @@ invariant-lines g l = record {
   draws : Draws g.S.Source.reads g.S.Source.left (source_of l.initial.reader).now (source_of l.reader).now;
   failed : NoReadFailed (g.S.Source.reads (source_of l.initial.reader).now) (g.S.Source.reads (source_of l.reader).now);
   sink : Grows (g.K.Sink.writes l.initial.sink) (g.K.Sink.writes l.sink);
-  order : KeepsOrder (return_of l.initial.session.part) (g.B.Bay.past l.initial.bay)
-      (return_of l.session.part) (g.B.Bay.past l.bay);
+  order : KeepsOrder (return_in l.initial.session) (g.B.Bay.past l.initial.bay)
+      (return_in l.session) (g.B.Bay.past l.bay);
   refusals : refusals_of (g.B.Bay.past l.bay) ≡ refusals_of (g.B.Bay.past l.initial.bay);
 }
 

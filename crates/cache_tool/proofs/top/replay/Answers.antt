@@ -2,7 +2,7 @@ use Rattle.std.proofs.Common.{◌≡◌, [], inl, refl, sym, ◌∙◌, List, le
 use Rattle.edge_io.proofs.Draws.{draws_nothing}
 use Rattle.edge_io.specs.LineReader.{source_of}
 use Rattle.device_bay.specs.Calls.{gifts_of, refusals_of}
-use Rattle.cache_replay.specs.Session.{return_of}
+use Rattle.cache_replay.specs.Session.{return_in}
 use Rattle.cache_replay.proofs.Order.{none_back, none_out, order_closed, order_then}
 use Rattle.logged_disk.specs.Device.{State as Device}
 use Rattle.script_run.specs.Ledger.{AreLast, AreReached, ledger_of}
@@ -28,12 +28,12 @@ returns-clause-ends g c =
     let bay = refusals (refusals_of (g.B.Bay.past c.args.bay.now)) (refusals_of (g.B.Bay.past c.run_lines-ending.new.bay)) in
     let ledger = ledger_of g.B.Bay c.args.bay.now in
     let closed = ledger_of g.B.Bay c.close.new.bay in
-    let settle : (t : Told) → Owes ledger (ledger_of g.B.Bay c.run_lines-ending.new.bay) (λ harms. AreReached harms (return_of c.run_lines-ending.new.session.part)) t → EachBack ledger closed t =
-    λ t owes. Deals-settled _ _ _ t.ended _ t.names owes.deals (c.close.ensures.back t.own owes.reached) c.close.ensures.names in
+    let settle : (t : Told) → Owes ledger (ledger_of g.B.Bay c.run_lines-ending.new.bay) (λ harms. AreReached harms (return_in c.run_lines-ending.new.session)) t → EachBack ledger closed t =
+    λ t owes. Deals-settled _ _ _ t.ended _ t.names owes.deals (c.close.ensures.back t.own owes.reached) c.close.ensures.gives.names in
     let ends = Ends-settled bay (g.S.Source.reads (source_of reader).now) (g.S.Source.reads (source_of after).now) (g.K.Sink.writes c.args.sink.now) (g.K.Sink.writes c.run_lines-ending.new.sink) _ (EachBack ledger closed)
     _ (EachBackOrMore ledger closed) settle
-    (λ held given t. wants_settled ledger _ closed _ _ held given t settle (λ none gave. gave_settled c.run_lines-ending.new.session _ _ _ held given t c.close.ensures.back c.close.ensures.names none gave)) c.run_lines-ending.result c.run_lines-ending.ensures.ends in
-    rw (back, c.close.ensures.refusals, ← c.with_buffer-reader.ensures.now) ends
+    (λ held given t. wants_settled ledger _ closed _ _ held given t settle (λ none gave. gave_settled c.run_lines-ending.new.session _ _ _ held given t c.close.ensures.back c.close.ensures.gives.names none gave)) c.run_lines-ending.result c.run_lines-ending.ensures.ends in
+    rw (back, c.close.ensures.gives.refusals, ← c.with_buffer-reader.ensures.now) ends
 
 pub returns-clause-reads : goal.returns-clause-reads
 returns-clause-reads g c =
@@ -61,12 +61,12 @@ returns-in_default-clause-order g c = none_back _ [] _ _ refl (none_out (g.B.Bay
 pub returns-clause-order : goal.returns-clause-order
 returns-clause-order g c =
     let past = g.B.Bay.past c.args.bay.now in
-    let none = none_own c.begin-session.result.part c.begin-session.ensures.devices in
-    order_then _ _ _ _ _ _ c.run_lines-ending.ensures.order (order_closed _ [] _ _ (c.close.ensures.order [])) _
+    let none = none_own (return_in c.begin-session.result) c.begin-session.ensures.devices in
+    order_then _ _ _ _ _ _ c.run_lines-ending.ensures.order (order_closed _ [] _ _ (c.close.ensures.gives.order [])) _
     (subst (λ (own : List Device). AreLast (length (gifts_of past)) own past) (sym none) (none_out past))
 
 pub returns-clause-refusals : goal.returns-clause-refusals
-returns-clause-refusals g c = λ other. c.close.ensures.refusals ∙ c.run_lines-ending.ensures.refusals other
+returns-clause-refusals g c = λ other. c.close.ensures.gives.refusals ∙ c.run_lines-ending.ensures.refusals other
 
 pub returns-in_default-clause-unfailed : goal.returns-in_default-clause-unfailed
 returns-in_default-clause-unfailed g c = unfailed_in_order _ [] _ _ (returns-in_default-clause-order g c) (g.met.B.Bay.is_log c.args.bay.now)

@@ -14,8 +14,8 @@ use Rattle.script_run.specs.Run.{Harm, Run, loosened, no_harm}
 use Rattle.script_run.specs.Turn.{Turn}
 use Rattle.script_run.specs.Behind.{after_line}
 use Rattle.script_run.specs.Takes.{output_of, reading_text}
-use Rattle.cache_replay.specs.Outline.{Outline, all_told, begun, begun_by, count_in, raised, told_of}
-use Rattle.cache_replay.specs.Lines.{AreAnswered, IsReadAs, TellsNone, answers_of, outline_of, outline_read, reading_answer, text_of, texts_of}
+use Rattle.run_promise.specs.Outline.{Outline, all_told, begun, begun_by, count_in, raised, told_of}
+use Rattle.run_promise.specs.Lines.{AreAnswered, IsReadAs, TellsNone, answers_of, outline_of, outline_read, reading_answer, text_of, texts_of}
 
 -- ---- what is printed
 

@@ -10,7 +10,7 @@ use Rattle.script_run.specs.Turn.{Turn}
 use Rattle.script_run.specs.Answers.{step_answer}
 use Rattle.script_run.specs.Behind.{after_line}
 use Rattle.script_run.specs.Takes.{output_of}
-use Rattle.cache_replay.specs.Outline.{IsAnswered, Outline, all_told, count_in, outline_after}
+use Rattle.run_promise.specs.Outline.{IsAnswered, Outline, all_told, count_in, outline_after}
 
 -- ---- one answer a line
 

@@ -5,8 +5,6 @@ use Rattle.tape_base.specs.declared.geometries.BadGeometry.{BadGeometry}
 use Rattle.tape_base.specs.Limits.{first_refusal}
 use Rattle.cache_model.specs.declared.cause.Cause.{Cause}
 use Rattle.cache_model.specs.declared.cause.Cause.TheVariants as cause
-use Rattle.stripe_core.specs.declared.refusal.Refusal.{Refusal}
-use Rattle.stripe_core.specs.declared.refusal.Refusal.TheVariants as refusal
 use Rattle.script_lang.specs.declared.step.Step.{Step}
 use Rattle.script_lang.specs.declared.step.Step.TheVariants as step
 use Rattle.script_lang.specs.declared.answer.Refused.{Refused}
@@ -17,7 +15,7 @@ use Rattle.script_run.specs.Run.{Harm, Run, loosened, no_harm}
 use Rattle.script_run.specs.Turn.{Turn}
 use Rattle.script_run.specs.Answers.{number_of_bad}
 use Rattle.script_run.specs.Behind.{harm_in}
-use Rattle.cache_replay.specs.Stop.{NeedsSession}
+use Rattle.run_promise.specs.Needs.{NeedsSession}
 
 -- ---- the counts that answers tell
 
@@ -39,12 +37,6 @@ count_in (answer.Absent why) = count_of why
 count_in (answer.Refused why took) = count_in_refusal why
 count_in (answer.DeviceFault count took) = count
 count_in _ = 0
-
--- that of a refusal of a stripe
-abbrev pub count_of_refusal : Refusal → ℕ
-count_of_refusal (refusal.DeviceFault count) = count
-count_of_refusal (refusal.Lost index why) = count_of why
-count_of_refusal _ = 0
 
 -- ---- outlines
 

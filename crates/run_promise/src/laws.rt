@@ -1,5 +1,5 @@
 // What the answers of a run tell.
-ghost use Rattle.cache_replay.specs.Lines.{CountsAreKept, TextsAreOutput};
+ghost use Rattle.run_promise.specs.Lines.{CountsAreKept, TextsAreOutput};
 
 /// What is printed for the answers of a run is its output.
 pub fn texts_are_output()

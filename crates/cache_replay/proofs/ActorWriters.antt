@@ -1,0 +1,365 @@
+-- What a line on an actor's writer makes of the actors, and of the run.
+use Rattle.std.proofs.Common.{◌≡◌, ℕ, ◌≤◌, List, [], ◌∷◌, length, refl, sym, ◌∙◌, ap, subst, Bool, true, false, inl, inr, Result, Ok, Err}
+use Rattle.std.specs.Prelude.{Option, Some, None, IfSome, IfOk, IfErr, ◌==◌, if◌then◌else◌, is_some, option_and_then, option_map}
+use Rattle.std.proofs.lemmas.Bool.{eqb-true, eq-eqb}
+use Rattle.tape_base.specs.declared.keys.Key.{Key}
+use Rattle.alternate_vector.specs.Field.{Field}
+use Rattle.actor_table.specs.Table.{Seen, number_of, slot_of, with_actor}
+use Rattle.cache_model.specs.Permit.{GiveUp, Write}
+use Rattle.cache_model.specs.State.{State}
+use Rattle.cache_calls.specs.declared.calls.Calls.{Ghosts as CallsGhosts}
+use Rattle.cache_calls.specs.Actors.{WriterSeen}
+use Rattle.cache_calls.specs.Keeping.{IsAtRest}
+use Rattle.script_lang.specs.declared.answer.StepAnswer.{StepAnswer}
+use Rattle.script_lang.specs.declared.answer.StepAnswer.TheVariants as answer
+use Rattle.script_lang.specs.declared.step.Step.TheVariants as step
+use Rattle.script_run.specs.Run.{Run, Reads, Stream, Writes, actor_of, held_by, no_stream, put_in, with_value, writer_of}
+use Rattle.script_run.specs.Run.{Holding as Held}
+use Rattle.script_run.specs.Answers as says
+use Rattle.script_run.specs.Answers.{busy, idle}
+use Rattle.script_run.specs.Asked as asks
+use Rattle.script_run.specs.Turn.{Turn}
+use Rattle.script_run.specs.Behind.{holds_behind, in_session, of_put, or_else, still_open, streams_closed, streams_fed, streams_opened, writer_at}
+use Rattle.cache_replay.specs.declared.session.Holding.{Holding}
+use Rattle.cache_replay.specs.declared.session.Part.{Part}
+use Rattle.cache_replay.specs.declared.stop.Stop.{Stop}
+use Rattle.cache_replay.specs.declared.stop.Stop.TheVariants.{Memory}
+use Rattle.cache_replay.specs.OneLine.{AnswersActor}
+use Rattle.run_promise.specs.Outline.{count_in}
+use Rattle.cache_replay.specs.Plays.{IsHeldAs, IsStreamOf, PartEnds, PlaysIn, PlaysPart}
+use Rattle.cache_replay.specs.Session.{AreApart, AreHeld, Differ, HoldingSeen, IsActive, IsHeld, IsOpenWriter, LeavesBut, ReaderHeld, TellsCount, WriterHeld, at_in, slots_of}
+use Rattle.cache_replay.specs.Session.{state_in}
+use Rattle.cache_replay.specs.WriterLines.{Closes, Feeds, GivesUp, HasNoWriter, IsLeft, IsPlayed, LeavesWriter, OpenDoes, Opens, TakesWriter, WriterDoes, WriterEnds, WriterLine}
+use Rattle.cache_replay.specs.WriterLines.{WriterMoves, held_in, step_of, writes_in}
+use Rattle.cache_replay.proofs.ActorLines.{DoesNothing, changed_from, held_is, names_are, names_within, part_behind, seen_same, still_line, with_here, with_other}
+use Rattle.cache_replay.proofs.Frames.{Changed, IsElse, IsMine, OthersElse, SameStreams, all_apart, all_held, all_held_as, put_leaves}
+use Rattle.cache_replay.proofs.Free.{others_write_older}
+use Rattle.cache_replay.proofs.OnSession.{StandsBehind, stands_behind}
+
+-- ---- what the actors have
+
+else_by : (w : WriterSeen) (h : HoldingSeen) → Differ (WriterHeld w) h → IsElse (Some w.put) None h
+else_by w (WriterHeld v) d = λ same. let is : w.put ≡ v.put = cc in d is
+else_by w (ReaderHeld r) d = λ same. cc
+
+not_same : (m n : ℕ) → (m == n) ≡ false → n ≡ m → ⊥
+not_same m n nope is = let yea : (m == n) ≡ true = eq-eqb m n (sym is) in cc
+
+-- no other actor has the writer of the same put
+pub others_else : (slots : ℕ → Option HoldingSeen) (n : ℕ) (w : WriterSeen) → AreApart slots → slots n ≡ Some (WriterHeld w) → OthersElse slots n (Some w.put) None
+others_else slots n w apart mine = λ m h nope is. else_by w h (apart n m (WriterHeld w) h (not_same m n nope) mine is)
+
+-- the writer that is left is open
+held_left : (t : State) (put : ℕ) (left : Option WriterSeen) → IsLeft t put left → IfSome (held_in left) (IsHeld t)
+held_left t put None h = tt
+held_left t put (Some w) h = h.1
+
+mine_left : (t : State) (put : ℕ) (left : Option WriterSeen) → IsLeft t put left → (h : HoldingSeen) → held_in left ≡ Some h → IsMine (Some put) None h
+mine_left t put None left h is = cc
+mine_left t put (Some w) left h is =
+    let same : WriterHeld w ≡ h = cc in
+    subst (IsMine (Some put) None) same (ap (λ (n : ℕ). Some n) (sym left.0))
+
+-- ---- the steps of a line on a writer
+
+-- it is a line of that actor
+pub actor_is : (line : WriterLine) (name : List ℕ) → actor_of (step_of line name) ≡ Some name
+actor_is (Feeds body) name = refl
+actor_is Closes name = refl
+actor_is GivesUp name = refl
+actor_is (Opens key pin request response) name = refl
+
+-- what the actor has behind it, and what the others have
+held_here : (line : WriterLine) (run : Run) (s t : State) (turn : Turn) (name : List ℕ) (n : ℕ) → n ≡ number_of run.actors name
+    → (in_session run s t turn (step_of line name)).held n ≡ holds_behind run s t (step_of line name) name
+held_here line run s t turn name n is =
+    ap (λ (f : ℕ → Option Held). f n) (held_is run s t (step_of line name) name (actor_is line name)) ∙ with_here run.held (number_of run.actors name) n _ is
+
+held_there : (line : WriterLine) (run : Run) (s t : State) (turn : Turn) (name : List ℕ) (n m : ℕ) → n ≡ number_of run.actors name → (m == n) ≡ false
+    → (in_session run s t turn (step_of line name)).held m ≡ run.held m
+held_there line run s t turn name n m is nope =
+    ap (λ (f : ℕ → Option Held). f m) (held_is run s t (step_of line name) name (actor_is line name))
+    ∙ with_other run.held (number_of run.actors name) m _ (ap (λ k. m == k) (sym is) ∙ nope)
+
+-- of the streams that of the put alone is another
+same_with : (streams : ℕ → Stream) (put q : ℕ) (x : Stream) → (Some put ≡ Some q → ⊥) → with_value streams put x q ≡ streams q
+same_with streams put q x other = by (q == put) refl
+  where
+    by : (b : Bool) → (q == put) ≡ b → (if b then x else streams q) ≡ streams q
+    by true e = absurd (other (ap (λ (n : ℕ). Some n) (sym (eqb-true q put e))))
+    by false e = refl
+
+same_fed : (streams : ℕ → Stream) (put q : ℕ) (x : Stream) (b : Bool) → (Some put ≡ Some q → ⊥) → (if b then streams else with_value streams put x) q ≡ streams q
+same_fed streams put q x true other = refl
+same_fed streams put q x false other = same_with streams put q x other
+
+abbrev writes : Option Held → Option ℕ
+writes o = option_and_then put_in o
+
+-- the put of a line: that of the actor's writer, or the next one
+abbrev pub IsPutOf : Run → State → WriterLine → List ℕ → ℕ → Type 0
+IsPutOf run s (Feeds body) name put = held_by run name ≡ Some (Writes put)
+IsPutOf run s Closes name put = held_by run name ≡ Some (Writes put)
+IsPutOf run s GivesUp name put = held_by run name ≡ Some (Writes put)
+IsPutOf run s (Opens key pin request response) name put = (held_by run name ≡ None) × (s.next_put ≡ put)
+
+same_streams : (line : WriterLine) (run : Run) (s t : State) (turn : Turn) (name : List ℕ) (put : ℕ) → IsPutOf run s line name put
+    → SameStreams (Some put) run (in_session run s t turn (step_of line name))
+same_streams (Feeds body) run s t turn name put held = λ q other.
+    subst (λ o. of_put run (writes o) (streams_fed run t body turn.refused) q ≡ run.streams q) (sym held) (same_fed run.streams put q _ (run.streams put).sealed other)
+same_streams Closes run s t turn name put held = λ q other.
+    subst (λ o. of_put run (writes o) (streams_closed run turn.refused) q ≡ run.streams q) (sym held) (same_with run.streams put q _ other)
+same_streams GivesUp run s t turn name put held = λ q other. refl
+same_streams (Opens key pin request response) run s t turn name put held = λ q other.
+    subst (λ o. streams_opened run s o q ≡ run.streams q) (sym held.0) (same_with run.streams s.next_put q no_stream (λ e. other (ap (λ (n : ℕ). Some n) (sym held.1) ∙ e)))
+
+-- ---- the run behind a line on a writer
+
+here_left : (run : Run) (t : State) (n : ℕ) (left : Option WriterSeen) → run.held n ≡ writes_in left → IfSome left (λ v. IsStreamOf (run.streams v.put) v)
+    → IsHeldAs run t n (held_in left)
+here_left run t n None held stream = held
+here_left run t n (Some v) held stream = (held, stream)
+
+is_played : (run : Run) (name : List ℕ) (s : State) (slots : ℕ → Option HoldingSeen) (n : ℕ) (w : WriterSeen) → n ≡ number_of run.actors name → slots n ≡ Some (WriterHeld w)
+    → PlaysIn run s slots
+    → IsPlayed run name s w
+is_played run name s slots n w is mine plays =
+    let here : IsHeldAs run s n (Some (WriterHeld w)) = subst (IsHeldAs run s n) mine (plays.held n) in
+    record { held = ap run.held (sym is) ∙ here.0; stream = here.1; told = plays.told }
+
+-- ---- a line that has no writer
+
+-- a line on a writer that is there
+abbrev pub IsOnWriter : WriterLine → Type 0
+IsOnWriter (Opens key pin request response) = ⊥
+IsOnWriter (Feeds body) = Unit {0}
+IsOnWriter Closes = Unit {0}
+IsOnWriter GivesUp = Unit {0}
+
+put_played : (line : WriterLine) (run : Run) (name : List ℕ) (s : State) (w : WriterSeen) → IsOnWriter line → IsPlayed run name s w → IsPutOf run s line name w.put
+put_played (Feeds body) run name s w on played = played.held
+put_played Closes run name s w on played = played.held
+put_played GivesUp run name s w on played = played.held
+put_played (Opens key pin request response) run name s w on played = absurd on
+
+-- what a reader, or nothing, is in the run
+none_written : (run : Run) (s : State) (n : ℕ) (o : Option HoldingSeen) → HasNoWriter o → IsHeldAs run s n o
+    → (writes (run.held n) ≡ None) × (still_open s (run.held n) ≡ run.held n)
+none_written run s n None nope h = (ap writes h, ap (still_open s) h ∙ sym h)
+none_written run s n (Some (WriterHeld w)) nope h = absurd nope
+none_written run s n (Some (ReaderHeld r)) nope h =
+    (ap writes h.0, ap (still_open s) h.0 ∙ (ap (λ o. if is_some o then Some (Reads r.reader) else None) h.1.found ∙ sym h.0))
+
+idles : (line : WriterLine) (run : Run) (s : State) (name : List ℕ) → IsOnWriter line → writer_of run name ≡ None → still_open s (held_by run name) ≡ held_by run name
+    → DoesNothing run s (step_of line name) name idle
+idles (Opens key pin request response) run s name on none held = absurd on
+idles (Feeds body) run s name on none held = record {
+  asks = ap (λ o. asks.if_has o (asks.feeding run s body)) none;
+  holds = held;
+  streams = λ turn. ap (λ o. of_put run o (streams_fed run s body turn.refused)) none;
+  own = λ turn given. given;
+  says = λ turn. ap (λ o. says.if_has o (says.feed_said run s body turn.refused)) none;
+}
+idles Closes run s name on none held = record {
+  asks = ap (λ o. asks.if_has o (asks.closing run s)) none;
+  holds = held;
+  streams = λ turn. ap (λ o. of_put run o (streams_closed run turn.refused)) none;
+  own = λ turn given. given;
+  says = λ turn. ap (λ o. says.if_has o (λ put. says.said s None turn.refused (says.put_said s put))) none;
+}
+idles GivesUp run s name on none held = record {
+  asks = ap (λ o. asks.if_has o (λ put. GiveUp put ∷ [])) none;
+  holds = held;
+  streams = λ turn. refl;
+  own = λ turn given. given;
+  says = λ turn. ap (λ o. says.if_has o answer.Aborted) none;
+}
+
+-- an actor that has something opens none
+some_in_run : (run : Run) (s : State) (n : ℕ) (h : HoldingSeen) → IsHeldAs run s n (Some h) → (x : Held) × (run.held n ≡ Some x)
+some_in_run run s n (WriterHeld w) held = (Writes w.put, held.0)
+some_in_run run s n (ReaderHeld r) held = (Reads r.reader, held.0)
+
+is_busy : (run : Run) (s : State) (name : List ℕ) (key : Key) (pin : ℕ) (request response : List Field) (x : Held) → held_by run name ≡ Some x
+    → DoesNothing run s (step.OpenWrite name key pin request response) name busy
+is_busy run s name key pin request response x held = record {
+  asks = ap (λ o. asks.if_free o (Write (number_of run.actors name) key request response pin ∷ [])) held;
+  holds = ap (λ o. or_else o (writer_at s s.next_put)) held ∙ sym held;
+  streams = λ turn. ap (λ o. streams_opened run s o) held;
+  own = λ turn given. given;
+  says = λ turn. ap (λ o. says.if_free o (says.said s None turn.refused (answer.Writer s.next_put))) held;
+}
+
+-- what holds of each answer holds of the result
+ends_if : {E : Type 0} (result : Result StepAnswer E) (given : Option StepAnswer) (P : StepAnswer → Type 0) → IfOk result (λ said. given ≡ Some said)
+    → ((said : StepAnswer) → given ≡ Some said → P said) → IfOk result P
+ends_if (Ok said) given P h ends = ends said h
+ends_if (Err e) given P h ends = tt
+
+some_at : {X : Type 0} (P : X → Type 0) (o : Option X) (x : X) → o ≡ Some x → IfSome o P → P x
+some_at P o x is h = subst (λ y. IfSome y P) is h
+
+-- ---- a part, and its actors
+
+module _ {S W R : Type 0} (c : CallsGhosts S W R) where
+  -- what the actors have once one was numbered, its writer was taken, and what is left was given back
+  pub given_back : (actors numbered taken last : Seen (Holding W R)) (n : ℕ) (w : W) (left : Option WriterSeen) → ((m : ℕ) → slot_of numbered.slots m ≡ slot_of actors.slots m)
+      → TakesWriter c numbered taken n (Some w) → ((m : ℕ) → slots_of c last m ≡ (if m == n then held_in left else slots_of c taken m))
+      → Changed (slots_of c actors) (slots_of c last) n (held_in left)
+  given_back actors numbered taken last n w left same takes back = λ m. back m ∙ by m (m == n) refl
+    where
+      by : (m : ℕ) (b : Bool) → (m == n) ≡ b → (if b then held_in left else slots_of c taken m) ≡ (if b then held_in left else slots_of c actors m)
+      by m true e = refl
+      by m false e = takes.1 m ∙ (ap (λ (x : Bool). if x then None else slots_of c numbered m) e ∙ seen_same c actors numbered same m)
+
+module _ {S W R : Type 0} {c : CallsGhosts S W R} where
+  -- a line on the writer of a put, as it ends beside each run
+  module _ (now : ℕ) (line : WriterLine) (part new : Part S W R c) (actors last : Seen (Holding W R)) (name : List ℕ) (n put : ℕ) (left : Option W) (given : Option StepAnswer)
+      (number : n ≡ number_of actors.names name) (names : last.names ≡ with_actor actors.names name) (active : IsActive part (slots_of c actors))
+      (others : OthersElse (slots_of c actors) n (Some put) None) (changed : Changed (slots_of c actors) (slots_of c last) n (held_in (option_map c.written left)))
+      (page : new.page ≡ part.page) (rest : IsAtRest (at_in new)) (leaves : LeavesWriter c part.cache new.cache put left given) where
+    abbrev s : State
+    s = state_in part
+
+    abbrev t : State
+    t = state_in new
+
+    but_put : LeavesBut (Some put) None s t
+    but_put = put_leaves put (at_in part) (at_in new) leaves.own
+
+    active_behind : IsActive new (slots_of c last)
+    active_behind = record {
+      part_is = part_behind part new active.part_is leaves.keeps.goes_on rest (ap (λ p. length p.items) page) (Some put) None but_put;
+      held = all_held (Some put) None s t (slots_of c actors) (slots_of c last) n (held_in (option_map c.written left)) but_put changed others active.held
+          (held_left t put (option_map c.written left) leaves.left_is);
+      apart = all_apart (Some put) None (slots_of c actors) (slots_of c last) n (held_in (option_map c.written left)) changed others
+          (mine_left t put (option_map c.written left) leaves.left_is) active.apart;
+    }
+
+    moved : (run : Run) (said : StepAnswer) → PlaysPart run part actors → IsPutOf run s line name put
+        → (m : WriterMoves run name (at_in part) (at_in new) line (option_map c.written left) said)
+        → StandsBehind run (step_of line name) part new m.moves.turn → PlaysPart (in_session run s t m.moves.turn (step_of line name)) new last
+    moved run said plays of m stands =
+        let turn = m.moves.turn in
+        let later : Run = in_session run s t turn (step_of line name) in
+        let at : n ≡ number_of run.actors name = number ∙ ap (λ (all : List (List ℕ)). number_of all name) (sym plays.names) in
+        record {
+          names = names_are run s t turn (step_of line name) name actors.names last.names (actor_is line name) plays.names names;
+          at = record {
+            state = refl;
+            told = stands.told;
+            own = stands.own;
+            held = all_held_as (Some put) None run later s t (slots_of c actors) (slots_of c last) n (held_in (option_map c.written left)) but_put
+                (same_streams line run s t turn name put of) (λ m nope. held_there line run s t turn name n m at nope) changed others plays.at.held
+                (here_left later t n (option_map c.written left) (held_here line run s t turn name n at ∙ m.held) m.stream);
+          };
+        }
+
+    ends_in : (run : Run) (said : StepAnswer) → PlaysPart run part actors → IsPutOf run s line name put
+        → WriterEnds run name (at_in part) (at_in new) line (option_map c.written left) said
+        → PartEnds run (step_of line name) part new last said
+    ends_in run said plays of (inr pair) = inr pair
+    ends_in run said plays of (inl m) = elim (stands_behind run (step_of line name) part new said m.moves (slots_of c actors) active plays.at) [
+      | inr pair ↦ inr pair
+      | inl stands ↦ inl (record { moves = m.moves; plays = moved run said plays of m stands })
+    ]
+
+    answers : (result : Result StepAnswer Stop) → IfOk result (λ said. given ≡ Some said) → IfErr result (λ why. why ≡ Memory)
+        → ((run : Run) (said : StepAnswer) → run.now ≡ now → PlaysPart run part actors → given ≡ Some said
+        → IsPutOf run s line name put × WriterEnds run name (at_in part) (at_in new) line (option_map c.written left) said)
+        → AnswersActor now (step_of line name) part new actors last result
+    answers result said stop does = record {
+      active = active_behind;
+      goes = leaves.keeps.goes_on;
+      ends = ends_if result given (λ said. (run : Run) → run.now ≡ now → PlaysPart run part actors → PartEnds run (step_of line name) part new last said) said
+          (λ said is run moment plays. let d = does run said moment plays is in ends_in run said plays d.0 d.1);
+      unharmed = λ run plays. leaves.keeps.unharmed;
+      counts = ends_if result given (TellsCount (Some new)) said
+          (λ said is. some_at (λ said. Rattle.script_run.specs.Losses.NoLossIsAFault s → count_in said ≤ (at_in new).device.faults) given said is leaves.counts
+          active.part_is.losses);
+      stop = stop;
+      names = names_within actors.names last.names name names;
+    }
+
+  -- a line on the writer that an actor has
+  pub writer_answers : (now : ℕ) (line : WriterLine) → IsOnWriter line → (part new : Part S W R c) (actors numbered taken last : Seen (Holding W R)) (name : List ℕ) (n : ℕ)
+      (w : W) (left : Option W)
+      (given : Option StepAnswer) (result : Result StepAnswer Stop) → n ≡ number_of actors.names name → ((m : ℕ) → slot_of numbered.slots m ≡ slot_of actors.slots m)
+      → last.names ≡ with_actor actors.names name → IsActive part (slots_of c actors)
+      → TakesWriter c numbered taken n (Some w) → ((m : ℕ) → slots_of c last m ≡ (if m == n then held_in (option_map c.written left) else slots_of c taken m))
+      → new.page ≡ part.page → IsAtRest (at_in new)
+      → LeavesWriter c part.cache new.cache (c.written w).put left given
+      → WriterDoes now (at_in part) (at_in new) line (c.written w) (option_map c.written left) given
+      → IfOk result (λ said. given ≡ Some said) → IfErr result (λ why. why ≡ Memory)
+      → AnswersActor now (step_of line name) part new actors last result
+  writer_answers now line on part new actors numbered taken last name n w left given result number same names active takes back page rest leaves does said stop =
+      let v : WriterSeen = c.written w in
+      let mine : slots_of c actors n ≡ Some (WriterHeld v) = sym (seen_same c actors numbered same n) ∙ takes.0 in
+      answers now line part new actors last name n v.put left given number names active (others_else (slots_of c actors) n v active.apart mine)
+      (given_back c actors numbered taken last n w (option_map c.written left) same takes back) page rest leaves result said stop
+      (λ run said moment plays is.
+      let at : n ≡ number_of run.actors name = number ∙ ap (λ (all : List (List ℕ)). number_of all name) (sym plays.names) in
+      let played = is_played run name (state_in part) (slots_of c actors) n v at mine plays.at in (
+        put_played line run name (state_in part) v on played,
+        some_at (λ said. (run : Run) (name : List ℕ) → run.now ≡ now → IsPlayed run name (state_in part) v
+            → WriterEnds run name (at_in part) (at_in new) line (option_map c.written left) said)
+            given said is does run name moment played,
+      ))
+
+  -- an actor that has none
+  pub writer_idles : (now : ℕ) (line : WriterLine) → IsOnWriter line → (part : Part S W R c) (actors numbered taken : Seen (Holding W R)) (name : List ℕ) (n : ℕ)
+      (said : StepAnswer)
+      → said ≡ idle → n ≡ number_of actors.names name → ((m : ℕ) → slot_of numbered.slots m ≡ slot_of actors.slots m) → taken.names ≡ with_actor actors.names name
+      → IsActive part (slots_of c actors) → TakesWriter c numbered taken n None
+      → AnswersActor now (step_of line name) part part actors taken (Ok said)
+  writer_idles now line on part actors numbered taken name n said is number same names active takes =
+      let nope : HasNoWriter (slots_of c actors n) = subst HasNoWriter (seen_same c actors numbered same n) takes.0 in
+      subst (λ x. AnswersActor now (step_of line name) part part actors taken (Ok x)) (sym is)
+      (still_line part actors taken (step_of line name) name (actor_is line name) names (λ m. takes.1 m ∙ seen_same c actors numbered same m) active now idle
+      (λ run plays.
+      let at : n ≡ number_of run.actors name = number ∙ ap (λ (all : List (List ℕ)). number_of all name) (sym plays.names) in
+      let none = none_written run (state_in part) n (slots_of c actors n) nope (plays.at.held n) in
+      idles line run (state_in part) name on (ap (λ k. writes (run.held k)) (sym at) ∙ none.0)
+      (ap (λ k. still_open (state_in part) (run.held k)) (sym at) ∙ (none.1 ∙ ap run.held at))) refl)
+
+  -- an actor that has nothing opens a writer
+  pub open_answers : (now : ℕ) (part new : Part S W R c) (actors numbered last : Seen (Holding W R)) (name : List ℕ) (key : Key) (pin : ℕ) (request response : List Field) (n : ℕ)
+      (left : Option W)
+      (given : Option StepAnswer) (result : Result StepAnswer Stop) → n ≡ number_of actors.names name → ((m : ℕ) → slot_of numbered.slots m ≡ slot_of actors.slots m)
+      → last.names ≡ with_actor actors.names name → IsActive part (slots_of c actors)
+      → slot_of numbered.slots n ≡ None → ((m : ℕ) → slots_of c last m ≡ (if m == n then held_in (option_map c.written left) else slots_of c numbered m))
+      → new.page ≡ part.page → IsAtRest (at_in new)
+      → LeavesWriter c part.cache new.cache (state_in part).next_put left given
+      → OpenDoes (at_in part) (at_in new) n (Opens key pin request response) (option_map c.written left) given
+      → IfOk result (λ said. given ≡ Some said) → IfErr result (λ why. why ≡ Memory)
+      → AnswersActor now (step.OpenWrite name key pin request response) part new actors last result
+  open_answers now part new actors numbered last name key pin request response n left given result number same names active free back page rest leaves does said stop =
+      let line : WriterLine = Opens key pin request response in
+      let none : slots_of c actors n ≡ None = ap (option_map (Rattle.cache_replay.specs.Session.holding_seen c)) (sym (same n) ∙ free) in
+      answers now line part new actors last name n (state_in part).next_put left given number names active
+      (others_write_older (at_in part) active.part_is.rest (slots_of c actors) active.held n)
+      (changed_from (slots_of c actors) (slots_of c numbered) (slots_of c last) n (held_in (option_map c.written left)) (seen_same c actors numbered same) back) page rest leaves
+      result said stop
+      (λ run said moment plays is.
+      let at : n ≡ number_of run.actors name = number ∙ ap (λ (all : List (List ℕ)). number_of all name) (sym plays.names) in
+      let nobody : held_by run name ≡ None = ap run.held (sym at) ∙ subst (IsHeldAs run (state_in part) n) none (plays.at.held n) in (
+        (nobody, refl),
+        some_at (λ said. (run : Run) (name : List ℕ) → held_by run name ≡ None → n ≡ number_of run.actors name → Rattle.cache_model.specs.Vectors.AreTold (state_in part)
+            → WriterEnds run name (at_in part) (at_in new) line (option_map c.written left) said) given said is does run name nobody at plays.at.told,
+      ))
+
+  -- one that has something is busy
+  pub open_busy : (now : ℕ) (part : Part S W R c) (actors numbered : Seen (Holding W R)) (name : List ℕ) (key : Key) (pin : ℕ) (request response : List Field) (n : ℕ)
+      (h : Holding W R) (said : StepAnswer)
+      → said ≡ busy → n ≡ number_of actors.names name → ((m : ℕ) → slot_of numbered.slots m ≡ slot_of actors.slots m) → numbered.names ≡ with_actor actors.names name
+      → IsActive part (slots_of c actors) → slot_of numbered.slots n ≡ Some h
+      → AnswersActor now (step.OpenWrite name key pin request response) part part actors numbered (Ok said)
+  open_busy now part actors numbered name key pin request response n h said is number same names active has =
+      let mine : slots_of c actors n ≡ Some (Rattle.cache_replay.specs.Session.holding_seen c h) = ap (option_map (Rattle.cache_replay.specs.Session.holding_seen c))
+      (sym (same n) ∙ has) in
+      subst (λ x. AnswersActor now (step.OpenWrite name key pin request response) part part actors numbered (Ok x)) (sym is)
+      (still_line part actors numbered (step.OpenWrite name key pin request response) name refl names (seen_same c actors numbered same) active now busy
+      (λ run plays.
+      let at : n ≡ number_of run.actors name = number ∙ ap (λ (all : List (List ℕ)). number_of all name) (sym plays.names) in
+      let x = some_in_run run (state_in part) n (Rattle.cache_replay.specs.Session.holding_seen c h) (subst (IsHeldAs run (state_in part) n) mine (plays.at.held n)) in
+      is_busy run (state_in part) name key pin request response x.0 (ap run.held (sym at) ∙ x.1)) refl)

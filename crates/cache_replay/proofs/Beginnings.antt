@@ -1,0 +1,95 @@
+-- A session that a format began.
+use Rattle.std.proofs.Common.{◌≡◌, ℕ, ◌*◌, List, [], ◌∷◌, refl, sym, ◌∙◌, ap, subst, arith, length}
+use Rattle.std.specs.Prelude.{Option, Some, None, IfSome}
+use Rattle.tape_base.specs.declared.geometries.Geometry.{Geometry}
+use Rattle.tape_base.specs.Geometry.{budget_of}
+use Rattle.logged_disk.specs.Device.{State as Device}
+use Rattle.cache_model.specs.State.{State, after_all, nothing_yet}
+use Rattle.cache_model.specs.Kept.{state_of}
+use Rattle.cache_model.specs.Legal.{format_records}
+use Rattle.cache_model.specs.Vectors.{AreTold}
+use Rattle.model_laws.proofs.ToldGroups.{told_format}
+use Rattle.cache_calls.specs.declared.calls.Calls.{Ghosts as CallsGhosts}
+use Rattle.cache_calls.specs.Begins.{Begins}
+use Rattle.cache_calls.specs.Keeping.{IsAtRest, IsUnharmed}
+use Rattle.script_run.specs.Run.{Run, no_harm}
+use Rattle.script_run.specs.Behind.{formatted}
+use Rattle.script_run.specs.Ledger.{AreReached}
+use Rattle.script_run.specs.Losses.{NoLossIsAFault}
+use Rattle.script_run.specs.Own.{AreOwn}
+use Rattle.script_run.proofs.Losses.{formats_lose_none}
+use Rattle.script_run.proofs.Reading.{formats_own}
+use Rattle.cache_replay.specs.declared.session.Part.{Part}
+use Rattle.cache_replay.specs.declared.session.Session.{Session}
+use Rattle.cache_replay.specs.Session.{AreApart, AreHeld, HoldingSeen, IsAt, IsHeld, IsPart, IsSession, at_in, names_in, return_in, return_of, slots_in, state_in}
+use Rattle.cache_replay.specs.Plays.{CallsAt, IsHeldAs, IsUnharmedAt, Plays, PlaysAt, PlaysIn}
+
+-- ---- no actor has anything
+
+module _ (slots : ℕ → Option HoldingSeen) (none : (n : ℕ) → slots n ≡ None) where
+  none_held : (s : State) → AreHeld s slots
+  none_held s = λ n. subst (λ o. IfSome o (IsHeld s)) (sym (none n)) tt
+
+  none_apart : AreApart slots
+  none_apart = λ m n a b other is too. let no : None ≡ Some a = sym (none m) ∙ is in cc no
+
+  none_held_as : (run : Run) (s : State) → ((n : ℕ) → run.held n ≡ None) → (n : ℕ) → IsHeldAs run s n (slots n)
+  none_held_as run s nothing = λ n. subst (IsHeldAs run s n) (sym (none n)) (nothing n)
+
+module _ {S W R : Type 0} {c : CallsGhosts S W R} (geometry : Geometry) (device : Device) (part : Part S W R c)
+    (begins : Begins c.at c.holds geometry device part.cache) where
+  -- ---- a part
+
+  begun_state : state_in part ≡ after_all nothing_yet (format_records geometry)
+  begun_state = ap state_of begins.kept
+
+  begun_part : IsAtRest (at_in part) → length part.page.items ≡ 512 * budget_of geometry → IsPart part
+  begun_part rest page = record {
+    holds = begins.holds_first;
+    rest = rest;
+    plain = begins.setting;
+    losses = subst NoLossIsAFault (sym begun_state) (formats_lose_none nothing_yet geometry);
+    page = page ∙ ap (λ (s : State). 512 * budget_of s.geometry) (sym begun_state);
+  }
+
+  -- nothing was told of its device
+  begun_reached : device.past ≡ [] → AreReached (no_harm ∷ []) (return_of (Some part))
+  begun_reached past =
+      subst (λ (d : Device). AreReached (no_harm ∷ []) (d ∷ [])) (sym begins.device_is)
+      (record { made = record { later = []; is = past }; all = λ yes. past; counted = omega arith; unharmed = λ trusted. refl }, tt)
+
+  begun_plays : (run : Run) (name : List ℕ) (slots : ℕ → Option HoldingSeen) → ((n : ℕ) → slots n ≡ None)
+      → PlaysIn (formatted run name (format_records geometry)) (state_in part) slots
+  begun_plays run name slots none =
+      let later : Run = formatted run name (format_records geometry) in
+      record {
+        state = ap Some (sym begun_state);
+        told = subst AreTold (sym begun_state) (told_format nothing_yet geometry);
+        own = subst (λ s. AreOwn s later.streams) (sym begun_state) (formats_own nothing_yet geometry later.streams);
+        held = none_held_as slots none later (state_in part) (λ n. refl);
+      }
+
+  begun_unharmed : IsUnharmed (at_in part)
+  begun_unharmed = record { unharmed = λ tells. ap Rattle.cache_model.specs.Damage.has_damage begun_state }
+
+  -- ---- a session
+
+  module _ (new : Session S W R c) (is : new.part ≡ Some part) (none : (n : ℕ) → slots_in new n ≡ None) where
+    pub session_begins : IsAtRest (at_in part) → length part.page.items ≡ 512 * budget_of geometry → IsSession new
+    session_begins rest page = subst (λ p. IsAt p (slots_in new)) (sym is)
+        (record { part_is = begun_part rest page; held = none_held (slots_in new) none (state_in part); apart = none_apart (slots_in new) none })
+
+    pub session_reached : device.past ≡ [] → AreReached (no_harm ∷ []) (return_in new)
+    session_reached past = subst (λ p. AreReached (no_harm ∷ []) (return_of p)) (sym is) (begun_reached past)
+
+    pub session_plays : (old : Session S W R c) (run : Run) (name : List ℕ) → names_in new ≡ names_in old → new.now ≡ old.now → device.past ≡ []
+        → Plays run old → Plays (formatted run name (format_records geometry)) new
+    session_plays old run name names now past plays =
+        let later : Run = formatted run name (format_records geometry) in
+        record {
+          names = plays.names ∙ sym names;
+          now = plays.now ∙ sym now;
+          at = subst (λ p. PlaysAt later p (slots_in new)) (sym is) (begun_plays run name (slots_in new) none);
+          unharmed = subst (λ p. IsUnharmedAt p) (sym is) begun_unharmed;
+          calls = subst (λ p. CallsAt later p) (sym is) (ap (λ (d : Device). d.past) begins.device_is ∙ past);
+        }

@@ -1,0 +1,23 @@
+-- Which lines need a session, and which device a format asks for.
+use Rattle.std.specs.Prelude.{ℕ, ◌≡◌, List, None, ⊤}
+use Rattle.tape_base.specs.Limits.{first_refusal}
+use Rattle.script_lang.specs.declared.step.Step.{Step}
+use Rattle.script_lang.specs.declared.step.Step.TheVariants as step
+
+-- a line that works on a session
+abbrev pub NeedsSession : Step → Type 0
+NeedsSession (step.Format name segments buckets content agg reach fragment generation alternates) = ⊥
+NeedsSession (step.Now moment) = ⊥
+NeedsSession _ = ⊤
+
+-- the device that an accepted format attaches has the name of its line
+abbrev pub AttachesAs : List ℕ → Step → Type 0
+AttachesAs name (step.Format other segments buckets content agg reach fragment generation alternates) =
+    (name ≡ other) × (first_refusal segments buckets content agg reach fragment alternates ≡ None)
+AttachesAs name _ = ⊥
+
+-- and so many blocks are asked of it
+abbrev pub AttachesWith : (name : List ℕ) (blocks : ℕ) → Step → Type 0
+AttachesWith name blocks (step.Format other segments buckets content agg reach fragment generation alternates) =
+    (name ≡ other) × (blocks ≡ content) × (first_refusal segments buckets content agg reach fragment alternates ≡ None)
+AttachesWith name blocks _ = ⊥
