@@ -1,0 +1,11 @@
+-- What is left of a put that is refused.
+use Rattle.std.specs.Prelude.{ℕ, ◌≡◌, false}
+use Rattle.cache_model.specs.State.{State}
+use Rattle.cache_model.specs.Legal.{is_writing}
+use Rattle.cache_calls.specs.declared.calls.Refusal.{Refusal}
+use Rattle.cache_calls.specs.declared.calls.Refusal.TheVariants as refusal
+
+-- it is not open, unless memory was wanting
+abbrev pub IsOver : State → ℕ → Refusal → Type 0
+IsOver t put (refusal.Memory e) = Unit {0}
+IsOver t put why = is_writing t put ≡ false
