@@ -16,3 +16,6 @@ pub mod Copies
 pub mod SoundFlush
 pub mod Written
 pub mod Live
+pub mod Buckets
+pub mod FewerRows
+pub mod Lesser

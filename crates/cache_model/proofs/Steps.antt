@@ -4,7 +4,7 @@ use Rattle.std.specs.Prelude.{Option, Some, None}
 use Rattle.std.specs.List.{AllByRecursion}
 use Rattle.std.proofs.lemmas.List.Sums.{fold-append}
 use Rattle.cache_model.specs.declared.record.Rec.{Rec}
-use Rattle.cache_model.specs.State.{State, state_after, after_all}
+use Rattle.cache_model.specs.State.{State, AllAlong, state_after, after_all}
 use Rattle.cache_model.specs.Permit.{Permit, Work, Intent, End, Stays, Done, Fails, Reason, work_after}
 use Rattle.cache_model.specs.Legal.{Does, Advances, MayGrow, nothing, more}
 
@@ -92,3 +92,8 @@ alone p s i recs why n h =
     let q : f.rest ≡ [] = rest_of p (after_all s f.added) i f.end f.rest _ (n f.added f.end f.does) f.behind in
     let r : recs ≡ f.added = f.split ∙ (ap (λ xs. f.added ++ xs) q ∙ append-nil f.added) in
     (f.end, subst (λ xs. Does p s i xs f.end) (sym r) f.does)
+
+-- what holds of each record of two lists along the way holds of both together
+pub along_append : (Holds : State → Rec → Type 0) (s : State) (a b : List Rec) → AllAlong Holds s a → AllAlong Holds (after_all s a) b → AllAlong Holds s (a ++ b)
+along_append Holds s [] b h k = k
+along_append Holds s (r ∷ a) b h k = (h.0, along_append Holds (state_after s r) a b h.1 k)

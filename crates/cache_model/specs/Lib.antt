@@ -15,5 +15,6 @@ pub mod Tape
 pub mod Vectors
 pub mod Opening
 pub mod Openings
+pub mod Slots
 pub mod Syncs
 pub mod Forgetting

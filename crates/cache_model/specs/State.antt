@@ -1,9 +1,8 @@
 -- What the records of a session stand for: one record of values, and what each record makes of it.
-use Rattle.std.specs.Prelude.{ℕ, max, ◌+◌, ◌-◌, ◌*◌, ◌==◌, nat_le, Bool, true, false, not, if◌then◌else◌, List, [], ◌∷◌, ◌++◌, map, filter, find, fold, Option, Some, None, option_map, option_and_then, option_to_list, slice_get, unwrap_or, length}
+use Rattle.std.specs.Prelude.{ℕ, max, ◌+◌, ◌-◌, ◌*◌, ◌==◌, nat_le, Bool, true, false, not, if◌then◌else◌, List, [], ◌∷◌, ◌++◌, map, filter, find, fold, Option, Some, None, option_map, option_and_then, option_to_list, slice_get, unwrap_or, length, refl}
 use Rattle.std.specs.Map.{lookup}
 use Rattle.std.specs.List.{flat_map}
 use Rattle.std.proofs.Math.Dec.{lit≤, lit<}
-use Rattle.std.specs.Prelude.{refl}
 use Rattle.tape_base.specs.declared.keys.Key.{Key}
 use Rattle.tape_base.specs.declared.pieces.PieceId.{PieceId}
 use Rattle.tape_base.specs.declared.digests.Digest.{Digest}
@@ -548,3 +547,8 @@ state_after s (rec.Fault count) = record s { fault = count; tried = true }
 -- the state behind records, one after the other
 abbrev pub after_all : State → List Rec → State
 after_all s recs = fold state_after s recs
+
+-- it holds of each record, at the state before that
+abbrev pub AllAlong : (State → Rec → Type 0) → State → List Rec → Type 0
+AllAlong Holds s [] = Unit {0}
+AllAlong Holds s (r ∷ recs) = Holds s r × AllAlong Holds (state_after s r) recs

@@ -16,7 +16,7 @@ use Rattle.cache_model.specs.declared.record.Rec.{Rec}
 use Rattle.alternate_vector.specs.Field.{Field}
 use Rattle.tape_base.specs.declared.keys.Key.{Key}
 use Rattle.cache_model.specs.declared.record.Rec.TheVariants as rec
-use Rattle.cache_model.specs.State.{State, Row, ReaderRow, state_after, after_all, cursor_next, live_row_of}
+use Rattle.cache_model.specs.State.{State, Row, ReaderRow, state_after, after_all, cursor_next, live_row_of, AllAlong}
 use Rattle.cache_model.specs.Verdict.{next_piece}
 use Rattle.cache_model.specs.Permit.{Permit, Intent, Flush, Sync, SyncBegin, SyncStep, Drain, CleanSync, Write, Fragment, Overflow, Weigh, Finish, Commit, GiveUp, Remove, Look, ReadOn, ReadAll, StopReading, End, Work, Reason}
 use Rattle.cache_model.specs.Room.{MayDisplace, displaced_record}
@@ -24,17 +24,17 @@ use Rattle.cache_model.specs.Given
 use Rattle.cache_model.specs.Legal
 use Rattle.cache_model.specs.Legal.{Does, Advances, MayGrow, nothing, more, IsStep, answer_record}
 use Rattle.model_laws.specs.FlushLaws.{IsOfDevice}
-use Rattle.model_laws.specs.StepLaws.{AllAlong, IsBacked, IsNumbered, IsRisen}
+use Rattle.model_laws.specs.StepLaws.{IsBacked, IsNumbered, IsRisen}
 use Rattle.cache_model.specs.Due.{due_pieces}
 use Rattle.cache_model.specs.Outcomes.{Copied, Copy, NoRoom, Outcome, Refused, Spoiled, copies_of, flush_tail, front_of, moved_record, moved_records, records_of, stopped_front_of, stopped_records_of}
 use Rattle.cache_model.specs.Syncing
 use Rattle.cache_model.specs.Syncing.{CannotEnd, DoesCleanSync, DoesSync, DoesSyncStep, MayStopSync, MaySyncBehind, StopsBehind, Syncing, Unmarks, at_first, begun_record, behind_records, ended_records, first_records, sync_records}
-use Rattle.cache_model.proofs.Steps.{all_append}
+use Rattle.cache_model.proofs.Steps.{all_append, along_append}
 use Rattle.cache_model.proofs.Syncing.{AreOfSyncs, IsOfSync, after_syncs, behind_of, ended_of, first_of, sync_of, unmark_of}
 use Rattle.model_laws.proofs.Alike.{IsAlike, counts_alike, outcomes_alike}
 use Rattle.model_laws.proofs.Among.{call_made}
 use Rattle.model_laws.proofs.Listed.{live_by_row, payload_told}
-use Rattle.model_laws.proofs.BackedFlush.{along_append, front_is_backed, risen, stopped_front, stopped_is_backed}
+use Rattle.model_laws.proofs.BackedFlush.{front_is_backed, risen, stopped_front, stopped_is_backed}
 
 -- what is said of a record, all together
 abbrev IsRight : Permit → State → Rec → Type 0

@@ -3,17 +3,14 @@ use Rattle.std.proofs.Common.{ℕ, List, [], ◌∷◌, ◌++◌}
 use Rattle.device_log.specs.Calls.{Asked}
 use Rattle.cache_model.specs.declared.record.Rec.{Rec}
 use Rattle.cache_model.specs.declared.record.Rec.TheVariants as rec
-use Rattle.cache_model.specs.State.{State, Row, after_all, state_after}
+use Rattle.cache_model.specs.State.{State, Row, after_all, state_after, AllAlong}
 use Rattle.cache_model.specs.Permit.{Permit}
+use Rattle.cache_model.proofs.Steps.{along_append}
 use Rattle.cache_model.specs.Given.{MayCount}
 use Rattle.model_laws.specs.FlushLaws.{IsOfDevice}
-use Rattle.model_laws.specs.StepLaws.{AllAlong, IsRisen}
+use Rattle.model_laws.specs.StepLaws.{IsRisen}
 use Rattle.cache_model.specs.Outcomes.{AreOutcomes, Copied, IsOutcome, NoRoom, Outcome, Refused, Spoiled, front_of, left_behind, records_of, stopped_front_of, stopped_records, stopped_records_of}
 use Rattle.model_laws.proofs.Alike.{IsAlike, alike_self, alike_stopped, outcome_alike}
-
-pub along_append : (Holds : State → Rec → Type 0) (s : State) (a b : List Rec) → AllAlong Holds s a → AllAlong Holds (after_all s a) b → AllAlong Holds s (a ++ b)
-along_append Holds s [] b h k = k
-along_append Holds s (r ∷ a) b h k = (h.0, along_append Holds (state_after s r) a b h.1 k)
 
 pub risen : (p : Permit) (s : State) (asked : Asked) (count : ℕ) → MayCount p s asked count → IsRisen p s (rec.Fault count)
 risen p s asked count m = (m.rose, (asked, m.refused))

@@ -23,7 +23,7 @@ use Rattle.cache_model.specs.Openings.{IsOpening, opened_records}
 use Rattle.cache_model.specs.Outcomes.{AreOutcomes, Copy, Outcome, began_record, copies_of, flush_tail, front_of, moved_record, moved_records}
 use Rattle.cache_model.specs.Permit.{Permit, Setting, Intent, Flush, Sync, SyncBegin, SyncStep, Drain, CleanSync, Write, Fragment, Overflow, Weigh, Finish, Commit, GiveUp, Remove, Look, ReadOn, ReadAll, StopReading, End, Work, Reason}
 use Rattle.cache_model.specs.Room.{copies_end, is_flush_exhausted, limit}
-use Rattle.cache_model.specs.State.{State, Row, after_all, blocks_of_row, moved_row, nothing_yet, place_now, row_in, row_of, row_of_found, state_after, without}
+use Rattle.cache_model.specs.State.{State, Row, after_all, blocks_of_row, moved_row, nothing_yet, place_now, row_in, row_of, row_of_found, state_after, without, AllAlong}
 use Rattle.cache_model.specs.Syncing.{AtOnce, InParts, MaySyncBehind, Syncing, WhereDue, at_first, behind_records, first_records}
 use Rattle.cache_model.specs.Tape.{AreApart, AreRising, IsSound}
 use Rattle.cache_model.proofs.Aside.{AllAside, IsAside, aside_leaves, lookup_aside, one_aside, reading_on_aside}
@@ -32,11 +32,9 @@ use Rattle.cache_model.proofs.Onward.{later_advanced, legal_is_sound}
 use Rattle.cache_model.proofs.Rows.{ArePart, apart-part}
 use Rattle.cache_model.proofs.Sound.{AllLeaveTape, IsLater, LeavesTape, buffer_left, displaced_leave}
 use Rattle.cache_model.proofs.SoundFlush.{copies_part, copies_ready, copies_within, due_part, front_aside, front_leaves, part_ready, stopped_aside}
-use Rattle.cache_model.proofs.Steps.{after_all-append, all_append}
+use Rattle.cache_model.proofs.Steps.{after_all-append, all_append, along_append}
 use Rattle.cache_model.proofs.Syncing.{AllLeaveSyncs, AreOfSyncs, after_syncs, all_resynced, behind_of, clean_aside, drain_splits, first_of, front_leaves_syncs, step_aside, sync_splits, syncs_aside, unmark_aside}
-use Rattle.model_laws.specs.StepLaws.{AllAlong}
 use Rattle.model_laws.specs.TapeLaws.{EndsBelow, FoundBelow, IsBelow, RowBelow}
-use Rattle.model_laws.proofs.BackedFlush.{along_append}
 use Rattle.model_laws.proofs.Unsynced.{may_flush}
 
 -- ---- numbers

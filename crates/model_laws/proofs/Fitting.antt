@@ -16,8 +16,8 @@ use Rattle.cache_model.specs.Openings.{FitsSegment}
 use Rattle.cache_model.proofs.Found.{no_truth}
 use Rattle.cache_model.proofs.Steps.{after_all-append}
 use Rattle.model_laws.proofs.Forgetting.{not_true}
-use Rattle.model_laws.proofs.Buckets.{bucket_below, fewer, length-without, one_more, used, used_is, used_less}
-use Rattle.model_laws.specs.RoomLaws.{AllFit}
+use Rattle.cache_model.proofs.Buckets.{bucket_below, fewer, length-without, one_more, used, used_is, used_less}
+use Rattle.cache_model.specs.Slots.{AllFit}
 
 -- ---- a piece that goes
 

@@ -19,12 +19,10 @@ mod Made
 mod Serials
 mod MarkedEmpty
 mod Determined
-pub mod Buckets
 mod Purged
 pub mod Fitting
 mod Tenths
 mod Below
-pub mod FewerRows
 pub mod Fits
 mod Possible
 mod Tried

@@ -9,7 +9,7 @@ use Rattle.cache_model.specs.Verdict.{digest_in, next_piece, next_row, payload_o
 use Rattle.cache_model.specs.Legal.{IsAsListed, IsNextAsListed, IsUnlike}
 use Rattle.cache_model.proofs.Found.{none_is, same_some}
 use Rattle.cache_model.proofs.Lists.{own_piece}
-use Rattle.model_laws.proofs.FewerRows.{live_stands}
+use Rattle.cache_model.proofs.FewerRows.{live_stands}
 
 -- where nothing comes next, nothing else than what is listed does
 pub none_next : (s : State) (r : ReaderRow) → next_row s r ≡ None → IsNextAsListed s r

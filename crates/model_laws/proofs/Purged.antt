@@ -14,7 +14,7 @@ use Rattle.cache_model.specs.Room.{ArePurged, MayDisplace, is_full_with, rows_le
 use Rattle.cache_model.specs.Tape.{AreApart, IsSound, NotAmong}
 use Rattle.cache_model.proofs.Found.{no_truth}
 use Rattle.cache_model.proofs.SoundFlush.{among_part}
-use Rattle.model_laws.proofs.Buckets.{AreAmong, IsTwin, length-kept, length-left, twin_of, twin_used, used, used_is, used_left}
+use Rattle.cache_model.proofs.Buckets.{AreAmong, IsTwin, length-kept, length-left, twin_of, twin_used, used, used_is, used_left}
 use Rattle.cache_model.proofs.Rows.{ArePart, done, keep, skip, apart-part, not_among-part, part-filter, part-trans}
 
 part_none : (rows : List Row) → ArePart [] rows

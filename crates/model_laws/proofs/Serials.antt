@@ -3,7 +3,7 @@ use Rattle.std.proofs.Common.{◌≡◌, ℕ, ◌+◌, ◌<◌, ◌⊎◌, inl, 
 use Rattle.std.specs.Prelude.{Option, if◌then◌else◌}
 use Rattle.cache_model.specs.declared.record.Rec.{Rec}
 use Rattle.cache_model.specs.declared.record.Rec.TheVariants as rec
-use Rattle.cache_model.specs.State.{State, Mark, Row, after_all, cursor_next, nothing_yet, state_after}
+use Rattle.cache_model.specs.State.{State, Mark, Row, after_all, cursor_next, nothing_yet, state_after, AllAlong}
 use Rattle.cache_model.specs.Permit.{Setting, Permit, Intent, CleanSync, Reason, End, Work}
 use Rattle.cache_model.specs.Due.{due_pieces}
 use Rattle.cache_model.specs.Outcomes.{flush_tail, front_of, stopped_front_of}
@@ -11,12 +11,10 @@ use Rattle.cache_model.specs.Syncing
 use Rattle.cache_model.specs.Syncing.{DoesCleanSync, DoesSync, MayStopSync, MaySyncBehind, StopsBehind, Syncing, Unmarks, at_first, behind_records, begun_record, ended_records, first_records, is_in_parts, needs_sync, needs_whole, next_serial, once_ended, sync_records, unmark_records}
 use Rattle.cache_model.specs.Legal
 use Rattle.cache_model.specs.Legal.{Advances, Course, Does, IsLegal, MayGrow, more, nothing}
-use Rattle.cache_model.proofs.Steps.{after_all-append, all_append, all_as}
+use Rattle.cache_model.proofs.Steps.{after_all-append, all_append, all_as, along_append}
 use Rattle.cache_model.proofs.Syncing.{LeavesSyncs, front_leaves_syncs, tail_leaves_syncs}
 use Rattle.model_laws.specs.AskLaws.{IsHeadGreatest, IsNextSerial, way_of}
-use Rattle.model_laws.specs.StepLaws.{AllAlong}
 use Rattle.model_laws.proofs.Asks.{insert_leaves}
-use Rattle.model_laws.proofs.BackedFlush.{along_append}
 use Rattle.model_laws.proofs.Grouped
 use Rattle.model_laws.proofs.Grouped.{Grouped, IsOfInsert, IsPlain, grouped, stopped_leaves_syncs}
 use Rattle.model_laws.proofs.Marks.{AllLeaveMarks, LeavesMarks, ended_marks, ends_marks, first_marks, leave_marks, serial_left, where_marks}

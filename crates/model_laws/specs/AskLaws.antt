@@ -4,13 +4,12 @@ use Rattle.std.specs.Prelude.{ℕ, ◌≡◌, ◌<◌, Bool, true, false, List, 
 use Rattle.std.specs.List.{AllByRecursion}
 use Rattle.cache_model.specs.declared.record.Rec.{Rec}
 use Rattle.cache_model.specs.declared.record.Rec.TheVariants as rec
-use Rattle.cache_model.specs.State.{State, Mark, after_all, cursor_next, floor_next, nothing_yet}
+use Rattle.cache_model.specs.State.{State, Mark, after_all, cursor_next, floor_next, nothing_yet, AllAlong}
 use Rattle.cache_model.specs.Permit.{Permit, Setting, IsAmong, Intent, Flush, Sync, SyncBegin, SyncStep, Drain, CleanSync, Fragment, Finish, Reason, End, Stays, Done, Fails}
 use Rattle.cache_model.specs.Syncing.{Syncing, AtOnce, InParts, WhereDue, at_first, ends_first, is_due_now, is_in_parts, is_out_of_reach, must_unmark, needs_sync, needs_whole, next_serial}
 use Rattle.cache_model.specs.Outcomes.{began_record}
 use Rattle.cache_model.specs.ToRead.{flushes_first}
 use Rattle.cache_model.specs.Legal.{Course, Does, IsLegal, IsStep}
-use Rattle.model_laws.specs.StepLaws.{AllAlong}
 
 -- ---- a stripe that does not sync
 

@@ -6,11 +6,11 @@ use Rattle.tape_base.specs.Geometry.{budget_of}
 use Rattle.evacuator.specs.Choice.{kept_within}
 use Rattle.cache_model.specs.declared.record.Rec.{Rec}
 use Rattle.cache_model.specs.declared.record.Rec.TheVariants as rec
-use Rattle.cache_model.specs.State.{State, Row, after_all, floor_next, floor_now, live_row_of}
+use Rattle.cache_model.specs.State.{State, Row, after_all, floor_next, floor_now, live_row_of, AllAlong}
 use Rattle.model_laws.specs.Choices.{AreTried, HasBytes, IsFaithful}
 use Rattle.device_log.specs.Calls.{Asked}
 use Rattle.cache_model.specs.Given.{MayCount}
-use Rattle.model_laws.specs.StepLaws.{AllAlong, IsOfGiven, IsRefusalCount, IsRisen}
+use Rattle.model_laws.specs.StepLaws.{IsOfGiven, IsRefusalCount, IsRisen}
 use Rattle.cache_model.specs.Tape.{IsSound}
 use Rattle.cache_model.specs.Verdict.{piece_at}
 use Rattle.cache_model.specs.Permit.{Permit}

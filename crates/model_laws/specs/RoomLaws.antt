@@ -1,21 +1,17 @@
 -- What an entry displaces, and that each segment has room for what is live of it.
-use Rattle.std.specs.Prelude.{ℕ, ◌≡◌, ◌≢◌, ◌⊎◌, ◌+◌, ◌*◌, ◌/◌, Bool, true, false, List, [], ◌∷◌, ◌++◌, length, Option, Some, AllPairs, Contains}
+use Rattle.std.specs.Prelude.{ℕ, ◌≡◌, ◌≢◌, ◌⊎◌, ◌+◌, ◌*◌, ◌/◌, Bool, true, false, List, [], ◌∷◌, ◌++◌, length, Option, AllPairs, Contains}
 use Rattle.std.specs.List.{AllByRecursion}
 use Rattle.tape_base.specs.declared.pieces.PieceId.{PieceId}
 use Rattle.tape_base.specs.declared.digests.Digest.{Digest}
 use Rattle.cache_model.specs.declared.record.Rec.{Rec}
 use Rattle.cache_model.specs.declared.record.Rec.TheVariants as rec
-use Rattle.cache_model.specs.State.{State, Row, after_all, live_row_of, nothing_yet, without}
+use Rattle.cache_model.specs.State.{State, Row, after_all, nothing_yet, without}
 use Rattle.cache_model.specs.Permit.{Setting, Permit, Intent, Reason, End}
-use Rattle.cache_model.specs.Room.{MayDisplace, bucket_of_piece, displaced_record, displaces, is_full_for, is_full_with, rows_of_segment, segment_of_piece}
-use Rattle.cache_model.specs.Openings.{FitsSegment}
+use Rattle.cache_model.specs.Room.{MayDisplace, displaced_record, displaces, is_full_for, rows_of_segment, segment_of_piece}
 use Rattle.cache_model.specs.Tape.{AreApart, IsSound}
 use Rattle.cache_model.specs.Legal.{Course, Does, IsLegal, IsStep, MayFlush}
 use Rattle.cache_model.specs.Syncing.{MaySyncBehind, Syncing}
-
--- each segment has slots for its live pieces
-abbrev pub AllFit : State → Type 0
-AllFit s = (segment : ℕ) → FitsSegment s segment
+use Rattle.cache_model.specs.Slots.{AllFit, HasNoMoreLive, HasSlotForCopy}
 
 -- behind what the entry of a piece displaces there is a slot for it
 abbrev pub SlotIsMade : Type 0
@@ -65,14 +61,6 @@ InsertFits = (p : Permit) (s : State) (piece : PieceId) (added : List Rec) (plac
 
 -- ---- whole sessions
 
--- the piece is live
-abbrev pub IsLivePiece : State → PieceId → Type 0
-IsLivePiece s id = (row : Row) × (live_row_of s id ≡ Some row)
-
--- no piece is live in t that is not in s
-abbrev pub HasNoMoreLive : State → State → Type 0
-HasNoMoreLive s t = (id : PieceId) → IsLivePiece t id → IsLivePiece s id
-
 -- where no piece becomes live, and none has two rows, there is room as before
 abbrev pub LessFits : Type 0
 LessFits = (s t : State) → AreApart t.rows → t.geometry ≡ s.geometry → HasNoMoreLive s t → AllFit s → AllFit t
@@ -96,11 +84,6 @@ LegalFits = (setting : Setting) (courses : List Course) (recs : List Rec) → se
 -- the buffer is written out and the next one begins, with syncs or without
 abbrev pub GoesThrough : Permit → State → List Rec → Type 0
 GoesThrough p s added = MayFlush p s added ⊎ ((k : Syncing) × MaySyncBehind p k s added)
-
--- once the piece has left its old place there is a slot for it in its segment
-abbrev pub HasSlotForCopy : State → PieceId → Type 0
-HasSlotForCopy s piece =
-    is_full_with s (bucket_of_piece s piece) (without piece (rows_of_segment s (segment_of_piece s piece))) ≡ false
 
 -- each copy of a flush has a slot just before it is recorded, so that it displaces nothing
 abbrev pub MoveDisplacesNothing : Type 0

@@ -15,7 +15,7 @@ use Rattle.alternate_vector.specs.Field.{Field}
 use Rattle.cache_model.specs.declared.answer.ReadAnswer.{ReadAnswer}
 use Rattle.cache_model.specs.declared.record.Rec.{Rec}
 use Rattle.cache_model.specs.declared.record.Rec.TheVariants as rec
-use Rattle.cache_model.specs.State.{State, Row, PutRow, state_after, after_all, live_row_of, place_now, put_of, reader_of}
+use Rattle.cache_model.specs.State.{State, Row, PutRow, AllAlong, after_all, live_row_of, place_now, put_of, reader_of}
 use Rattle.cache_model.specs.Verdict.{live_vector_of, payload_of_piece}
 use Rattle.cache_model.specs.Permit.{Permit, IsAmong, Intent, Flush, Fragment, Weigh, Finish, GiveUp, Remove, Look, ReadAll, StopReading, Reason, End, Done, Fails, Work, work_after}
 use Rattle.cache_model.specs.Room.{limit, has_room}
@@ -103,11 +103,6 @@ WriterIsEnded = (p : Permit) (s : State) (intents : List Intent) (added : List R
     → EndsWith (GiveUp put) intents → IsStep p s intents added why → is_writing (after_all s added) put ≡ false
 
 -- ---- each record of a step
-
--- it holds of each record, at the state before that
-abbrev pub AllAlong : (State → Rec → Type 0) → State → List Rec → Type 0
-AllAlong Holds s [] = Unit {0}
-AllAlong Holds s (r ∷ recs) = Holds s r × AllAlong Holds (state_after s r) recs
 
 -- a put or a reader that opens has the next number, and that of a put stays below the limit
 abbrev pub IsNumbered : State → Rec → Type 0

@@ -9,12 +9,11 @@ use Rattle.tape_base.specs.declared.geometries.Geometry.{Geometry}
 use Rattle.cache_model.specs.Opening.{Opening}
 use Rattle.cache_model.specs.Openings.{IsOpening, opened_records}
 use Rattle.cache_model.specs.Room.{limit}
-use Rattle.cache_model.specs.State.{State, Row, after_all, blocks_of_row, floor_now, live_row_of, nothing_yet, place_now, row_of}
+use Rattle.cache_model.specs.State.{State, Row, after_all, blocks_of_row, floor_now, live_row_of, nothing_yet, place_now, row_of, AllAlong}
 use Rattle.cache_model.specs.Verdict.{piece_at}
 use Rattle.cache_model.specs.Permit.{Setting, Permit, Intent, Reason}
 use Rattle.cache_model.specs.Legal.{Course, IsLegal, IsStep}
 use Rattle.cache_model.specs.Tape.{IsSound}
-use Rattle.model_laws.specs.StepLaws.{AllAlong}
 
 -- each legal chronicle is sound
 abbrev pub LegalIsSound : Type 0

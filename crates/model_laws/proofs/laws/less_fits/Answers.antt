@@ -1,4 +1,4 @@
-use Rattle.model_laws.proofs.FewerRows.{less_fits}
+use Rattle.cache_model.proofs.FewerRows.{less_fits}
 use Rattle.model_laws.proofs.laws.less_fits.Goals as goal
 
 pub returns : goal.returns

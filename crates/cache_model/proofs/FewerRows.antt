@@ -16,8 +16,8 @@ use Rattle.cache_model.proofs.Rows.{apart-part, part-filter, part-trans}
 use Rattle.cache_model.proofs.SoundFlush.{among_part}
 use Rattle.cache_model.proofs.Walks.{all_among, among_found, differs}
 use Rattle.cache_model.proofs.Written.{passes}
-use Rattle.model_laws.proofs.Buckets.{bucket_below, fewer, length-taken, one_more, used, used_is, used_less}
-use Rattle.model_laws.specs.RoomLaws.{AllFit, HasNoMoreLive, IsLivePiece}
+use Rattle.cache_model.proofs.Buckets.{bucket_below, fewer, length-taken, one_more, used, used_is, used_less}
+use Rattle.cache_model.specs.Slots.{AllFit, HasNoMoreLive, IsLivePiece}
 
 -- ---- rows that pass a test
 
