@@ -7,12 +7,12 @@ ghost use Rattle.doc_header.specs.Document.{digest_of_document, document_bytes};
 ghost use Rattle.doc_header.specs.Reading.{document_digest};
 ghost use Rattle.doc_header.specs.Moving.{moved_to};
 ghost use Rattle.agg_buffer.specs.Buffer.{IsWhole as IsWholePiece, blocks_in, filled_of, empty_buffer, next_place_of, room_of};
-ghost use Rattle.std.specs.Prelude.{[], ◌∷◌, false, IsOk, IsPermutation};
+ghost use Rattle.std.specs.Prelude.{[], ◌∷◌, false, true, IsOk, IsPermutation};
 ghost use Rattle.std.specs.Bool.{OnTrue};
 ghost use Rattle.logged_disk.specs.Device.{Affords, IsWhole, Keeps};
 ghost use Rattle.dir_table.specs.Window.{first_window};
 ghost use Rattle.dir_table.specs.Rows.{has_row, plain_rows};
-ghost use Rattle.dir_table.specs.Displacement.{none_displaced};
+ghost use Rattle.dir_table.specs.Displacement.{AreFew, none_displaced};
 
 use agg_buffer::AggBuffer;
 use dir_table::{Directory, Displaced};
@@ -266,6 +266,20 @@ impl<D: Disk, R: Directory + Drop> Cyclone<D, R> {
             (seen self.old).stored (seen self.new).stored }
     {
         self.directory.delete(Key::of_piece(id), place)
+    }
+
+    /// What the piece that was entered last displaced.
+    pub fn displaced(&self) -> &Displaced
+        ensures { result.now.told ≡ (seen self.now).displaced }
+    {
+        self.directory.displaced()
+    }
+
+    /// A law for proofs: where an entry may displace others, each segment has slots for its rows.
+    pub fn rows_fit(&self)
+        ensures { R.purges ≡ true → AreFew (seen self.now).window.geometry (seen self.now).rows }
+    {
+        self.directory.rows_fit();
     }
 
     /// The directory, for walks.

@@ -12,7 +12,7 @@ pub record Displacement : Type 0 where
   pub segment : ℕ
   pub live : ℕ
 
--- no row was displaced; the segment and its rows are then told as 0
+-- no row was displaced, and no segment told: so it is before the first insert
 abbrev pub none_displaced : Displacement
 none_displaced = record { places = []; segment = 0; live = 0 }
 
