@@ -23,7 +23,7 @@ use Rattle.tape_base.proofs.NameLaws.{same_piece-same}
 use Rattle.stripe_core.proofs.Entries.{one_more, same_entry-true}
 
 -- an entry is the same as itself
-same_entry-same : (a : DirRow) → same_entry a a ≡ true
+pub same_entry-same : (a : DirRow) → same_entry a a ≡ true
 same_entry-same a = rw (eq-eqb a.segment a.segment refl, eq-eqb a.bucket a.bucket refl, eq-eqb a.tag a.tag refl, eq-eqb a.place a.place refl) refl
 
 same_spot-same : (a : Spot) → same_spot a a ≡ true
@@ -31,7 +31,7 @@ same_spot-same a = rw (eq-eqb a.segment a.segment refl, eq-eqb a.bucket a.bucket
 
 -- ---- a row that counts stands among the places
 
-first_or_later : {X : Type 0} (x y : X) (ys : List X) → ((x ≡ y) ⊎ Contains ys x) → Contains (y ∷ ys) x
+pub first_or_later : {X : Type 0} (x y : X) (ys : List X) → ((x ≡ y) ⊎ Contains ys x) → Contains (y ∷ ys) x
 first_or_later x y ys (inl e) = (0, omega arith, sym e)
 first_or_later x y ys (inr h) = (suc h.0, omega (arith, h.1), h.2)
 

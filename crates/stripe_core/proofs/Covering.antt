@@ -49,7 +49,6 @@ own_permit now before after = record { packed = false; syncs = false; now = now;
 
 pub own_covers : (now : ℕ) (before after : List Call) → Covers (own_permit now before after) before after
 own_covers now before after = record {
-  plain = refl;
   unsynced = refl;
   content = refl;
   knows = λ made is. subst (λ calls. AllByRecursion (λ call. IsAmong call calls) made) (sym (since_is before after made is)) (all_own made);
@@ -59,7 +58,6 @@ own_covers now before after = record {
 
 pub covers_first : (p : Permit) (before mid after more : List Call) → after ≡ more ++ mid → Covers p before after → Covers p before mid
 covers_first p before mid after more later c = record {
-  plain = c.plain;
   unsynced = c.unsynced;
   content = c.content;
   knows = λ made is.
@@ -69,7 +67,6 @@ covers_first p before mid after more later c = record {
 
 pub covers_last : (p : Permit) (before mid after more : List Call) → mid ≡ more ++ before → Covers p before after → Covers p mid after
 covers_last p before mid after more later c = record {
-  plain = c.plain;
   unsynced = c.unsynced;
   content = c.content;
   knows = λ made is.

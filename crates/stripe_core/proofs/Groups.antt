@@ -18,7 +18,7 @@ use Rattle.cache_model.specs.Verdict.{cuts_of}
 use Rattle.cache_model.specs.State.{PutRow, Row, State, list_of_put, moved_row, put_of, row_of, vector_piece, after_all, place_now, state_after}
 use Rattle.cache_model.specs.Kept.{Kept, state_of, with_records}
 use Rattle.cache_model.specs.Permit.{End, Exhausted, Fails, Finish, Fragment, Intent, Permit, Stays, work_after}
-use Rattle.cache_model.specs.Room.{copies_end, greatest_pin, MayDisplace, has_room, is_full_for, limit, placed_record}
+use Rattle.cache_model.specs.Room.{copies_end, greatest_pin, MayDisplace, has_room, limit, placed_record}
 use Rattle.cache_model.specs.Syncing.{must_unmark}
 use Rattle.cache_model.specs.Legal.{AreLiveTo, Does, DoesFinish, DoesFragment, vector_length, vector_payload, MakesRoom, MayGrow, next_fragment_of}
 use Rattle.cache_model.proofs.Lists.{row_in-copied, row_in-without}
@@ -30,12 +30,13 @@ use Rattle.stripe_core.specs.declared.refusal.Stop.TheVariants as stop
 use Rattle.stripe_core.specs.Covers.{Covers, Spends}
 use Rattle.cache_model.specs.Damage.{TellNoDamage, tells_damage}
 use Rattle.stripe_core.specs.Flush.{AreOfFlush, IsOfFlush, LiveBefore, StopsWith, stop_end}
-use Rattle.stripe_core.specs.Place.{CutsAsAsked, IsFragmentAs, IsFragmentOf, IsNew, IsStoppedAs, IsVectorOf, PlacesAt, ReachesLimit, RoomIsMade, RoomsAsAsked, StopsBehind, piece_records, place_adds, place_end}
+use Rattle.stripe_core.specs.Place.{CutsAsAsked, IsFragmentAs, IsFragmentOf, IsNew, IsStoppedAs, IsVectorOf, IsPlacedAs, PlaceAdds, PlacesAt, PlacesIn, ReachesLimit, RoomIsMade, RoomsAsAsked, StopsBehind, cut_records, place_end}
 use Rattle.stripe_core.proofs.Flushes.{state_of-with_records, with_records-append}
 use Rattle.cache_model.specs.Given.{effects_told}
 use Rattle.stripe_core.specs.Faults.{HasEffects}
 use Rattle.stripe_core.proofs.Between.{told_append}
 use Rattle.stripe_core.proofs.Covering.{never_syncs, own_covers, own_permit}
+use Rattle.stripe_core.proofs.Displacing.{displaced_quiet, displaced_unharmed, pushed_kinds}
 use Rattle.stripe_core.proofs.Naming.{SamePuts, same_puts}
 
 -- ---- groups one behind the other
@@ -49,16 +50,6 @@ pub two_groups : (p : Permit) (s : State) (i : Intent) (a b : List Rec) (e : End
 two_groups p s i a b e first second = λ rest why.
     MayGrow.more {s = s} {w = record { intents = i ∷ rest; refused = why }} a (record { intents = i ∷ rest; refused = why }) (Stays, first, refl)
     (one_group p (after_all s a) i b e second rest why)
-
--- ---- nothing is displaced
-
-pub displaces_nothing : (p : Permit) (s : State) (piece : PieceId) → p.packed ≡ false → MayDisplace p s piece []
-displaces_nothing p s piece plain = record {
-  purged = [];
-  full = λ h. let f : false ≡ true = ap (λ b. b && is_full_for s piece) (sym plain) ∙ h in cc;
-  free = λ h. refl;
-  is = refl;
-}
 
 -- ---- no mark is taken back
 
@@ -74,30 +65,44 @@ no_vector n index h = by (index == 0) refl
     by false e = refl
     by true e = let z : index ≡ 0 = eqb-true index 0 e in absurd (omega (arith, z, h))
 
-fragment_is : (s : State) (id : PieceId) (pin start : ℕ) (payload : List ℕ) (f : IsFragmentOf s id pin start payload)
-    → piece_records s id pin start payload
-    ≡ rec.Cut id.put id.index (length payload) (digest_of payload) ∷ ([] ++ placed_record s (next_fragment_of f.w) f.w.pin (total_length f.w.cuts) (length payload) payload ∷ [])
-fragment_is s id pin start payload f =
-    rw (no_vector (length f.w.cuts) id.index f.next.next)
-    (ap (λ (i : PieceId). rec.Cut id.put id.index (length payload) (digest_of payload) ∷ placed_record s i pin start (length payload) payload ∷ []) f.id_is
-    ∙ (ap (λ n. rec.Cut id.put id.index (length payload) (digest_of payload) ∷ placed_record s (next_fragment_of f.w) n start (length payload) payload ∷ []) f.pin_is
-    ∙ ap (λ n. rec.Cut id.put id.index (length payload) (digest_of payload) ∷ placed_record s (next_fragment_of f.w) f.w.pin n (length payload) payload ∷ []) f.start_is))
+-- the records of a fragment: it is cut, then its entry displaces, then it is placed
+pub cut_first : (s : State) (id : PieceId) (pin start : ℕ) (payload : List ℕ) (displaced : List Rec) → is_vector id ≡ false
+    → cut_records id payload ++ (displaced ++ placed_record s id pin start (length payload) payload ∷ [])
+    ≡ rec.Cut id.put id.index (length payload) (digest_of payload) ∷ (displaced ++ placed_record s id pin start (length payload) payload ∷ [])
+cut_first s id pin start payload displaced kind = rw kind refl
 
-pub fragment_group : (p : Permit) (s : State) (id : PieceId) (pin start : ℕ) (payload : List ℕ) (result : Result Placed Stop) → p.packed ≡ false → p.syncs ≡ false
-    → IsFragmentOf s id pin start payload → blocks_of (length payload) ≤ budget_of s.geometry → has_room s (length payload) ≡ true → PlacesAt s payload result
-    → Does p s (Fragment id.put id.index payload) (place_adds s id pin start payload result) (place_end result)
-fragment_group p s id pin start payload (Ok placed) plain off f small room at = DoesFragment.places refl (record {
+-- those of a vector: its entry displaces, then it is placed
+pub none_cut : (s : State) (id : PieceId) (pin start : ℕ) (payload : List ℕ) (displaced : List Rec) → is_vector id ≡ true
+    → cut_records id payload ++ (displaced ++ placed_record s id pin start (length payload) payload ∷ [])
+    ≡ displaced ++ placed_record s id pin start (length payload) payload ∷ []
+none_cut s id pin start payload displaced kind = rw kind refl
+
+-- the piece, by its put
+placed_as : (s : State) (id other : PieceId) (pin n start m bytes size : ℕ) (payload spelled : List ℕ) → id ≡ other → pin ≡ n → start ≡ m → bytes ≡ size → payload ≡ spelled
+    → placed_record s id pin start bytes payload ≡ placed_record s other n m size spelled
+placed_as s id other pin n start m bytes size payload spelled i p b l q =
+    ap (λ (x : PieceId). placed_record s x pin start bytes payload) i
+    ∙ (ap (λ x. placed_record s other x start bytes payload) p
+    ∙ (ap (λ x. placed_record s other n x bytes payload) b
+    ∙ (ap (λ x. placed_record s other n m x payload) l ∙ ap (placed_record s other n m size) q)))
+
+pub fragment_group : (p : Permit) (packed : Bool) (s : State) (id : PieceId) (pin start : ℕ) (payload : List ℕ) (result : Result Placed Stop) (added : List Rec)
+    → p.packed ≡ packed → p.syncs ≡ false → IsFragmentOf s id pin start payload → blocks_of (length payload) ≤ budget_of s.geometry → has_room s (length payload) ≡ true
+    → PlaceAdds packed s id pin start payload result added → PlacesAt s payload result → Does p s (Fragment id.put id.index payload) added (place_end result)
+fragment_group p packed s id pin start payload (Ok placed) added packs off f small room a at = DoesFragment.places refl (record {
   w = f.w;
-  displaced = [];
+  displaced = a.displaced;
   cut = f.next;
   unmarked = never_unmarks p s off;
   place = record { small = small; room = room; below = at.2 };
-  displaces = displaces_nothing p s (next_fragment_of f.w) plain;
-  is = fragment_is s id pin start payload f;
+  displaces = subst (λ i. MayDisplace p s i a.displaced) f.id_is (a.pushed p packs);
+  is = a.is ∙ (cut_first s id pin start payload a.displaced (no_vector (length f.w.cuts) id.index f.next.next)
+      ∙ ap (λ r. rec.Cut id.put id.index (length payload) (digest_of payload) ∷ (a.displaced ++ r ∷ []))
+      (placed_as s id (next_fragment_of f.w) pin f.w.pin start (total_length f.w.cuts) (length payload) (length payload) payload payload f.id_is f.pin_is f.start_is refl refl));
 })
-fragment_group p s id pin start payload (Err (stop.Exhausted number)) plain off f small room at =
-    DoesFragment.exhausted f.w refl f.next (record { room = room; above = omega (arith, at.0, at.1); is = refl })
-fragment_group p s id pin start payload (Err (stop.DeviceFault count)) plain off f small room at = absurd at
+fragment_group p packed s id pin start payload (Err (stop.Exhausted number)) added packs off f small room a at =
+    DoesFragment.exhausted f.w refl f.next (record { room = room; above = omega (arith, at.0, at.1); is = a })
+fragment_group p packed s id pin start payload (Err (stop.DeviceFault count)) added packs off f small room a at = absurd at
 
 -- ---- the same behind a flush
 
@@ -142,31 +147,43 @@ later_fragment s t id pin start payload same f = record {
 
 -- ---- what was asked
 
-no_damage_placed : (s : State) (id : PieceId) (pin start : ℕ) (payload : List ℕ) → TellNoDamage (piece_records s id pin start payload)
-no_damage_placed s id pin start payload = by (is_vector id)
+-- what is placed tells no damage, and no call of the device
+cut_tells : (id : PieceId) (payload : List ℕ) → TellNoDamage (cut_records id payload) × (effects_told (cut_records id payload) ≡ [])
+cut_tells id payload = by (is_vector id)
   where
-    by : (b : Bool) → TellNoDamage ((if b then [] else rec.Cut id.put id.index (length payload) (digest_of payload) ∷ []) ++ placed_record s id pin start (length payload) payload ∷ [])
-    by true = (refl, tt)
-    by false = (refl, (refl, tt))
+    by : (b : Bool) → TellNoDamage (if b then [] else rec.Cut id.put id.index (length payload) (digest_of payload) ∷ [])
+        × (effects_told (if b then [] else rec.Cut id.put id.index (length payload) (digest_of payload) ∷ []) ≡ [])
+    by true = (tt, refl)
+    by false = ((refl, tt), refl)
 
-no_damage_adds : (s : State) (id : PieceId) (pin start : ℕ) (payload : List ℕ) (result : Result Placed Stop) → TellNoDamage (place_adds s id pin start payload result)
-no_damage_adds s id pin start payload (Ok placed) = no_damage_placed s id pin start payload
-no_damage_adds s id pin start payload (Err why) = tt
-
--- what is placed tells no fault
-placed_quiet : (s : State) (id : PieceId) (pin start : ℕ) (payload : List ℕ) → effects_told (piece_records s id pin start payload) ≡ []
-placed_quiet s id pin start payload = by (is_vector id)
-  where
-    by : (b : Bool) → effects_told ((if b then [] else rec.Cut id.put id.index (length payload) (digest_of payload) ∷ []) ++ placed_record s id pin start (length payload) payload ∷ []) ≡ []
-    by true = refl
-    by false = refl
-
-pub place_quiet : (s : State) (id : PieceId) (pin start : ℕ) (payload : List ℕ) (result : Result Placed Stop) → effects_told (place_adds s id pin start payload result) ≡ []
-place_quiet s id pin start payload (Ok placed) = placed_quiet s id pin start payload
-place_quiet s id pin start payload (Err why) = refl
-
+-- records that tell no call, behind others
 quiet_adds : (first quiet : List Rec) → effects_told quiet ≡ [] → effects_told (first ++ quiet) ≡ effects_told first
 quiet_adds first quiet none = told_append first quiet ∙ (ap (λ counts. effects_told first ++ counts) none ∙ append-nil (effects_told first))
+
+no_damage_placed : (packed : Bool) (s : State) (id : PieceId) (pin start : ℕ) (payload : List ℕ) (added : List Rec) → IsPlacedAs packed s id pin start payload added
+    → TellNoDamage added
+no_damage_placed packed s id pin start payload added a =
+    let gone = displaced_unharmed a.displaced (pushed_kinds packed s id a.displaced a.pushed) in
+    subst TellNoDamage (sym a.is)
+    (all_append (λ r. tells_damage r ≡ false) (cut_records id payload) _ (cut_tells id payload).0
+    (all_append (λ r. tells_damage r ≡ false) a.displaced _ gone (refl, tt)))
+
+pub no_damage_adds : (packed : Bool) (s : State) (id : PieceId) (pin start : ℕ) (payload : List ℕ) (result : Result Placed Stop) (added : List Rec)
+    → PlaceAdds packed s id pin start payload result added → TellNoDamage added
+no_damage_adds packed s id pin start payload (Ok placed) added a = no_damage_placed packed s id pin start payload added a
+no_damage_adds packed s id pin start payload (Err why) added a = subst TellNoDamage (sym a) tt
+
+placed_quiet : (packed : Bool) (s : State) (id : PieceId) (pin start : ℕ) (payload : List ℕ) (added : List Rec) → IsPlacedAs packed s id pin start payload added
+    → effects_told added ≡ []
+placed_quiet packed s id pin start payload added a =
+    let gone = displaced_quiet a.displaced (pushed_kinds packed s id a.displaced a.pushed) in
+    let last : List Rec = placed_record s id pin start (length payload) payload ∷ [] in
+    ap effects_told a.is ∙ (quiet_adds (cut_records id payload) (a.displaced ++ last) (quiet_adds a.displaced last refl ∙ gone) ∙ (cut_tells id payload).1)
+
+pub place_quiet : (packed : Bool) (s : State) (id : PieceId) (pin start : ℕ) (payload : List ℕ) (result : Result Placed Stop) (added : List Rec)
+    → PlaceAdds packed s id pin start payload result added → effects_told added ≡ []
+place_quiet packed s id pin start payload (Ok placed) added a = placed_quiet packed s id pin start payload added a
+place_quiet packed s id pin start payload (Err why) added a = ap effects_told a
 
 module _ (now : ℕ) (old mid : Kept) (before : List Call) (device : Device) (id : PieceId) (pin start : ℕ) (payload : List ℕ) (u : Unit {0}) (r : RoomsAsAsked now old mid before device (length payload) (Ok u)) where
   abbrev s : State
@@ -189,57 +206,63 @@ module _ (now : ℕ) (old mid : Kept) (before : List Call) (device : Device) (id
       subst (λ b. MatchBool b (r.added ≡ []) (MakesRoom (own_permit now before device.past) s (length payload) r.added Stays)) h
       (r.does (own_permit now before device.past) refl (own_covers now before device.past))
 
-  by_room : (p : Permit) (result : Result Placed Stop) → p.packed ≡ false → p.syncs ≡ false → RoomIsMade p s (length payload) r.added (Ok u) → IsFragmentOf s id pin start payload → blocks_of (length payload) ≤ budget_of s.geometry
-      → has_room t (length payload) ≡ true → PlacesAt t payload result → (b : Bool) → has_room s (length payload) ≡ b
-      → Spends p s (Fragment id.put id.index payload) (r.added ++ place_adds t id pin start payload result) (place_end result)
-  by_room p result plain off made f small room at true h =
+  by_room : (p : Permit) (packed : Bool) (result : Result Placed Stop) (added : List Rec) → p.packed ≡ packed → p.syncs ≡ false → RoomIsMade p s (length payload) r.added (Ok u)
+      → IsFragmentOf s id pin start payload → blocks_of (length payload) ≤ budget_of s.geometry → has_room t (length payload) ≡ true
+      → PlaceAdds packed t id pin start payload result added → PlacesAt t payload result → (b : Bool) → has_room s (length payload) ≡ b
+      → Spends p s (Fragment id.put id.index payload) (r.added ++ added) (place_end result)
+  by_room p packed result added packs off made f small room a at true h =
       let none : r.added ≡ [] = none_added h in
       let same : t ≡ s = ap (after_all s) none in
-      subst (λ xs. Spends p s (Fragment id.put id.index payload) (xs ++ place_adds (after_all s xs) id pin start payload result) (place_end result)) (sym none)
-      (one_group p s _ _ _ (fragment_group p s id pin start payload result plain off f small h (subst (λ x. PlacesAt x payload result) same at)))
-  by_room p result plain off made f small room at false h =
+      subst (λ xs. Spends p s (Fragment id.put id.index payload) (xs ++ added) (place_end result)) (sym none)
+      (one_group p s _ _ _ (fragment_group p packed s id pin start payload result added packs off f small h
+      (subst (λ x. PlaceAdds packed x id pin start payload result added) same a) (subst (λ x. PlacesAt x payload result) same at)))
+  by_room p packed result added packs off made f small room a at false h =
       let makes : MakesRoom p s (length payload) r.added Stays = subst (λ b. MatchBool b (r.added ≡ []) (MakesRoom p s (length payload) r.added Stays)) h made in
       let same : SamePuts s t = same_puts s r.added r.kinds in
       two_groups p s _ _ _ _ (DoesFragment.rooms f.w f.next makes)
-      (fragment_group p t id pin start payload result plain off (later_fragment s t id pin start payload same f) (rw same.geometry small) room at)
+      (fragment_group p packed t id pin start payload result added packs off (later_fragment s t id pin start payload same f) (rw same.geometry small) room a at)
 
-  shape_by : (faults : ℕ) (result : Result Placed Stop) → has_room t (length payload) ≡ true → PlacesAt t payload result
-      → IsFragmentAs s faults id pin start payload (r.added ++ place_adds t id pin start payload result) result
-  shape_by faults (Ok placed) room at = record {
+  shape_by : (packed : Bool) (faults : ℕ) (result : Result Placed Stop) (added : List Rec) → has_room t (length payload) ≡ true → PlaceAdds packed t id pin start payload result added
+      → PlacesAt t payload result → IsFragmentAs packed s faults id pin start payload (r.added ++ added) result
+  shape_by packed faults (Ok placed) added room a at = record {
     room = r.added;
+    piece = added;
     kinds = r.kinds;
     none = none_added;
     live = subst (LiveBefore s) mid_is r.live;
+    are = a;
     is = refl;
     place = at.0;
     payload_is = at.1;
   }
-  shape_by faults (Err (stop.Exhausted number)) room at =
-      subst (λ xs. IsStoppedAs s faults payload xs (stop.Exhausted number)) (sym (append-nil r.added)) (record {
+  shape_by packed faults (Err (stop.Exhausted number)) added room a at =
+      subst (λ xs. IsStoppedAs s faults payload xs (stop.Exhausted number)) (sym (ap (λ xs. r.added ++ xs) a ∙ append-nil r.added)) (record {
         kinds = r.kinds;
         live = subst (LiveBefore s) mid_is r.live;
         why_is = (at.0 ∙ sym (ap (λ b. if b then place_now t + blocks_of (length payload) else copies_end t) room), at.1);
       })
-  shape_by faults (Err (stop.DeviceFault count)) room at = absurd at
+  shape_by packed faults (Err (stop.DeviceFault count)) added room a at = absurd at
 
   -- a fragment that was placed behind that
-  pub cuts_behind : (new : Kept) (after : Device) (result : Result Placed Stop) → after ≡ device → new ≡ with_records mid (place_adds (state_of mid) id pin start payload result)
-      → IsFragmentOf s id pin start payload → blocks_of (length payload) ≤ budget_of s.geometry → has_room (state_of mid) (length payload) ≡ true → PlacesAt (state_of mid) payload result
-      → CutsAsAsked now old new before after id pin start payload result
-  cuts_behind new after result still adds f small room at =
+  pub cuts_behind : (packed : Bool) (new : Kept) (after : Device) (result : Result Placed Stop) → after ≡ device → PlacesIn packed mid new id pin start payload result
+      → IsFragmentOf s id pin start payload → blocks_of (length payload) ≤ budget_of s.geometry → has_room (state_of mid) (length payload) ≡ true
+      → CutsAsAsked packed now old new before after id pin start payload result
+  cuts_behind packed new after result still places f small room =
       let here : has_room t (length payload) ≡ true = subst (λ x. has_room x (length payload) ≡ true) mid_is room in
-      let there : PlacesAt t payload result = subst (λ x. PlacesAt x payload result) mid_is at in
+      let there : PlacesAt t payload result = subst (λ x. PlacesAt x payload result) mid_is places.at in
+      let are : PlaceAdds packed t id pin start payload result places.added = subst (λ x. PlaceAdds packed x id pin start payload result places.added) mid_is places.are in
+      let all : List Rec = r.added ++ places.added in
       record {
-        added = r.added ++ place_adds t id pin start payload result;
-        adds = adds
-            ∙ (ap (λ m. with_records m (place_adds (state_of mid) id pin start payload result)) r.adds
-            ∙ (with_records-append old r.added (place_adds (state_of mid) id pin start payload result)
-            ∙ ap (λ x. with_records old (r.added ++ place_adds x id pin start payload result)) mid_is));
-        shape = shape_by after.faults result here there;
-        unharmed = λ told. all_append (λ r. tells_damage r ≡ false) r.added _ (r.unharmed (subst TellsAll still told)) (no_damage_adds t id pin start payload result);
-        faults = subst (λ (d : Device). HasEffects before d.past (effects_told (r.added ++ place_adds t id pin start payload result))) (sym still) (subst (HasEffects before device.past) (sym (quiet_adds r.added (place_adds t id pin start payload result) (place_quiet t id pin start payload result))) r.faults);
-        does = λ p moment covers.
-            by_room p result covers.plain covers.unsynced (r.does p moment (subst (λ (d : Device). Covers p before d.past) still covers)) f small here there (has_room s (length payload)) refl;
+        added = all;
+        adds = places.adds ∙ (ap (λ m. with_records m places.added) r.adds ∙ with_records-append old r.added places.added);
+        shape = shape_by packed after.faults result places.added here are there;
+        unharmed = λ told. all_append (λ r. tells_damage r ≡ false) r.added _ (r.unharmed (subst TellsAll still told))
+            (no_damage_adds packed t id pin start payload result places.added are);
+        faults = subst (λ (d : Device). HasEffects before d.past (effects_told all)) (sym still)
+            (subst (HasEffects before device.past) (sym (quiet_adds r.added places.added (place_quiet packed t id pin start payload result places.added are))) r.faults);
+        does = λ p packs moment covers.
+            by_room p packed result places.added packs covers.unsynced (r.does p moment (subst (λ (d : Device). Covers p before d.past) still covers))
+            f small here are there (has_room s (length payload)) refl;
       }
 
 -- ---- no room could be made
@@ -263,10 +286,11 @@ stopped_by s faults bytes added (stop.Exhausted number) full stops none =
     subst (λ t. ReachesLimit t bytes number) (sym (ap (after_all s) none))
     (stops.0 ∙ sym (ap (λ b. if b then place_now s + blocks_of bytes else copies_end s) full), stops.1)
 
-pub cuts_stop : (now : ℕ) (old new : Kept) (before : List Call) (after : Device) (id : PieceId) (pin start : ℕ) (payload : List ℕ) (why : Stop) → IsFragmentOf (state_of old) id pin start payload
-    → has_room (state_of old) (length payload) ≡ false → StopsWith (state_of old) after.faults why → RoomsAsAsked now old new before after (length payload) (Err why)
-    → CutsAsAsked now old new before after id pin start payload (Err why)
-cuts_stop now old new before after id pin start payload why f full stops r =
+pub cuts_stop : (packed : Bool) (now : ℕ) (old new : Kept) (before : List Call) (after : Device) (id : PieceId) (pin start : ℕ) (payload : List ℕ) (why : Stop)
+    → IsFragmentOf (state_of old) id pin start payload → has_room (state_of old) (length payload) ≡ false → StopsWith (state_of old) after.faults why
+    → RoomsAsAsked now old new before after (length payload) (Err why)
+    → CutsAsAsked packed now old new before after id pin start payload (Err why)
+cuts_stop packed now old new before after id pin start payload why f full stops r =
     let s : State = state_of old in
     let state : state_of new ≡ after_all s r.added = ap state_of r.adds ∙ state_of-with_records old r.added in
     let own : Permit = own_permit now before after.past in
@@ -280,7 +304,7 @@ cuts_stop now old new before after id pin start payload why f full stops r =
       };
       unharmed = r.unharmed;
       faults = r.faults;
-      does = λ p moment covers. one_group p s _ _ _ (DoesFragment.rooms f.w f.next (r.does p moment covers));
+      does = λ p packs moment covers. one_group p s _ _ _ (DoesFragment.rooms f.w f.next (r.does p moment covers));
     }
 
 -- ---- a vector
@@ -288,25 +312,14 @@ cuts_stop now old new before after id pin start payload why f full stops r =
 vector_cuts : (s : State) (put : ℕ) (w : PutRow) → put_of s put ≡ Some w → length (cuts_of s put) ≡ length w.cuts
 vector_cuts s put w h = ap length (cuts_found s put w h)
 
-vector_is : (s : State) (id : PieceId) (pin start : ℕ) (payload : List ℕ) (v : IsVectorOf s id pin start payload) → is_vector id ≡ true
-    → piece_records s id pin start payload
-    ≡ [] ++ placed_record s (vector_piece v.w.key id.put) (greatest_pin (list_of_put s id.put)) 0 (vector_length s id.put) (vector_payload s id.put) ∷ []
-vector_is s id pin start payload v kind =
-    rw kind
-    (ap (λ (i : PieceId). placed_record s i pin start (length payload) payload ∷ []) v.id_is
-    ∙ (ap (λ n. placed_record s (vector_piece v.w.key id.put) n start (length payload) payload ∷ []) v.pin_is
-    ∙ (ap (λ n. placed_record s (vector_piece v.w.key id.put) (greatest_pin (list_of_put s id.put)) n (length payload) payload ∷ []) v.start_is
-    ∙ (ap (λ n. placed_record s (vector_piece v.w.key id.put) (greatest_pin (list_of_put s id.put)) 0 n payload ∷ []) v.length_is
-    ∙ ap (λ p. placed_record s (vector_piece v.w.key id.put) (greatest_pin (list_of_put s id.put)) 0 (vector_length s id.put) p ∷ []) v.payload_is))))
-
-pub vector_group : (p : Permit) (s : State) (id : PieceId) (pin start : ℕ) (payload : List ℕ) (result : Result Placed Stop) → p.packed ≡ false → p.syncs ≡ false
-    → IsVectorOf s id pin start payload → is_vector id ≡ true → blocks_of (length payload) ≤ budget_of s.geometry → PlacesAt s payload result
-    → Does p s (Finish id.put (length (cuts_of s id.put))) (place_adds s id pin start payload result) (place_end result)
-vector_group p s id pin start payload (Ok placed) plain off v kind small at =
+pub vector_group : (p : Permit) (packed : Bool) (s : State) (id : PieceId) (pin start : ℕ) (payload : List ℕ) (result : Result Placed Stop) (added : List Rec)
+    → p.packed ≡ packed → p.syncs ≡ false → IsVectorOf s id pin start payload → is_vector id ≡ true → blocks_of (length payload) ≤ budget_of s.geometry
+    → PlaceAdds packed s id pin start payload result added → PlacesAt s payload result → Does p s (Finish id.put (length (cuts_of s id.put))) added (place_end result)
+vector_group p packed s id pin start payload (Ok placed) added packs off v kind small a at =
     let count : length (cuts_of s id.put) ≡ length v.w.cuts = vector_cuts s id.put v.w v.cut.writing.found in
     DoesFinish.places refl (record {
       w = v.w;
-      displaced = [];
+      displaced = a.displaced;
       cut = record { writing = v.cut.writing; count = sym count; alone = v.cut.alone };
       unmarked = never_unmarks p s off;
       whole = subst (AreLiveTo s v.w) (sym count) v.whole;
@@ -315,11 +328,14 @@ vector_group p s id pin start payload (Ok placed) plain off v kind small at =
         room = subst (λ n. has_room s n ≡ true) v.length_is v.room;
         below = subst (λ n. place_now s + blocks_of n < limit) v.length_is at.2;
       };
-      displaces = displaces_nothing p s (vector_piece v.w.key id.put) plain;
-      is = vector_is s id pin start payload v kind;
+      displaces = subst (λ i. MayDisplace p s i a.displaced) v.id_is (a.pushed p packs);
+      is = a.is ∙ (none_cut s id pin start payload a.displaced kind
+          ∙ ap (λ r. a.displaced ++ r ∷ [])
+          (placed_as s id (vector_piece v.w.key id.put) pin (greatest_pin (list_of_put s id.put)) start 0 (length payload) (vector_length s id.put) payload (vector_payload s id.put)
+          v.id_is v.pin_is v.start_is v.length_is v.payload_is));
     })
-vector_group p s id pin start payload (Err (stop.Exhausted number)) plain off v kind small at =
+vector_group p packed s id pin start payload (Err (stop.Exhausted number)) added packs off v kind small a at =
     let count : length (cuts_of s id.put) ≡ length v.w.cuts = vector_cuts s id.put v.w v.cut.writing.found in
     DoesFinish.exhausted v.w refl (record { writing = v.cut.writing; count = sym count; alone = v.cut.alone }) (subst (AreLiveTo s v.w) (sym count) v.whole)
-    (record { room = subst (λ n. has_room s n ≡ true) v.length_is v.room; above = subst (λ n. limit ≤ place_now s + blocks_of n) v.length_is (omega (arith, at.0, at.1)); is = refl })
-vector_group p s id pin start payload (Err (stop.DeviceFault count)) plain off v kind small at = absurd at
+    (record { room = subst (λ n. has_room s n ≡ true) v.length_is v.room; above = subst (λ n. limit ≤ place_now s + blocks_of n) v.length_is (omega (arith, at.0, at.1)); is = a })
+vector_group p packed s id pin start payload (Err (stop.DeviceFault count)) added packs off v kind small a at = absurd at

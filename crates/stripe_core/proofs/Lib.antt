@@ -1,6 +1,8 @@
 mod Entries
 mod Counts
 mod Holding
+mod Permuted
+mod Slotted
 mod Intact
 mod Placements
 mod Beginning
@@ -18,7 +20,10 @@ mod Looked
 mod Copied
 mod Rooms
 mod Rowed
+mod Pushing
+mod Purging
 mod Puts
+pub mod Displacing
 mod Groups
 mod Fronts
 mod Lives

@@ -23,9 +23,11 @@ use Rattle.cache_model.specs.Due.{due_pieces, is_due}
 use Rattle.cache_model.specs.Given.{CountsWrite, Denied, Took, block_at, bytes_from, effects_told}
 use Rattle.cache_model.specs.Legal
 use Rattle.cache_model.specs.Legal.{CanFlush}
-use Rattle.cache_model.specs.Outcomes.{AreOutcomes, Copied, NoRoom, Outcome, Refused, Spoiled, began_record, copies_of, flush_records, front_of, moved_record, moved_records, records_of, stopped_front_of, stopped_records, stopped_records_of, Copy}
+use Rattle.cache_model.specs.Outcomes.{AreOutcomes, Copied, NoRoom, Outcome, Refused, Spoiled, began_record, copies_of, flush_records, flush_tail, front_of, moved_record, moved_records, records_of, stopped_front_of, stopped_records, stopped_records_of, Copy}
+use Rattle.cache_model.specs.Slots.{AllFit}
 use Rattle.cache_model.specs.Tape.{AreApart, IsSound}
 use Rattle.cache_model.proofs.Copies.{AreReady, blocks_of_copies, rows_of}
+use Rattle.cache_model.proofs.Lesser.{IsLesser, all_lesser, along_parts, lesser_self, tail_less}
 use Rattle.cache_model.proofs.Live.{due_are_live}
 use Rattle.cache_model.proofs.Rows.{apart-part}
 use Rattle.cache_model.proofs.Sound.{buffer_left, later_began, least_left}
@@ -140,12 +142,20 @@ module _ (now : ℕ) (s : State) (before mid : Device) (a : Ahead) (sound : IsSo
   sum : blocks_of_copies (copies_of due_rows looks.outcomes) ≤ budget_of s.geometry
   sum = copies_within permit s (budget_of s.geometry) all are
 
-  pub copyable : length a.bytes.items ≡ 512 * budget_of s.geometry → AreCopyable (begun_behind s (told_of true a.due.items a.fates.items)) 0 a.due.items a.fates.items a.bytes.items
-  copyable sized =
-      subst (λ told. AreCopyable (begun_behind s told) 0 a.due.items a.fates.items a.bytes.items) (sym told_front)
-      (subst (λ cs. AreCopyable begun 0 cs a.fates.items a.bytes.items) (sym looks.due)
-      (are_copyable permit s begun (budget_of s.geometry) 0 a.bytes.items all are looks.stand (omega (arith, sized))
-      (apart-part (copies_part due_rows looks.outcomes) apart) ready passed (rw buffer.0 (omega (arith, sum)))))
+  -- and no more is live than before the flush
+  begun_lesser : IsLesser s begun
+  begun_lesser =
+      let parts = along_parts s s (front_of due_rows looks.outcomes) (flush_tail s due_rows looks.outcomes)
+      (tail_less s (front_of due_rows looks.outcomes) now looks.outcomes sound (front_leaves due_rows looks.outcomes)) in
+      all_lesser s mid_state (began_record s ∷ []) (parts.1.0, tt) (all_lesser s s (front_of due_rows looks.outcomes) parts.0 (lesser_self s sound))
+
+  pub copyable : (packed : Bool) → (packed ≡ true → AllFit s) → length a.bytes.items ≡ 512 * budget_of s.geometry
+      → AreCopyable packed (begun_behind s (told_of true a.due.items a.fates.items)) 0 a.due.items a.fates.items a.bytes.items
+  copyable packed fit sized =
+      subst (λ told. AreCopyable packed (begun_behind s told) 0 a.due.items a.fates.items a.bytes.items) (sym told_front)
+      (subst (λ cs. AreCopyable packed begun 0 cs a.fates.items a.bytes.items) (sym looks.due)
+      (are_copyable packed s fit permit s begun (budget_of s.geometry) 0 a.bytes.items all are looks.stand (omega (arith, sized))
+      (apart-part (copies_part due_rows looks.outcomes) apart) ready passed (rw buffer.0 (omega (arith, sum))) (due_are_live s now sound) begun_lesser))
 
   done_is : done_records s a.due.items a.fates.items a.bytes.items ≡ flush_records s due_rows looks.outcomes
   done_is =

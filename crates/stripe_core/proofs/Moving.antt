@@ -1,4 +1,4 @@
--- A piece that is copied into the buffer stays held.
+-- A piece that is copied into the buffer stays held: there is a slot for its entry, so that this displaces nothing.
 use Rattle.std.proofs.Common.{◌≡◌, ℕ, ◌+◌, ◌*◌, ◌/◌, ◌<◌, ◌≤◌, List, [], ◌∷◌, refl, sym, ◌∙◌, ap, subst, arith, Bool, true, false, length}
 use Rattle.std.specs.Prelude.{map, ◌&&◌, MatchBool, Some, None, IsPermutation, nat_le}
 use Rattle.std.specs.List.{AllByRecursion}
@@ -12,6 +12,7 @@ use Rattle.doc_header.specs.Reading.{document_digest}
 use Rattle.doc_header.proofs.MovingLaws.{moves_keep_lem}
 use Rattle.dir_table.specs.declared.rows.DirRow.{DirRow}
 use Rattle.dir_table.specs.declared.window.Window.{Window}
+use Rattle.dir_table.specs.Displacement.{Displacement, Displaces, IsPurge, NoneGoes, is_full}
 use Rattle.dir_table.specs.Rows.{has_row, row_of_key}
 use Rattle.agg_buffer.specs.Buffer.{Buffer, blocks_in, bytes_at, filled_of, next_place_of}
 use Rattle.logged_disk.specs.Device.{State as Device, TellsAll, seen as content_of}
@@ -32,6 +33,7 @@ use Rattle.stripe_core.proofs.Holding.{AreCounted, counted, end_is, entered, flo
 use Rattle.stripe_core.proofs.Placements.{count_behind, kept_more, nothing_goes, still_buffered}
 use Rattle.stripe_core.proofs.Going.{all_left, same_live, unseen_by}
 use Rattle.stripe_core.proofs.Lives.{within}
+use Rattle.stripe_core.proofs.Slotted.{slot_free}
 
 -- ---- rows from which one may have been taken
 
@@ -54,6 +56,14 @@ none_by false n m h none = sym h ∙ none
 low_is_out : (low high place : ℕ) → place < low → is_between low high place ≡ false
 low_is_out low high place h = rw (lt-leb low place h) refl
 
+-- ---- what the entry displaces
+
+-- nothing, where a directory that displaces has a slot for it
+none_goes : (packed : Bool) (w : Window) (row : DirRow) (left gone : List DirRow) (d : Displacement) → Displaces packed w row left gone d
+    → (packed ≡ true → is_full w row left ≡ false) → gone ≡ []
+none_goes false w row left gone d h free = h.none
+none_goes true w row left gone d h free = (subst (λ b. MatchBool b (IsPurge w row left gone d) (NoneGoes gone d)) (free refl) h).none
+
 -- ---- the copy
 
 -- so many blocks are whole in bytes of that length
@@ -64,8 +74,8 @@ whole_blocks n blocks h = omega arith
 not_live : (s : State) (row : Row) → row.place < floor_now s → only_live s row ≡ None
 not_live s row h = rw (lt-leb (floor_now s) row.place h) refl
 
-module _ (s : State) (c new : Seen) (id : PieceId) (row : Row) (bytes : List ℕ)
-    (held : IsHeld s c) (movable : IsMovable s id row bytes) (moved : IsMoved false c new id row.place bytes) (turning : IsTurning new) where
+module _ (packed : Bool) (s : State) (c new : Seen) (id : PieceId) (row : Row) (bytes : List ℕ)
+    (held : IsHeld s c) (movable : IsMovable packed s id row bytes) (moved : IsMoved packed c new id row.place bytes) (turning : IsTurning new) where
   abbrev digest : Digest
   digest = document_digest (moved_to (place_now s) bytes)
 
@@ -127,6 +137,10 @@ module _ (s : State) (c new : Seen) (id : PieceId) (row : Row) (bytes : List ℕ
   abbrev old_entry : DirRow
   old_entry = row_of_piece c id row.place
 
+  nothing : moved.gone ≡ []
+  nothing = none_goes packed c.window (row_of_piece c id (next_place_of c.buffer)) moved.left moved.gone new.displaced moved.displaced
+      (λ on. slot_free s c id row (next_place_of c.buffer) moved.left held movable.found movable.passed moved.taken (movable.slot on))
+
   taken : (x : DirRow) → times x c.rows ≡ one_more (has_row old_entry c.rows && same_entry old_entry x) (times x moved.left)
   taken x = taken_by (has_row old_entry c.rows) old_entry x c.rows moved.left moved.taken
 
@@ -134,7 +148,7 @@ module _ (s : State) (c new : Seen) (id : PieceId) (row : Row) (bytes : List ℕ
   entries_are x =
       times-permutation x (row_of_piece c id (next_place_of c.buffer) ∷ moved.rows.left) new.rows moved.rows.entered
       ∙ (ap (λ e. times x (e ∷ moved.rows.left)) entry_is
-      ∙ ap (one_more (same_entry entry x)) (nothing_goes x moved.gone moved.rows.left moved.left moved.displaced.none moved.rows.parted))
+      ∙ ap (one_more (same_entry entry x)) (nothing_goes x moved.gone moved.rows.left moved.left nothing moved.rows.parted))
 
   -- what was in range is what it was, as the old entry was not
   count_left : (x : DirRow) → kept (is_between c.window.floor c.window.end x.place) (times x moved.left) ≡ kept (nat_le c.window.floor x.place) (times x (map (entry_of s.geometry) others))
@@ -232,9 +246,5 @@ module _ (s : State) (c new : Seen) (id : PieceId) (row : Row) (bytes : List ℕ
     least = held.least;
   }
 
-  pub moved_is_held_here : IsHeld (state_after s (moved_to_here s id row bytes)) new
-  moved_is_held_here = subst (λ t. IsHeld t new) (sym after_is) copied_is_held
-
-pub moved_is_held : (s : State) (c new : Seen) (id : PieceId) (row : Row) (bytes : List ℕ) → IsHeld s c → IsMovable s id row bytes
-    → IsMoved false c new id row.place bytes → IsTurning new → IsHeld (state_after s (moved_to_here s id row bytes)) new
-moved_is_held s c new id row bytes held movable moved turning = moved_is_held_here s c new id row bytes held movable moved turning
+  pub moved_is_held : IsHeld (state_after s (moved_to_here s id row bytes)) new
+  moved_is_held = subst (λ t. IsHeld t new) (sym after_is) copied_is_held

@@ -291,15 +291,6 @@ found_changed : (put : ℕ) (f : PutRow → PutRow) (puts : List PutRow) (w : Pu
 found_changed put f puts w keeps found =
     find-changed (λ (p : PutRow). p.put) f keeps put put puts ∙ rw (eq-eqb put put refl) (ap (option_map f) found)
 
-named_fragment : (s t : State) (id : PieceId) (place blocks pin size : ℕ) (cut digest : Digest) (w : PutRow) → IsNamed s → s.pending ≡ None → id.put < s.next_put → put_of s id.put ≡ Some w
-    → id.index ≡ length w.cuts + 1 → t ≡ state_after (state_after s (rec.Cut id.put id.index size cut)) (rec.Placed id place blocks digest pin) → IsNamed t
-named_fragment s t id place blocks pin size cut digest w h quiet begun found index is =
-    let c : State = state_after s (rec.Cut id.put id.index size cut) in
-    let row : TableRow = made_row size cut.0 in
-    let here : put_of c id.put ≡ Some (with_cut row w) = found_changed id.put (with_cut row) s.puts w (λ x. refl) found in
-    let count : length (w.cuts ++ row ∷ []) ≡ length w.cuts + 1 = length-append w.cuts (row ∷ []) in
-    subst IsNamed (sym is) (named_placed c id place blocks pin digest (with_cut row w) (named_cut s id.put id.index size cut h) quiet begun here (omega (arith, count, index)))
-
 -- ---- which records leave the names
 
 causes_leave : (row : Row) (why : Cause) → AllLeaveNames (cause_records row why)
@@ -361,11 +352,40 @@ same_puts s (r ∷ recs) all =
 pub geometry_with : (k new : Kept) (recs : List Rec) → new ≡ with_records k recs → AreOfFlush recs → (state_of new).geometry ≡ (state_of k).geometry
 geometry_with k new recs is all = ap (λ (t : State). t.geometry) (ap state_of is ∙ state_of-with_records k recs) ∙ (same_puts (state_of k) recs all).geometry
 
-pub fragment_named : (s t : State) (id : PieceId) (place blocks pin start size : ℕ) (payload : List ℕ) (room : List Rec) (cut digest : Digest) (f : IsFragmentOf s id pin start payload) → AreOfFlush room
-    → IsNamed s → id.put < s.next_put → t ≡ state_after (state_after (after_all s room) (rec.Cut id.put id.index size cut)) (rec.Placed id place blocks digest pin) → IsNamed t
-fragment_named s t id place blocks pin start size payload room cut digest f kinds h begun is =
+-- it is cut, and placed behind records that leave names and puts, as those of what its entry displaces
+named_fragment : (s t : State) (id : PieceId) (place blocks pin size : ℕ) (cut digest : Digest) (w : PutRow) (displaced : List Rec)
+    → IsNamed s → s.pending ≡ None → id.put < s.next_put → put_of s id.put ≡ Some w → id.index ≡ length w.cuts + 1 → AllLeaveNames displaced → ((c : State) → SamePuts c (after_all c displaced))
+    → t ≡ state_after (after_all (state_after s (rec.Cut id.put id.index size cut)) displaced) (rec.Placed id place blocks digest pin) → IsNamed t
+named_fragment s t id place blocks pin size cut digest w displaced h quiet begun found index leave puts is =
+    let c : State = state_after s (rec.Cut id.put id.index size cut) in
+    let gone : State = after_all c displaced in
+    let row : TableRow = made_row size cut.0 in
+    let same : SamePuts c gone = puts c in
+    let next : gone.next_put ≡ c.next_put = same.next_put in
+    let here : put_of c id.put ≡ Some (with_cut row w) = found_changed id.put (with_cut row) s.puts w (λ x. refl) found in
+    let there : put_of gone id.put ≡ Some (with_cut row w) = ap (find (λ (p : PutRow). p.put == id.put)) same.puts ∙ here in
+    let count : length (w.cuts ++ row ∷ []) ≡ length w.cuts + 1 = length-append w.cuts (row ∷ []) in
+    subst IsNamed (sym is)
+    (named_placed gone id place blocks pin digest (with_cut row w) (names_left c displaced leave (named_cut s id.put id.index size cut h)) (same.pending ∙ quiet)
+    (omega (arith, next, begun)) there (omega (arith, count, index)))
+
+pub fragment_named : (s t : State) (id : PieceId) (place blocks pin start size : ℕ) (payload : List ℕ) (room displaced : List Rec) (cut digest : Digest)
+    (f : IsFragmentOf s id pin start payload) → AreOfFlush room → AllLeaveNames displaced → ((c : State) → SamePuts c (after_all c displaced)) → IsNamed s → id.put < s.next_put
+    → t ≡ state_after (after_all (state_after (after_all s room) (rec.Cut id.put id.index size cut)) displaced) (rec.Placed id place blocks digest pin) → IsNamed t
+fragment_named s t id place blocks pin start size payload room displaced cut digest f kinds leave puts h begun is =
     let behind : State = after_all s room in
     let same : SamePuts s behind = same_puts s room kinds in
     let next : behind.next_put ≡ s.next_put = same.next_put in
-    named_fragment behind t id place blocks pin size cut digest f.w (names_left s room (flush_leaves room kinds) h) (same.pending ∙ f.next.writing.quiet) (omega (arith, next, begun))
-    (ap (find (λ (p : PutRow). p.put == id.put)) same.puts ∙ f.next.writing.found) f.next.next is
+    named_fragment behind t id place blocks pin size cut digest f.w displaced (names_left s room (flush_leaves room kinds) h) (same.pending ∙ f.next.writing.quiet)
+    (omega (arith, next, begun)) (ap (find (λ (p : PutRow). p.put == id.put)) same.puts ∙ f.next.writing.found) f.next.next leave puts is
+
+-- a vector is placed behind such records
+pub vector_named : (s t : State) (id : PieceId) (place blocks pin : ℕ) (digest : Digest) (w : PutRow) (displaced : List Rec) → AllLeaveNames displaced
+    → SamePuts s (after_all s displaced) → IsNamed s → s.pending ≡ None → id.put < s.next_put → put_of s id.put ≡ Some w → id.index ≤ length w.cuts
+    → t ≡ state_after (after_all s displaced) (rec.Placed id place blocks digest pin) → IsNamed t
+vector_named s t id place blocks pin digest w displaced leave same h quiet begun found cut is =
+    let gone : State = after_all s displaced in
+    let next : gone.next_put ≡ s.next_put = same.next_put in
+    subst IsNamed (sym is)
+    (named_placed gone id place blocks pin digest w (names_left s displaced leave h) (same.pending ∙ quiet) (omega (arith, next, begun))
+    (ap (find (λ (p : PutRow). p.put == id.put)) same.puts ∙ found) cut)

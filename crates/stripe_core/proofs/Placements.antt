@@ -17,14 +17,14 @@ use Rattle.dir_table.specs.declared.window.Window.{Window}
 use Rattle.dir_table.specs.Rows.{row_of_key}
 use Rattle.agg_buffer.specs.Buffer.{Buffer, Adds, blocks_in, bytes_at, filled_of, next_place_of}
 use Rattle.logged_disk.specs.Device.{State as Device, TellsAll, seen as content_of}
-use Rattle.cyclone.specs.Cyclone.{Seen, IsTurning, IsPut}
+use Rattle.cyclone.specs.Cyclone.{Seen, IsTurning}
 use Rattle.alternate_vector.proofs.Loops.{each_push}
 use Rattle.cache_model.specs.declared.record.Rec.TheVariants as rec
 use Rattle.cache_model.specs.State.{State, Row, floor_now, place_now, placed_row, row_in, state_after, without}
 use Rattle.cache_model.specs.Tape.{IsSound}
 use Rattle.cache_model.proofs.Laps.{lap-is}
 use Rattle.cache_model.proofs.Sound.{later_placed}
-use Rattle.stripe_core.specs.Records.{IsPlacedAs}
+use Rattle.stripe_core.specs.Records.{IsPlaceable}
 use Rattle.stripe_core.specs.Held.{IsBuffered, IsBufferedWhereNew, IsHeld, IsInLap, IsIntactWhereWritten, entry_of, same_entry, times}
 use Rattle.stripe_core.proofs.Intact.{each_same_intact}
 use Rattle.stripe_core.proofs.Entries.{kept, one_more, times-append, times-permutation, same_entry-true}
@@ -86,8 +86,16 @@ nothing_goes x gone left rows none parted =
 
 -- ---- a piece that is put and recorded
 
+-- a document is in the buffer, and its piece in the directory, from which no row goes
+pub record IsAdded (c new : Seen) (doc : Doc) (payload : List ℕ) : Type 0 where
+  pub geometry : new.geometry ≡ c.geometry
+  pub buffer : Adds c.buffer new.buffer (document_bytes doc payload)
+  pub rows : IsPermutation (row_of_key c.geometry (key_of_piece doc.id) doc.place ∷ c.rows) new.rows
+  pub window : new.window ≡ record c.window { end = next_place_of new.buffer }
+  pub device : new.device ≡ c.device
+
 module _ (s : State) (c new : Seen) (doc : Doc) (payload : List ℕ) (digest : Digest) (pin : ℕ)
-    (held : IsHeld s c) (placed : IsPlacedAs s doc payload digest) (put : IsPut false c new doc payload) (turning : IsTurning new) where
+    (held : IsHeld s c) (placed : IsPlaceable s doc payload digest) (put : IsAdded c new doc payload) (turning : IsTurning new) where
   abbrev size : ℕ
   size = blocks_of (length payload)
 
@@ -118,17 +126,12 @@ module _ (s : State) (c new : Seen) (doc : Doc) (payload : List ℕ) (digest : D
   end_further : new.window.end ≡ c.window.end + size
   end_further = ap (λ (w : Window). w.end) put.window ∙ (further ∙ ap (λ n. n + size) (sym held.turning.end))
 
-  -- nothing was displaced
-  all_stay : (x : DirRow) → times x put.rows.left ≡ times x c.rows
-  all_stay x = nothing_goes x put.gone put.rows.left c.rows put.displaced.none put.rows.parted
-
   entry_is : row_of_key c.geometry (key_of_piece doc.id) doc.place ≡ entry
   entry_is = ap (λ g. row_of_key g (key_of_piece doc.id) doc.place) held.geometry ∙ ap (λ p. row_of_key s.geometry (key_of_piece doc.id) p) placed.place
 
   entries_are : (x : DirRow) → times x new.rows ≡ one_more (same_entry entry x) (times x c.rows)
   entries_are x =
-      times-permutation x (row_of_key c.geometry (key_of_piece doc.id) doc.place ∷ put.rows.left) new.rows put.rows.entered
-      ∙ (ap (λ e. times x (e ∷ put.rows.left)) entry_is ∙ ap (one_more (same_entry entry x)) (all_stay x))
+      times-permutation x (row_of_key c.geometry (key_of_piece doc.id) doc.place ∷ c.rows) new.rows put.rows ∙ ap (λ e. times x (e ∷ c.rows)) entry_is
 
   low_end : c.window.floor ≤ c.window.end
   low_end = omega (arith, held.turning.floor, held.turning.end)
@@ -182,8 +185,8 @@ module _ (s : State) (c new : Seen) (doc : Doc) (payload : List ℕ) (digest : D
   not_written : IsIntactWhereWritten after (content_of c.device) row
   not_written = λ low below. absurd (omega (arith, below))
 
-  pub placed_is_held_here : IsHeld after new
-  placed_is_held_here = record {
+  added_is_held_here : IsHeld after new
+  added_is_held_here = record {
     turning = turning;
     sound = sound_after;
     geometry = put.geometry ∙ held.geometry;
@@ -199,7 +202,7 @@ module _ (s : State) (c new : Seen) (doc : Doc) (payload : List ℕ) (digest : D
     least = held.least;
   }
 
-pub placed_is_held : (s : State) (c new : Seen) (doc : Doc) (payload : List ℕ) (digest : Digest) (pin : ℕ) → IsHeld s c → IsPlacedAs s doc payload digest
-    → IsPut false c new doc payload → IsTurning new
+pub added_is_held : (s : State) (c new : Seen) (doc : Doc) (payload : List ℕ) (digest : Digest) (pin : ℕ) → IsHeld s c → IsPlaceable s doc payload digest
+    → IsAdded c new doc payload → IsTurning new
     → IsHeld (state_after s (rec.Placed doc.id (place_now s) (blocks_of (length payload)) digest pin)) new
-placed_is_held s c new doc payload digest pin held placed put turning = placed_is_held_here s c new doc payload digest pin held placed put turning
+added_is_held s c new doc payload digest pin held placed put turning = added_is_held_here s c new doc payload digest pin held placed put turning

@@ -1,13 +1,17 @@
 -- What a flush copies of the pieces that are due, by what came of each: it can copy them, and these are the
 -- records of its copies.
-use Rattle.std.proofs.Common.{◌≡◌, ℕ, ◌+◌, ◌-◌, ◌*◌, ◌<◌, ◌≤◌, List, [], ◌∷◌, refl, sym, ◌∙◌, ap, subst, arith, length}
+use Rattle.std.proofs.Common.{◌≡◌, ℕ, ◌+◌, ◌-◌, ◌*◌, ◌<◌, ◌≤◌, Bool, true, List, [], ◌∷◌, refl, sym, ◌∙◌, ap, subst, arith, length}
 use Rattle.std.specs.Prelude.{map}
 use Rattle.std.specs.List.{AllByRecursion}
 use Rattle.cache_model.specs.State.{Row, State, after_all, blocks_of_row, floor_now, state_after}
 use Rattle.cache_model.specs.Permit.{Permit}
 use Rattle.cache_model.specs.Tape.{AreApart}
 use Rattle.cache_model.specs.Outcomes.{AreOutcomes, Copied, Copy, NoRoom, Outcome, Refused, Spoiled, copies_of, moved_record, moved_records, records_of}
+use Rattle.cache_model.specs.Slots.{AllFit, HasSlotForCopy}
 use Rattle.cache_model.proofs.Copies.{AreReady, IsReady, blocks_of_copies, others_stand, rows_of, still_ready}
+use Rattle.cache_model.proofs.FewerRows.{slot_left}
+use Rattle.cache_model.proofs.Lesser.{IsLesser, all_lesser}
+use Rattle.cache_model.proofs.Live.{IsFound}
 use Rattle.stripe_due.specs.Finding.{candidate_of}
 use Rattle.stripe_core.specs.declared.ahead.Fate.{Fate}
 use Rattle.stripe_core.specs.declared.ahead.Fate.TheVariants as fate
@@ -37,59 +41,78 @@ copied_is u at memory (more {rows = rows} {fates = fates} row (copied bytes pinn
 
 -- ---- they can be copied
 
--- the bytes of a piece that is copied are as many as its blocks have
-one_copyable : (u : State) (row : Row) (bytes here : List ℕ) → here ≡ bytes → length bytes ≡ 512 * row.blocks → IsReady u.rows row → IsPassed u row → u.filled + row.blocks ≤ u.geometry.agg
-    → IsCopyable u (candidate_of row) here
-one_copyable u row bytes here same sized ready passed room = record {
-  row = row;
-  movable = record { found = ready.0; passed = passed; sized = ap (λ (xs : List ℕ). length xs) same ∙ sized; room = room };
-  place = refl;
-  blocks = refl;
-  some = ready.1;
-}
-
 -- behind its copy the floor stands where it stood
 still_passed : (u : State) (r : Copy) (rows : List Row) → AllByRecursion (IsPassed u) rows → AllByRecursion (IsPassed (state_after u (moved_record u r))) rows
 still_passed u r [] h = tt
 still_passed u r (row ∷ rows) h = (h.0, still_passed u r rows h.1)
 
-pub are_copyable : (p : Permit) (s u : State) (left at : ℕ) (memory : List ℕ) {rows : List Row} {outcomes : List Outcome} {fates : List Fate} → AllCame rows outcomes fates
-    → AreOutcomes p s left rows outcomes → StandFrom at rows outcomes memory → 512 * (at + left) ≤ length memory
-    → AreApart (rows_of (copies_of rows outcomes)) → AreReady u.rows (rows_of (copies_of rows outcomes)) → AllByRecursion (IsPassed u) rows
-    → u.filled + blocks_of_copies (copies_of rows outcomes) ≤ u.geometry.agg → AreCopyable u at (map candidate_of rows) fates memory
-are_copyable p s u left at memory none h stand fits apart ready passed room = tt
-are_copyable p s u left at memory (more row no_room rest) h stand fits apart ready passed room = (
-  omega (arith, fits),
-  tt,
-  are_copyable p (after_all s (records_of row NoRoom)) u left (at + 0) memory rest h.1 stand.1 (omega (arith, fits)) apart ready passed.1 room,
-)
-are_copyable p s u left at memory (more row (spoiled found kept other a b) rest) h stand fits apart ready passed room =
-    let few : row.blocks ≤ left = h.0.0 in (
-      omega (arith, fits, few),
-      tt,
-      are_copyable p (after_all s (records_of row (Spoiled found))) u (left - row.blocks) (at + row.blocks) memory rest h.1 stand.1 (omega (arith, fits, few)) apart ready passed.1 room,
-    )
-are_copyable p s u left at memory (more row (refused count n is) rest) h stand fits apart ready passed room =
-    let few : row.blocks ≤ left = h.0.0 in (
-      omega (arith, fits, few),
-      tt,
-      are_copyable p (after_all s (records_of row (Refused count))) u (left - row.blocks) (at + row.blocks) memory rest h.1 stand.1 (omega (arith, fits, few)) apart ready passed.1 room,
-    )
-are_copyable p s u left at memory (more {rows = rows} {outcomes = outcomes} {fates = fates} row (copied bytes pinned) rest) h stand fits apart ready passed room =
-    let few : row.blocks ≤ left = h.0.0 in
-    let copy : Copy = a_copy row bytes in
-    let here : List ℕ = bytes_for at (candidate_of row) (fate.Copied pinned) memory in
-    let t : State = state_after u (moved_record u copy) in
-    let same : copied_record u (candidate_of row) here ≡ moved_record u copy = ap (copied_record u (candidate_of row)) stand.0 in
-    let filled : t.filled ≡ u.filled + row.blocks = ap (λ r. u.filled + blocks_of_row r) ready.0.0 in
-    let sum : u.filled + (row.blocks + blocks_of_copies (copies_of rows outcomes)) ≤ u.geometry.agg = room in (
-      omega (arith, fits, few),
-      one_copyable u row bytes here stand.0 h.0.1.whole ready.0 passed.0 (omega (arith, sum)),
-      subst (λ r. AreCopyable (state_after u r) (at + row.blocks) (map candidate_of rows) fates memory) (sym same)
-          (are_copyable p (after_all s (records_of row (Copied bytes))) t (left - row.blocks) (at + row.blocks) memory rest h.1 stand.1 (omega (arith, fits, few))
-          apart.1 (still_ready u.rows t.rows row.id (others_stand u copy) (rows_of (copies_of rows outcomes)) apart.0 ready.1) (still_passed u copy rows passed.1)
-          (omega (arith, sum, filled))),
-    )
+-- where the directory displaces, each segment had slots for what was live before the flush
+module _ (packed : Bool) (before : State) (fit : packed ≡ true → AllFit before) where
+  -- so there is one for the copy of what was live
+  slot_stands : (u : State) (row : Row) → IsLesser before u → IsFound before row → packed ≡ true → HasSlotForCopy u row.id
+  slot_stands u row lesser live on = slot_left before u lesser.apart lesser.geometry lesser.live (fit on) row.id (row, live)
+
+  -- the bytes of a piece that is copied are as many as its blocks have
+  one_copyable : (u : State) (row : Row) (bytes here : List ℕ) → here ≡ bytes → length bytes ≡ 512 * row.blocks → IsReady u.rows row → IsPassed u row
+      → u.filled + row.blocks ≤ u.geometry.agg → IsLesser before u → IsFound before row → IsCopyable packed u (candidate_of row) here
+  one_copyable u row bytes here same sized ready passed room lesser live = record {
+    row = row;
+    movable = record {
+      found = ready.0;
+      passed = passed;
+      sized = ap (λ (xs : List ℕ). length xs) same ∙ sized;
+      room = room;
+      slot = slot_stands u row lesser live;
+    };
+    place = refl;
+    blocks = refl;
+    some = ready.1;
+  }
+
+  -- behind its copy no more is live than before the flush
+  copy_lesser : (u : State) (c : Copy) → IsFound before c.row → IsLesser before u → IsLesser before (state_after u (moved_record u c))
+  copy_lesser u c live lesser = all_lesser before u (moved_record u c ∷ []) ((c.row, live), tt) lesser
+
+  pub are_copyable : (p : Permit) (s u : State) (left at : ℕ) (memory : List ℕ) {rows : List Row} {outcomes : List Outcome} {fates : List Fate} → AllCame rows outcomes fates
+      → AreOutcomes p s left rows outcomes → StandFrom at rows outcomes memory → 512 * (at + left) ≤ length memory
+      → AreApart (rows_of (copies_of rows outcomes)) → AreReady u.rows (rows_of (copies_of rows outcomes)) → AllByRecursion (IsPassed u) rows
+      → u.filled + blocks_of_copies (copies_of rows outcomes) ≤ u.geometry.agg → AllByRecursion (IsFound before) rows → IsLesser before u
+      → AreCopyable packed u at (map candidate_of rows) fates memory
+  are_copyable p s u left at memory none h stand fits apart ready passed room live lesser = tt
+  are_copyable p s u left at memory (more row no_room rest) h stand fits apart ready passed room live lesser = (
+    omega (arith, fits),
+    tt,
+    are_copyable p (after_all s (records_of row NoRoom)) u left (at + 0) memory rest h.1 stand.1 (omega (arith, fits)) apart ready passed.1 room live.1 lesser,
+  )
+  are_copyable p s u left at memory (more row (spoiled found kept other a b) rest) h stand fits apart ready passed room live lesser =
+      let few : row.blocks ≤ left = h.0.0 in (
+        omega (arith, fits, few),
+        tt,
+        are_copyable p (after_all s (records_of row (Spoiled found))) u (left - row.blocks) (at + row.blocks) memory rest h.1 stand.1 (omega (arith, fits, few)) apart ready
+            passed.1 room live.1 lesser,
+      )
+  are_copyable p s u left at memory (more row (refused count n is) rest) h stand fits apart ready passed room live lesser =
+      let few : row.blocks ≤ left = h.0.0 in (
+        omega (arith, fits, few),
+        tt,
+        are_copyable p (after_all s (records_of row (Refused count))) u (left - row.blocks) (at + row.blocks) memory rest h.1 stand.1 (omega (arith, fits, few)) apart ready
+            passed.1 room live.1 lesser,
+      )
+  are_copyable p s u left at memory (more {rows = rows} {outcomes = outcomes} {fates = fates} row (copied bytes pinned) rest) h stand fits apart ready passed room live lesser =
+      let few : row.blocks ≤ left = h.0.0 in
+      let copy : Copy = a_copy row bytes in
+      let here : List ℕ = bytes_for at (candidate_of row) (fate.Copied pinned) memory in
+      let t : State = state_after u (moved_record u copy) in
+      let same : copied_record u (candidate_of row) here ≡ moved_record u copy = ap (copied_record u (candidate_of row)) stand.0 in
+      let filled : t.filled ≡ u.filled + row.blocks = ap (λ r. u.filled + blocks_of_row r) ready.0.0 in
+      let sum : u.filled + (row.blocks + blocks_of_copies (copies_of rows outcomes)) ≤ u.geometry.agg = room in (
+        omega (arith, fits, few),
+        one_copyable u row bytes here stand.0 h.0.1.whole ready.0 passed.0 (omega (arith, sum)) lesser live.0,
+        subst (λ r. AreCopyable packed (state_after u r) (at + row.blocks) (map candidate_of rows) fates memory) (sym same)
+            (are_copyable p (after_all s (records_of row (Copied bytes))) t (left - row.blocks) (at + row.blocks) memory rest h.1 stand.1 (omega (arith, fits, few))
+            apart.1 (still_ready u.rows t.rows row.id (others_stand u copy) (rows_of (copies_of rows outcomes)) apart.0 ready.1) (still_passed u copy rows passed.1)
+            (omega (arith, sum, filled)) live.1 (copy_lesser u copy live.0 lesser)),
+      )
 
 -- ---- how many they are
 

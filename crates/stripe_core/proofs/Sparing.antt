@@ -21,7 +21,7 @@ use Rattle.cache_model.specs.declared.record.Rec.TheVariants as rec
 use Rattle.cache_model.specs.State.{Row, State, after_all, live_row_of, state_after}
 use Rattle.cache_model.specs.Kept.{Kept, count_of, state_of, with_records}
 use Rattle.cache_model.specs.Room.{has_room, placed_record}
-use Rattle.cache_model.proofs.Steps.{after_all-append}
+use Rattle.cache_model.proofs.Steps.{after_all-append, all_append}
 use Rattle.stripe_actors.specs.Calls.{CutsNext}
 use Rattle.stripe_actors.specs.Actors.{AreActors, Seen as Actors}
 use Rattle.stripe_actors.specs.ActorLaws.{speaks_of_actors}
@@ -36,13 +36,15 @@ use Rattle.stripe_core.specs.declared.refusal.Stop.{Stop}
 use Rattle.stripe_core.specs.declared.refusal.Stop.TheVariants as stop
 use Rattle.stripe_core.specs.Ahead.{IsMadeFor}
 use Rattle.stripe_core.specs.Covers.{Uses}
+use Rattle.stripe_core.specs.Displaced.{AreOfDisplacement}
 use Rattle.stripe_core.specs.Find.{cause_records, find_adds, found_records}
 use Rattle.stripe_core.specs.Flush.{AreOfFlush, IsOfFlush}
-use Rattle.stripe_core.specs.Place.{IsFragmentOf, piece_records, place_adds}
+use Rattle.stripe_core.specs.Place.{IsFragmentOf, IsPlacedAs, PlaceAdds}
 use Rattle.stripe_core.specs.Units.{entries_of_unit, records_of_unit}
 use Rattle.stripe_core.specs.Stripe.{Answers, IsSpared, refusal_of}
 use Rattle.stripe_core.proofs.Flushes.{state_of-with_records}
-use Rattle.stripe_core.proofs.Groups.{no_vector}
+use Rattle.stripe_core.proofs.Displacing.{pushed_kinds}
+use Rattle.stripe_core.proofs.Groups.{cut_first, no_vector, none_cut}
 
 -- ---- records that speak of no actor
 
@@ -115,6 +117,12 @@ other _ h = absurd h
 pub flush_is_others : (recs : List Rec) → AreOfFlush recs → AllOthers recs
 flush_is_others [] all = tt
 flush_is_others (r ∷ recs) all = (other r all.0, flush_is_others recs all.1)
+
+-- what an entry displaces
+pub displaced_are_others : (recs : List Rec) → AreOfDisplacement recs → AllOthers recs
+displaced_are_others [] all = tt
+displaced_are_others (rec.Displaced piece segment live ∷ recs) all = (refl, displaced_are_others recs all.1)
+displaced_are_others (_ ∷ recs) all = absurd all.0
 
 -- ---- memory
 
@@ -245,38 +253,54 @@ answers_map (Err refusal.NoSuchWriter) P Q v w f g h = absurd h
 
 -- ---- a fragment that was placed
 
--- it is cut and then placed
-fragment_two : (s : State) (id : PieceId) (pin start : ℕ) (payload : List ℕ) → is_vector id ≡ false
-    → piece_records s id pin start payload ≡ rec.Cut id.put id.index (length payload) (digest_of payload) ∷ placed_record s id pin start (length payload) payload ∷ []
-fragment_two s id pin start payload kind = rw kind refl
-
 -- behind the flush that it may need
-module _ (s : State) (id : PieceId) (pin start : ℕ) (payload : List ℕ) (room : List Rec) (kinds : AreOfFlush room) (kind : is_vector id ≡ false) where
+module _ (packed : Bool) (s : State) (id : PieceId) (pin start : ℕ) (payload : List ℕ) (room piece : List Rec) (kinds : AreOfFlush room) (kind : is_vector id ≡ false)
+    (are : IsPlacedAs packed (after_all s room) id pin start payload piece) where
   abbrev t : State
   t = after_all s room
 
   abbrev cut : State
   cut = state_after t (rec.Cut id.put id.index (length payload) (digest_of payload))
 
-  pub placed_state : after_all s (room ++ piece_records t id pin start payload) ≡ state_after cut (placed_record t id pin start (length payload) payload)
-  placed_state = after_all-append s room (piece_records t id pin start payload) ∙ ap (after_all t) (fragment_two t id pin start payload kind)
+  abbrev gone : State
+  gone = after_all cut are.displaced
+
+  displaced : AllOthers are.displaced
+  displaced = displaced_are_others are.displaced (pushed_kinds packed t id are.displaced are.pushed)
+
+  -- it is cut, then its entry displaces, then it is placed
+  pub placed_state : after_all s (room ++ piece) ≡ state_after gone (placed_record t id pin start (length payload) payload)
+  placed_state =
+      after_all-append s room piece
+      ∙ (ap (after_all t) (are.is ∙ cut_first t id pin start payload are.displaced kind)
+      ∙ after_all-append cut are.displaced (placed_record t id pin start (length payload) payload ∷ []))
 
   pub fragment_actors : (a b : Actors) (digest : Digest) → digest ≡ digest_of payload → CutsNext id.put (length payload) digest a b → AreActors s a
-      → AreActors (after_all s (room ++ piece_records t id pin start payload)) b
+      → AreActors (after_all s (room ++ piece)) b
   fragment_actors a b digest is cuts h =
       let here : AreActors t a = others_keep s a room (flush_is_others room kinds) h in
       let behind : AreActors cut b = subst (λ d. AreActors (state_after t (rec.Cut id.put id.index (length payload) d)) b) is (cuts id.index t here) in
-      subst (λ x. AreActors x b) (sym placed_state) (others cut b (placed_record t id pin start (length payload) payload) refl behind)
+      subst (λ x. AreActors x b) (sym placed_state) (others gone b (placed_record t id pin start (length payload) payload) refl (others_keep cut b are.displaced displaced behind))
 
-  pub fragment_readers : (after_all s (room ++ piece_records t id pin start payload)).next_reader ≡ s.next_reader
-  fragment_readers = ap (λ (x : State). x.next_reader) placed_state ∙ readers_stay s room (flush_is_others room kinds)
+  pub fragment_readers : (after_all s (room ++ piece)).next_reader ≡ s.next_reader
+  fragment_readers = ap (λ (x : State). x.next_reader) placed_state ∙ (readers_stay cut are.displaced displaced ∙ readers_stay s room (flush_is_others room kinds))
 
-pub vector_alone : (s : State) (id : PieceId) (pin start : ℕ) (payload : List ℕ) → is_vector id ≡ true → piece_records s id pin start payload ≡ placed_record s id pin start (length payload) payload ∷ []
-vector_alone s id pin start payload kind = rw kind refl
+-- of a vector
+placed_others : (packed : Bool) (s : State) (id : PieceId) (pin start : ℕ) (payload : List ℕ) (added : List Rec) → is_vector id ≡ true
+    → IsPlacedAs packed s id pin start payload added → AllOthers added
+placed_others packed s id pin start payload added kind a =
+    subst AllOthers (sym (a.is ∙ none_cut s id pin start payload a.displaced kind))
+    (all_append (λ r. speaks_of_actors r ≡ false) a.displaced _ (displaced_are_others a.displaced (pushed_kinds packed s id a.displaced a.pushed)) (refl, tt))
 
-pub vector_others : (s : State) (id : PieceId) (pin start : ℕ) (payload : List ℕ) (result : Result Placed Stop) → is_vector id ≡ true → AllOthers (place_adds s id pin start payload result)
-vector_others s id pin start payload (Ok placed) kind = rw kind (refl, tt)
-vector_others s id pin start payload (Err why) kind = tt
+pub vector_others : (packed : Bool) (s : State) (id : PieceId) (pin start : ℕ) (payload : List ℕ) (result : Result Placed Stop) (added : List Rec)
+    → is_vector id ≡ true → PlaceAdds packed s id pin start payload result added → AllOthers added
+vector_others packed s id pin start payload (Ok placed) added kind a = placed_others packed s id pin start payload added kind a
+vector_others packed s id pin start payload (Err why) added kind a = subst AllOthers (sym a) tt
+
+pub vector_state : (packed : Bool) (s : State) (id : PieceId) (pin start : ℕ) (payload : List ℕ) (added : List Rec)
+    (a : IsPlacedAs packed s id pin start payload added) → is_vector id ≡ true → after_all s added ≡ state_after (after_all s a.displaced) (placed_record s id pin start (length payload) payload)
+vector_state packed s id pin start payload added a kind =
+    ap (after_all s) (a.is ∙ none_cut s id pin start payload a.displaced kind) ∙ after_all-append s a.displaced (placed_record s id pin start (length payload) payload ∷ [])
 
 -- a fragment is no vector
 pub no_vector_id : (s : State) (id : PieceId) (pin start : ℕ) (payload : List ℕ) → IsFragmentOf s id pin start payload → is_vector id ≡ false

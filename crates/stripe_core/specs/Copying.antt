@@ -71,27 +71,27 @@ copied_of s at (c ∷ cs) (f ∷ fs) memory =
     let recs : List Rec = copied_by s c f (bytes_for at c f memory) in
     recs ++ copied_of (after_all s recs) (at + blocks_for c f) cs fs memory
 
--- the floor has passed the piece that is copied, and the buffer has room for it
-pub record IsCopyable (s : State) (c : Candidate) (bytes : List ℕ) : Type 0 where
+-- the floor has passed the piece that is copied, the buffer has room for it, and the directory a slot
+pub record IsCopyable (packed : Bool) (s : State) (c : Candidate) (bytes : List ℕ) : Type 0 where
   pub row : Row
-  pub movable : IsMovable s c.id row bytes
+  pub movable : IsMovable packed s c.id row bytes
   pub place : row.place ≡ c.place
   pub blocks : row.blocks ≡ c.blocks
   pub some : 0 < c.blocks
 
 -- of a piece that is not copied nothing is asked
-abbrev pub IsCopyableWhereCopied : State → Candidate → Fate → List ℕ → Type 0
-IsCopyableWhereCopied s c (fate.Copied pinned) bytes = IsCopyable s c bytes
-IsCopyableWhereCopied s c _ bytes = Unit {0}
+abbrev pub IsCopyableWhereCopied : Bool → State → Candidate → Fate → List ℕ → Type 0
+IsCopyableWhereCopied packed s c (fate.Copied pinned) bytes = IsCopyable packed s c bytes
+IsCopyableWhereCopied packed s c _ bytes = Unit {0}
 
 -- each behind those before it; what is read stands in memory
-abbrev pub AreCopyable : State → ℕ → List Candidate → List Fate → List ℕ → Type 0
-AreCopyable s at [] [] memory = Unit {0}
-AreCopyable s at (c ∷ cs) (f ∷ fs) memory =
+abbrev pub AreCopyable : Bool → State → ℕ → List Candidate → List Fate → List ℕ → Type 0
+AreCopyable packed s at [] [] memory = Unit {0}
+AreCopyable packed s at (c ∷ cs) (f ∷ fs) memory =
     (512 * (at + blocks_for c f) ≤ length memory)
-    × IsCopyableWhereCopied s c f (bytes_for at c f memory)
-    × AreCopyable (after_all s (copied_by s c f (bytes_for at c f memory))) (at + blocks_for c f) cs fs memory
-AreCopyable s at _ _ memory = ⊥
+    × IsCopyableWhereCopied packed s c f (bytes_for at c f memory)
+    × AreCopyable packed (after_all s (copied_by s c f (bytes_for at c f memory))) (at + blocks_for c f) cs fs memory
+AreCopyable packed s at _ _ memory = ⊥
 
 -- 1 where the piece is copied, and else 0
 abbrev pub copies_by : Fate → ℕ

@@ -1,4 +1,5 @@
 pub mod Held
+pub mod Displaced
 pub mod Records
 pub mod Pieces
 pub mod This

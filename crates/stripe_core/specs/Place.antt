@@ -1,5 +1,5 @@
--- Where a piece goes: the flush that it needs before it, and the records of its place.
-use Rattle.std.specs.Prelude.{ℕ, ◌≡◌, ◌+◌, ◌<◌, ◌≤◌, false, true, if◌then◌else◌, List, [], ◌∷◌, ◌++◌, length, None, Result, Ok, Err, MatchBool}
+-- Where a piece goes: the flush that it needs before it, what its entry displaces, and the records of its place.
+use Rattle.std.specs.Prelude.{ℕ, ◌≡◌, ◌+◌, ◌<◌, ◌≤◌, Bool, false, true, if◌then◌else◌, List, [], ◌∷◌, ◌++◌, length, None, Result, Ok, Err, MatchBool}
 use Rattle.tape_base.specs.declared.pieces.PieceId.{PieceId}
 use Rattle.tape_base.specs.declared.digests.Digest.{Digest}
 use Rattle.tape_base.specs.Blocks.{blocks_of}
@@ -21,6 +21,7 @@ use Rattle.cache_model.specs.Legal.{AreLiveTo, Does, IsCut, IsNext, IsWriting, M
 use Rattle.stripe_core.specs.declared.refusal.Placed.{Placed}
 use Rattle.stripe_core.specs.declared.refusal.Stop.{Stop}
 use Rattle.stripe_core.specs.declared.refusal.Stop.TheVariants as stop
+use Rattle.stripe_core.specs.Displaced.{IsPushedOut}
 use Rattle.stripe_core.specs.Faults.{HasEffects}
 use Rattle.stripe_core.specs.Covers.{Covers, Spends}
 use Rattle.cache_model.specs.Damage.{TellNoDamage}
@@ -61,24 +62,39 @@ cut_record_of id length digest = if is_vector id then [] else rec.Cut id.put id.
 abbrev pub cut_records : PieceId → List ℕ → List Rec
 cut_records id payload = cut_record_of id (length payload) (digest_of payload)
 
--- the records of a piece that is placed: of a fragment, also that it was cut
-abbrev pub piece_records : State → PieceId → ℕ → ℕ → List ℕ → List Rec
-piece_records s id pin start payload = cut_records id payload ++ placed_record s id pin start (length payload) payload ∷ []
+-- the records of a piece that is placed: of a fragment, that it was cut; then what its entry displaces, and its place
+pub record IsPlacedAs (packed : Bool) (s : State) (id : PieceId) (pin start : ℕ) (payload : List ℕ) (added : List Rec) : Type 0 where
+  pub displaced : List Rec
+  pub pushed : IsPushedOut packed s id displaced
+  pub is : added ≡ cut_records id payload ++ (displaced ++ placed_record s id pin start (length payload) payload ∷ [])
 
 -- the place behind the piece
 abbrev pub end_of : State → List ℕ → ℕ
 end_of s payload = place_now s + blocks_of (length payload)
 
 -- what is recorded of a piece that had room: nothing where it would end at the limit
-abbrev pub place_adds : State → PieceId → ℕ → ℕ → List ℕ → Result Placed Stop → List Rec
-place_adds s id pin start payload (Ok placed) = piece_records s id pin start payload
-place_adds s id pin start payload (Err why) = []
+abbrev pub PlaceAdds : Bool → State → PieceId → ℕ → ℕ → List ℕ → Result Placed Stop → List Rec → Type 0
+PlaceAdds packed s id pin start payload (Ok placed) added = IsPlacedAs packed s id pin start payload added
+PlaceAdds packed s id pin start payload (Err why) added = added ≡ []
 
 -- the piece stands behind those before it, or would end at the limit
 abbrev pub PlacesAt : State → List ℕ → Result Placed Stop → Type 0
 PlacesAt s payload (Ok placed) = (placed.place ≡ place_now s) × (placed.payload ≡ digest_of payload) × (end_of s payload < limit)
 PlacesAt s payload (Err (stop.Exhausted number)) = (number ≡ end_of s payload) × (limit ≤ number)
 PlacesAt s payload (Err (stop.DeviceFault count)) = ⊥
+
+-- a piece is placed
+pub record PutsIn (packed : Bool) (old new : Kept) (id : PieceId) (pin start : ℕ) (payload : List ℕ) : Type 0 where
+  pub added : List Rec
+  pub adds : new ≡ with_records old added
+  pub are : IsPlacedAs packed (state_of old) id pin start payload added
+
+-- what came of a piece that had room
+pub record PlacesIn (packed : Bool) (old new : Kept) (id : PieceId) (pin start : ℕ) (payload : List ℕ) (result : Result Placed Stop) : Type 0 where
+  pub added : List Rec
+  pub adds : new ≡ with_records old added
+  pub are : PlaceAdds packed (state_of old) id pin start payload result added
+  pub at : PlacesAt (state_of old) payload result
 
 -- the piece is placed, or the tape stopped it
 abbrev pub place_end : Result Placed Stop → End
@@ -100,13 +116,15 @@ pub record IsFragmentOf (s : State) (id : PieceId) (pin start : ℕ) (payload : 
   pub pin_is : pin ≡ w.pin
   pub start_is : start ≡ total_length w.cuts
 
--- what is recorded of a fragment that was placed: the flush that it may need, the cut, and the place
-pub record IsCutAs (s : State) (id : PieceId) (pin start : ℕ) (payload : List ℕ) (added : List Rec) (placed : Placed) : Type 0 where
+-- what is recorded of a fragment that was placed: the flush that it may need, the cut, what its entry displaces, and the place
+pub record IsCutAs (packed : Bool) (s : State) (id : PieceId) (pin start : ℕ) (payload : List ℕ) (added : List Rec) (placed : Placed) : Type 0 where
   pub room : List Rec
+  pub piece : List Rec
   pub kinds : AreOfFlush room
   pub none : has_room s (length payload) ≡ true → room ≡ []
   pub live : LiveBefore s (after_all s room)
-  pub is : added ≡ room ++ piece_records (after_all s room) id pin start payload
+  pub are : IsPlacedAs packed (after_all s room) id pin start payload piece
+  pub is : added ≡ room ++ piece
   pub place : placed.place ≡ place_now (after_all s room)
   pub payload_is : placed.payload ≡ digest_of payload
 
@@ -122,18 +140,18 @@ pub record IsStoppedAs (s : State) (faults : ℕ) (payload : List ℕ) (added : 
   pub why_is : StopsBehind s (after_all s added) faults (length payload) why
 
 -- what is recorded of a fragment, placed or stopped
-abbrev pub IsFragmentAs : State → ℕ → PieceId → ℕ → ℕ → List ℕ → List Rec → Result Placed Stop → Type 0
-IsFragmentAs s faults id pin start payload added (Ok placed) = IsCutAs s id pin start payload added placed
-IsFragmentAs s faults id pin start payload added (Err why) = IsStoppedAs s faults payload added why
+abbrev pub IsFragmentAs : Bool → State → ℕ → PieceId → ℕ → ℕ → List ℕ → List Rec → Result Placed Stop → Type 0
+IsFragmentAs packed s faults id pin start payload added (Ok placed) = IsCutAs packed s id pin start payload added placed
+IsFragmentAs packed s faults id pin start payload added (Err why) = IsStoppedAs s faults payload added why
 
 -- as `FlushesAsAsked`, of a fragment that is cut
-pub record CutsAsAsked (now : ℕ) (old new : Kept) (before : List Call) (after : Device) (id : PieceId) (pin start : ℕ) (payload : List ℕ) (result : Result Placed Stop) : Type 0 where
+pub record CutsAsAsked (packed : Bool) (now : ℕ) (old new : Kept) (before : List Call) (after : Device) (id : PieceId) (pin start : ℕ) (payload : List ℕ) (result : Result Placed Stop) : Type 0 where
   pub added : List Rec
   pub adds : new ≡ with_records old added
-  pub shape : IsFragmentAs (state_of old) after.faults id pin start payload added result
+  pub shape : IsFragmentAs packed (state_of old) after.faults id pin start payload added result
   pub unharmed : TellsAll after → TellNoDamage added
   pub faults : HasEffects before after.past (effects_told added)
-  pub does : (p : Permit) → p.now ≡ now → Covers p before after.past
+  pub does : (p : Permit) → p.packed ≡ packed → p.now ≡ now → Covers p before after.past
       → Spends p (state_of old) (Fragment id.put id.index payload) added (place_end result)
 
 -- ---- a vector
@@ -159,10 +177,10 @@ pub record IsVectorOf (s : State) (id : PieceId) (pin start : ℕ) (payload : Li
   pub length_is : length payload ≡ vector_length s id.put
   pub room : has_room s (length payload) ≡ true
 
--- such a vector finishes the put
-abbrev pub FinishesAsAsked : State → List Call → List Call → PieceId → ℕ → ℕ → List ℕ → ℕ → Result Placed Stop → Type 0
-FinishesAsAsked s before after id pin start payload fragments result = IsVectorOf s id pin start payload
-    → (p : Permit) → Covers p before after → Does p s (Finish id.put fragments) (place_adds s id pin start payload result) (place_end result)
+-- the records of such a vector finish the put
+abbrev pub FinishesAsAsked : Bool → State → List Call → List Call → PieceId → ℕ → ℕ → List ℕ → ℕ → List Rec → Result Placed Stop → Type 0
+FinishesAsAsked packed s before after id pin start payload fragments added result = IsVectorOf s id pin start payload
+    → (p : Permit) → p.packed ≡ packed → Covers p before after → Does p s (Finish id.put fragments) added (place_end result)
 
 -- ---- a piece of either kind
 
@@ -171,12 +189,11 @@ abbrev pub IsPlacing : State → PieceId → ℕ → ℕ → List ℕ → Type 0
 IsPlacing s id pin start payload = MatchBool (is_vector id) (IsVectorFor s id start payload) (IsFragmentOf s id pin start payload)
 
 -- as `CutsAsAsked`, of a vector, which needs no flush
-pub record PlacesVector (old new : Kept) (before after : List Call) (id : PieceId) (pin start : ℕ) (payload : List ℕ) (result : Result Placed Stop) : Type 0 where
-  pub adds : new ≡ with_records old (place_adds (state_of old) id pin start payload result)
-  pub at : PlacesAt (state_of old) payload result
-  pub does : FinishesAsAsked (state_of old) before after id pin start payload (length (cuts_of (state_of old) id.put)) result
+pub record PlacesVector (packed : Bool) (old new : Kept) (before after : List Call) (id : PieceId) (pin start : ℕ) (payload : List ℕ) (result : Result Placed Stop) : Type 0 where
+  pub places : PlacesIn packed old new id pin start payload result
+  pub does : FinishesAsAsked packed (state_of old) before after id pin start payload (length (cuts_of (state_of old) id.put)) places.added result
 
 -- as `PlacesVector` of a vector, and as `CutsAsAsked` of a fragment
-abbrev pub PlacesAsAsked : ℕ → Kept → Kept → List Call → Device → PieceId → ℕ → ℕ → List ℕ → Result Placed Stop → Type 0
-PlacesAsAsked now old new before after id pin start payload result = MatchBool (is_vector id)
-    (PlacesVector old new before after.past id pin start payload result) (CutsAsAsked now old new before after id pin start payload result)
+abbrev pub PlacesAsAsked : Bool → ℕ → Kept → Kept → List Call → Device → PieceId → ℕ → ℕ → List ℕ → Result Placed Stop → Type 0
+PlacesAsAsked packed now old new before after id pin start payload result = MatchBool (is_vector id)
+    (PlacesVector packed old new before after.past id pin start payload result) (CutsAsAsked packed now old new before after id pin start payload result)

@@ -1,5 +1,5 @@
 -- How what a cyclone holds follows the records: the laws of the two together.
-use Rattle.std.specs.Prelude.{ℕ, ◌≡◌, ◌+◌, ◌*◌, ◌<◌, ◌≤◌, false, List, ◌∷◌, length, IsPermutation, Some, None}
+use Rattle.std.specs.Prelude.{ℕ, ◌≡◌, ◌+◌, ◌*◌, ◌<◌, ◌≤◌, Bool, true, List, ◌∷◌, length, IsPermutation, Some, None}
 use Rattle.tape_base.specs.declared.geometries.Geometry.{Geometry}
 use Rattle.tape_base.specs.declared.pieces.PieceId.{PieceId}
 use Rattle.tape_base.specs.declared.digests.Digest.{Digest}
@@ -19,10 +19,13 @@ use Rattle.cache_model.specs.Legal.{format_records}
 use Rattle.device_log.specs.Image.{SameBut, span}
 use Rattle.logged_disk.specs.Device.{State as Device, IsAfter, seen as content_of}
 use Rattle.cache_model.specs.Tape.{IsSound}
+use Rattle.cache_model.specs.Slots.{AllFit, HasSlotForCopy}
+use Rattle.dir_table.specs.Displacement.{AreFew}
 use Rattle.stripe_core.specs.Held.{IsHeld}
+use Rattle.stripe_core.specs.Displaced.{IsPushedOut, displaced_of}
 
--- the document of a piece as it is placed now
-pub record IsPlacedAs (s : State) (doc : Doc) (payload : List ℕ) (digest : Digest) : Type 0 where
+-- the document of a piece that may be placed now
+pub record IsPlaceable (s : State) (doc : Doc) (payload : List ℕ) (digest : Digest) : Type 0 where
   pub new : row_of s doc.id ≡ None
   pub place : doc.place ≡ place_now s
   pub small : blocks_of (length payload) ≤ budget_of s.geometry
@@ -30,27 +33,46 @@ pub record IsPlacedAs (s : State) (doc : Doc) (payload : List ℕ) (digest : Dig
   pub sized : blocks_in (document_bytes doc payload) ≡ blocks_of (length payload)
   pub recorded : document_digest (document_bytes doc payload) ≡ digest
 
--- a piece that is put where nothing is displaced, and recorded as placed, is held
-abbrev pub PlacedIsHeld : Type 0
-PlacedIsHeld = (s : State) (c new : Seen) (doc : Doc) (payload : List ℕ) (digest : Digest) (pin : ℕ) → IsHeld s c → IsPlacedAs s doc payload digest
-    → IsPut false c new doc payload → IsTurning new
-    → IsHeld (state_after s (rec.Placed doc.id (place_now s) (blocks_of (length payload)) digest pin)) new
+-- where an entry may displace others, each segment of the directory has slots for its rows
+abbrev pub HasSlots : Bool → Seen → Type 0
+HasSlots purges c = purges ≡ true → AreFew c.window.geometry c.rows
 
--- a piece that the floor has passed, bytes of as many blocks as it has, and room for these in the buffer
-pub record IsMovable (s : State) (id : PieceId) (row : Row) (bytes : List ℕ) : Type 0 where
+-- a piece is put, what that displaced is recorded as displaced, and the piece as placed
+abbrev pub placed_behind : State → Seen → Doc → List ℕ → Digest → State
+placed_behind s new doc payload digest =
+    state_after (after_all s (displaced_of s new.displaced)) (rec.Placed doc.id (place_now s) (blocks_of (length payload)) digest doc.pin)
+
+-- then it is held, and these are the pieces that its entry displaces
+pub record IsHeldBehind (purges : Bool) (s : State) (new : Seen) (doc : Doc) (payload : List ℕ) (digest : Digest) : Type 0 where
+  pub held : IsHeld (placed_behind s new doc payload digest) new
+  pub pushed : IsPushedOut purges s doc.id (displaced_of s new.displaced)
+
+-- so it is in each directory
+abbrev pub PlacedIsHeld : Type 0
+PlacedIsHeld = (purges : Bool) (s : State) (c new : Seen) (doc : Doc) (payload : List ℕ) (digest : Digest) → IsHeld s c → IsPlaceable s doc payload digest
+    → IsPut purges c new doc payload → IsTurning new → HasSlots purges new → IsHeldBehind purges s new doc payload digest
+
+-- a piece that the floor has passed, bytes of as many blocks as it has, room for these in the buffer, and a slot for its entry
+-- where the directory displaces
+pub record IsMovable (packed : Bool) (s : State) (id : PieceId) (row : Row) (bytes : List ℕ) : Type 0 where
   pub found : row_of s id ≡ Some row
   pub passed : row.place < floor_now s
   pub sized : length bytes ≡ 512 * row.blocks
   pub room : s.filled + row.blocks ≤ s.geometry.agg
+  pub slot : packed ≡ true → HasSlotForCopy s id
 
 -- the record of its copy
 abbrev pub moved_to_here : State → PieceId → Row → List ℕ → Rec
 moved_to_here s id row bytes = rec.Moved id row.place (place_now s) (document_digest (moved_to (place_now s) bytes))
 
--- where it is copied into the buffer, and recorded as moved, it is held
+-- where it is copied into the buffer, and recorded as moved, it is held: its entry displaces nothing
 abbrev pub MovedIsHeld : Type 0
-MovedIsHeld = (s : State) (c new : Seen) (id : PieceId) (row : Row) (bytes : List ℕ) → IsHeld s c → IsMovable s id row bytes
-    → IsMoved false c new id row.place bytes → IsTurning new → IsHeld (state_after s (moved_to_here s id row bytes)) new
+MovedIsHeld = (packed : Bool) (s : State) (c new : Seen) (id : PieceId) (row : Row) (bytes : List ℕ) → IsHeld s c → IsMovable packed s id row bytes
+    → IsMoved packed c new id row.place bytes → IsTurning new → IsHeld (state_after s (moved_to_here s id row bytes)) new
+
+-- where an entry may displace others, each segment has slots for the pieces that are live
+abbrev pub HeldFit : Type 0
+HeldFit = (s : State) (c : Seen) → IsHeld s c → AreFew c.window.geometry c.rows → AllFit s
 
 -- what is in the buffer is seen on the device, in whole blocks
 pub record IsWrittenOut (c : Seen) : Type 0 where

@@ -80,8 +80,6 @@ RowIsMade id a = is_vector id ≡ false → 0 < room_for id.put a
 pub record IsStripe {D R C : Type 0} {d : DiskGhosts D} {r : DirectoryGhosts R} {c : ChronicleGhosts C} (t : Stripe D R C d r c) : Type 0 where
   pub pieces : ArePieces t.pieces
   pub actors : AreActors (state_in t) t.actors
-  -- its directory displaces nothing
-  pub plain : r.purges ≡ false
   pub spared : IsSpared t.units t.flushes (c.room t.pieces.chronicle) (seen_in t)
   -- each piece of an index that a put may have is one of a put that has begun, and of an open put one that it has cut
   pub named : IsNamed (state_in t)

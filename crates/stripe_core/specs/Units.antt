@@ -2,12 +2,13 @@
 use Rattle.std.specs.Prelude.{ℕ, ◌+◌, ◌*◌}
 use Rattle.tape_base.specs.declared.geometries.Geometry.{Geometry}
 use Rattle.tape_base.specs.Geometry.{budget_of}
+use Rattle.dir_table.specs.Displacement.{purge_of}
 use Rattle.stripe_due.specs.Finding.{most_passed}
 
--- how many records a call adds at most: of a flush two for each piece that the floor passes, and one;
--- and those of a piece
+-- how many records a call adds at most: of a flush two for each piece that the floor passes, and one; and those of a piece, with
+-- what its entry displaces
 abbrev pub records_of_unit : Geometry → ℕ
-records_of_unit g = 2 * most_passed g + 4
+records_of_unit g = 2 * most_passed g + 4 + purge_of g
 
 -- how many pieces it enters at most: those that its flush copies, and one
 abbrev pub entries_of_unit : Geometry → ℕ

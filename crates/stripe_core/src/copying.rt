@@ -26,13 +26,12 @@ impl<D: Disk, R: Directory + Drop, C: Chronicle> Pieces<D, R, C> {
     /// what was read into it.
     pub(crate) fn go_on(&mut self, next: u64, ahead: &Ahead)
         requires pieces { ArePieces self.old }
-        requires plain { R.purges ≡ false }
         requires next { next ≡ cursor_next (state_now self.old) }
         requires below { next < 2 ^ 62 }
         requires written { HasBuffer (seen_of self.old) }
         requires told { AreTellable true (state_now self.old)
             (seen_of self.old).device.faults ahead.now.due.items ahead.now.fates.items }
-        requires copied { AreCopyable (begun_behind (state_now self.old)
+        requires copied { AreCopyable R.purges (begun_behind (state_now self.old)
             (told_of true ahead.now.due.items ahead.now.fates.items)) 0 ahead.now.due.items
             ahead.now.fates.items ahead.now.bytes.items }
         requires records { length (told_of true ahead.now.due.items ahead.now.fates.items) + 1 + copies_among ahead.now.fates.items ≤ C.room self.old.chronicle }
@@ -151,8 +150,7 @@ impl<D: Disk, R: Directory + Drop, C: Chronicle> Pieces<D, R, C> {
     // Copies the documents that stand in memory into the buffer.
     fn copy(&mut self, ahead: &Ahead)
         requires pieces { ArePieces self.old }
-        requires plain { R.purges ≡ false }
-        requires copied { AreCopyable (state_now self.old) 0 ahead.now.due.items
+        requires copied { AreCopyable R.purges (state_now self.old) 0 ahead.now.due.items
             ahead.now.fates.items ahead.now.bytes.items }
         requires records { copies_among ahead.now.fates.items ≤ C.room self.old.chronicle }
         requires entries { copies_among ahead.now.fates.items ≤ (seen_of self.old).spare }
@@ -181,8 +179,7 @@ impl<D: Disk, R: Directory + Drop, C: Chronicle> Pieces<D, R, C> {
     // Copies a piece, where its document was read and is its own.
     fn copy_one(&mut self, candidate: Candidate, fate: Fate, bytes: &[u8])
         requires pieces { ArePieces self.old }
-        requires plain { R.purges ≡ false }
-        requires copied { IsCopyableWhereCopied (state_now self.old) candidate fate bytes.now }
+        requires copied { IsCopyableWhereCopied R.purges (state_now self.old) candidate fate bytes.now }
         requires records { copies_by fate ≤ C.room self.old.chronicle }
         requires entries { copies_by fate ≤ (seen_of self.old).spare }
         ensures pieces { ArePieces self.new }
@@ -202,8 +199,7 @@ impl<D: Disk, R: Directory + Drop, C: Chronicle> Pieces<D, R, C> {
 
     fn move_here(&mut self, candidate: Candidate, pinned: bool, bytes: &[u8])
         requires pieces { ArePieces self.old }
-        requires plain { R.purges ≡ false }
-        requires copied { IsCopyable (state_now self.old) candidate bytes.now }
+        requires copied { IsCopyable R.purges (state_now self.old) candidate bytes.now }
         requires record { 1 ≤ C.room self.old.chronicle }
         requires entry { 1 ≤ (seen_of self.old).spare }
         ensures pieces { ArePieces self.new }

@@ -31,7 +31,6 @@ impl<D: Disk, R: Directory + Drop, C: Chronicle> Pieces<D, R, C> {
     pub fn flush(&mut self, now: u64, actors: &Actors, ahead: &mut Ahead) -> Result<Flushed, Stop>
         requires pieces { ArePieces self.old }
         requires quiet { IsQuiet (state_now self.old) }
-        requires plain { R.purges ≡ false }
         requires actors { AreActors (state_now self.old) actors.now }
         requires ahead { IsMadeFor (state_now self.old).geometry ahead.old }
         requires records { 2 * most_passed (state_now self.old).geometry + 1
@@ -69,6 +68,8 @@ impl<D: Disk, R: Directory + Drop, C: Chronicle> Pieces<D, R, C> {
             return Err(Stop::Exhausted { number: end });
         }
         self.look_ahead(now, actors, ahead);
+        // Each copy has a slot, where entries may displace others.
+        self.cyclone.rows_fit();
         match self.cyclone.write_out() {
             Ok(()) => {
                 self.go_on(next, ahead);
@@ -101,7 +102,6 @@ impl<D: Disk, R: Directory + Drop, C: Chronicle> Pieces<D, R, C> {
     ) -> Result<(), Stop>
         requires pieces { ArePieces self.old }
         requires quiet { IsQuiet (state_now self.old) }
-        requires plain { R.purges ≡ false }
         requires actors { AreActors (state_now self.old) actors.now }
         requires ahead { IsMadeFor (state_now self.old).geometry ahead.old }
         requires small { blocks_of bytes ≤ budget_of (state_now self.old).geometry }

@@ -1,8 +1,8 @@
 // Laws of what a cyclone holds and what the records say of it. These functions do nothing when they
 // run.
-ghost use Rattle.stripe_core.specs.Records.{PlacedIsHeld, MovedIsHeld, BegunIsHeld, TakenIsHeld, PassedIsHeld, AlikeIsHeld, DeviceMayChange, FreshIsHeld, RoomMayGrow};
+ghost use Rattle.stripe_core.specs.Records.{PlacedIsHeld, MovedIsHeld, HeldFit, BegunIsHeld, TakenIsHeld, PassedIsHeld, AlikeIsHeld, DeviceMayChange, FreshIsHeld, RoomMayGrow};
 
-/// A piece that is put and recorded as placed is held.
+/// A piece that is put and recorded as placed, behind what it displaced, is held.
 pub fn placed_is_held()
     ensures { PlacedIsHeld }
 {}
@@ -10,6 +10,11 @@ pub fn placed_is_held()
 /// A piece that is copied into the buffer and recorded as moved is held.
 pub fn moved_is_held()
     ensures { MovedIsHeld }
+{}
+
+/// Where an entry may displace others, each segment has slots for the pieces that are live.
+pub fn held_fit()
+    ensures { HeldFit }
 {}
 
 /// Where the next buffer begins and is recorded, what may still be read is held.

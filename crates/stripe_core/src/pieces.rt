@@ -22,6 +22,9 @@ const PER_BLOCK: usize = 4;
 // The records of the next buffer, of a cut, of a place, and one more.
 const RECORDS: usize = 4;
 
+// Of each bucket three slots are for any chain of its segment. An entry displaces a tenth of these.
+const CHAINED: usize = 3;
+
 /// The pieces on a device, and the chronicle that tells of them.
 #[derive(Drop)]
 pub struct Pieces<D: Disk, R: Directory + Drop, C: Chronicle> {
@@ -134,7 +137,8 @@ pub(crate) fn records_of(g: &Geometry, units: u32) -> usize
     ensures count { result ≡ records_of_unit g.now * units }
     ensures few { result < 2 ^ 48 }
 {
-    (PER_BLOCK * g.agg as usize + RECORDS) * units as usize
+    let displaced = (CHAINED * g.buckets as usize + 9) / 10;
+    (PER_BLOCK * g.agg as usize + RECORDS + displaced) * units as usize
 }
 
 fn is_this(found: Option<PieceId>, id: PieceId) -> bool

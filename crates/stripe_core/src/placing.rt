@@ -2,13 +2,13 @@
 ghost use Rattle.std.specs.Prelude.{◌≡◌, ◌+◌, ◌*◌, ◌≤◌, ◌^◌, true, false, length};
 ghost use Rattle.tape_base.specs.Digest.{digest_of};
 ghost use Rattle.tape_base.specs.Geometry.{budget_of};
-ghost use Rattle.cache_model.specs.Kept.{with_records};
 ghost use Rattle.cache_model.specs.Room.{doc_at, has_room};
 ghost use Rattle.stripe_actors.specs.Actors.{AreActors};
+ghost use Rattle.dir_table.specs.Displacement.{purge_of};
 ghost use Rattle.stripe_due.specs.Finding.{most_passed};
 ghost use Rattle.stripe_core.specs.Covers.{Uses};
 ghost use Rattle.stripe_core.specs.Ahead.{IsMadeFor};
-ghost use Rattle.stripe_core.specs.Place.{CutsAsAsked, IsFragmentOf, IsNew, PlacesAt, piece_records, place_adds};
+ghost use Rattle.stripe_core.specs.Place.{CutsAsAsked, IsFragmentOf, IsNew, PlacesIn, PutsIn};
 
 use crate::ahead::Ahead;
 use crate::refusal::{Placed, Stop};
@@ -35,27 +35,27 @@ impl<D: Disk, R: Directory + Drop, C: Chronicle> Pieces<D, R, C> {
         ahead: &mut Ahead,
     ) -> Result<Placed, Stop>
         requires pieces { ArePieces self.old }
-        requires plain { R.purges ≡ false }
         requires actors { AreActors (state_now self.old) actors.now }
         requires ahead { IsMadeFor (state_now self.old).geometry ahead.old }
         requires new { IsNew (state_now self.old) id payload.now }
         requires size { length payload.now ≤ 2 ^ 31 }
         requires fragment { IsFragmentOf (state_now self.old) id pin start payload.now }
-        requires records { 2 * most_passed (state_now self.old).geometry + 3
-            ≤ C.room self.old.chronicle }
+        requires records { let g = (state_now self.old).geometry in
+            2 * most_passed g + 3 + purge_of g ≤ C.room self.old.chronicle }
         requires entries { budget_of (state_now self.old).geometry + 1 ≤ (seen_of self.old).spare }
         requires calls { 1 ≤ (seen_of self.old).device.calls }
         requires blocks { (seen_of self.old).geometry.agg ≤ (seen_of self.old).device.blocks }
         ensures pieces { ArePieces self.new }
-        ensures does { CutsAsAsked now (kept_of self.old) (kept_of self.new)
+        ensures does { CutsAsAsked R.purges now (kept_of self.old) (kept_of self.new)
             (seen_of self.old).device.past
             (seen_of self.new).device id pin start payload.now result }
         ensures ahead { IsMadeFor (state_now self.old).geometry ahead.new }
         ensures still { has_room (state_now self.old) (length payload.now) ≡ true
             → (seen_of self.new).device ≡ (seen_of self.old).device }
         ensures uses { let g = (seen_of self.old).geometry in
-            Uses (2 * most_passed g + 3) (budget_of g + 1) 1 g.agg (C.room self.old.chronicle)
-            (C.room self.new.chronicle) (seen_of self.old) (seen_of self.new) }
+            Uses (2 * most_passed g + 3 + purge_of g) (budget_of g + 1) 1 g.agg
+            (C.room self.old.chronicle) (C.room self.new.chronicle) (seen_of self.old)
+            (seen_of self.new) }
     {
         match self.make_room(payload.len() as u32, now, actors, ahead) {
             Ok(()) => self.place(id, pin, start, payload),
@@ -72,19 +72,18 @@ impl<D: Disk, R: Directory + Drop, C: Chronicle> Pieces<D, R, C> {
         payload: &[u8],
     ) -> Result<Placed, Stop>
         requires pieces { ArePieces self.old }
-        requires plain { R.purges ≡ false }
         requires new { IsNew (state_now self.old) id payload.now }
         requires size { length payload.now ≤ 2 ^ 31 }
         requires room { has_room (state_now self.old) (length payload.now) ≡ true }
-        requires records { 2 ≤ C.room self.old.chronicle }
+        requires records { 2 + purge_of (state_now self.old).geometry ≤ C.room self.old.chronicle }
         requires entry { 1 ≤ (seen_of self.old).spare }
         ensures pieces { ArePieces self.new }
-        ensures adds { kept_of self.new ≡ with_records (kept_of self.old)
-            (place_adds (state_now self.old) id pin start payload.now result) }
-        ensures at { PlacesAt (state_now self.old) payload.now result }
+        ensures places { PlacesIn R.purges (kept_of self.old) (kept_of self.new) id pin start
+            payload.now result }
         ensures still { (seen_of self.new).device ≡ (seen_of self.old).device }
-        ensures uses { Uses 2 1 0 0 (C.room self.old.chronicle) (C.room self.new.chronicle)
-            (seen_of self.old) (seen_of self.new) }
+        ensures uses { Uses (2 + purge_of (seen_of self.old).geometry) 1 0 0
+            (C.room self.old.chronicle) (C.room self.new.chronicle) (seen_of self.old)
+            (seen_of self.new) }
     {
         let place = self.cyclone.next_place();
         let end = place + blocks_of(payload.len() as u32) as u64;
@@ -104,24 +103,28 @@ impl<D: Disk, R: Directory + Drop, C: Chronicle> Pieces<D, R, C> {
 
     fn put(&mut self, doc: &Doc, payload: &[u8]) -> Digest
         requires pieces { ArePieces self.old }
-        requires plain { R.purges ≡ false }
         requires new { IsNew (state_now self.old) doc.now.id payload.now }
         requires doc { let d = doc.now in d ≡ doc_at (state_now self.old) d.id d.pin d.start }
         requires size { length payload.now ≤ 2 ^ 31 }
         requires room { has_room (state_now self.old) (length payload.now) ≡ true }
-        requires records { 2 ≤ C.room self.old.chronicle }
+        requires records { 2 + purge_of (state_now self.old).geometry ≤ C.room self.old.chronicle }
         requires entry { 1 ≤ (seen_of self.old).spare }
         ensures pieces { ArePieces self.new }
-        ensures adds { let d = doc.now in kept_of self.new ≡ with_records (kept_of self.old)
-            (piece_records (state_now self.old) d.id d.pin d.start payload.now) }
+        ensures puts { let d = doc.now in
+            PutsIn R.purges (kept_of self.old) (kept_of self.new) d.id d.pin d.start payload.now }
         ensures digest { result ≡ digest_of payload.now }
         ensures still { (seen_of self.new).device ≡ (seen_of self.old).device }
-        ensures uses { Uses 2 1 0 0 (C.room self.old.chronicle) (C.room self.new.chronicle)
-            (seen_of self.old) (seen_of self.new) }
+        ensures uses { Uses (2 + purge_of (seen_of self.old).geometry) 1 0 0
+            (C.room self.old.chronicle) (C.room self.new.chronicle) (seen_of self.old)
+            (seen_of self.new) }
     {
         let length = payload.len() as u32;
         let put = self.cyclone.put(doc, payload);
-        records::placed(&mut self.chronicle, doc, length, put);
+        // Behind what it displaced it has a slot.
+        self.cyclone.rows_fit();
+        records::cut(&mut self.chronicle, doc.id, length, put.payload);
+        records::displaced(&mut self.chronicle, self.cyclone.displaced());
+        records::placed(&mut self.chronicle, doc, blocks_of(length), put.document);
         put.payload
     }
 }

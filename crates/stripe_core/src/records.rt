@@ -1,18 +1,18 @@
 // The records that the calls of a stripe push: one function for each kind, or for kinds that stand
 // together.
-ghost use Rattle.std.specs.Prelude.{◌≡◌, ◌+◌, ◌≤◌, ◌^◌, [], ◌∷◌, ◌++◌};
-ghost use Rattle.tape_base.specs.Blocks.{blocks_of};
-ghost use Rattle.cache_model.specs.Kept.{with_record, with_records};
+ghost use Rattle.std.specs.Prelude.{◌≡◌, ◌+◌, ◌≤◌, [], ◌∷◌, length};
+ghost use Rattle.cache_model.specs.Kept.{state_of, with_records};
 ghost use Rattle.cache_model.specs.Legal.{answer_record, format_records};
 ghost use Rattle.cache_model.specs.declared.record.Rec.TheVariants.{Aborted, Began, Committed, Damaged, Fault, Moved, Placed, ReadClosed, ReadOpened, Removed, Unsaved, WriteOpened};
+ghost use Rattle.stripe_core.specs.Displaced.{displaced_of};
 ghost use Rattle.stripe_core.specs.Place.{cut_record_of};
 
 use alternate_vector::{Fields, Vector};
 use cache_chronicle::Chronicle;
 use cache_model::{NextAnswer, ReadAnswer, Rec};
-use cyclone::Put;
+use dir_table::Displaced;
 use doc_header::Doc;
-use tape_base::{Actor, Digest, Geometry, Key, PieceId, blocks_of, floor_of};
+use tape_base::{Actor, Digest, Geometry, Key, PieceId, floor_of};
 
 /// A session begins, and its first buffer.
 pub fn formatted<C: Chronicle>(chronicle: &mut C, g: &Geometry)
@@ -45,32 +45,45 @@ pub fn fault<C: Chronicle>(chronicle: &mut C, count: u64)
     chronicle.push(Rec::Fault { count });
 }
 
-/// A piece is placed; of a fragment, with the length and the digest of its payload, also that it was
-/// cut.
-pub fn placed<C: Chronicle>(chronicle: &mut C, doc: &Doc, length: u32, put: Put)
-    requires size { length ≤ 2 ^ 31 }
-    requires room { 2 ≤ C.room chronicle.old }
-    ensures kept { let d = doc.now in C.kept chronicle.new ≡ with_records (C.kept chronicle.old)
-        (cut_record_of d.id length put.payload ++ Placed d.id d.place (blocks_of length) put.document d.pin ∷ []) }
-    ensures room { C.room chronicle.old ≤ C.room chronicle.new + 2 }
+/// A fragment was cut, of so many bytes with that digest; a vector is none.
+pub fn cut<C: Chronicle>(chronicle: &mut C, id: PieceId, length: u32, digest: Digest)
+    requires { 1 ≤ C.room chronicle.old }
+    ensures kept { C.kept chronicle.new ≡ with_records (C.kept chronicle.old) (cut_record_of id length digest) }
+    ensures room { C.room chronicle.old ≤ C.room chronicle.new + 1 }
 {
-    if doc.id.index == 0 {
-        vector(chronicle, doc, blocks_of(length), put.document);
-    } else {
+    if id.index != 0 {
         chronicle.push(Rec::Cut {
-            put: doc.id.put,
-            index: doc.id.index,
+            put: id.put,
+            index: id.index,
             length,
-            digest: put.payload,
+            digest,
         });
-        vector(chronicle, doc, blocks_of(length), put.document);
     }
 }
 
-fn vector<C: Chronicle>(chronicle: &mut C, doc: &Doc, blocks: u32, digest: Digest)
+/// The pieces that stood at these places were displaced.
+pub fn displaced<C: Chronicle>(chronicle: &mut C, displaced: &Displaced)
+    requires { length displaced.now.told.places ≤ C.room chronicle.old }
+    ensures kept { C.kept chronicle.new ≡ with_records (C.kept chronicle.old)
+        (displaced_of (state_of (C.kept chronicle.old)) displaced.now.told) }
+    ensures room { C.room chronicle.old ≤ C.room chronicle.new + length displaced.now.told.places }
+{
+    for i in 0..displaced.len() {
+        if let Some(piece) = chronicle.last_at(displaced.place(i)) {
+            chronicle.push(Rec::Displaced {
+                piece,
+                segment: displaced.segment(),
+                live: displaced.live(),
+            });
+        }
+    }
+}
+
+/// A piece is placed, in so many blocks.
+pub fn placed<C: Chronicle>(chronicle: &mut C, doc: &Doc, blocks: u32, digest: Digest)
     requires { 1 ≤ C.room chronicle.old }
-    ensures kept { let d = doc.now in
-        C.kept chronicle.new ≡ with_record (C.kept chronicle.old) (Placed d.id d.place blocks digest d.pin) }
+    ensures kept { let d = doc.now in C.kept chronicle.new ≡ with_records (C.kept chronicle.old)
+        (Placed d.id d.place blocks digest d.pin ∷ []) }
     ensures room { C.room chronicle.old ≤ C.room chronicle.new + 1 }
 {
     chronicle.push(Rec::Placed {

@@ -50,7 +50,6 @@ impl<D: Disk, R: Directory + Drop, C: Chronicle> Stripe<D, R, C> {
     ) -> Result<Stripe<D, R, C>, (Refusal, D, C)>
         requires sized { g.content ≤ (D.state disk).size }
         requires empty { C.kept chronicle ≡ all_of [] }
-        requires plain { R.purges ≡ false }
         ensures stripe { IfOk result IsStripe }
         ensures records { IfOk result (λ t. kept_in t ≡ all_of (format_records g)) }
         ensures device { IfOk result (λ t. (seen_in t).device ≡ D.state disk) }
@@ -101,6 +100,14 @@ impl<D: Disk, R: Directory + Drop, C: Chronicle> Stripe<D, R, C> {
         ensures { D.state result.now ≡ (seen_in self.now).device }
     {
         self.pieces.cyclone.disk()
+    }
+
+    /// The directory, as the pieces use it.
+    pub fn directory(&self) -> &R
+        ensures stored { R.rows result.now ≡ (seen_in self.now).stored }
+        ensures window { R.window result.now ≡ (seen_in self.now).window }
+    {
+        self.pieces.cyclone.directory()
     }
 
     pub fn geometry(&self) -> &Geometry
@@ -289,7 +296,7 @@ impl<D: Disk, R: Directory + Drop, C: Chronicle> Stripe<D, R, C> {
         requires stripe { IsStripe self.old }
         requires placing { IsPlacing (state_in self.old) id pin start payload.now }
         ensures continues { Continues self.old self.new }
-        ensures does { Answers result (PlacesAsAsked now (kept_in self.old) (kept_in self.new)
+        ensures does { Answers result (PlacesAsAsked R.purges now (kept_in self.old) (kept_in self.new)
             (seen_in self.old).device.past (seen_in self.new).device id pin start payload.now)
             (kept_in self.new ≡ kept_in self.old) }
         // Without a flush the device stays as it is, but for the memory of its calls.
@@ -322,7 +329,7 @@ impl<D: Disk, R: Directory + Drop, C: Chronicle> Stripe<D, R, C> {
         requires kind { id.index ≡ 0 }
         requires vector { IsVectorFor (state_in self.old) id start payload.now }
         ensures continues { Continues self.old self.new }
-        ensures does { Answers result (PlacesVector (kept_in self.old) (kept_in self.new)
+        ensures does { Answers result (PlacesVector R.purges (kept_in self.old) (kept_in self.new)
             (seen_in self.old).device.past
             (seen_in self.new).device.past id pin start payload.now) ⊥ }
         ensures still { (seen_in self.new).device ≡ (seen_in self.old).device }
@@ -347,7 +354,7 @@ impl<D: Disk, R: Directory + Drop, C: Chronicle> Stripe<D, R, C> {
             (C.room self.old.pieces.chronicle) (seen_in self.old) }
         requires fragment { IsFragmentOf (state_in self.old) id pin start payload.now }
         ensures continues { Continues self.old self.new }
-        ensures does { Answers result (CutsAsAsked now (kept_in self.old) (kept_in self.new)
+        ensures does { Answers result (CutsAsAsked R.purges now (kept_in self.old) (kept_in self.new)
             (seen_in self.old).device.past (seen_in self.new).device id pin start payload.now)
             (kept_in self.new ≡ kept_in self.old) }
         ensures still { has_room (state_in self.old) (length payload.now) ≡ true

@@ -1,4 +1,4 @@
-use Rattle.stripe_core.proofs.Placements.{placed_is_held}
+use Rattle.stripe_core.proofs.Purging.{placed_is_held}
 use Rattle.stripe_core.proofs.laws.placed_is_held.Goals as goal
 
 pub returns : goal.returns

@@ -6,6 +6,7 @@ use Rattle.cyclone.specs.Cyclone.{Seen, seen}
 use Rattle.cache_model.specs.declared.record.Rec.TheVariants as rec
 use Rattle.cache_model.specs.State.{State, after_all}
 use Rattle.cache_model.specs.Kept.{state_of, with_records}
+use Rattle.cache_model.specs.Slots.{AllFit}
 use Rattle.stripe_due.specs.Finding.{most_passed}
 use Rattle.stripe_core.specs.declared.refusal.Stop.TheVariants as stop
 use Rattle.stripe_core.specs.Copying.{AreCopyable, AreTellable, begun_behind, copies_among, done_records, told_of}
@@ -17,6 +18,7 @@ use Rattle.stripe_core.proofs.Going.{device_may_change}
 use Rattle.stripe_core.proofs.Holding.{copies_end_fits, copies_end_is}
 use Rattle.stripe_core.proofs.LiveBehind.{live_same}
 use Rattle.stripe_core.proofs.Looked.{copyable, few_entries, few_records, flush_asked, flush_uses, half_is_free, left_by_write, stop_asked, taken_by_write, tellable}
+use Rattle.stripe_core.proofs.Slotted.{held_fit}
 use Rattle.stripe_core.proofs.Between.{effects_none}
 use Rattle.stripe_core.proofs.pieces.Pieces.flush.Goals as goal
 
@@ -71,8 +73,13 @@ go_on-requires-clause-told g c =
 pub go_on-requires-clause-copied : goal.go_on-requires-clause-copied
 go_on-requires-clause-copied g c =
     let a = c.look_ahead.new.ahead in
-    subst (λ x. AreCopyable (begun_behind (state_of (g.C.Chronicle.kept x)) (told_of true a.due.items a.fates.items)) 0 a.due.items a.fates.items a.bytes.items) (sym c.look_ahead.ensures.chronicle)
-    (copyable c.args.now (state_now c.args.self.now) _ _ a c.requires.pieces.sound c.look_ahead.ensures.looks c.look_ahead.ensures.ahead.bytes)
+    let packed = g.R.Directory.purges in
+    let fit : packed ≡ true → AllFit (state_now c.args.self.now) = λ on.
+    subst (λ x. AllFit (state_of (g.C.Chronicle.kept x))) c.look_ahead.ensures.chronicle
+    (held_fit (state_now c.look_ahead.new.self) (seen_of c.look_ahead.new.self) c.look_ahead.ensures.pieces (c.rows_fit.ensures on)) in
+    subst (λ x. AreCopyable packed (begun_behind (state_of (g.C.Chronicle.kept x)) (told_of true a.due.items a.fates.items)) 0 a.due.items a.fates.items a.bytes.items)
+    (sym c.look_ahead.ensures.chronicle)
+    (copyable c.args.now (state_now c.args.self.now) _ _ a c.requires.pieces.sound c.look_ahead.ensures.looks packed fit c.look_ahead.ensures.ahead.bytes)
 
 pub go_on-requires-clause-records : goal.go_on-requires-clause-records
 go_on-requires-clause-records g c =

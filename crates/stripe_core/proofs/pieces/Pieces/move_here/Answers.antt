@@ -1,6 +1,5 @@
 use Rattle.std.proofs.lemmas.Grind.{common_steps}
-use Rattle.std.proofs.Common.{arith, [], ◌∷◌, subst}
-use Rattle.cyclone.specs.Cyclone.{IsMoved}
+use Rattle.std.proofs.Common.{arith, [], ◌∷◌}
 use Rattle.stripe_core.specs.Copying.{copied_record}
 use Rattle.stripe_core.specs.Pieces.{kept_of, seen_of, state_now}
 use Rattle.stripe_core.proofs.Copied.{copied_is_held}
@@ -17,5 +16,5 @@ returns-clause-pieces g c =
     let after = Rattle.cyclone.specs.Cyclone.seen c.move_piece-digest.new.self in
     held_behind (kept_of c.args.self.now) (g.C.Chronicle.kept c.moved.new.chronicle) (copied_record s c.args.candidate c.args.bytes.now ∷ []) after
     (returns-clause-adds g c)
-    (copied_is_held s before after c.args.candidate c.args.bytes.now c.requires.pieces c.requires.copied
-    (subst (λ b. IsMoved b before after c.args.candidate.id c.args.candidate.place c.args.bytes.now) c.requires.plain c.move_piece-digest.ensures.moved) c.move_piece-digest.ensures.turns)
+    (copied_is_held g.R.Directory.purges s before after c.args.candidate c.args.bytes.now c.requires.pieces c.requires.copied
+    c.move_piece-digest.ensures.moved c.move_piece-digest.ensures.turns)

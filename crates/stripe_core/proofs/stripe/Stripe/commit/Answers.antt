@@ -24,7 +24,6 @@ returns-clause-continues g c =
       stripe = record {
         pieces = c.commit.ensures.pieces;
         actors = subst (λ t. AreActors t c.close.new.self) (sym (ap state_of c.commit.ensures.adds ∙ state_of-with_records kept (told ∷ []))) (c.close.ensures.commits c.args.key c.length-length.result c.args.alternates s c.requires.stripe.actors);
-        plain = c.requires.stripe.plain;
         spared = one_less c.args.self.now.units c.args.self.now.flushes _ _ (seen_in c.args.self.now) (seen_of c.commit.new.self) c.requires.unit c.requires.stripe.spared c.commit.ensures.uses;
         named = named_behind kept _ told c.commit.ensures.adds
             (named_committed s c.args.put c.length-length.result c.args.key c.args.alternates (c.requires.committing.pending ∙ ap (λ k. Some (vector_piece k c.args.put)) c.requires.committing.key_is) c.requires.stripe.named);

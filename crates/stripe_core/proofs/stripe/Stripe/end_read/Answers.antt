@@ -20,7 +20,6 @@ returns-clause-continues g c =
       stripe = record {
         pieces = held_behind kept (g.C.Chronicle.kept c.read_closed.new.chronicle) before (rec.ReadClosed c.args.reader) c.read_closed.ensures.kept tt (record { geometry = refl; cursor = refl; filled = refl; rows = refl; fault = refl }) c.requires.stripe.pieces;
         actors = subst (λ t. AreActors t c.close_reader.new.self) (sym (ap state_of c.read_closed.ensures.kept ∙ state_of-with_records kept (rec.ReadClosed c.args.reader ∷ []))) (c.close_reader.ensures.closes s c.requires.stripe.actors);
-        plain = c.requires.stripe.plain;
         spared = one_record c.args.self.now.units c.args.self.now.flushes _ _ before c.requires.unit c.requires.stripe.spared c.read_closed.ensures.room;
         named = named_behind kept _ (rec.ReadClosed c.args.reader) c.read_closed.ensures.kept (name_left s (rec.ReadClosed c.args.reader) refl c.requires.stripe.named);
         readers = omega (arith, c.requires.stripe.readers, c.close_reader.ensures.readers);

@@ -21,7 +21,6 @@ returns-clause-continues g c =
       stripe = record {
         pieces = c.find.ensures.pieces;
         actors = actors_with kept _ c.take_unit.new.self.actors adds c.find.ensures.adds (find_are_others taken c.args.id c.find.result) c.take_unit.ensures.continues.stripe.actors;
-        plain = c.requires.stripe.plain;
         spared = spent_calm (units_in c.take_unit.new.self) (flushes_in c.take_unit.new.self) _ _ 1 0 (seen_in c.take_unit.new.self) (seen_of c.find.new.self)
             c.in_ok-take_unit.ensures.spared c.find.ensures.uses (omega arith) (omega arith);
         named = named_with kept _ adds c.find.ensures.adds (find_leaves taken c.args.id c.find.result) c.take_unit.ensures.continues.stripe.named;

@@ -36,7 +36,6 @@ returns-in-Ok-clause-continues g c =
       stripe = record {
         pieces = c.flush.ensures.pieces;
         actors = actors_with kept _ c.take_unit.new.self.actors does.added does.adds others c.take_unit.ensures.continues.stripe.actors;
-        plain = c.requires.resting.stripe.plain;
         spared = spent_by (nat_lt c.cursor.result c.next_place.result) (units_in c.take_unit.new.self) (flushes_in c.take_unit.new.self) c.one_where.result _ _ _ _ before after
             c.one_where.ensures c.in_ok-take_unit.ensures.spared c.flush.ensures.uses (omega arith) (omega arith)
             (λ none. c.flush.ensures.still (nothing_in_buffer taken before c.cursor.result c.next_place.result c.take_unit.ensures.continues.stripe.pieces c.cursor.ensures c.next_place.ensures none));
@@ -62,7 +61,6 @@ returns-in-Err-clause-continues g c =
       stripe = record {
         pieces = c.flush.ensures.pieces;
         actors = actors_with kept _ c.take_unit.new.self.actors does.added does.adds others c.take_unit.ensures.continues.stripe.actors;
-        plain = c.requires.resting.stripe.plain;
         spared = spent_by (nat_lt c.cursor.result c.next_place.result) (units_in c.take_unit.new.self) (flushes_in c.take_unit.new.self) c.one_where.result _ _ _ _ before after
             c.one_where.ensures c.in_ok-take_unit.ensures.spared c.flush.ensures.uses (omega arith) (omega arith)
             (λ none. c.flush.ensures.still (nothing_in_buffer taken before c.cursor.result c.next_place.result c.take_unit.ensures.continues.stripe.pieces c.cursor.ensures c.next_place.ensures none));

@@ -7,7 +7,6 @@ pub returns-in-Ok-format-clause-stripe : goal.returns-in-Ok-format-clause-stripe
 returns-in-Ok-format-clause-stripe g c = record {
   pieces = c.in-Ok-format.ensures.pieces;
   actors = subst (λ k. AreActors (state_of k) c.new-in-Ok-format.result) (sym c.in-Ok-format.ensures.records) (c.new-in-Ok-format.ensures c.args.g);
-  plain = c.requires.plain;
   spared = record { for_records = omega arith; entries = omega arith; one_each = omega arith; calls = omega arith; blocks = omega arith };
   named = rw c.in-Ok-format.ensures.records tt;
   readers = omega arith;

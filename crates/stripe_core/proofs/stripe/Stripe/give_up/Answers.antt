@@ -21,7 +21,6 @@ returns-clause-continues g c =
       stripe = record {
         pieces = held_behind kept (g.C.Chronicle.kept c.aborted.new.chronicle) before (rec.Aborted c.args.put c.args.key) c.aborted.ensures.kept tt (record { geometry = refl; cursor = refl; filled = refl; rows = refl; fault = refl }) c.requires.stripe.pieces;
         actors = subst (λ t. AreActors t c.abort.new.self) (sym (ap state_of c.aborted.ensures.kept ∙ state_of-with_records kept (rec.Aborted c.args.put c.args.key ∷ []))) (c.abort.ensures.ends c.args.key s c.requires.stripe.actors);
-        plain = c.requires.stripe.plain;
         spared = one_record c.args.self.now.units c.args.self.now.flushes _ _ before c.requires.unit c.requires.stripe.spared c.aborted.ensures.room;
         named = named_behind kept _ (rec.Aborted c.args.put c.args.key) c.aborted.ensures.kept (named_aborted s c.args.put c.args.key c.requires.stripe.named);
         readers = omega (arith, c.requires.stripe.readers, c.abort.ensures.readers);

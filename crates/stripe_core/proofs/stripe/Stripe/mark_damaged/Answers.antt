@@ -15,7 +15,6 @@ returns-clause-stripe g c =
     record {
       pieces = c.damage.ensures.pieces;
       actors = actors_with kept _ c.args.self.now.actors (told ∷ []) c.damage.ensures.adds (refl, tt) c.requires.stripe.actors;
-      plain = c.requires.stripe.plain;
       spared = one_less c.args.self.now.units c.args.self.now.flushes _ _ (seen_in c.args.self.now) (seen_of c.damage.new.self) c.requires.unit c.requires.stripe.spared c.damage.ensures.uses;
       named = named_behind kept _ told c.damage.ensures.adds (name_left s told refl c.requires.stripe.named);
       readers = omega (arith, c.requires.stripe.readers);

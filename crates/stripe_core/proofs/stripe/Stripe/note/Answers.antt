@@ -22,7 +22,6 @@ returns-clause-continues g c =
       stripe = record {
         pieces = held_behind kept (g.C.Chronicle.kept c.answered.new.chronicle) before told c.answered.ensures.kept (answer_leaves_tape c.args.reader c.args.answer) leaves c.requires.stripe.pieces;
         actors = subst (λ t. AreActors t c.go_on.new.actors) (sym (ap state_of c.answered.ensures.kept ∙ state_of-with_records kept (told ∷ []))) (c.go_on.ensures.keeps s c.requires.stripe.actors);
-        plain = c.requires.stripe.plain;
         spared = one_record c.args.self.now.units c.args.self.now.flushes _ _ before c.requires.unit c.requires.stripe.spared c.answered.ensures.room;
         named = named_behind kept _ told c.answered.ensures.kept (answer_leaves_names s c.args.reader c.args.answer c.requires.stripe.named);
         readers = omega (arith, c.requires.stripe.readers, c.go_on.ensures.readers);

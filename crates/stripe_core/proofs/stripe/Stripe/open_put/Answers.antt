@@ -39,7 +39,6 @@ returns-in-Ok-clause-continues g c =
       stripe = record {
         pieces = held_behind kept after before told is tt (record { geometry = refl; cursor = refl; filled = refl; rows = refl; fault = refl }) c.requires.resting.stripe.pieces;
         actors = subst (λ t. AreActors t c.open_put.new.self) (sym (ap state_of is ∙ state_of-with_records kept (told ∷ []))) (c.in-Ok.ensures.ok.opened c.args.actor c.args.pin s c.requires.resting.stripe.actors);
-        plain = c.requires.resting.stripe.plain;
         spared = record {
           for_records =
               subst (λ geometry. records_of_unit geometry * c.args.self.now.units ≤ g.C.Chronicle.room c.write_opened.new.chronicle) c.geometry.ensures

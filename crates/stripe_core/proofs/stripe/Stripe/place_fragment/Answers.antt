@@ -4,11 +4,12 @@ use Rattle.cache_model.specs.State.{State, after_all}
 use Rattle.cache_model.specs.Kept.{state_of}
 use Rattle.stripe_actors.specs.Actors.{AreActors}
 use Rattle.stripe_core.specs.declared.refusal.Placed.{Placed}
-use Rattle.stripe_core.specs.Place.{CutsAsAsked, IsCutAs, IsStoppedAs, piece_records}
+use Rattle.stripe_core.specs.Place.{CutsAsAsked, IsCutAs, IsStoppedAs}
 use Rattle.stripe_core.specs.Pieces.{kept_of, seen_of}
 use Rattle.stripe_core.specs.Stripe.{Answers, HasMemory, flushes_in, kept_in, seen_in, state_in, units_in}
 use Rattle.stripe_core.proofs.Asked.{stop_has_memory}
 use Rattle.stripe_core.proofs.Flushes.{state_of-with_records}
+use Rattle.stripe_core.proofs.Displacing.{displaced_leaves, displaced_puts, pushed_kinds}
 use Rattle.stripe_core.proofs.Sparing.{actors_with, answers_stop, flush_is_others, fragment_actors, fragment_readers, made_still, no_vector_id, numbered_by, numbered_others, placed_state, room_for_it, spent_by}
 use Rattle.stripe_core.proofs.Naming.{begun_put, flush_leaves, fragment_named, fragment_new, named_with, small_size}
 use Rattle.stripe_core.proofs.Between.{between-adds}
@@ -16,6 +17,7 @@ use Rattle.stripe_core.proofs.stripe.Stripe.place_fragment.Goals as goal
 
 pub returns-in-Ok-clause-continues : goal.returns-in-Ok-clause-continues
 returns-in-Ok-clause-continues g c =
+    let purges = g.R.Directory.purges in
     let s = state_in c.args.self.now in
     let kept = kept_in c.args.self.now in
     let new = kept_of c.place_fragment.new.self in
@@ -25,28 +27,29 @@ returns-in-Ok-clause-continues g c =
     let payload = c.args.payload.now in
     let kind = no_vector_id s id c.args.pin c.args.start payload c.requires.fragment in
     let does = c.in-Ok.ensures.does in
-    let shape : IsCutAs s id c.args.pin c.args.start payload does.added c.in-Ok.placed = does.shape in
-    let behind : state_of new ≡ after_all s (shape.room ++ piece_records (after_all s shape.room) id c.args.pin c.args.start payload) =
+    let shape : IsCutAs purges s id c.args.pin c.args.start payload does.added c.in-Ok.placed = does.shape in
+    let gone = pushed_kinds purges (after_all s shape.room) id shape.are.displaced shape.are.pushed in
+    let behind : state_of new ≡ after_all s (shape.room ++ shape.piece) =
     ap state_of does.adds ∙ (state_of-with_records kept does.added ∙ ap (after_all s) shape.is) in
     record {
       stripe = record {
         pieces = c.place_fragment.ensures.pieces;
         actors = subst (λ t. AreActors t c.cut.new.self) (sym behind)
-            (fragment_actors s id c.args.pin c.args.start payload shape.room shape.kinds kind c.reserve_cut.new.self c.cut.new.self c.in-Ok.placed.payload shape.payload_is c.cut.ensures.cuts
-            (c.reserve_cut.ensures.step s c.requires.stripe.actors));
-        plain = c.requires.stripe.plain;
+            (fragment_actors purges s id c.args.pin c.args.start payload shape.room shape.piece shape.kinds kind shape.are
+            c.reserve_cut.new.self c.cut.new.self c.in-Ok.placed.payload shape.payload_is c.cut.ensures.cuts (c.reserve_cut.ensures.step s c.requires.stripe.actors));
         spared = spent_by (nat_lt c.room.result c.blocks_of.result) (units_in c.args.self.now) (flushes_in c.args.self.now) c.one_where.result _ _ _ _ before after
             c.one_where.ensures c.requires.spared c.place_fragment.ensures.uses (omega arith) (omega arith)
             (λ none. c.place_fragment.ensures.still (room_for_it s before (length payload) c.blocks_of.result c.room.result c.requires.stripe.pieces c.blocks_of.ensures c.room.ensures none));
         named =
-            fragment_named s _ id _ _ c.args.pin c.args.start _ payload shape.room _ _ c.requires.fragment shape.kinds c.requires.stripe.named
+            fragment_named s _ id _ _ c.args.pin c.args.start _ payload shape.room shape.are.displaced _ _ c.requires.fragment shape.kinds (displaced_leaves shape.are.displaced gone)
+            (λ t. displaced_puts t shape.are.displaced gone) c.requires.stripe.named
             (begun_put s c.args.self.now.actors id.put c.requires.fragment.w c.requires.stripe.actors c.requires.fragment.next.writing.found)
-            (behind ∙ placed_state s id c.args.pin c.args.start payload shape.room shape.kinds kind);
+            (behind ∙ placed_state purges s id c.args.pin c.args.start payload shape.room shape.piece shape.kinds kind shape.are);
         readers = omega (arith, c.requires.stripe.readers, c.reserve_cut.ensures.readers, c.cut.ensures.readers);
         ahead = made_still s _ before after c.place_fragment.new.ahead c.requires.stripe.pieces c.place_fragment.ensures.pieces c.place_fragment.ensures.uses.same c.place_fragment.ensures.ahead;
         numbered =
             let same : (state_of new).next_reader ≡ s.next_reader =
-            ap (λ (t : State). t.next_reader) behind ∙ fragment_readers s id c.args.pin c.args.start payload shape.room shape.kinds kind in
+            ap (λ (t : State). t.next_reader) behind ∙ fragment_readers purges s id c.args.pin c.args.start payload shape.room shape.piece shape.kinds kind shape.are in
             numbered_by kept new does.added 0 does.adds (omega (arith, same)) (omega arith) c.requires.stripe.numbered;
       };
       between = between-adds _ _ kept _ does.added does.adds c.place_fragment.ensures.uses.goes does.faults does.unharmed;
@@ -67,7 +70,6 @@ returns-in-Err-clause-continues g c =
       stripe = record {
         pieces = c.place_fragment.ensures.pieces;
         actors = actors_with kept _ c.reserve_cut.new.self does.added does.adds others (c.reserve_cut.ensures.step s c.requires.stripe.actors);
-        plain = c.requires.stripe.plain;
         spared = spent_by (nat_lt c.room.result c.blocks_of.result) (units_in c.args.self.now) (flushes_in c.args.self.now) c.one_where.result _ _ _ _ before after
             c.one_where.ensures c.requires.spared c.place_fragment.ensures.uses (omega arith) (omega arith)
             (λ none. c.place_fragment.ensures.still (room_for_it s before (length payload) c.blocks_of.result c.room.result c.requires.stripe.pieces c.blocks_of.ensures c.room.ensures none));
@@ -86,7 +88,7 @@ returns-in-Err-clause-does g c =
     let new = kept_of c.place_fragment.new.self in
     let before = (seen_in c.args.self.now).device.past in
     let after = (seen_of c.place_fragment.new.self).device in
-    let cuts = CutsAsAsked c.args.now kept new before after c.args.id c.args.pin c.args.start c.args.payload.now in
+    let cuts = CutsAsAsked g.R.Directory.purges c.args.now kept new before after c.args.id c.args.pin c.args.start c.args.payload.now in
     subst (λ r. Answers (Err r) cuts (new ≡ kept)) (sym c.from.ensures) (answers_stop c.in-Err.stop cuts (new ≡ kept) c.in-Err.ensures.does)
 
 pub returns-in-Err-clause-memory : goal.returns-in-Err-clause-memory

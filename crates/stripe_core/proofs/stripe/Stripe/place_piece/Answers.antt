@@ -11,6 +11,7 @@ use Rattle.stripe_core.proofs.stripe.Stripe.place_piece.Goals as goal
 
 pub returns-then-id-eq0-clause-does : goal.returns-then-id-eq0-clause-does
 returns-then-id-eq0-clause-does g c =
+    let purges = g.R.Directory.purges in
     let old = kept_in c.args.self.now in
     let taken = kept_in c.take_unit.new.self in
     let new = kept_in c.place_vector.new.self in
@@ -20,14 +21,18 @@ returns-then-id-eq0-clause-does g c =
     let id = c.args.id in
     let payload = c.args.payload.now in
     let kind : is_vector id ≡ true = eq-eqb id.index 0 c.if-id-eq0.true in
-    answers_map c.place_vector.result (PlacesVector taken new before after.past id c.args.pin c.args.start payload) (PlacesAsAsked c.args.now old new first after id c.args.pin c.args.start payload) _ _
+    answers_map c.place_vector.result (PlacesVector purges taken new before after.past id c.args.pin c.args.start payload)
+    (PlacesAsAsked purges c.args.now old new first after id c.args.pin c.args.start payload) _ _
     (λ r h.
-    subst (λ b. MatchBool b (PlacesVector old new first after.past id c.args.pin c.args.start payload r) (CutsAsAsked c.args.now old new first after id c.args.pin c.args.start payload r)) (sym kind)
-    (behind_unit (λ k n. PlacesVector k new n after.past id c.args.pin c.args.start payload r) taken old before first c.take_unit.ensures.records c.take_unit.ensures.still.past h))
+    subst (λ b. MatchBool b (PlacesVector purges old new first after.past id c.args.pin c.args.start payload r)
+    (CutsAsAsked purges c.args.now old new first after id c.args.pin c.args.start payload r)) (sym kind)
+    (behind_unit (λ k n. PlacesVector purges k new n after.past id c.args.pin c.args.start payload r)
+    taken old before first c.take_unit.ensures.records c.take_unit.ensures.still.past h))
     (λ none. absurd none) c.place_vector.ensures.does
 
 pub returns-else-id-eq0-clause-does : goal.returns-else-id-eq0-clause-does
 returns-else-id-eq0-clause-does g c =
+    let purges = g.R.Directory.purges in
     let old = kept_in c.args.self.now in
     let taken = kept_in c.take_unit.new.self in
     let new = kept_in c.place_fragment.new.self in
@@ -37,10 +42,13 @@ returns-else-id-eq0-clause-does g c =
     let id = c.args.id in
     let payload = c.args.payload.now in
     let kind : is_vector id ≡ false = ne_eqb id.index 0 c.if-id-eq0.false in
-    answers_map c.place_fragment.result (CutsAsAsked c.args.now taken new before after id c.args.pin c.args.start payload) (PlacesAsAsked c.args.now old new first after id c.args.pin c.args.start payload) _ _
+    answers_map c.place_fragment.result (CutsAsAsked purges c.args.now taken new before after id c.args.pin c.args.start payload)
+    (PlacesAsAsked purges c.args.now old new first after id c.args.pin c.args.start payload) _ _
     (λ r h.
-    subst (λ b. MatchBool b (PlacesVector old new first after.past id c.args.pin c.args.start payload r) (CutsAsAsked c.args.now old new first after id c.args.pin c.args.start payload r)) (sym kind)
-    (behind_unit (λ k n. CutsAsAsked c.args.now k new n after id c.args.pin c.args.start payload r) taken old before first c.take_unit.ensures.records c.take_unit.ensures.still.past h))
+    subst (λ b. MatchBool b (PlacesVector purges old new first after.past id c.args.pin c.args.start payload r)
+    (CutsAsAsked purges c.args.now old new first after id c.args.pin c.args.start payload r)) (sym kind)
+    (behind_unit (λ k n. CutsAsAsked purges c.args.now k new n after id c.args.pin c.args.start payload r)
+    taken old before first c.take_unit.ensures.records c.take_unit.ensures.still.past h))
     (λ same. subst (λ k. new ≡ k) c.take_unit.ensures.records same) c.place_fragment.ensures.does
 
 pub returns-then-id-eq0-clause-continues : goal.returns-then-id-eq0-clause-continues

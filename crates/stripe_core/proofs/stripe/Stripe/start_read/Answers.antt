@@ -25,7 +25,6 @@ returns-clause-continues g c =
         pieces = held_behind kept after (seen_in c.take_unit.new.self) told c.read_opened.ensures.kept tt (record { geometry = refl; cursor = refl; filled = refl; rows = refl; fault = refl }) c.take_unit.ensures.continues.stripe.pieces;
         actors = subst (λ t. AreActors t c.answer_lookup.new.actors) (sym (ap state_of c.read_opened.ensures.kept ∙ state_of-with_records kept (told ∷ [])))
             (c.in_ok-reader.ensures.keeps taken c.args.actor c.args.key c.args.request follows c.take_unit.ensures.continues.stripe.actors);
-        plain = c.requires.stripe.plain;
         spared = one_told (units_in c.take_unit.new.self) (flushes_in c.take_unit.new.self) _ _ (seen_in c.take_unit.new.self) c.in_ok-take_unit.ensures.spared c.read_opened.ensures.room;
         named = named_behind kept after told c.read_opened.ensures.kept (name_left taken told refl c.take_unit.ensures.continues.stripe.named);
         readers = omega (arith, c.in_ok-take_unit.ensures.readers, c.answer_lookup.ensures.room);

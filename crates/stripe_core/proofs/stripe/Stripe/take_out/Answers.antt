@@ -18,7 +18,6 @@ returns-clause-continues g c =
       stripe = record {
         pieces = c.remove-put.ensures.pieces;
         actors = actors_with kept _ c.args.self.now.actors (told ∷ []) c.remove-put.ensures.adds (refl, tt) c.requires.resting.stripe.actors;
-        plain = c.requires.resting.stripe.plain;
         spared = one_less c.args.self.now.units c.args.self.now.flushes _ _ (seen_in c.args.self.now) (seen_of c.remove-put.new.self) c.requires.unit c.requires.resting.stripe.spared c.remove-put.ensures.uses;
         named = named_behind kept _ told c.remove-put.ensures.adds (name_left s told refl c.requires.resting.stripe.named);
         readers = omega (arith, c.requires.resting.stripe.readers);

@@ -1,0 +1,65 @@
+-- What records of displacements tell, and what they leave.
+use Rattle.std.proofs.Common.{◌≡◌, ℕ, List, [], ◌∷◌, refl, sym, ◌∙◌, ap, subst, Bool, false, true}
+use Rattle.std.specs.Prelude.{map, ◌&&◌}
+use Rattle.tape_base.specs.declared.pieces.PieceId.{PieceId}
+use Rattle.cache_model.specs.declared.record.Rec.{Rec}
+use Rattle.cache_model.specs.declared.record.Rec.TheVariants as rec
+use Rattle.cache_model.specs.State.{Row, State, after_all, state_after}
+use Rattle.cache_model.specs.Permit.{Permit}
+use Rattle.cache_model.specs.Room.{MayDisplace, displaced_record, is_full_for}
+use Rattle.cache_model.specs.Given.{effects_told}
+use Rattle.cache_model.specs.Damage.{TellNoDamage}
+use Rattle.stripe_core.specs.Displaced.{AreOfDisplacement, IsOfDisplacement, IsPushedOut}
+use Rattle.stripe_core.proofs.Naming.{AllLeaveNames, SamePuts}
+
+-- a step of a directory that displaces, or that does not
+abbrev step_of : Bool → Permit
+step_of packed = record { packed = packed; syncs = false; now = 0; area = 0; past = []; events = [] }
+
+mapped : (segment live : ℕ) (rows : List Row) → AreOfDisplacement (map (displaced_record segment live) rows)
+mapped segment live [] = tt
+mapped segment live (row ∷ rows) = (tt, mapped segment live rows)
+
+-- all that is pushed out is told as displaced
+pub pushed_kinds : (packed : Bool) (s : State) (id : PieceId) (displaced : List Rec) → IsPushedOut packed s id displaced → AreOfDisplacement displaced
+pushed_kinds packed s id displaced pushed =
+    let m : MayDisplace (step_of packed) s id displaced = pushed (step_of packed) refl in
+    subst AreOfDisplacement (sym m.is) (mapped _ _ m.purged)
+
+-- a directory that displaces nothing pushes nothing out
+pub pushes_nothing : (s : State) (id : PieceId) → IsPushedOut false s id []
+pushes_nothing s id = λ p plain. record {
+  purged = [];
+  full = λ h. let f : false ≡ true = ap (λ b. b && is_full_for s id) (sym plain) ∙ h in cc;
+  free = λ h. refl;
+  is = refl;
+}
+
+-- such records tell no damage, and no call of the device
+pub displaced_unharmed : (recs : List Rec) → AreOfDisplacement recs → TellNoDamage recs
+displaced_unharmed [] all = tt
+displaced_unharmed (rec.Displaced piece segment live ∷ recs) all = (refl, displaced_unharmed recs all.1)
+displaced_unharmed (_ ∷ recs) all = absurd all.0
+
+pub displaced_quiet : (recs : List Rec) → AreOfDisplacement recs → effects_told recs ≡ []
+displaced_quiet [] all = refl
+displaced_quiet (rec.Displaced piece segment live ∷ recs) all = displaced_quiet recs all.1
+displaced_quiet (_ ∷ recs) all = absurd all.0
+
+one_same : (s : State) (r : Rec) → IsOfDisplacement r → SamePuts s (state_after s r)
+one_same s (rec.Displaced piece segment live) h = record { geometry = refl; pending = refl; puts = refl; next_put = refl }
+one_same s _ h = absurd h
+
+-- they take pieces away, and so leave the names of the others
+pub displaced_leaves : (recs : List Rec) → AreOfDisplacement recs → AllLeaveNames recs
+displaced_leaves [] all = tt
+displaced_leaves (rec.Displaced piece segment live ∷ recs) all = (refl, displaced_leaves recs all.1)
+displaced_leaves (_ ∷ recs) all = absurd all.0
+
+-- they leave the puts
+pub displaced_puts : (s : State) (recs : List Rec) → AreOfDisplacement recs → SamePuts s (after_all s recs)
+displaced_puts s [] all = record { geometry = refl; pending = refl; puts = refl; next_put = refl }
+displaced_puts s (r ∷ recs) all =
+    let first : SamePuts s (state_after s r) = one_same s r all.0 in
+    let rest : SamePuts (state_after s r) (after_all (state_after s r) recs) = displaced_puts (state_after s r) recs all.1 in
+    record { geometry = rest.geometry ∙ first.geometry; pending = rest.pending ∙ first.pending; puts = rest.puts ∙ first.puts; next_put = rest.next_put ∙ first.next_put }
