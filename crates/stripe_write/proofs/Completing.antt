@@ -19,20 +19,22 @@ use Rattle.cache_model.specs.declared.record.Rec.TheVariants as rec
 use Rattle.cache_model.specs.State.{Closed, Complete, LastVector, Open, PutRow, Row, State, TakenOut, alternate_of, alternates_of, fragment_piece, is_live, last_vector, list_among, list_of_last, list_of_piece, list_of_put, list_of_row, live_row_of, merged_list, only_live, placed_row, put_of, row_in, state_after, vector_piece, with_writing, after_all}
 use Rattle.cache_model.specs.Verdict.{cuts_of, live_vector_of, vector_of_last}
 use Rattle.cache_model.specs.Legal.{AreLiveTo, FitsAlone, IsCut, IsQuiet, IsWriting, is_writing, Does}
-use Rattle.cache_model.specs.Room.{greatest_pin, has_room}
+use Rattle.cache_model.specs.Room.{greatest_pin, has_room, placed_record}
 use Rattle.cache_model.proofs.ByNumber.{find-changed}
 use Rattle.cache_model.specs.Kept.{Kept, state_of, with_records}
 use Rattle.cache_model.specs.Permit.{Commit, Done, Exhausted, Fails, Finish}
 use Rattle.cache_model.proofs.Found.{cuts_found}
 use Rattle.cache_model.proofs.Lists.{row_in-placed}
+use Rattle.cache_model.proofs.Steps.{after_all-append}
 use Rattle.stripe_core.specs.declared.refusal.Placed.{Placed}
 use Rattle.stripe_core.specs.declared.refusal.Refusal.{Refusal}
 use Rattle.stripe_core.specs.declared.refusal.Refusal.TheVariants as refusal
+use Rattle.stripe_core.specs.declared.refusal.Stop.{Stop}
 use Rattle.stripe_core.specs.declared.refusal.Stop.TheVariants as stop
 use Rattle.stripe_core.specs.Acts.{CommitsAsAsked, committed_record}
 use Rattle.stripe_core.specs.Stripe.{Answers, HasMemory}
 use Rattle.stripe_core.specs.Covers.{Covers}
-use Rattle.stripe_core.specs.Place.{IsVectorFor, IsVectorOf, PlacesAt, PlacesVector, ReachesLimit, place_adds}
+use Rattle.stripe_core.specs.Place.{IsPlacedAs, IsVectorFor, IsVectorOf, PlacesAt, PlacesIn, PlacesVector, ReachesLimit}
 use Rattle.stripe_vectors.specs.declared.spelling.Spelled.{Spelled}
 use Rattle.stripe_vectors.specs.Spelled.{IsSpelled, listed_with}
 use Rattle.stripe_write.specs.declared.weighing.Vectors.{Vectors}
@@ -41,6 +43,7 @@ use Rattle.stripe_write.specs.Writers.{IsAtHand, IsWriterOf}
 use Rattle.stripe_write.specs.Closing.{AreSpelled, IsReadFor, alternate_at_close, rest_rows, rows_at_close, size_at_close}
 use Rattle.stripe_write.specs.Finishing.{AreLive, FinishesAsRead, IsCurrent, VectorStops, bytes_now, picked, vector_now}
 use Rattle.stripe_write.specs.declared.finishing.Receipt.{Receipt}
+use Rattle.stripe_write.proofs.Pushed.{pushed_by, pushed_list}
 use Rattle.stripe_write.proofs.Spending.{last_done, nothing_more, one_group, state_behind, then_all, then_more}
 use Rattle.stripe_write.proofs.Ended.{open_put, own_number}
 use Rattle.stripe_write.proofs.Reaching.{place_reaches}
@@ -209,6 +212,21 @@ placed_lists s key put place blocks pin digest =
     ap (λ (o : Option Row). unwrap_or (option_and_then (λ (r : Row). r.alternates) o) [])
     (row_in-placed id s.rows row ∙ ap (λ b. if b then Some row else row_in s.rows id) (same_piece-same id))
 
+-- it stands behind what its entry displaces
+pub vector_state : {packed : Bool} (s : State) (key : Key) (put pin : ℕ) (payload : List ℕ) (added : List Rec) → (a : IsPlacedAs packed s (vector_piece key put) pin 0 payload added)
+    → after_all s added ≡ state_after (after_all s a.displaced) (placed_record s (vector_piece key put) pin 0 (length payload) payload)
+vector_state s key put pin payload added a = ap (after_all s) a.is ∙ after_all-append s a.displaced (placed_record s (vector_piece key put) pin 0 (length payload) payload ∷ [])
+
+vector_lists : {packed : Bool} (s : State) (key : Key) (put pin : ℕ) (payload : List ℕ) (added : List Rec) → IsPlacedAs packed s (vector_piece key put) pin 0 payload added
+    → list_of_piece (after_all s added) (vector_piece key put) ≡ list_of_put s put
+vector_lists s key put pin payload added a =
+    ap (λ t. list_of_piece t (vector_piece key put)) (vector_state s key put pin payload added a)
+    ∙ (placed_lists (after_all s a.displaced) key put _ _ _ _ ∙ pushed_list s a.displaced put (pushed_by s (vector_piece key put) pin 0 payload added a))
+
+-- a vector that has no place adds nothing
+nothing_placed : {packed : Bool} (old new : Kept) (piece : PieceId) (pin : ℕ) (payload : List ℕ) (why : Stop) → PlacesIn packed old new piece pin 0 payload (Err why) → new ≡ old
+nothing_placed old new piece pin payload why h = h.adds ∙ (ap (with_records old) h.are ∙ nothing_more old)
+
 -- ---- what it makes of the records
 
 pub cuts_at_hand : (s : State) (w : Writer) (c : IsClosing s w) → cuts_of s w.put ≡ w.table.rows
@@ -217,7 +235,7 @@ cuts_at_hand s w c = cuts_found s w.put c.row c.writing.found ∙ c.cuts_are
 fragments : (s : State) (w : Writer) (c : IsClosing s w) → length (cuts_of s w.put) ≡ length w.table.rows
 fragments s w c = ap length (cuts_at_hand s w c)
 
-module _ (now : ℕ) (old new : Kept) (before after : List Call) (w : Writer) (v : Vectors) (pin : ℕ) (payload : List ℕ)
+module _ (packed : Bool) (now : ℕ) (old new : Kept) (before after : List Call) (w : Writer) (v : Vectors) (pin : ℕ) (payload : List ℕ)
     (c : IsClosing (state_of old) w) (of : (state_of old).displaced ≡ [] → IsReadFor (state_of old) w v → IsVectorOf (state_of old) (vector_piece w.key w.put) pin 0 payload) where
   abbrev s : State
   s = state_of old
@@ -229,40 +247,40 @@ module _ (now : ℕ) (old new : Kept) (before after : List Call) (w : Writer) (v
   vector_at number v at = (cuts_at_hand s w c, subst (λ n. ReachesLimit s n number) v.length_is (place_reaches s payload number v.room at))
 
   -- the vector that has no place
-  no_place : (number : ℕ) → PlacesVector old new before after id pin 0 payload (Err (stop.Exhausted number)) → FinishesAsRead now before after old new w v (Err (refusal.Exhausted number))
+  no_place : (number : ℕ) → PlacesVector packed old new before after id pin 0 payload (Err (stop.Exhausted number)) → FinishesAsRead packed now before after old new w v (Err (refusal.Exhausted number))
   no_place number h = record {
-    does = λ p at covers none read.
-        let d : Does p s (Finish w.put (length w.table.rows)) [] (Fails Exhausted) =
-        subst (λ n. Does p s (Finish w.put n) [] (Fails Exhausted)) (fragments s w c) (h.does (of none read) p covers) in
+    does = λ p packs at covers none read.
+        let d : Does p s (Finish w.put (length w.table.rows)) h.places.added (Fails Exhausted) =
+        subst (λ n. Does p s (Finish w.put n) h.places.added (Fails Exhausted)) (fragments s w c) (h.does (of none read) p packs covers) in
         record {
-          added = [];
-          adds = h.adds;
-          does = λ rest why. one_group p s (Finish w.put (length w.table.rows)) [] (Fails Exhausted) d (Commit w.put ∷ rest) why;
-          number = subst (λ k. VectorStops (state_of k) w (refusal.Exhausted number)) (sym (h.adds ∙ nothing_more old)) (vector_at number (of none read) h.at);
+          added = h.places.added;
+          adds = h.places.adds;
+          does = λ rest why. one_group p s (Finish w.put (length w.table.rows)) h.places.added (Fails Exhausted) d (Commit w.put ∷ rest) why;
+          number = subst (λ k. VectorStops (state_of k) w (refusal.Exhausted number)) (sym (nothing_placed old new id pin payload (stop.Exhausted number) h.places)) (vector_at number (of none read) h.places.at);
         };
   }
 
-  pub refused_finishes : (why : Refusal) → Answers {X = Placed} (Err why) (PlacesVector old new before after id pin 0 payload) (new ≡ old)
-      → HasMemory {X = Placed} (Err why) → FinishesAsRead now before after old new w v (Err why)
+  pub refused_finishes : (why : Refusal) → Answers {X = Placed} (Err why) (PlacesVector packed old new before after id pin 0 payload) (new ≡ old)
+      → HasMemory {X = Placed} (Err why) → FinishesAsRead packed now before after old new w v (Err why)
   refused_finishes (refusal.Exhausted number) h memory = no_place number h
-  refused_finishes (refusal.DeviceFault number) h memory = absurd h.at
+  refused_finishes (refusal.DeviceFault number) h memory = absurd h.places.at
   refused_finishes (refusal.Memory e) h memory = absurd memory
   refused_finishes _ h memory = absurd h
 
   pub completes : (mid : Kept) (between : List Call) (placed : Placed) (receipt : Receipt) (list : List Stored) → (s.displaced ≡ [] → IsReadFor s w v → list ≡ list_of_put s w.put)
-      → after ≡ between → PlacesVector old mid before between id pin 0 payload (Ok placed)
-      → new ≡ with_records mid (committed_record (state_of mid) w.put w.key list ∷ []) → CommitsAsAsked (state_of mid) w.put w.key list → FinishesAsRead now before after old new w v (Ok receipt)
+      → after ≡ between → PlacesVector packed old mid before between id pin 0 payload (Ok placed)
+      → new ≡ with_records mid (committed_record (state_of mid) w.put w.key list ∷ []) → CommitsAsAsked (state_of mid) w.put w.key list → FinishesAsRead packed now before after old new w v (Ok receipt)
   completes mid between placed receipt list lists same h last commits = record {
-    does = λ p at covers none read.
-        let a : List Rec = place_adds s id pin 0 payload (Ok placed) in
+    does = λ p packs at covers none read.
+        let a : List Rec = h.places.added in
         let b : Rec = committed_record (state_of mid) w.put w.key list in
-        let there : state_of mid ≡ after_all s a = state_behind old mid a h.adds in
+        let there : state_of mid ≡ after_all s a = state_behind old mid a h.places.adds in
         let early : Covers p before between = subst (Covers p before) same covers in
-        let stands : list ≡ list_of_piece (state_of mid) id = lists none read ∙ (sym (placed_lists s w.key w.put _ _ _ _) ∙ ap (λ t. list_of_piece t id) (sym there)) in
-        let d : Does p s (Finish w.put (length w.table.rows)) a Done = subst (λ n. Does p s (Finish w.put n) a Done) (fragments s w c) (h.does (of none read) p early) in
+        let stands : list ≡ list_of_piece (state_of mid) id = lists none read ∙ (sym (vector_lists s w.key w.put pin payload a h.places.are) ∙ ap (λ t. list_of_piece t id) (sym there)) in
+        let d : Does p s (Finish w.put (length w.table.rows)) a Done = subst (λ n. Does p s (Finish w.put n) a Done) (fragments s w c) (h.does (of none read) p packs early) in
         record {
           added = a ++ b ∷ [];
-          adds = then_more old mid new a (b ∷ []) h.adds last;
+          adds = then_more old mid new a (b ∷ []) h.places.adds last;
           does = then_all p s (Finish w.put (length w.table.rows)) (Commit w.put ∷ []) a (b ∷ []) Done (one_group p s (Finish w.put (length w.table.rows)) a Done d)
               (last_done p (after_all s a) (Commit w.put) (b ∷ []) (one_group p (after_all s a) (Commit w.put) (b ∷ []) Done (subst (λ t. Does p t (Commit w.put) (b ∷ []) Done) there (commits stands p))));
           number = tt;
@@ -272,12 +290,12 @@ module _ (now : ℕ) (old new : Kept) (before after : List Call) (w : Writer) (v
 -- ---- a vector that was not placed
 
 -- nothing was recorded
-pub not_placed : (old new : Kept) (before after : List Call) (piece : PieceId) (pin : ℕ) (payload : List ℕ) (why : Refusal) → Answers {X = Placed} (Err why) (PlacesVector old new before after piece pin 0 payload) (new ≡ old) → new ≡ old
-not_placed old new before after piece pin payload (refusal.Exhausted number) h = h.adds ∙ nothing_more old
-not_placed old new before after piece pin payload (refusal.DeviceFault count) h = h.adds ∙ nothing_more old
-not_placed old new before after piece pin payload (refusal.Memory e) h = h
-not_placed old new before after piece pin payload _ h = absurd h
+pub not_placed : (packed : Bool) (old new : Kept) (before after : List Call) (piece : PieceId) (pin : ℕ) (payload : List ℕ) (why : Refusal) → Answers {X = Placed} (Err why) (PlacesVector packed old new before after piece pin 0 payload) (new ≡ old) → new ≡ old
+not_placed packed old new before after piece pin payload (refusal.Exhausted number) h = nothing_placed old new piece pin payload (stop.Exhausted number) h.places
+not_placed packed old new before after piece pin payload (refusal.DeviceFault count) h = nothing_placed old new piece pin payload (stop.DeviceFault count) h.places
+not_placed packed old new before after piece pin payload (refusal.Memory e) h = h
+not_placed packed old new before after piece pin payload _ h = absurd h
 
-pub refused_writer : (old new : Kept) (before after : List Call) (w : Writer) (pin : ℕ) (payload : List ℕ) (why : Refusal)
-    → Answers {X = Placed} (Err why) (PlacesVector old new before after (vector_piece w.key w.put) pin 0 payload) (new ≡ old) → IsWriterOf (state_of old) w → IsWriterOf (state_of new) w
-refused_writer old new before after w pin payload why h own = subst (λ k. IsWriterOf (state_of k) w) (sym (not_placed old new before after (vector_piece w.key w.put) pin payload why h)) own
+pub refused_writer : (packed : Bool) (old new : Kept) (before after : List Call) (w : Writer) (pin : ℕ) (payload : List ℕ) (why : Refusal)
+    → Answers {X = Placed} (Err why) (PlacesVector packed old new before after (vector_piece w.key w.put) pin 0 payload) (new ≡ old) → IsWriterOf (state_of old) w → IsWriterOf (state_of new) w
+refused_writer packed old new before after w pin payload why h own = subst (λ k. IsWriterOf (state_of k) w) (sym (not_placed packed old new before after (vector_piece w.key w.put) pin payload why h)) own

@@ -1,6 +1,6 @@
 -- What a refusal of the device tells of its count.
 use Rattle.std.proofs.Common.{◌≡◌, ℕ, ◌≤◌, List, subst, arith}
-use Rattle.std.specs.Prelude.{Some, Result, Ok, Err, IfErr}
+use Rattle.std.specs.Prelude.{Bool, Some, Result, Ok, Err, IfErr}
 use Rattle.tape_base.specs.declared.keys.Key.{Key}
 use Rattle.tape_base.specs.declared.pieces.PieceId.{PieceId}
 use Rattle.device_log.specs.Calls.{Call}
@@ -28,18 +28,18 @@ stops_counted s faults (Err (refusal.DeviceFault count)) h = omega (arith, h)
 stops_counted s faults (Err _) h = tt
 
 -- of a fragment
-pub cut_counted : (now : ℕ) (old new : Kept) (before : List Call) (after : Device) (id : PieceId) (pin start : ℕ) (payload : List ℕ) (wanting : Type 0) (r : Result Placed Refusal)
-    → Answers r (CutsAsAsked now old new before after id pin start payload) wanting → IfErr r (IsCounted after.faults)
-cut_counted now old new before after id pin start payload wanting (Ok x) h = tt
-cut_counted now old new before after id pin start payload wanting (Err (refusal.DeviceFault count)) h = let is : count ≡ after.faults = h.shape.why_is.0 in omega (arith, is)
-cut_counted now old new before after id pin start payload wanting (Err _) h = tt
+pub cut_counted : (packed : Bool) (now : ℕ) (old new : Kept) (before : List Call) (after : Device) (id : PieceId) (pin start : ℕ) (payload : List ℕ) (wanting : Type 0) (r : Result Placed Refusal)
+    → Answers r (CutsAsAsked packed now old new before after id pin start payload) wanting → IfErr r (IsCounted after.faults)
+cut_counted packed now old new before after id pin start payload wanting (Ok x) h = tt
+cut_counted packed now old new before after id pin start payload wanting (Err (refusal.DeviceFault count)) h = let is : count ≡ after.faults = h.shape.why_is.0 in omega (arith, is)
+cut_counted packed now old new before after id pin start payload wanting (Err _) h = tt
 
 -- of a vector, for which the device is not asked
-pub vector_counted : (old new : Kept) (before after : List Call) (faults : ℕ) (id : PieceId) (pin start : ℕ) (payload : List ℕ) (wanting : Type 0) (r : Result Placed Refusal)
-    → Answers r (PlacesVector old new before after id pin start payload) wanting → IfErr r (IsCounted faults)
-vector_counted old new before after faults id pin start payload wanting (Ok x) h = tt
-vector_counted old new before after faults id pin start payload wanting (Err (refusal.DeviceFault count)) h = absurd h.at
-vector_counted old new before after faults id pin start payload wanting (Err _) h = tt
+pub vector_counted : (packed : Bool) (old new : Kept) (before after : List Call) (faults : ℕ) (id : PieceId) (pin start : ℕ) (payload : List ℕ) (wanting : Type 0) (r : Result Placed Refusal)
+    → Answers r (PlacesVector packed old new before after id pin start payload) wanting → IfErr r (IsCounted faults)
+vector_counted packed old new before after faults id pin start payload wanting (Ok x) h = tt
+vector_counted packed old new before after faults id pin start payload wanting (Err (refusal.DeviceFault count)) h = absurd h.places.at
+vector_counted packed old new before after faults id pin start payload wanting (Err _) h = tt
 
 -- of a key's vector that was read
 pub read_counted : (k new : Kept) (before after : Device) (key : Key) (found : KeyVector) (count : ℕ) → fault_in found ≡ Some count → new ≡ with_records k (vector_adds (state_of k) key found)

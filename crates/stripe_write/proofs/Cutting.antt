@@ -25,11 +25,14 @@ use Rattle.cache_model.proofs.ByNumber.{find-changed}
 use Rattle.stripe_core.specs.declared.refusal.Placed.{Placed}
 use Rattle.stripe_core.specs.declared.refusal.Refusal.{Refusal}
 use Rattle.stripe_core.specs.declared.refusal.Refusal.TheVariants as refusal
-use Rattle.stripe_core.specs.Place.{CutsAsAsked, IsCutAs, IsFragmentOf, PlacesAsAsked, PlacesVector, ReachesLimit, piece_records}
+use Rattle.stripe_core.specs.Place.{CutsAsAsked, IsCutAs, IsFragmentOf, IsPlacedAs, PlacesAsAsked, PlacesVector, ReachesLimit}
+use Rattle.stripe_core.specs.Displaced.{AreOfDisplacement}
 use Rattle.stripe_core.specs.Stripe.{Answers}
+use Rattle.stripe_core.proofs.Displacing.{displaced_puts}
 use Rattle.stripe_write.specs.declared.writer.Writer.{Writer}
 use Rattle.stripe_write.proofs.Ended.{own_number}
 use Rattle.stripe_write.proofs.Flushed.{LeavesActors, flush_is_own, flush_leaves}
+use Rattle.stripe_write.proofs.Pushed.{pushed_by, pushed_is_own}
 use Rattle.stripe_write.proofs.Spending.{state_behind}
 use Rattle.stripe_write.specs.Writers.{IsAllCut, IsAtHand, IsWriterOf}
 use Rattle.stripe_write.specs.Writes.{IsReady, next_id, next_start}
@@ -71,21 +74,37 @@ ready_fragment s w quiet r small =
 
 -- ---- what stands then
 
-cut_two : (s : State) (id : PieceId) (pin start : ℕ) (payload : List ℕ) → is_vector id ≡ false
-    → piece_records s id pin start payload ≡ rec.Cut id.put id.index (length payload) (digest_of payload) ∷ placed_record s id pin start (length payload) payload ∷ []
-cut_two s id pin start payload kind = rw kind refl
+-- it was cut
+abbrev pub cut_of : PieceId → List ℕ → Rec
+cut_of id payload = rec.Cut id.put id.index (length payload) (digest_of payload)
 
-pub cut_state : (s : State) (id : PieceId) (pin start : ℕ) (payload : List ℕ) (added : List Rec) (placed : Placed) → is_vector id ≡ false → (c : IsCutAs s id pin start payload added placed)
-    → after_all s added
-    ≡ state_after (state_after (after_all s c.room) (rec.Cut id.put id.index (length payload) (digest_of payload))) (placed_record (after_all s c.room) id pin start (length payload) payload)
+cut_two : {packed : Bool} (s : State) (id : PieceId) (pin start : ℕ) (payload : List ℕ) (added : List Rec) → is_vector id ≡ false → (a : IsPlacedAs packed s id pin start payload added)
+    → added ≡ cut_of id payload ∷ (a.displaced ++ placed_record s id pin start (length payload) payload ∷ [])
+cut_two s id pin start payload added kind a = a.is ∙ rw kind refl
+
+-- the state behind what is displaced for it
+abbrev pub pushed_state : {packed : Bool} {s : State} {id : PieceId} {pin start : ℕ} {payload : List ℕ} {added : List Rec} {placed : Placed} → IsCutAs packed s id pin start payload added placed → State
+pushed_state {s = s} {id = id} {payload = payload} c = after_all (state_after (after_all s c.room) (cut_of id payload)) c.are.displaced
+
+pub cut_pushed : {packed : Bool} (s : State) (id : PieceId) (pin start : ℕ) (payload : List ℕ) (added : List Rec) (placed : Placed) → (c : IsCutAs packed s id pin start payload added placed)
+    → AreOfDisplacement c.are.displaced
+cut_pushed s id pin start payload added placed c = pushed_by (after_all s c.room) id pin start payload c.piece c.are
+
+pub cut_state : {packed : Bool} (s : State) (id : PieceId) (pin start : ℕ) (payload : List ℕ) (added : List Rec) (placed : Placed) → is_vector id ≡ false → (c : IsCutAs packed s id pin start payload added placed)
+    → after_all s added ≡ state_after (pushed_state c) (placed_record (after_all s c.room) id pin start (length payload) payload)
 cut_state s id pin start payload added placed kind c =
     let room : State = after_all s c.room in
-    ap (after_all s) c.is ∙ (after_all-append s c.room (piece_records room id pin start payload) ∙ ap (after_all room) (cut_two room id pin start payload kind))
+    ap (after_all s) c.is
+    ∙ (after_all-append s c.room c.piece
+    ∙ (ap (after_all room) (cut_two room id pin start payload c.piece kind c.are)
+    ∙ after_all-append (state_after room (cut_of id payload)) c.are.displaced (placed_record room id pin start (length payload) payload ∷ [])))
 
-pub cut_quiet : (s : State) (id : PieceId) (pin start : ℕ) (payload : List ℕ) (added : List Rec) (placed : Placed) → is_vector id ≡ false → IsCutAs s id pin start payload added placed → IsQuiet s → IsQuiet (after_all s added)
+pub cut_quiet : {packed : Bool} (s : State) (id : PieceId) (pin start : ℕ) (payload : List ℕ) (added : List Rec) (placed : Placed) → is_vector id ≡ false → IsCutAs packed s id pin start payload added placed → IsQuiet s
+    → IsQuiet (after_all s added)
 cut_quiet s id pin start payload added placed kind c quiet =
     let leaves : LeavesActors s (after_all s c.room) = flush_leaves s c.room c.kinds in
-    subst IsQuiet (sym (cut_state s id pin start payload added placed kind c)) (rw kind (leaves.pending ∙ quiet))
+    let behind = displaced_puts (state_after (after_all s c.room) (cut_of id payload)) c.are.displaced (cut_pushed s id pin start payload added placed c) in
+    subst IsQuiet (sym (cut_state s id pin start payload added placed kind c)) (rw kind (behind.pending ∙ (leaves.pending ∙ quiet)))
 
 found_changed : (put : ℕ) (f : PutRow → PutRow) (puts : List PutRow) (w : PutRow) → ((x : PutRow) → (f x).put ≡ x.put) → find (λ p. p.put == put) puts ≡ Some w
     → find (λ p. p.put == put) (change_put put f puts) ≡ Some (f w)
@@ -109,27 +128,30 @@ all_cut_or_whole w new rows row size (inl is) same empty whole = inl (record { s
 all_cut_or_whole w new rows row size (inr is) same empty whole = inr (one_more rows row size is whole)
 
 -- the put behind a cut
-pub cut_row : (s t : State) (w : Writer) (added : List Rec) (placed : Placed) → (r : IsReady s w) → IsCutAs s (next_id w) w.pin (next_start w) w.gathered.items added placed → t ≡ after_all s added
+pub cut_row : {packed : Bool} (s t : State) (w : Writer) (added : List Rec) (placed : Placed) → (r : IsReady s w) → IsCutAs packed s (next_id w) w.pin (next_start w) w.gathered.items added placed → t ≡ after_all s added
     → put_of t w.put ≡ Some (with_cut (made_row (length w.gathered.items) (digest_of w.gathered.items).0) r.row)
 cut_row s t w added placed r c is =
     let payload : List ℕ = w.gathered.items in
     let room : State = after_all s c.room in
     let cut : TableRow = made_row (length payload) (digest_of payload).0 in
     let leaves : LeavesActors s room = flush_leaves s c.room c.kinds in
+    let behind = displaced_puts (state_after room (cut_of (next_id w) payload)) c.are.displaced (cut_pushed s (next_id w) w.pin (next_start w) payload added placed c) in
     ap (λ (x : State). put_of x w.put) (is ∙ cut_state s (next_id w) w.pin (next_start w) payload added placed (next_no_vector w) c)
-    ∙ found_changed w.put (with_cut cut) room.puts r.row (λ x. refl) (ap (find (λ (p : PutRow). p.put == w.put)) leaves.puts ∙ r.found)
+    ∙ (ap (find (λ (p : PutRow). p.put == w.put)) behind.puts
+    ∙ found_changed w.put (with_cut cut) room.puts r.row (λ x. refl) (ap (find (λ (p : PutRow). p.put == w.put)) leaves.puts ∙ r.found))
 
 -- the writer behind a cut
-pub cut_writer : (s t : State) (w new : Writer) (added : List Rec) (placed : Placed) → IsReady s w → IsCutAs s (next_id w) w.pin (next_start w) w.gathered.items added placed → t ≡ after_all s added
+pub cut_writer : {packed : Bool} (s t : State) (w new : Writer) (added : List Rec) (placed : Placed) → IsReady s w → IsCutAs packed s (next_id w) w.pin (next_start w) w.gathered.items added placed → t ≡ after_all s added
     → new.put ≡ w.put → new.key ≡ w.key → new.request ≡ w.request → new.response ≡ w.response → new.pin ≡ w.pin → new.sealed ≡ w.sealed → new.gathered.items ≡ []
     → new.table.rows ≡ w.table.rows ++ made_row (length w.gathered.items) (digest_of w.gathered.items).0 ∷ [] → IsWriterOf t new
 cut_writer s t w new added placed r c is put key request response pin sealed gathered rows = λ row found o.
     let payload : List ℕ = w.gathered.items in
     let leaves : LeavesActors s (after_all s c.room) = flush_leaves s c.room c.kinds in
+    let behind = displaced_puts (state_after (after_all s c.room) (cut_of (next_id w) payload)) c.are.displaced (cut_pushed s (next_id w) w.pin (next_start w) payload added placed c) in
     let cut : TableRow = made_row (length payload) (digest_of payload).0 in
     let state = is ∙ cut_state s (next_id w) w.pin (next_start w) payload added placed (next_no_vector w) c in
     let there : put_of t w.put ≡ Some (with_cut cut r.row) = cut_row s t w added placed r c is in
-    let geometry : t.geometry ≡ s.geometry = ap (λ (x : State). x.geometry) state ∙ leaves.geometry in
+    let geometry : t.geometry ≡ s.geometry = ap (λ (x : State). x.geometry) state ∙ (behind.geometry ∙ leaves.geometry) in
     let name : Some row ≡ Some (with_cut cut r.row) = sym found ∙ (ap (put_of t) put ∙ there) in
     let row_is : row ≡ with_cut cut r.row = cc in
     subst (λ (x : PutRow). IsAtHand t.geometry x new) (sym row_is) (record {
@@ -156,26 +178,28 @@ module _ (w : Writer) (n t : ℕ) (p : List ℕ) (n_is : n ≡ length w.table.ro
   at_next : (F : PieceId → ℕ → List ℕ → Type 0) → F id t p → F (next_id w) (next_start w) w.gathered.items
   at_next F h = subst (F (next_id w) (next_start w)) p_is (subst (λ x. F (next_id w) x p) t_is (subst (λ i. F i t p) id_is h))
 
-  pub cuts_behind : (now : ℕ) (old new : Kept) (first : List Call) (after : Device) (r : Result Placed Refusal) → Answers r (PlacesAsAsked now old new first after id w.pin t p) (new ≡ old)
-      → Answers r (CutsAsAsked now old new first after (next_id w) w.pin (next_start w) w.gathered.items) (new ≡ old)
-  cuts_behind now old new first after r h =
-      let there : Answers r (PlacesAsAsked now old new first after (next_id w) w.pin (next_start w) w.gathered.items) (new ≡ old) =
-      at_next (λ i x q. Answers r (PlacesAsAsked now old new first after i w.pin x q) (new ≡ old)) h in
-      subst (λ b. Answers r (λ x. MatchBool b (PlacesVector old new first after.past (next_id w) w.pin (next_start w) w.gathered.items x)
-      (CutsAsAsked now old new first after (next_id w) w.pin (next_start w) w.gathered.items x)) (new ≡ old)) (next_no_vector w) there
+  pub cuts_behind : (packed : Bool) (now : ℕ) (old new : Kept) (first : List Call) (after : Device) (r : Result Placed Refusal) → Answers r (PlacesAsAsked packed now old new first after id w.pin t p) (new ≡ old)
+      → Answers r (CutsAsAsked packed now old new first after (next_id w) w.pin (next_start w) w.gathered.items) (new ≡ old)
+  cuts_behind packed now old new first after r h =
+      let there : Answers r (PlacesAsAsked packed now old new first after (next_id w) w.pin (next_start w) w.gathered.items) (new ≡ old) =
+      at_next (λ i x q. Answers r (PlacesAsAsked packed now old new first after i w.pin x q) (new ≡ old)) h in
+      subst (λ b. Answers r (λ x. MatchBool b (PlacesVector packed old new first after.past (next_id w) w.pin (next_start w) w.gathered.items x)
+      (CutsAsAsked packed now old new first after (next_id w) w.pin (next_start w) w.gathered.items x)) (new ≡ old)) (next_no_vector w) there
 
 -- a cut that stops at the limit tells the number
-pub cut_stops : (now : ℕ) (old new : Kept) (first : List Call) (after : Device) (piece : PieceId) (pin start : ℕ) (payload : List ℕ) (why : Refusal)
-    → Answers {X = Placed} (Err why) (CutsAsAsked now old new first after piece pin start payload) (new ≡ old) → StopsAtLimit (state_of new) (length payload) why
-cut_stops now old new first after piece pin start payload (refusal.Exhausted number) h = subst (λ t. ReachesLimit t (length payload) number) (sym (state_behind old new h.added h.adds)) h.shape.why_is
-cut_stops now old new first after piece pin start payload _ h = tt
+pub cut_stops : (packed : Bool) (now : ℕ) (old new : Kept) (first : List Call) (after : Device) (piece : PieceId) (pin start : ℕ) (payload : List ℕ) (why : Refusal)
+    → Answers {X = Placed} (Err why) (CutsAsAsked packed now old new first after piece pin start payload) (new ≡ old) → StopsAtLimit (state_of new) (length payload) why
+cut_stops packed now old new first after piece pin start payload (refusal.Exhausted number) h = subst (λ t. ReachesLimit t (length payload) number) (sym (state_behind old new h.added h.adds)) h.shape.why_is
+cut_stops packed now old new first after piece pin start payload _ h = tt
 
 -- the records of a cut are its put's own
-pub cut_is_own : (s : State) (piece : PieceId) (pin start : ℕ) (payload : List ℕ) (added : List Rec) (placed : Placed) → is_vector piece ≡ false → IsCutAs s piece pin start payload added placed → AllByRecursion (IsOfPut piece.put) added
+pub cut_is_own : {packed : Bool} (s : State) (piece : PieceId) (pin start : ℕ) (payload : List ℕ) (added : List Rec) (placed : Placed) → is_vector piece ≡ false → IsCutAs packed s piece pin start payload added placed → AllByRecursion (IsOfPut piece.put) added
 cut_is_own s piece pin start payload added placed kind c =
     let room : State = after_all s c.room in
-    let two : AllByRecursion (IsOfPut piece.put) (piece_records room piece pin start payload) = subst (AllByRecursion (IsOfPut piece.put)) (sym (cut_two room piece pin start payload kind)) (refl, (tt, tt)) in
-    subst (AllByRecursion (IsOfPut piece.put)) (sym c.is) (all_append (IsOfPut piece.put) c.room (piece_records room piece pin start payload) (flush_is_own piece.put c.room c.kinds) two)
+    let pushed = pushed_is_own piece.put c.are.displaced (cut_pushed s piece pin start payload added placed c) in
+    let two : AllByRecursion (IsOfPut piece.put) c.piece =
+    subst (AllByRecursion (IsOfPut piece.put)) (sym (cut_two room piece pin start payload c.piece kind c.are)) (refl, all_append (IsOfPut piece.put) c.are.displaced _ pushed (tt, tt)) in
+    subst (AllByRecursion (IsOfPut piece.put)) (sym c.is) (all_append (IsOfPut piece.put) c.room c.piece (flush_is_own piece.put c.room c.kinds) two)
 
 pub rows_behind : (r : Result (Unit {0}) AllocError) (u : Unit {0}) (before after : List TableRow) (size : ℕ) (digest : Digest) (bytes : List ℕ) → r ≡ Ok u → OnOk r (after ≡ before ++ made_row size digest.0 ∷ [])
     → size ≡ length bytes → digest ≡ digest_of bytes → after ≡ before ++ made_row (length bytes) (digest_of bytes).0 ∷ []

@@ -127,48 +127,48 @@ not_cut g w n h = by (length w.gathered.items + n == g.fragment) refl
 
 -- ---- the fragment of the writer that has gathered is the one that is asked for
 
-same_cuts : (now : ℕ) (old new : Kept) (before : List Call) (after : Device) (w w' : Writer) (r : Result Placed Stop) → SameButGathered w w'
-    → CutsAsAsked now old new before after (next_id w') w'.pin (next_start w') w'.gathered.items r → CutsAsAsked now old new before after (next_id w) w.pin (next_start w) w'.gathered.items r
-same_cuts now old new before after w w' r same h =
+same_cuts : {packed : Bool} (now : ℕ) (old new : Kept) (before : List Call) (after : Device) (w w' : Writer) (r : Result Placed Stop) → SameButGathered w w'
+    → CutsAsAsked packed now old new before after (next_id w') w'.pin (next_start w') w'.gathered.items r → CutsAsAsked packed now old new before after (next_id w) w.pin (next_start w) w'.gathered.items r
+same_cuts {packed} now old new before after w w' r same h =
     let id : next_id w' ≡ next_id w =
     ap (λ k. fragment_piece k w'.put (length w'.table.rows + 1)) same.key ∙ (ap (λ n. fragment_piece w.key n (length w'.table.rows + 1)) same.put ∙ ap (λ (rows : List TableRow). fragment_piece w.key w.put (length rows + 1)) same.rows) in
-    subst (λ (rows : List TableRow). CutsAsAsked now old new before after (next_id w) w.pin (total_length rows) w'.gathered.items r) same.rows
-    (subst (λ n. CutsAsAsked now old new before after (next_id w) n (next_start w') w'.gathered.items r) same.pin
-    (subst (λ i. CutsAsAsked now old new before after i w'.pin (next_start w') w'.gathered.items r) id h))
+    subst (λ (rows : List TableRow). CutsAsAsked packed now old new before after (next_id w) w.pin (total_length rows) w'.gathered.items r) same.rows
+    (subst (λ n. CutsAsAsked packed now old new before after (next_id w) n (next_start w') w'.gathered.items r) same.pin
+    (subst (λ i. CutsAsAsked packed now old new before after i w'.pin (next_start w') w'.gathered.items r) id h))
 
 -- what was asked of the writer that has gathered was asked of the one that took the bytes
-asked_does : (now : ℕ) (kept kept1 new : Kept) (before before1 : List Call) (after : Device) (w w' : Writer) (bytes : List ℕ) (n : ℕ) (r : Result Placed Stop) → kept1 ≡ kept → before1 ≡ before → SameButGathered w w' → w'.gathered.items ≡ gathered_with w bytes n
-    → CutsAsAsked now kept1 new before1 after (next_id w') w'.pin (next_start w') w'.gathered.items r → CutsAsAsked now kept new before after (next_id w) w.pin (next_start w) (gathered_with w bytes n) r
-asked_does now kept kept1 new before before1 after w w' bytes n r e f same g h =
-    subst (λ q. CutsAsAsked now kept new before after (next_id w) w.pin (next_start w) q r) g
-    (subst (λ m. CutsAsAsked now kept new m after (next_id w) w.pin (next_start w) w'.gathered.items r) f
-    (subst (λ k. CutsAsAsked now k new before1 after (next_id w) w.pin (next_start w) w'.gathered.items r) e
+asked_does : {packed : Bool} (now : ℕ) (kept kept1 new : Kept) (before before1 : List Call) (after : Device) (w w' : Writer) (bytes : List ℕ) (n : ℕ) (r : Result Placed Stop) → kept1 ≡ kept → before1 ≡ before → SameButGathered w w' → w'.gathered.items ≡ gathered_with w bytes n
+    → CutsAsAsked packed now kept1 new before1 after (next_id w') w'.pin (next_start w') w'.gathered.items r → CutsAsAsked packed now kept new before after (next_id w) w.pin (next_start w) (gathered_with w bytes n) r
+asked_does {packed} now kept kept1 new before before1 after w w' bytes n r e f same g h =
+    subst (λ q. CutsAsAsked packed now kept new before after (next_id w) w.pin (next_start w) q r) g
+    (subst (λ m. CutsAsAsked packed now kept new m after (next_id w) w.pin (next_start w) w'.gathered.items r) f
+    (subst (λ k. CutsAsAsked packed now k new before1 after (next_id w) w.pin (next_start w) w'.gathered.items r) e
     (same_cuts now kept1 new before1 after w w' r same h)))
 
 -- ---- what a write adds
 
 -- nothing
-pub writes_none : (now : ℕ) (old new : Kept) (before : List Call) (after : Device) (w : Writer) (bytes : List ℕ) (result : Result ℕ Refusal) → new ≡ old → WritesAs now (state_of old) before after w bytes result []
-    → WritesAsAsked now old new before after w bytes result
+pub writes_none : {packed : Bool} (now : ℕ) (old new : Kept) (before : List Call) (after : Device) (w : Writer) (bytes : List ℕ) (result : Result ℕ Refusal) → new ≡ old → WritesAs packed now (state_of old) before after w bytes result []
+    → WritesAsAsked packed now old new before after w bytes result
 writes_none now old new before after w bytes result same does = record { added = []; adds = same ∙ sym (nothing_more old); own = tt; unharmed = λ told. tt; does = does }
 
 -- memory is wanting
-pub writes_wanting : (now : ℕ) (old new : Kept) (before : List Call) (after : Device) (w : Writer) (bytes : List ℕ) (e : AllocError) (result : Result ℕ Refusal) → result ≡ Err (refusal.Memory e) → new ≡ old
-    → WritesAsAsked now old new before after w bytes result
-writes_wanting now old new before after w bytes e result is same =
-    subst (WritesAsAsked now old new before after w bytes) (sym is) (writes_none now old new before after w bytes (Err (refusal.Memory e)) same refl)
+pub writes_wanting : {packed : Bool} (now : ℕ) (old new : Kept) (before : List Call) (after : Device) (w : Writer) (bytes : List ℕ) (e : AllocError) (result : Result ℕ Refusal) → result ≡ Err (refusal.Memory e) → new ≡ old
+    → WritesAsAsked packed now old new before after w bytes result
+writes_wanting {packed} now old new before after w bytes e result is same =
+    subst (WritesAsAsked packed now old new before after w bytes) (sym is) (writes_none now old new before after w bytes (Err (refusal.Memory e)) same refl)
 
 -- bytes that fill no fragment
-pub writes_few : (now : ℕ) (old new : Kept) (before : List Call) (after : Device) (w : Writer) (bytes : List ℕ) (n : ℕ) → new ≡ old → is_cut (state_of old).geometry w n ≡ false → WritesAsAsked now old new before after w bytes (Ok n)
-writes_few now old new before after w bytes n same few =
+pub writes_few : {packed : Bool} (now : ℕ) (old new : Kept) (before : List Call) (after : Device) (w : Writer) (bytes : List ℕ) (n : ℕ) → new ≡ old → is_cut (state_of old).geometry w n ≡ false → WritesAsAsked packed now old new before after w bytes (Ok n)
+writes_few {packed} now old new before after w bytes n same few =
     let none : List Rec = [] in
     let nothing : none ≡ none = refl in
     writes_none now old new before after w bytes (Ok n) same
-    (subst (λ b. MatchBool b ((placed : Placed) × CutsNext now (state_of old) before after w (gathered_with w bytes n) none (Ok placed)) (none ≡ none)) (sym few) nothing)
+    (subst (λ b. MatchBool b ((placed : Placed) × CutsNext packed now (state_of old) before after w (gathered_with w bytes n) none (Ok placed)) (none ≡ none)) (sym few) nothing)
 
 -- the put is given up that would have too many fragments
-pub writes_over : (now : ℕ) (old new : Kept) (before : List Call) (after : Device) (w : Writer) (bytes : List ℕ) (result : Result ℕ Refusal) → IsOverflow result → new ≡ with_records old (overflow_adds w result) → OverflowsAsAsked (state_of old) w
-    → WritesAsAsked now old new before after w bytes result
+pub writes_over : {packed : Bool} (now : ℕ) (old new : Kept) (before : List Call) (after : Device) (w : Writer) (bytes : List ℕ) (result : Result ℕ Refusal) → IsOverflow result → new ≡ with_records old (overflow_adds w result) → OverflowsAsAsked (state_of old) w
+    → WritesAsAsked packed now old new before after w bytes result
 writes_over now old new before after w bytes (Err refusal.TooManyFragments) over adds does = record { added = rec.Aborted w.put w.key ∷ []; adds = adds; own = (refl, tt); unharmed = λ told. (refl, tt); does = (refl, does) }
 writes_over now old new before after w bytes (Err (refusal.Memory e)) over adds does = writes_none now old new before after w bytes (Err (refusal.Memory e)) (adds ∙ nothing_more old) refl
 writes_over now old new before after w bytes (Ok n) over adds does = absurd over
@@ -181,30 +181,30 @@ writes_over now old new before after w bytes (Err refusal.Sealed) over adds does
 writes_over now old new before after w bytes (Err refusal.NoSuchWriter) over adds does = absurd over
 
 -- a fragment that was cut
-pub writes_cut : (now : ℕ) (old old1 new : Kept) (before before1 : List Call) (after : Device) (w w' : Writer) (bytes : List ℕ) (n : ℕ) (placed : Placed) → old1 ≡ old → before1 ≡ before → SameButGathered w w'
-    → w'.gathered.items ≡ gathered_with w bytes n → is_cut (state_of old).geometry w n ≡ true → CutsAsAsked now old1 new before1 after (next_id w') w'.pin (next_start w') w'.gathered.items (Ok placed)
-    → WritesAsAsked now old new before after w bytes (Ok n)
-writes_cut now old old1 new before before1 after w w' bytes n placed e f same g cut h =
+pub writes_cut : {packed : Bool} (now : ℕ) (old old1 new : Kept) (before before1 : List Call) (after : Device) (w w' : Writer) (bytes : List ℕ) (n : ℕ) (placed : Placed) → old1 ≡ old → before1 ≡ before → SameButGathered w w'
+    → w'.gathered.items ≡ gathered_with w bytes n → is_cut (state_of old).geometry w n ≡ true → CutsAsAsked packed now old1 new before1 after (next_id w') w'.pin (next_start w') w'.gathered.items (Ok placed)
+    → WritesAsAsked packed now old new before after w bytes (Ok n)
+writes_cut {packed} now old old1 new before before1 after w w' bytes n placed e f same g cut h =
     let s : State = state_of old in
     let payload : List ℕ = gathered_with w bytes n in
-    let mine : CutsAsAsked now old new before after (next_id w) w.pin (next_start w) payload (Ok placed) = asked_does now old old1 new before before1 after w w' bytes n (Ok placed) e f same g h in
-    let next : CutsNext now s before after w payload mine.added (Ok placed) = record { shape = mine.shape; does = mine.does } in
+    let mine : CutsAsAsked packed now old new before after (next_id w) w.pin (next_start w) payload (Ok placed) = asked_does now old old1 new before before1 after w w' bytes n (Ok placed) e f same g h in
+    let next : CutsNext packed now s before after w payload mine.added (Ok placed) = record { shape = mine.shape; does = mine.does } in
     record {
       added = mine.added;
       adds = mine.adds;
       own = cut_is_own s (next_id w) w.pin (next_start w) payload mine.added placed (next_no_vector w) mine.shape;
       unharmed = mine.unharmed;
-      does = subst (λ b. MatchBool b ((x : Placed) × CutsNext now s before after w payload mine.added (Ok x)) (mine.added ≡ [])) (sym cut) (placed, next);
+      does = subst (λ b. MatchBool b ((x : Placed) × CutsNext packed now s before after w payload mine.added (Ok x)) (mine.added ≡ [])) (sym cut) (placed, next);
     }
 
 -- a fragment that could not be cut
-stopped_own : (now : ℕ) (old new : Kept) (before : List Call) (after : Device) (w : Writer) (payload : List ℕ) (why : Stop) → (h : CutsAsAsked now old new before after (next_id w) w.pin (next_start w) payload (Err why))
+stopped_own : {packed : Bool} (now : ℕ) (old new : Kept) (before : List Call) (after : Device) (w : Writer) (payload : List ℕ) (why : Stop) → (h : CutsAsAsked packed now old new before after (next_id w) w.pin (next_start w) payload (Err why))
     → AllByRecursion (IsOfPut w.put) h.added
 stopped_own now old new before after w payload why h = flush_is_own w.put h.added h.shape.kinds
 
-pub writes_refused : (now : ℕ) (old old1 new : Kept) (before before1 : List Call) (after : Device) (w w' : Writer) (bytes : List ℕ) (why : Refusal) → old1 ≡ old → before1 ≡ before → SameButGathered w w'
+pub writes_refused : {packed : Bool} (now : ℕ) (old old1 new : Kept) (before before1 : List Call) (after : Device) (w w' : Writer) (bytes : List ℕ) (why : Refusal) → old1 ≡ old → before1 ≡ before → SameButGathered w w'
     → w'.gathered.items ≡ next_payload (state_of old) w bytes
-    → Answers {X = Placed} (Err why) (CutsAsAsked now old1 new before1 after (next_id w') w'.pin (next_start w') w'.gathered.items) (new ≡ old1) → WritesAsAsked now old new before after w bytes (Err why)
+    → Answers {X = Placed} (Err why) (CutsAsAsked packed now old1 new before1 after (next_id w') w'.pin (next_start w') w'.gathered.items) (new ≡ old1) → WritesAsAsked packed now old new before after w bytes (Err why)
 writes_refused now old old1 new before before1 after w w' bytes (refusal.DeviceFault count) e f same g h =
     let mine = asked_does now old old1 new before before1 after w w' bytes (taken_of (state_of old).geometry w bytes) (Err (stop.DeviceFault count)) e f same g h in
     record {
@@ -246,12 +246,12 @@ puts_left s t leaves = record { puts = leaves.puts; geometry = leaves.geometry }
 flush_behind : (kept new : Kept) (recs : List Rec) → new ≡ with_records kept recs → AreOfFlush recs → LeavesActors (state_of kept) (state_of new)
 flush_behind kept new recs is kinds = subst (LeavesActors (state_of kept)) (sym (state_behind kept new recs is)) (flush_leaves (state_of kept) recs kinds)
 
-pub failed_leaves : (now : ℕ) (kept new : Kept) (before : List Call) (after : Device) (id : PieceId) (pin start : ℕ) (payload : List ℕ) (why : Refusal)
-    → Answers {X = Placed} (Err why) (CutsAsAsked now kept new before after id pin start payload) (new ≡ kept) → LeavesActors (state_of kept) (state_of new)
-failed_leaves now kept new before after id pin start payload (refusal.DeviceFault count) h = flush_behind kept new h.added h.adds h.shape.kinds
-failed_leaves now kept new before after id pin start payload (refusal.Exhausted number) h = flush_behind kept new h.added h.adds h.shape.kinds
-failed_leaves now kept new before after id pin start payload (refusal.Memory e) h = subst (λ k. LeavesActors (state_of kept) (state_of k)) (sym h) (leaves_all (state_of kept))
-failed_leaves now kept new before after id pin start payload _ h = absurd h
+pub failed_leaves : (packed : Bool) (now : ℕ) (kept new : Kept) (before : List Call) (after : Device) (id : PieceId) (pin start : ℕ) (payload : List ℕ) (why : Refusal)
+    → Answers {X = Placed} (Err why) (CutsAsAsked packed now kept new before after id pin start payload) (new ≡ kept) → LeavesActors (state_of kept) (state_of new)
+failed_leaves packed now kept new before after id pin start payload (refusal.DeviceFault count) h = flush_behind kept new h.added h.adds h.shape.kinds
+failed_leaves packed now kept new before after id pin start payload (refusal.Exhausted number) h = flush_behind kept new h.added h.adds h.shape.kinds
+failed_leaves packed now kept new before after id pin start payload (refusal.Memory e) h = subst (λ k. LeavesActors (state_of kept) (state_of k)) (sym h) (leaves_all (state_of kept))
+failed_leaves packed now kept new before after id pin start payload _ h = absurd h
 
 -- what makes room leaves so, also where none is made
 pub room_leaves : (now : ℕ) (old new : Kept) (before : List Call) (after : Device) (bytes : ℕ) (result : Result (Unit {0}) Stop) → RoomsAsAsked now old new before after bytes result → LeavesActors (state_of old) (state_of new)

@@ -1,11 +1,9 @@
 -- What was read of a key's vector stays read, while the vectors that are live were live before.
 use Rattle.std.proofs.Common.{◌≡◌, ℕ, List, [], ◌∷◌, ◌++◌, refl, sym, ◌∙◌, ap, subst, Bool, true, false, length, Ok}
 use Rattle.std.specs.Prelude.{Option, Some, None, not, nat_le, option_map, option_and_then, unwrap_or, if◌then◌else◌}
-use Rattle.tape_base.specs.declared.digests.Digest.{Digest}
 use Rattle.tape_base.specs.declared.keys.Key.{Key}
 use Rattle.tape_base.specs.declared.pieces.PieceId.{PieceId}
 use Rattle.tape_base.specs.Blocks.{blocks_of}
-use Rattle.tape_base.specs.Digest.{digest_of}
 use Rattle.tape_base.specs.Piece.{is_vector, same_piece}
 use Rattle.tape_base.proofs.NameLaws.{same_piece-true}
 use Rattle.device_log.specs.Calls.{Call}
@@ -13,12 +11,13 @@ use Rattle.logged_disk.specs.Device.{State as Device}
 use Rattle.doc_header.specs.Document.{digest_of_document}
 use Rattle.alternate_vector.specs.Alternates.{Stored}
 use Rattle.cache_model.specs.declared.record.Rec.{Rec}
-use Rattle.cache_model.specs.declared.record.Rec.TheVariants as rec
 use Rattle.cache_model.specs.State.{Complete, LastVector, Row, State, TakenOut, after_all, alternates_of, floor_now, is_live, last_vector, list_of_last, list_of_row, live_row_of, only_live, place_now, placed_row, row_in, state_after, vector_piece, without}
 use Rattle.cache_model.specs.Kept.{Kept, state_of}
 use Rattle.cache_model.specs.Room.{doc_at, placed_record}
 use Rattle.cache_model.specs.Verdict.{live_vector_of, vector_of_last}
+use Rattle.stripe_core.specs.Displaced.{AreOfDisplacement}
 use Rattle.stripe_core.specs.Flush.{AreOfFlush, IsSamePiece, LiveBefore}
+use Rattle.stripe_core.proofs.Displacing.{displaced_puts}
 use Rattle.stripe_vectors.specs.Spelled.{IsSpelled}
 use Rattle.stripe_write.specs.declared.weighing.Vectors.{Vectors}
 use Rattle.stripe_write.specs.declared.writer.Writer.{Writer}
@@ -26,7 +25,8 @@ use Rattle.stripe_write.specs.Closing.{IsReadFor, alternate_at_close}
 use Rattle.stripe_write.specs.Resting.{IsRestAs, RestsAsAsked}
 use Rattle.stripe_write.specs.Writes.{next_id, next_start}
 use Rattle.stripe_write.proofs.Spending.{state_behind}
-use Rattle.stripe_write.proofs.Cutting.{cut_state, next_no_vector}
+use Rattle.stripe_write.proofs.Pushed.{pushed_vector}
+use Rattle.stripe_write.proofs.Cutting.{cut_of, cut_pushed, cut_state, next_no_vector}
 use Rattle.stripe_write.proofs.Sealing.{SameAtClose}
 use Rattle.stripe_write.proofs.Flushed.{LeavesActors, WasLive, flush_leaves, vector_before}
 
@@ -125,32 +125,34 @@ vector_then s t r piece key row (Some (Complete put)) kind is rows floor h =
     live_then s (row_in s.rows id) (row_in (without piece s.rows ++ r ∷ []) id) row
     (λ x found. found_before r piece id s.rows x is (λ e. let clash : true ≡ false = ap is_vector e ∙ kind in cc) found) here
 
--- a fragment that is cut and placed
-keeps_cut : (s : State) (piece : PieceId) (pin start put index size : ℕ) (cut : Digest) (payload : List ℕ) → is_vector piece ≡ false
-    → KeepsVectors s (state_after (state_after s (rec.Cut put index size cut)) (placed_record s piece pin start (length payload) payload))
-keeps_cut s piece pin start put index size cut payload kind = record {
-  geometry = refl;
-  vectors = λ key row h.
-      let c : State = state_after s (rec.Cut put index size cut) in
-      let before = vector_then s (state_after c (placed_record s piece pin start (length payload) payload)) (placed_row c piece (place_now s) (blocks_of (length payload))
-      (digest_of_document (doc_at s piece pin start) payload) pin) piece key row (last_vector s key) kind refl refl refl h in
-      record { before = row; live = before; same = itself row };
-  displaced = λ h. refl;
-}
+-- a fragment that is cut and placed, behind what its entry displaces
+keeps_cut : (s : State) (piece : PieceId) (pin start : ℕ) (payload : List ℕ) (displaced : List Rec) → AreOfDisplacement displaced → is_vector piece ≡ false
+    → KeepsVectors s (state_after (after_all (state_after s (cut_of piece payload)) displaced) (placed_record s piece pin start (length payload) payload))
+keeps_cut s piece pin start payload displaced pushed kind =
+    let c : State = state_after s (cut_of piece payload) in
+    let d : State = after_all c displaced in
+    record {
+      geometry = (displaced_puts c displaced pushed).geometry;
+      vectors = λ key row h.
+          let before : live_vector_of d key ≡ Some row = vector_then d (state_after d (placed_record s piece pin start (length payload) payload)) (placed_row d piece (place_now s) (blocks_of (length payload))
+          (digest_of_document (doc_at s piece pin start) payload) pin) piece key row (last_vector d key) kind refl refl refl h in
+          record { before = row; live = pushed_vector c displaced key row pushed before; same = itself row };
+      displaced = λ h. refl;
+    }
 
-keeps_rest_by : (s : State) (faults : ℕ) (w : Writer) (bytes : List ℕ) (added : List Rec) (u : Unit {0}) → IsRestAs s faults w bytes added (Ok u) → KeepsVectors s (after_all s added)
-keeps_rest_by s faults w [] added u none = subst (λ recs. KeepsVectors s (after_all s recs)) (sym none) (keeps_self s)
-keeps_rest_by s faults w (byte ∷ bytes) added u cuts =
+keeps_rest_by : (packed : Bool) (s : State) (faults : ℕ) (w : Writer) (bytes : List ℕ) (added : List Rec) (u : Unit {0}) → IsRestAs packed s faults w bytes added (Ok u) → KeepsVectors s (after_all s added)
+keeps_rest_by packed s faults w [] added u none = subst (λ recs. KeepsVectors s (after_all s recs)) (sym none) (keeps_self s)
+keeps_rest_by packed s faults w (byte ∷ bytes) added u cuts =
     let payload : List ℕ = byte ∷ bytes in
     let cut = cuts.1 in
     let room : State = after_all s cut.room in
     subst (KeepsVectors s) (sym (cut_state s (next_id w) w.pin (next_start w) payload added cuts.0 (next_no_vector w) cut))
     (keeps_then s room _ (keeps_flush s cut.room cut.kinds cut.live)
-    (keeps_cut room (next_id w) w.pin (next_start w) (next_id w).put (next_id w).index (length payload) (digest_of payload) payload (next_no_vector w)))
+    (keeps_cut room (next_id w) w.pin (next_start w) payload cut.are.displaced (cut_pushed s (next_id w) w.pin (next_start w) payload added cuts.0 cut) (next_no_vector w)))
 
-pub keeps_rest : (now : ℕ) (old new : Kept) (before : List Call) (after : Device) (w : Writer) (u : Unit {0}) → RestsAsAsked now old new before after w (Ok u) → KeepsVectors (state_of old) (state_of new)
-keeps_rest now old new before after w u h =
-    subst (KeepsVectors (state_of old)) (sym (state_behind old new h.added h.adds)) (keeps_rest_by (state_of old) after.faults w w.gathered.items h.added u h.shape)
+pub keeps_rest : {packed : Bool} (now : ℕ) (old new : Kept) (before : List Call) (after : Device) (w : Writer) (u : Unit {0}) → RestsAsAsked packed now old new before after w (Ok u) → KeepsVectors (state_of old) (state_of new)
+keeps_rest {packed} now old new before after w u h =
+    subst (KeepsVectors (state_of old)) (sym (state_behind old new h.added h.adds)) (keeps_rest_by packed (state_of old) after.faults w w.gathered.items h.added u h.shape)
 
 -- what was read is still so
 pub read_kept : (s t : State) (w new : Writer) (v : Vectors) → KeepsVectors s t → SameAtClose w new → IsReadFor s w v → IsReadFor t new v

@@ -1,5 +1,5 @@
 -- The rest of a sealed writer is cut.
-use Rattle.std.proofs.Common.{◌≡◌, ℕ, ◌<◌, List, [], ◌∷◌, length, refl, sym, ◌∙◌, ap, subst, arith, true, false, inl, inr, ◌⊎◌, ◌*◌, Ok, Err}
+use Rattle.std.proofs.Common.{◌≡◌, ℕ, ◌<◌, List, [], ◌∷◌, length, refl, sym, ◌∙◌, ap, subst, arith, Bool, true, false, inl, inr, ◌⊎◌, ◌*◌, Ok, Err}
 use Rattle.std.specs.Prelude.{option_map, unwrap_or, Result}
 use Rattle.std.specs.List.{AllByRecursion}
 use Rattle.device_log.specs.Calls.{Call}
@@ -32,88 +32,88 @@ use Rattle.stripe_write.proofs.Cutting.{cut_is_own, cut_row, next_no_vector}
 use Rattle.stripe_write.proofs.Ended.{open_put}
 
 -- nothing is asked where nothing is gathered
-none_shape : (s : State) (faults : ℕ) (w : Writer) (payload : List ℕ) (u : Unit {0}) → length payload ≡ 0 → IsRestAs s faults w payload [] (Ok u)
-none_shape s faults w [] u e = refl
-none_shape s faults w (byte ∷ bytes) u e = absurd (omega (arith, e))
+none_shape : (packed : Bool) (s : State) (faults : ℕ) (w : Writer) (payload : List ℕ) (u : Unit {0}) → length payload ≡ 0 → IsRestAs packed s faults w payload [] (Ok u)
+none_shape packed s faults w [] u e = refl
+none_shape packed s faults w (byte ∷ bytes) u e = absurd (omega (arith, e))
 
 none_spends : (p : Permit) (s : State) (w : Writer) (payload : List ℕ) → length payload ≡ 0 → SpendsAll p s (rest_intents w payload) [] Done
 none_spends p s w [] e = λ rest why. MayGrow.nothing
 none_spends p s w (byte ∷ bytes) e = absurd (omega (arith, e))
 
-pub rest_none : (now : ℕ) (kept : Kept) (before : List Call) (after : Device) (w : Writer) (u : Unit {0}) → length w.gathered.items ≡ 0 → RestsAsAsked now kept kept before after w (Ok u)
-rest_none now kept before after w u e = record {
+pub rest_none : {packed : Bool} (now : ℕ) (kept : Kept) (before : List Call) (after : Device) (w : Writer) (u : Unit {0}) → length w.gathered.items ≡ 0 → RestsAsAsked packed now kept kept before after w (Ok u)
+rest_none {packed} now kept before after w u e = record {
   added = [];
   adds = sym (nothing_more kept);
-  shape = none_shape (state_of kept) after.faults w w.gathered.items u e;
-  does = λ p at covers. none_spends p (state_of kept) w w.gathered.items e;
+  shape = none_shape packed (state_of kept) after.faults w w.gathered.items u e;
+  does = λ p packs at covers. none_spends p (state_of kept) w w.gathered.items e;
 }
 
 -- a rest that is cut
-cut_shape : (s : State) (faults : ℕ) (w : Writer) (payload : List ℕ) (added : List Rec) (placed : Placed) (u : Unit {0}) → 0 < length payload → IsCutAs s (next_id w) w.pin (next_start w) payload added placed
-    → IsRestAs s faults w payload added (Ok u)
-cut_shape s faults w [] added placed u some c = absurd (omega (arith, some))
-cut_shape s faults w (byte ∷ bytes) added placed u some c = (placed, c)
+cut_shape : (packed : Bool) (s : State) (faults : ℕ) (w : Writer) (payload : List ℕ) (added : List Rec) (placed : Placed) (u : Unit {0}) → 0 < length payload → IsCutAs packed s (next_id w) w.pin (next_start w) payload added placed
+    → IsRestAs packed s faults w payload added (Ok u)
+cut_shape packed s faults w [] added placed u some c = absurd (omega (arith, some))
+cut_shape packed s faults w (byte ∷ bytes) added placed u some c = (placed, c)
 
 cut_spends : (p : Permit) (s : State) (w : Writer) (payload : List ℕ) (added : List Rec) → 0 < length payload → Spends p s (cuts_fragment w payload) added Done → SpendsAll p s (rest_intents w payload) added Done
 cut_spends p s w [] added some h = absurd (omega (arith, some))
 cut_spends p s w (byte ∷ bytes) added some h = h
 
-pub rest_cut : (now : ℕ) (old new : Kept) (before : List Call) (after : Device) (w : Writer) (placed : Placed) (u : Unit {0}) → 0 < length w.gathered.items
-    → CutsAsAsked now old new before after (next_id w) w.pin (next_start w) w.gathered.items (Ok placed) → RestsAsAsked now old new before after w (Ok u)
-rest_cut now old new before after w placed u some h = record {
+pub rest_cut : {packed : Bool} (now : ℕ) (old new : Kept) (before : List Call) (after : Device) (w : Writer) (placed : Placed) (u : Unit {0}) → 0 < length w.gathered.items
+    → CutsAsAsked packed now old new before after (next_id w) w.pin (next_start w) w.gathered.items (Ok placed) → RestsAsAsked packed now old new before after w (Ok u)
+rest_cut {packed} now old new before after w placed u some h = record {
   added = h.added;
   adds = h.adds;
-  shape = cut_shape (state_of old) after.faults w w.gathered.items h.added placed u some h.shape;
-  does = λ p at covers. cut_spends p (state_of old) w w.gathered.items h.added some (h.does p at covers);
+  shape = cut_shape packed (state_of old) after.faults w w.gathered.items h.added placed u some h.shape;
+  does = λ p packs at covers. cut_spends p (state_of old) w w.gathered.items h.added some (h.does p packs at covers);
 }
 
 -- a rest that is not
-stop_shape : (s : State) (faults : ℕ) (w : Writer) (payload : List ℕ) (added : List Rec) (why : Stop) → 0 < length payload → IsStoppedAs s faults payload added why → IsRestAs s faults w payload added (Err why)
-stop_shape s faults w [] added why some h = absurd (omega (arith, some))
-stop_shape s faults w (byte ∷ bytes) added why some h = h
+stop_shape : (packed : Bool) (s : State) (faults : ℕ) (w : Writer) (payload : List ℕ) (added : List Rec) (why : Stop) → 0 < length payload → IsStoppedAs s faults payload added why → IsRestAs packed s faults w payload added (Err why)
+stop_shape packed s faults w [] added why some h = absurd (omega (arith, some))
+stop_shape packed s faults w (byte ∷ bytes) added why some h = h
 
 stop_spends : (p : Permit) (s : State) (w : Writer) (payload : List ℕ) (added : List Rec) (reason : Reason) → 0 < length payload → Spends p s (cuts_fragment w payload) added (Fails reason) → SpendsAll p s (rest_intents w payload) added (Fails reason)
 stop_spends p s w [] added reason some h = absurd (omega (arith, some))
 stop_spends p s w (byte ∷ bytes) added reason some h = h
 
 -- where the rest is refused, and memory is not wanting, what was asked of it fails
-pub rest_refused : (now : ℕ) (old new : Kept) (before : List Call) (after : Device) (w : Writer) (why : Refusal) → 0 < length w.gathered.items → HasMemory {X = Placed} (Err why)
-    → Answers {X = Placed} (Err why) (CutsAsAsked now old new before after (next_id w) w.pin (next_start w) w.gathered.items) (new ≡ old)
-    → Answers {X = Unit {0}} (Err why) (RestsAsAsked now old new before after w) ⊥
-rest_refused now old new before after w (refusal.DeviceFault count) some memory h = record {
+pub rest_refused : (packed : Bool) (now : ℕ) (old new : Kept) (before : List Call) (after : Device) (w : Writer) (why : Refusal) → 0 < length w.gathered.items → HasMemory {X = Placed} (Err why)
+    → Answers {X = Placed} (Err why) (CutsAsAsked packed now old new before after (next_id w) w.pin (next_start w) w.gathered.items) (new ≡ old)
+    → Answers {X = Unit {0}} (Err why) (RestsAsAsked packed now old new before after w) ⊥
+rest_refused packed now old new before after w (refusal.DeviceFault count) some memory h = record {
   added = h.added;
   adds = h.adds;
-  shape = stop_shape (state_of old) after.faults w w.gathered.items h.added (stop.DeviceFault count) some h.shape;
-  does = λ p at covers. stop_spends p (state_of old) w w.gathered.items h.added (Faulted count) some (h.does p at covers);
+  shape = stop_shape packed (state_of old) after.faults w w.gathered.items h.added (stop.DeviceFault count) some h.shape;
+  does = λ p packs at covers. stop_spends p (state_of old) w w.gathered.items h.added (Faulted count) some (h.does p packs at covers);
 }
-rest_refused now old new before after w (refusal.Exhausted number) some memory h = record {
+rest_refused packed now old new before after w (refusal.Exhausted number) some memory h = record {
   added = h.added;
   adds = h.adds;
-  shape = stop_shape (state_of old) after.faults w w.gathered.items h.added (stop.Exhausted number) some h.shape;
-  does = λ p at covers. stop_spends p (state_of old) w w.gathered.items h.added Exhausted some (h.does p at covers);
+  shape = stop_shape packed (state_of old) after.faults w w.gathered.items h.added (stop.Exhausted number) some h.shape;
+  does = λ p packs at covers. stop_spends p (state_of old) w w.gathered.items h.added Exhausted some (h.does p packs at covers);
 }
-rest_refused now old new before after w (refusal.Memory e) some memory h = memory
-rest_refused now old new before after w _ some memory h = h
+rest_refused packed now old new before after w (refusal.Memory e) some memory h = memory
+rest_refused packed now old new before after w _ some memory h = h
 
 -- ---- what its records leave
 
 -- where it is not cut they are those of a flush
-stopped_kinds : (s : State) (faults : ℕ) (w : Writer) (payload : List ℕ) (added : List Rec) (why : Stop) → IsRestAs s faults w payload added (Err why) → AreOfFlush added
-stopped_kinds s faults w [] added why none = subst AreOfFlush (sym none) tt
-stopped_kinds s faults w (byte ∷ bytes) added why h = h.kinds
+stopped_kinds : (packed : Bool) (s : State) (faults : ℕ) (w : Writer) (payload : List ℕ) (added : List Rec) (why : Stop) → IsRestAs packed s faults w payload added (Err why) → AreOfFlush added
+stopped_kinds packed s faults w [] added why none = subst AreOfFlush (sym none) tt
+stopped_kinds packed s faults w (byte ∷ bytes) added why h = h.kinds
 
-pub rest_puts : (now : ℕ) (old new : Kept) (before : List Call) (after : Device) (w : Writer) (why : Stop) → RestsAsAsked now old new before after w (Err why) → (state_of new).puts ≡ (state_of old).puts
-rest_puts now old new before after w why h =
-    ap (λ (x : State). x.puts) (state_behind old new h.added h.adds) ∙ (flush_leaves (state_of old) h.added (stopped_kinds (state_of old) after.faults w w.gathered.items h.added why h.shape)).puts
+pub rest_puts : {packed : Bool} (now : ℕ) (old new : Kept) (before : List Call) (after : Device) (w : Writer) (why : Stop) → RestsAsAsked packed now old new before after w (Err why) → (state_of new).puts ≡ (state_of old).puts
+rest_puts {packed} now old new before after w why h =
+    ap (λ (x : State). x.puts) (state_behind old new h.added h.adds) ∙ (flush_leaves (state_of old) h.added (stopped_kinds packed (state_of old) after.faults w w.gathered.items h.added why h.shape)).puts
 
 -- they are its put's own
-rest_is_own : (s : State) (faults : ℕ) (w : Writer) (payload : List ℕ) (added : List Rec) (u : Unit {0}) → IsRestAs s faults w payload added (Ok u) → AllByRecursion (IsOfPut w.put) added
-rest_is_own s faults w [] added u none = subst (AllByRecursion (IsOfPut w.put)) (sym none) tt
-rest_is_own s faults w (byte ∷ bytes) added u h = cut_is_own s (next_id w) w.pin (next_start w) (byte ∷ bytes) added h.0 (next_no_vector w) h.1
+rest_is_own : (packed : Bool) (s : State) (faults : ℕ) (w : Writer) (payload : List ℕ) (added : List Rec) (u : Unit {0}) → IsRestAs packed s faults w payload added (Ok u) → AllByRecursion (IsOfPut w.put) added
+rest_is_own packed s faults w [] added u none = subst (AllByRecursion (IsOfPut w.put)) (sym none) tt
+rest_is_own packed s faults w (byte ∷ bytes) added u h = cut_is_own s (next_id w) w.pin (next_start w) (byte ∷ bytes) added h.0 (next_no_vector w) h.1
 
-pub rest_own : (now : ℕ) (old new : Kept) (before : List Call) (after : Device) (w : Writer) (result : Result (Unit {0}) Stop) → RestsAsAsked now old new before after w result → AddsOfPut w.put old new
-rest_own now old new before after w (Ok u) h = record { added = h.added; adds = h.adds; own = rest_is_own (state_of old) after.faults w w.gathered.items h.added u h.shape }
-rest_own now old new before after w (Err why) h = record { added = h.added; adds = h.adds; own = flush_is_own w.put h.added (stopped_kinds (state_of old) after.faults w w.gathered.items h.added why h.shape) }
+pub rest_own : {packed : Bool} (now : ℕ) (old new : Kept) (before : List Call) (after : Device) (w : Writer) (result : Result (Unit {0}) Stop) → RestsAsAsked packed now old new before after w result → AddsOfPut w.put old new
+rest_own {packed} now old new before after w (Ok u) h = record { added = h.added; adds = h.adds; own = rest_is_own packed (state_of old) after.faults w w.gathered.items h.added u h.shape }
+rest_own {packed} now old new before after w (Err why) h = record { added = h.added; adds = h.adds; own = flush_is_own w.put h.added (stopped_kinds packed (state_of old) after.faults w w.gathered.items h.added why h.shape) }
 
 not_all_cut : (w : Writer) (P : Type 0) → 0 < length w.gathered.items → IsAllCut w ⊎ P → P
 not_all_cut w P some (inl all) = let none : length w.gathered.items ≡ 0 = ap length all.empty in absurd (omega (arith, some, none))
@@ -141,8 +141,8 @@ rest_ready s w writing own sealed some room =
     }
 
 -- the put is open behind a cut
-pub cut_open : (now : ℕ) (kept new : Kept) (before : List Call) (after : Device) (w next : Writer) (placed : Placed) → IsReady (state_of kept) w
-    → CutsAsAsked now kept new before after (next_id w) w.pin (next_start w) w.gathered.items (Ok placed) → next.put ≡ w.put → is_writing (state_of new) next.put ≡ true
+pub cut_open : {packed : Bool} (now : ℕ) (kept new : Kept) (before : List Call) (after : Device) (w next : Writer) (placed : Placed) → IsReady (state_of kept) w
+    → CutsAsAsked packed now kept new before after (next_id w) w.pin (next_start w) w.gathered.items (Ok placed) → next.put ≡ w.put → is_writing (state_of new) next.put ≡ true
 cut_open now kept new before after w next placed r h put =
     let row = cut_row (state_of kept) (state_of new) w h.added placed r h.shape (state_behind kept new h.added h.adds) in
     ap (is_writing (state_of new)) put ∙ (ap (λ o. unwrap_or (option_map is_open o) false) row ∙ rw r.is_open refl)

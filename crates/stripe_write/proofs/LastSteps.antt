@@ -1,5 +1,5 @@
 -- How a writer closes, step by step.
-use Rattle.std.proofs.Common.{◌≡◌, ℕ, ◌+◌, List, [], ◌∷◌, ◌++◌, refl, sym, ◌∙◌, ap, subst, true, length, Result, Ok, Err, inl, inr}
+use Rattle.std.proofs.Common.{◌≡◌, ℕ, ◌+◌, List, [], ◌∷◌, ◌++◌, refl, sym, ◌∙◌, ap, subst, Bool, true, length, Result, Ok, Err, inl, inr}
 use Rattle.std.specs.Prelude.{◌<◌, ◌==◌, Option, option_map, unwrap_or, find, if◌then◌else◌, IfErr}
 use Rattle.std.proofs.lemmas.List.{append-nil, append_assoc}
 use Rattle.device_log.specs.Calls.{Call}
@@ -76,21 +76,21 @@ same_rests w sealed (byte ∷ bytes) is =
     ∙ ap (λ (r : List TableRow). Rattle.cache_model.specs.Permit.Fragment w.put (length r + 1) (byte ∷ bytes) ∷ []) is.rows
 
 -- the rest is cut, and the put is finished
-module _ (now : ℕ) (old mid new : Kept) (first between last : Device) (w sealed cut : Writer) (v : Vectors) where
+module _ (packed : Bool) (now : ℕ) (old mid new : Kept) (first between last : Device) (w sealed cut : Writer) (v : Vectors) where
   pub rest_then_finish : (u : Unit {0}) (result : Result Receipt Refusal) → IsSealed w sealed → SameButBytes sealed cut → cut.table.rows ≡ rows_at_close sealed → cut.gathered.items ≡ []
-      → IsAfter first between → IsAfter between last → RestsAsAsked now old mid first.past between sealed (Ok u)
-      → FinishesWhere (state_of new) cut result → FinishesAsRead now between.past last.past mid new cut v result → EndsAsAsked now first.past last.past old new w v result
+      → IsAfter first between → IsAfter between last → RestsAsAsked packed now old mid first.past between sealed (Ok u)
+      → FinishesWhere (state_of new) cut result → FinishesAsRead packed now between.past last.past mid new cut v result → EndsAsAsked packed now first.past last.past old new w v result
   rest_then_finish u result is same rows none f l rests where_ ends = record {
-    does = λ p at covers displaced read.
+    does = λ p packs at covers displaced read.
         let s : State = state_of old in
         let a : List Rec = rests.added in
         let there : state_of mid ≡ after_all s a = state_behind old mid a rests.adds in
         let all : SameAtClose w cut = then_same w sealed cut (sealed_same w sealed is) (cut_same sealed cut same rows none) in
         let keeps : KeepsVectors s (state_of mid) = keeps_rest now old mid first.past between sealed u rests in
-        let finished = ends.does p at (covers_last p first.past between.past last.past f.made f.past covers) (keeps.displaced displaced) (read_kept s (state_of mid) w cut v keeps all read) in
+        let finished = ends.does p packs at (covers_last p first.past between.past last.past f.made f.past covers) (keeps.displaced displaced) (read_kept s (state_of mid) w cut v keeps all read) in
         let intents : rest_intents sealed sealed.gathered.items ≡ rest_intents w w.gathered.items = ap (rest_intents sealed) is.gathered ∙ same_rests w sealed w.gathered.items is in
         let cut_all : SpendsAll p s (rest_intents w w.gathered.items) a Done =
-        subst (λ (is : List Intent). SpendsAll p s is a Done) intents (rests.does p at (covers_first p first.past between.past last.past l.made l.past covers)) in
+        subst (λ (is : List Intent). SpendsAll p s is a Done) intents (rests.does p packs at (covers_first p first.past between.past last.past l.made l.past covers)) in
         let finish_all : SpendsAll p (after_all s a) (Finish w.put (length (rows_at_close w)) ∷ Commit w.put ∷ []) finished.added (close_end w result) =
         subst (λ e. SpendsAll p (after_all s a) (Finish w.put (length (rows_at_close w)) ∷ Commit w.put ∷ []) finished.added e) (end_same (state_of new) w cut result all.put where_)
         (subst (λ (is : List Intent). SpendsAll p (after_all s a) is finished.added (finish_end cut result)) (finish_same w cut all none)
@@ -111,44 +111,44 @@ fails_all p s is put n added reason h = λ rest why.
     (h (Finish put n ∷ Commit put ∷ rest) why)
 
 -- what the put has cut is still what the writer has
-still_cut : (now : ℕ) (old new : Kept) (before : List Call) (after : Device) (w sealed : Writer) (why : Stop) → is_writing (state_of old) w.put ≡ true → IsWriterOf (state_of old) w
-    → RestsAsAsked now old new before after sealed (Err why) → cuts_of (state_of new) w.put ≡ w.table.rows
+still_cut : {packed : Bool} (now : ℕ) (old new : Kept) (before : List Call) (after : Device) (w sealed : Writer) (why : Stop) → is_writing (state_of old) w.put ≡ true → IsWriterOf (state_of old) w
+    → RestsAsAsked packed now old new before after sealed (Err why) → cuts_of (state_of new) w.put ≡ w.table.rows
 still_cut now old new before after w sealed why writing own rests =
     let o = open_put (put_of (state_of old) w.put) writing in
     let same : put_of (state_of new) w.put ≡ put_of (state_of old) w.put = ap (λ (puts : List PutRow). find (λ (q : PutRow). q.put == w.put) puts) (rest_puts now old new before after sealed why rests) in
     ap (λ (x : Option PutRow). unwrap_or (option_map (λ (q : PutRow). q.cuts) x) []) (same ∙ o.1) ∙ (own o.0 o.1 o.2).cuts_are
 
-rest_stops_at : (now : ℕ) (old new : Kept) (before : List Call) (after : Device) (w sealed : Writer) (why : Stop) (number : ℕ) → IsSealed w sealed → is_writing (state_of old) w.put ≡ true → IsWriterOf (state_of old) w → 0 < length sealed.gathered.items
-    → RestsAsAsked now old new before after sealed (Err why) → ReachesLimit (state_of new) (length sealed.gathered.items) number → ReachesLimit (state_of new) (bytes_next (state_of new) w) number
+rest_stops_at : {packed : Bool} (now : ℕ) (old new : Kept) (before : List Call) (after : Device) (w sealed : Writer) (why : Stop) (number : ℕ) → IsSealed w sealed → is_writing (state_of old) w.put ≡ true → IsWriterOf (state_of old) w → 0 < length sealed.gathered.items
+    → RestsAsAsked packed now old new before after sealed (Err why) → ReachesLimit (state_of new) (length sealed.gathered.items) number → ReachesLimit (state_of new) (bytes_next (state_of new) w) number
 rest_stops_at now old new before after w sealed why number is writing own some rests reaches =
     let gathered = ap length is.gathered in
     rest_stops (state_of new) w number (still_cut now old new before after w sealed why writing own rests) (subst (λ n. 0 < n) gathered some) (subst (λ n. ReachesLimit (state_of new) n number) gathered reaches)
 
 -- the rest that was refused is what was asked of the writer before it was sealed
-rest_fails : (now : ℕ) (old new : Kept) (before : List Call) (after : Device) (w sealed : Writer) (why : Stop) (reason : Reason) → IsSealed w sealed → (rests : RestsAsAsked now old new before after sealed (Err why)) → stop_end why ≡ Fails reason
-    → (p : Permit) → p.now ≡ now → Covers p before after.past → SpendsAll p (state_of old) (end_intents w) rests.added (Fails reason)
-rest_fails now old new before after w sealed why reason is rests ends p at covers =
+rest_fails : {packed : Bool} (now : ℕ) (old new : Kept) (before : List Call) (after : Device) (w sealed : Writer) (why : Stop) (reason : Reason) → IsSealed w sealed → (rests : RestsAsAsked packed now old new before after sealed (Err why)) → stop_end why ≡ Fails reason
+    → (p : Permit) → p.packed ≡ packed → p.now ≡ now → Covers p before after.past → SpendsAll p (state_of old) (end_intents w) rests.added (Fails reason)
+rest_fails now old new before after w sealed why reason is rests ends p packs at covers =
     let intents : rest_intents sealed sealed.gathered.items ≡ rest_intents w w.gathered.items = ap (rest_intents sealed) is.gathered ∙ same_rests w sealed w.gathered.items is in
     fails_all p (state_of old) (rest_intents w w.gathered.items) w.put (length (rows_at_close w)) rests.added reason
     (subst (λ (is : List Intent). SpendsAll p (state_of old) is rests.added (Fails reason)) intents
-    (subst (λ e. SpendsAll p (state_of old) (rest_intents sealed sealed.gathered.items) rests.added e) ends (rests.does p at covers)))
+    (subst (λ e. SpendsAll p (state_of old) (rest_intents sealed sealed.gathered.items) rests.added e) ends (rests.does p packs at covers)))
 
-pub no_rest_ends : (now : ℕ) (old new : Kept) (before : List Call) (after : Device) (w sealed : Writer) (v : Vectors) (why : Refusal) → IsSealed w sealed
+pub no_rest_ends : {packed : Bool} (now : ℕ) (old new : Kept) (before : List Call) (after : Device) (w sealed : Writer) (v : Vectors) (why : Refusal) → IsSealed w sealed
     → is_writing (state_of old) w.put ≡ true → IsWriterOf (state_of old) w → 0 < length sealed.gathered.items → StopsAtLimit (state_of new) (length sealed.gathered.items) why
-    → Answers {X = Unit {0}} (Err why) (RestsAsAsked now old new before after sealed) ⊥ → EndsAsAsked now before after.past old new w v (Err why)
+    → Answers {X = Unit {0}} (Err why) (RestsAsAsked packed now old new before after sealed) ⊥ → EndsAsAsked packed now before after.past old new w v (Err why)
 no_rest_ends now old new before after w sealed v (refusal.DeviceFault count) is writing own some stops rests = record {
-  does = λ p at covers none read. record {
+  does = λ p packs at covers none read. record {
     added = rests.added;
     adds = rests.adds;
-    does = rest_fails now old new before after w sealed (stop.DeviceFault count) (Faulted count) is rests refl p at covers;
+    does = rest_fails now old new before after w sealed (stop.DeviceFault count) (Faulted count) is rests refl p packs at covers;
     number = tt;
   };
 }
 no_rest_ends now old new before after w sealed v (refusal.Exhausted number) is writing own some stops rests = record {
-  does = λ p at covers none read. record {
+  does = λ p packs at covers none read. record {
     added = rests.added;
     adds = rests.adds;
-    does = rest_fails now old new before after w sealed (stop.Exhausted number) Exhausted is rests refl p at covers;
+    does = rest_fails now old new before after w sealed (stop.Exhausted number) Exhausted is rests refl p packs at covers;
     number = rest_stops_at now old new before after w sealed (stop.Exhausted number) number is writing own some rests stops;
   };
 }
@@ -169,16 +169,16 @@ spent_by p s t w (Err refusal.Sealed) added e h = absurd e
 spent_by p s t w (Err refusal.NoSuchWriter) added e h = absurd e
 spent_by p s t w (Err (refusal.Memory e')) added e h = absurd e
 
-pub weighed_closes : (now : ℕ) (old mid new : Kept) (before between after : Device) (w : Writer) (v : Vectors) (result : Result Receipt Refusal) → IsAfter before between → IsAfter between after
-    → WeighsAsAsked before between old mid w (Ok v) → (state_of mid).displaced ≡ (state_of old).displaced → EndsWhere (state_of new) w result → EndsAsAsked now between.past after.past mid new w v result
-    → ClosesAsAsked now before.past after.past old new w result
+pub weighed_closes : {packed : Bool} (now : ℕ) (old mid new : Kept) (before between after : Device) (w : Writer) (v : Vectors) (result : Result Receipt Refusal) → IsAfter before between → IsAfter between after
+    → WeighsAsAsked before between old mid w (Ok v) → (state_of mid).displaced ≡ (state_of old).displaced → EndsWhere (state_of new) w result → EndsAsAsked packed now between.past after.past mid new w v result
+    → ClosesAsAsked packed now before.past after.past old new w result
 weighed_closes now old mid new before between after w v result f l weighs displaced where_ ends = record {
-  does = λ p at covers told.
+  does = λ p packs at covers told.
       let h : Weighs p old mid w (Ok v) = weighs.does p (covers_first p before.past between.past after.past l.made l.past covers) in
       let there : state_of mid ≡ after_all (state_of old) h.added = state_behind old mid h.added h.adds in
       elim (h.told told.vectors) [
         | inl read ↦
-            let ended = ends.does p at (covers_last p before.past between.past after.past f.made f.past covers) (displaced ∙ told.displaced) read in
+            let ended = ends.does p packs at (covers_last p before.past between.past after.past f.made f.past covers) (displaced ∙ told.displaced) read in
             inl (record {
               added = h.added ++ ended.added;
               adds = then_more old mid new h.added ended.added h.adds ended.adds;
@@ -210,18 +210,18 @@ weighed_stops : (s t : State) (w : Writer) (why : Refusal) → WeighsWhere s w (
 weighed_stops s t w (refusal.Exhausted number) where_ = absurd where_
 weighed_stops s t w _ where_ = tt
 
-pub refused_closes : (now : ℕ) (old new : Kept) (before after : Device) (w : Writer) (why : Refusal) → WeighsWhere (state_of old) w (Err why) → WeighsAsAsked before after old new w (Err why) → ClosesAsAsked now before.past after.past old new w (Err why)
+pub refused_closes : {packed : Bool} (now : ℕ) (old new : Kept) (before after : Device) (w : Writer) (why : Refusal) → WeighsWhere (state_of old) w (Err why) → WeighsAsAsked before after old new w (Err why) → ClosesAsAsked packed now before.past after.past old new w (Err why)
 refused_closes now old new before after w why where_ weighs = record {
-  does = λ p at covers told.
+  does = λ p packs at covers told.
       let h : Weighs p old new w (Err why) = weighs.does p covers in
       inl (record { added = h.added; adds = h.adds; does = refused_spent p (state_of old) (state_of old) w why h.added where_ h.does; number = weighed_stops (state_of old) (state_of new) w why where_ });
 }
 
 -- ---- before anything is recorded
 
-pub wanting_closes : (now : ℕ) (old new : Kept) (before after : List Call) (w : Writer) (why : Refusal) (e : Rattle.std.specs.declared.alloc.AllocError.AllocError) → why ≡ refusal.Memory e → new ≡ old → ClosesAsAsked now before after old new w (Err why)
+pub wanting_closes : {packed : Bool} (now : ℕ) (old new : Kept) (before after : List Call) (w : Writer) (why : Refusal) (e : Rattle.std.specs.declared.alloc.AllocError.AllocError) → why ≡ refusal.Memory e → new ≡ old → ClosesAsAsked packed now before after old new w (Err why)
 wanting_closes now old new before after w why e is same = record {
-  does = λ p at covers told. inl (subst (λ (r : Refusal). Closes p old new w (Err r)) (sym is) (record { added = []; adds = same ∙ sym (nothing_more old); does = λ rest reason. MayGrow.nothing; number = tt }));
+  does = λ p packs at covers told. inl (subst (λ (r : Refusal). Closes p old new w (Err r)) (sym is) (record { added = []; adds = same ∙ sym (nothing_more old); does = λ rest reason. MayGrow.nothing; number = tt }));
 }
 
 -- a writer of the same alternate, and the same bytes gathered
@@ -272,12 +272,12 @@ next_same t w new same =
 stops_same : (t : State) (w new : Writer) (result : Result Receipt Refusal) → SameCloser w new → IfErr result (StopsAtLimit t (bytes_next t new)) → IfErr result (StopsAtLimit t (bytes_next t w))
 stops_same t w new result same h = subst (λ n. IfErr result (StopsAtLimit t n)) (next_same t w new same) h
 
-pub closes_same : (now : ℕ) (kept old new : Kept) (first before after : List Call) (w used : Writer) (result : Result Receipt Refusal) → old ≡ kept → before ≡ first → SameCloser w used
-    → ClosesAsAsked now before after old new used result → ClosesAsAsked now first after kept new w result
+pub closes_same : {packed : Bool} (now : ℕ) (kept old new : Kept) (first before after : List Call) (w used : Writer) (result : Result Receipt Refusal) → old ≡ kept → before ≡ first → SameCloser w used
+    → ClosesAsAsked packed now before after old new used result → ClosesAsAsked packed now first after kept new w result
 closes_same now kept old new first before after w used result e f same h = record {
-  does = λ p at covers told.
+  does = λ p packs at covers told.
       let cover : Covers p before after = subst (λ (calls : List Call). Covers p calls after) (sym f) covers in
-      elim (h.does p at cover (subst (λ (k : Kept). AreTold (state_of k)) (sym e) told)) [
+      elim (h.does p packs at cover (subst (λ (k : Kept). AreTold (state_of k)) (sym e) told)) [
         | inl c ↦ inl (record {
           added = c.added;
           adds = c.adds ∙ ap (λ k. with_records k c.added) e;

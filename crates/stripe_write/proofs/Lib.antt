@@ -2,6 +2,7 @@ mod Counted
 pub mod Ended
 pub mod Flushed
 pub mod Spending
+mod Pushed
 pub mod Cutting
 mod Gathering
 mod Reaching

@@ -20,7 +20,7 @@ use Rattle.stripe_core.specs.declared.refusal.Refusal.{Refusal}
 use Rattle.stripe_core.specs.declared.refusal.Refusal.TheVariants as refusal
 use Rattle.stripe_core.specs.declared.refusal.Stop.{Stop}
 use Rattle.stripe_core.specs.Find.{cause_records}
-use Rattle.stripe_core.specs.Place.{RoomsAsAsked, place_adds}
+use Rattle.stripe_core.specs.Place.{PlacesIn, RoomsAsAsked}
 use Rattle.stripe_vectors.specs.declared.reading.KeyVector.{KeyVector}
 use Rattle.stripe_vectors.specs.declared.reading.KeyVector.TheVariants as found
 use Rattle.stripe_vectors.specs.Reading.{trouble_records, vector_adds}
@@ -29,6 +29,7 @@ use Rattle.stripe_write.specs.declared.writer.Writer.{Writer}
 use Rattle.stripe_write.specs.Writers.{IsAtHand, IsWriterOf}
 use Rattle.stripe_write.specs.Weighing.{fit_adds}
 use Rattle.stripe_write.specs.Others.{AddsOfPut, IsOfPut, LeavesOthers}
+use Rattle.stripe_write.proofs.Pushed.{pushed_by, pushed_is_own}
 use Rattle.stripe_write.proofs.Spending.{nothing_more, state_behind, then_more}
 use Rattle.stripe_write.proofs.Flushed.{flush_is_own}
 
@@ -115,9 +116,11 @@ owns_read put old new key answer adds = owns put old new _ adds (own_trouble put
 pub owns_room : (put : ℕ) (now : ℕ) (old new : Kept) (before : List Call) (after : Device) (bytes : ℕ) (result : Result (Unit {0}) Stop) → RoomsAsAsked now old new before after bytes result → AddsOfPut put old new
 owns_room put now old new before after bytes result h = owns put old new h.added h.adds (flush_is_own put h.added h.kinds)
 
--- a vector that is placed
-pub owns_vector : (put : ℕ) (old new : Kept) (key : Key) (pin : ℕ) (payload : List ℕ) (placed : Placed) → new ≡ with_records old (place_adds (state_of old) (vector_piece key put) pin 0 payload (Ok placed)) → AddsOfPut put old new
-owns_vector put old new key pin payload placed adds = owns put old new _ adds (tt, tt)
+-- a vector that is placed, behind what its entry displaces
+pub owns_vector : {packed : Bool} (put : ℕ) (old new : Kept) (key : Key) (pin : ℕ) (payload : List ℕ) (placed : Placed) → PlacesIn packed old new (vector_piece key put) pin 0 payload (Ok placed) → AddsOfPut put old new
+owns_vector put old new key pin payload placed h =
+    let pushed = pushed_is_own put h.are.displaced (pushed_by (state_of old) (vector_piece key put) pin 0 payload h.added h.are) in
+    owns put old new h.added h.adds (subst (AllByRecursion (IsOfPut put)) (sym h.are.is) (all_append (IsOfPut put) h.are.displaced _ pushed (tt, tt)))
 
 -- a put that is weighed
 own_fit : (w : Writer) (result : Result Vectors Refusal) → AllByRecursion (IsOfPut w.put) (fit_adds w result)

@@ -54,11 +54,11 @@ first_lost_ends p s w v c index none spelled read room first =
       lost = ap (λ k. live_row_of s (fragment_piece k w.put index)) c.key_is ∙ first.3;
     }) (ap (λ n. rec.Aborted n w.key ∷ []) (sym number) ∙ ap (λ k. rec.Aborted c.row.put k ∷ []) (sym c.key_is))
 
-pub loses : (now : ℕ) (old new : Kept) (before after : List Call) (w : Writer) (v : Vectors) (c : IsClosing (state_of old) w) (index : ℕ) (why : Cause) (x : Refusal) → AreSpelled (state_of old).geometry w v
+pub loses : {packed : Bool} (now : ℕ) (old new : Kept) (before after : List Call) (w : Writer) (v : Vectors) (c : IsClosing (state_of old) w) (index : ℕ) (why : Cause) (x : Refusal) → AreSpelled (state_of old).geometry w v
     → has_room (state_of old) (bytes_now (state_of old) w v) ≡ true → IsFirstLost (state_of old) w (Some index) → x ≡ refusal.Lost index why → new ≡ with_records old (rec.Aborted w.put w.key ∷ [])
-    → FinishesAsRead now before after old new w v (Err x)
+    → FinishesAsRead packed now before after old new w v (Err x)
 loses now old new before after w v c index why x spelled room first is adds = record {
-  does = λ p at covers none read.
+  does = λ p packs at covers none read.
       let s : State = state_of old in
       let d = first_lost_ends p s w v c index none spelled read room first in
       let f : Finishes p old new w (Err (refusal.Lost index why)) = record {
@@ -81,19 +81,19 @@ room_grows p s w row size added false is cut makes rest e h = λ others why.
     let d : Does p s (Finish w.put (length w.table.rows)) added Stays = DoesFinish.rooms row cut (subst (λ n. MakesRoom p s n added Stays) is makes) in
     grows_on (one_group p s (Finish w.put (length w.table.rows)) added Stays d (Commit w.put ∷ others) why) (h others why)
 
-module _ (now : ℕ) (old mid new : Kept) (first between last : Device) (w : Writer) (v : Vectors) (c : IsClosing (state_of old) w) (spelled : AreSpelled (state_of old).geometry w v) where
+module _ (packed : Bool) (now : ℕ) (old mid new : Kept) (first between last : Device) (w : Writer) (v : Vectors) (c : IsClosing (state_of old) w) (spelled : AreSpelled (state_of old).geometry w v) where
   abbrev s : State
   s = state_of old
 
   pub behind_room : (u : Unit {0}) (result : Result Receipt Refusal) → IsAfter first between → IsAfter between last → RoomsAsAsked now old mid first.past between (bytes_now s w v) (Ok u)
-      → FinishesAsRead now between.past last.past mid new w v result → FinishesAsRead now first.past last.past old new w v result
+      → FinishesAsRead packed now between.past last.past mid new w v result → FinishesAsRead packed now first.past last.past old new w v result
   behind_room u result f l room ends = record {
-    does = λ p at covers none read.
+    does = λ p packs at covers none read.
         let there : state_of mid ≡ after_all s room.added = state_behind old mid room.added room.adds in
         let keeps : KeepsVectors s (state_of mid) = subst (KeepsVectors s) (sym there) (keeps_flush s room.added room.kinds (subst (LiveBefore s) there room.live)) in
         let here = is_current s w v c none spelled read in
         let makes = room.does p at (covers_first p first.past between.past last.past l.made l.past covers) in
-        let rest = ends.does p at (covers_last p first.past between.past last.past f.made f.past covers) (keeps.displaced none) (read_stays s (state_of mid) w v keeps read) in
+        let rest = ends.does p packs at (covers_last p first.past between.past last.past f.made f.past covers) (keeps.displaced none) (read_stays s (state_of mid) w v keeps read) in
         record {
           added = room.added ++ rest.added;
           adds = then_more old mid new room.added rest.added room.adds rest.adds;
@@ -111,7 +111,7 @@ exhausted_empty off (MakesRoom.exhausted full above is) q = is
 exhausted_empty off (MakesRoom.syncs f full sync behind) q = absurd (never_syncs off sync)
 
 -- no room is made
-module _ (now : ℕ) (old new : Kept) (before : List Call) (after : Device) (w : Writer) (v : Vectors) (c : IsClosing (state_of old) w) (spelled : AreSpelled (state_of old).geometry w v) where
+module _ (packed : Bool) (now : ℕ) (old new : Kept) (before : List Call) (after : Device) (w : Writer) (v : Vectors) (c : IsClosing (state_of old) w) (spelled : AreSpelled (state_of old).geometry w v) where
   abbrev t : State
   t = state_of old
 
@@ -127,12 +127,12 @@ module _ (now : ℕ) (old new : Kept) (before : List Call) (after : Device) (w :
       (cuts_at_hand t w c, subst (λ n. ReachesLimit t n number) here.size (flush_reaches t (bytes_now t w v) after.faults number full stops))
 
   pub no_room_ends : (why : Refusal) → Answers {X = Unit {0}} (Err why) (RoomsAsAsked now old new before after (bytes_now t w v)) ⊥ → has_room t (bytes_now t w v) ≡ false
-      → Answers {X = Unit {0}} (Err why) (λ r. IfErr r (StopsWith t after.faults)) ⊥ → FinishesAsRead now before after.past old new w v (Err why)
+      → Answers {X = Unit {0}} (Err why) (λ r. IfErr r (StopsWith t after.faults)) ⊥ → FinishesAsRead packed now before after.past old new w v (Err why)
   no_room_ends (refusal.DeviceFault count) room full stops = record {
-    does = λ p at covers none read. record { added = room.added; adds = room.adds; does = stopped_by p room.added (Faulted count) none read (room.does p at covers); number = tt };
+    does = λ p packs at covers none read. record { added = room.added; adds = room.adds; does = stopped_by p room.added (Faulted count) none read (room.does p at covers); number = tt };
   }
   no_room_ends (refusal.Exhausted number) room full stops = record {
-    does = λ p at covers none read.
+    does = λ p packs at covers none read.
         let makes = room.does p at covers in
         let same : new ≡ old = room.adds ∙ (ap (with_records old) (exhausted_empty covers.unsynced makes refl) ∙ nothing_more old) in
         record {

@@ -79,8 +79,8 @@ pub record Ends (p : Permit) (old new : Kept) (w : Writer) (result : Result Rece
   pub number : IfErr result (StopsAtLimit (state_of new) (bytes_next (state_of new) w))
 
 -- what came of it, as `FinishesAsRead`
-pub record EndsAsAsked (now : ℕ) (before after : List Call) (old new : Kept) (w : Writer) (v : Vectors) (result : Result Receipt Refusal) : Type 0 where
-  pub does : (p : Permit) → p.now ≡ now → Covers p before after → (state_of old).displaced ≡ [] → IsReadFor (state_of old) w v → Ends p old new w result
+pub record EndsAsAsked (packed : Bool) (now : ℕ) (before after : List Call) (old new : Kept) (w : Writer) (v : Vectors) (result : Result Receipt Refusal) : Type 0 where
+  pub does : (p : Permit) → p.packed ≡ packed → p.now ≡ now → Covers p before after → (state_of old).displaced ≡ [] → IsReadFor (state_of old) w v → Ends p old new w result
 
 -- all that closing is asked is done, or fails; where memory is wanting it is still to be weighed; where
 -- there is no such writer nothing is
@@ -97,8 +97,8 @@ pub record Closes (p : Permit) (old new : Kept) (w : Writer) (result : Result Re
   pub number : IfErr result (StopsAtLimit (state_of new) (bytes_next (state_of new) w))
 
 -- what came of it in any step at that moment that covers the call; or two documents of one SHA-256 are shown
-pub record ClosesAsAsked (now : ℕ) (before after : List Call) (old new : Kept) (w : Writer) (result : Result Receipt Refusal) : Type 0 where
-  pub does : (p : Permit) → p.now ≡ now → Covers p before after → AreTold (state_of old) → Closes p old new w result ⊎ IsKeyPair IsVectorAs p (state_of old) w.key
+pub record ClosesAsAsked (packed : Bool) (now : ℕ) (before after : List Call) (old new : Kept) (w : Writer) (result : Result Receipt Refusal) : Type 0 where
+  pub does : (p : Permit) → p.packed ≡ packed → p.now ≡ now → Covers p before after → AreTold (state_of old) → Closes p old new w result ⊎ IsKeyPair IsVectorAs p (state_of old) w.key
 
 -- a writer that was refused by the device, or by the end of the tape, takes no more bytes; one whose rest was not come to is
 -- as it was

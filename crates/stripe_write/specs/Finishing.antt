@@ -95,5 +95,5 @@ pub record Finishes (p : Permit) (old new : Kept) (w : Writer) (result : Result 
 
 -- what came of it in any step at that moment that covers the call, where no insert goes on and the key's vector is
 -- the one that was read
-pub record FinishesAsRead (now : ℕ) (before after : List Call) (old new : Kept) (w : Writer) (v : Vectors) (result : Result Receipt Refusal) : Type 0 where
-  pub does : (p : Permit) → p.now ≡ now → Covers p before after → (state_of old).displaced ≡ [] → IsReadFor (state_of old) w v → Finishes p old new w result
+pub record FinishesAsRead (packed : Bool) (now : ℕ) (before after : List Call) (old new : Kept) (w : Writer) (v : Vectors) (result : Result Receipt Refusal) : Type 0 where
+  pub does : (p : Permit) → p.packed ≡ packed → p.now ≡ now → Covers p before after → (state_of old).displaced ≡ [] → IsReadFor (state_of old) w v → Finishes p old new w result

@@ -1,5 +1,5 @@
 -- The rest that a writer gathered is cut as its last fragment.
-use Rattle.std.specs.Prelude.{ℕ, ◌≡◌, List, [], ◌∷◌, Result, Ok, Err}
+use Rattle.std.specs.Prelude.{ℕ, ◌≡◌, Bool, List, [], ◌∷◌, Result, Ok, Err}
 use Rattle.device_log.specs.Calls.{Call}
 use Rattle.logged_disk.specs.Device.{State as Device}
 use Rattle.cache_model.specs.declared.record.Rec.{Rec}
@@ -16,10 +16,10 @@ use Rattle.stripe_write.specs.Closing.{SpendsAll, rest_intents}
 use Rattle.stripe_write.specs.Writes.{next_id, next_start}
 
 -- the records of these bytes, where there are some: a cut, or why there is none
-abbrev pub IsRestAs : State → ℕ → Writer → List ℕ → List Rec → Result (Unit {0}) Stop → Type 0
-IsRestAs s faults w [] added result = added ≡ []
-IsRestAs s faults w (byte ∷ bytes) added (Ok u) = (placed : Placed) × IsCutAs s (next_id w) w.pin (next_start w) (byte ∷ bytes) added placed
-IsRestAs s faults w (byte ∷ bytes) added (Err why) = IsStoppedAs s faults (byte ∷ bytes) added why
+abbrev pub IsRestAs : Bool → State → ℕ → Writer → List ℕ → List Rec → Result (Unit {0}) Stop → Type 0
+IsRestAs packed s faults w [] added result = added ≡ []
+IsRestAs packed s faults w (byte ∷ bytes) added (Ok u) = (placed : Placed) × IsCutAs packed s (next_id w) w.pin (next_start w) (byte ∷ bytes) added placed
+IsRestAs packed s faults w (byte ∷ bytes) added (Err why) = IsStoppedAs s faults (byte ∷ bytes) added why
 
 -- the rest is cut, or there was none; or the tape stopped it
 abbrev pub rest_end : Result (Unit {0}) Stop → End
@@ -28,8 +28,8 @@ rest_end (Err why) = stop_end why
 
 -- the rest is cut at a moment, over a device that had made these calls before, and that stands so then, or why it
 -- is not
-pub record RestsAsAsked (now : ℕ) (old new : Kept) (before : List Call) (after : Device) (w : Writer) (result : Result (Unit {0}) Stop) : Type 0 where
+pub record RestsAsAsked (packed : Bool) (now : ℕ) (old new : Kept) (before : List Call) (after : Device) (w : Writer) (result : Result (Unit {0}) Stop) : Type 0 where
   pub added : List Rec
   pub adds : new ≡ with_records old added
-  pub shape : IsRestAs (state_of old) after.faults w w.gathered.items added result
-  pub does : (p : Permit) → p.now ≡ now → Covers p before after.past → SpendsAll p (state_of old) (rest_intents w w.gathered.items) added (rest_end result)
+  pub shape : IsRestAs packed (state_of old) after.faults w w.gathered.items added result
+  pub does : (p : Permit) → p.packed ≡ packed → p.now ≡ now → Covers p before after.past → SpendsAll p (state_of old) (rest_intents w w.gathered.items) added (rest_end result)

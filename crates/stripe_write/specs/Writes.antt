@@ -109,35 +109,35 @@ cuts_fragment w payload = Fragment w.put (length w.table.rows + 1) payload
 
 -- the records of the next fragment, which is cut or cannot be, in any step at that moment that covers
 -- the call
-pub record CutsNext (now : ℕ) (s : State) (before : List Call) (after : Device) (w : Writer) (payload : List ℕ) (added : List Rec) (result : Result Placed Stop) : Type 0 where
-  pub shape : IsFragmentAs s after.faults (next_id w) w.pin (next_start w) payload added result
-  pub does : (p : Permit) → p.now ≡ now → Covers p before after.past → Spends p s (cuts_fragment w payload) added (place_end result)
+pub record CutsNext (packed : Bool) (now : ℕ) (s : State) (before : List Call) (after : Device) (w : Writer) (payload : List ℕ) (added : List Rec) (result : Result Placed Stop) : Type 0 where
+  pub shape : IsFragmentAs packed s after.faults (next_id w) w.pin (next_start w) payload added result
+  pub does : (p : Permit) → p.packed ≡ packed → p.now ≡ now → Covers p before after.past → Spends p s (cuts_fragment w payload) added (place_end result)
 
 -- the bytes that are gathered when a fragment has gathered
 abbrev pub next_payload : State → Writer → List ℕ → List ℕ
 next_payload s w bytes = gathered_with w bytes (taken_of s.geometry w bytes)
 
 -- the next fragment is cut, where it has gathered, or cannot be; or there would be one too many
-abbrev pub WritesAs : ℕ → State → List Call → Device → Writer → List ℕ → Result ℕ Refusal → List Rec → Type 0
-WritesAs now s before after w bytes (Ok n) added = MatchBool (is_cut s.geometry w n)
-    ((placed : Placed) × CutsNext now s before after w (gathered_with w bytes n) added (Ok placed)) (added ≡ [])
-WritesAs now s before after w bytes (Err (refusal.DeviceFault count)) added =
-    CutsNext now s before after w (next_payload s w bytes) added (Err (stop.DeviceFault count))
-WritesAs now s before after w bytes (Err (refusal.Exhausted number)) added =
-    CutsNext now s before after w (next_payload s w bytes) added (Err (stop.Exhausted number))
-WritesAs now s before after w bytes (Err refusal.TooManyFragments) added =
+abbrev pub WritesAs : Bool → ℕ → State → List Call → Device → Writer → List ℕ → Result ℕ Refusal → List Rec → Type 0
+WritesAs packed now s before after w bytes (Ok n) added = MatchBool (is_cut s.geometry w n)
+    ((placed : Placed) × CutsNext packed now s before after w (gathered_with w bytes n) added (Ok placed)) (added ≡ [])
+WritesAs packed now s before after w bytes (Err (refusal.DeviceFault count)) added =
+    CutsNext packed now s before after w (next_payload s w bytes) added (Err (stop.DeviceFault count))
+WritesAs packed now s before after w bytes (Err (refusal.Exhausted number)) added =
+    CutsNext packed now s before after w (next_payload s w bytes) added (Err (stop.Exhausted number))
+WritesAs packed now s before after w bytes (Err refusal.TooManyFragments) added =
     (added ≡ rec.Aborted w.put w.key ∷ []) × ((p : Permit) → Does p s (Overflow w.put) added (Fails (ManyFragments w.put)))
-WritesAs now s before after w bytes (Err _) added = added ≡ []
+WritesAs packed now s before after w bytes (Err _) added = added ≡ []
 
 -- a write at a moment, over a device that had made these calls before, and that stands so then: the records that it
 -- added, which are its put's own, and what is asked of them
-pub record WritesAsAsked (now : ℕ) (old new : Kept) (before : List Call) (after : Device) (w : Writer) (bytes : List ℕ) (result : Result ℕ Refusal) : Type 0 where
+pub record WritesAsAsked (packed : Bool) (now : ℕ) (old new : Kept) (before : List Call) (after : Device) (w : Writer) (bytes : List ℕ) (result : Result ℕ Refusal) : Type 0 where
   pub added : List Rec
   pub adds : new ≡ with_records old added
   pub own : AllByRecursion (IsOfPut w.put) added
   -- a device that tells its content shows each piece as it was placed
   pub unharmed : TellsAll after → TellNoDamage added
-  pub does : WritesAs now (state_of old) before after w bytes result added
+  pub does : WritesAs packed now (state_of old) before after w bytes result added
 
 -- a writer as it was
 pub record SameWriter (old new : Writer) : Type 0 where

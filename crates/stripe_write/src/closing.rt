@@ -38,7 +38,7 @@ pub fn close_write<D: Disk, R: Directory + Drop, C: Chronicle>(
     requires writer { IsWriterOf (state_in stripe.old) writer.old }
     ensures rests { Rests stripe.old stripe.new }
     ensures closes { ClosesWhere (state_in stripe.old) (state_in stripe.new) writer.old result }
-    ensures does { ClosesAsAsked now (seen_in stripe.old).device.past
+    ensures does { ClosesAsAsked R.purges now (seen_in stripe.old).device.past
         (seen_in stripe.new).device.past (kept_in stripe.old)
         (kept_in stripe.new) writer.old result }
     ensures writer { IsWriterOf (state_in stripe.new) writer.new }
@@ -92,7 +92,7 @@ fn close_open<D: Disk, R: Directory + Drop, C: Chronicle>(
     requires table { 0 < writer.old.table.room }
     ensures rests { Rests stripe.old stripe.new }
     ensures closes { ClosesWhere (state_in stripe.old) (state_in stripe.new) writer.old result }
-    ensures does { ClosesAsAsked now (seen_in stripe.old).device.past
+    ensures does { ClosesAsAsked R.purges now (seen_in stripe.old).device.past
         (seen_in stripe.new).device.past (kept_in stripe.old)
         (kept_in stripe.new) writer.old result }
     ensures writer { IsWriterOf (state_in stripe.new) writer.new }
@@ -139,7 +139,7 @@ fn end<D: Disk, R: Directory + Drop, C: Chronicle>(
     requires table { 0 < writer.old.table.room }
     ensures rests { Rests stripe.old stripe.new }
     ensures ends { EndsWhere (state_in stripe.new) writer.old result }
-    ensures does { EndsAsAsked now (seen_in stripe.old).device.past (seen_in stripe.new).device.past
+    ensures does { EndsAsAsked R.purges now (seen_in stripe.old).device.past (seen_in stripe.new).device.past
         (kept_in stripe.old) (kept_in stripe.new) writer.old vectors result }
     ensures writer { IsWriterOf (state_in stripe.new) writer.new }
     ensures sealed { writer.new.sealed ≡ true }

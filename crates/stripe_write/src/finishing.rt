@@ -86,7 +86,7 @@ pub(crate) fn finish<D: Disk, R: Directory + Drop, C: Chronicle>(
     requires units { 3 ≤ units_in stripe.old }
     ensures rests { Rests stripe.old stripe.new }
     ensures finishes { FinishesWhere (state_in stripe.new) writer.now result }
-    ensures does { FinishesAsRead now (seen_in stripe.old).device.past
+    ensures does { FinishesAsRead R.purges now (seen_in stripe.old).device.past
         (seen_in stripe.new).device.past (kept_in stripe.old)
         (kept_in stripe.new) writer.now vectors result }
     ensures counts { IfErr result (IsCounted (seen_in stripe.new).device.faults) }
@@ -116,7 +116,7 @@ fn end<D: Disk, R: Directory + Drop, C: Chronicle>(
     requires units { 2 ≤ units_in stripe.old }
     ensures rests { Rests stripe.old stripe.new }
     ensures finishes { FinishesWhere (state_in stripe.new) writer.now result }
-    ensures does { FinishesAsRead now (seen_in stripe.old).device.past
+    ensures does { FinishesAsRead R.purges now (seen_in stripe.old).device.past
         (seen_in stripe.new).device.past (kept_in stripe.old)
         (kept_in stripe.new) writer.now vectors result }
     ensures counts { IfErr result (IsCounted (seen_in stripe.new).device.faults) }
@@ -226,7 +226,7 @@ fn complete<D: Disk, R: Directory + Drop, C: Chronicle>(
     requires units { 2 ≤ units_in stripe.old }
     ensures rests { Rests stripe.old stripe.new }
     ensures finishes { FinishesWhere (state_in stripe.new) writer.now result }
-    ensures does { FinishesAsRead now (seen_in stripe.old).device.past
+    ensures does { FinishesAsRead R.purges now (seen_in stripe.old).device.past
         (seen_in stripe.new).device.past (kept_in stripe.old)
         (kept_in stripe.new) writer.now vectors result }
     ensures counts { IfErr result (IsCounted (seen_in stripe.new).device.faults) }

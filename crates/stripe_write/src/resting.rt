@@ -34,7 +34,7 @@ pub(crate) fn cut_rest<D: Disk, R: Directory + Drop, C: Chronicle>(
     ensures counts { IfErr result (IsCounted (seen_in stripe.new).device.faults) }
     ensures unit { units_in stripe.old ≤ units_in stripe.new + 1 }
     // Memory is not wanting, and no other refusal comes.
-    ensures does { Answers result (RestsAsAsked now (kept_in stripe.old) (kept_in stripe.new)
+    ensures does { Answers result (RestsAsAsked R.purges now (kept_in stripe.old) (kept_in stripe.new)
         (seen_in stripe.old).device.past (seen_in stripe.new).device writer.old) ⊥ }
     ensures some { OnErr result (0 < length writer.old.gathered.items) }
     ensures number { IfErr result (StopsAtLimit (state_in stripe.new)

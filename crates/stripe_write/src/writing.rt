@@ -71,7 +71,7 @@ pub fn write<D: Disk, R: Directory + Drop, C: Chronicle>(
     ensures writes { WritesWhere (state_in stripe.old) writer.old bytes.now result }
     ensures number { IfErr result (StopsAtLimit (state_in stripe.new)
         (state_in stripe.old).geometry.fragment) }
-    ensures does { WritesAsAsked now (kept_in stripe.old) (kept_in stripe.new)
+    ensures does { WritesAsAsked R.purges now (kept_in stripe.old) (kept_in stripe.new)
         (seen_in stripe.old).device.past (seen_in stripe.new).device writer.old bytes.now result }
     ensures writer { IsWriterOf (state_in stripe.new) writer.new }
     ensures gathers { IfOk result (λ n. GathersAsAsked
@@ -208,7 +208,7 @@ fn take<D: Disk, R: Directory + Drop, C: Chronicle>(
     ensures writes { WritesWhere (state_in stripe.old) writer.old bytes.now result }
     ensures number { IfErr result (StopsAtLimit (state_in stripe.new)
         (state_in stripe.old).geometry.fragment) }
-    ensures does { WritesAsAsked now (kept_in stripe.old) (kept_in stripe.new)
+    ensures does { WritesAsAsked R.purges now (kept_in stripe.old) (kept_in stripe.new)
         (seen_in stripe.old).device.past (seen_in stripe.new).device writer.old bytes.now result }
     ensures writer { IsWriterOf (state_in stripe.new) writer.new }
     ensures gathers { IfOk result (λ n. GathersAsAsked
@@ -245,7 +245,7 @@ pub(crate) fn cut<D: Disk, R: Directory + Drop, C: Chronicle>(
     requires ready { IsReady (state_in stripe.old) writer.old }
     ensures rests { Rests stripe.old stripe.new }
     ensures does { let w = writer.old in
-        Answers result (CutsAsAsked now (kept_in stripe.old) (kept_in stripe.new)
+        Answers result (CutsAsAsked R.purges now (kept_in stripe.old) (kept_in stripe.new)
         (seen_in stripe.old).device.past (seen_in stripe.new).device (next_id w) w.pin
         (next_start w) w.gathered.items) (kept_in stripe.new ≡ kept_in stripe.old) }
     ensures number { IfErr result (StopsAtLimit (state_in stripe.new)

@@ -31,7 +31,7 @@ pub returns-in-Ok-clause-does : goal.returns-in-Ok-clause-does
 returns-in-Ok-clause-does g c =
     let w = c.args.writer.now in
     let sealed : Writer = record { put = w.put; key = w.key; request = w.request; response = w.response; pin = w.pin; gathered = w.gathered; table = w.table; sealed = Rattle.std.proofs.Common.true } in
-    rest_then_finish c.args.now (kept_in c.args.stripe.now) (kept_in c.cut_rest.new.stripe) (kept_in c.finish.new.stripe)
+    rest_then_finish g.R.Directory.purges c.args.now (kept_in c.args.stripe.now) (kept_in c.cut_rest.new.stripe) (kept_in c.finish.new.stripe)
     (seen_in c.args.stripe.now).device (seen_in c.cut_rest.new.stripe).device (seen_in c.finish.new.stripe).device w sealed c.cut_rest.new.writer c.args.vectors c.in-Ok.field-0 c.finish.result
     (record { put = refl; key = refl; request = refl; response = refl; pin = refl; gathered = refl; rows = refl; sealed = refl }) c.cut_rest.ensures.rest c.in-Ok.ensures.rows c.in-Ok.ensures.empty
     c.cut_rest.ensures.rests.between.goes c.finish.ensures.rests.between.goes c.in-Ok.ensures.does c.finish.ensures.finishes c.finish.ensures.does
@@ -56,7 +56,7 @@ pub returns-in-Err-clause-own : goal.returns-in-Err-clause-own
 returns-in-Err-clause-own g c =
     let w = c.args.writer.now in
     let sealed : Writer = record { put = w.put; key = w.key; request = w.request; response = w.response; pin = w.pin; gathered = w.gathered; table = w.table; sealed = Rattle.std.proofs.Common.true } in
-    let stopped = stop_in (RestsAsAsked c.args.now (kept_in c.args.stripe.now) (kept_in c.cut_rest.new.stripe) (seen_in c.args.stripe.now).device.past
+    let stopped = stop_in (RestsAsAsked g.R.Directory.purges c.args.now (kept_in c.args.stripe.now) (kept_in c.cut_rest.new.stripe) (seen_in c.args.stripe.now).device.past
     (seen_in c.cut_rest.new.stripe).device sealed) c.in-Err.why c.in-Err.ensures.does in
     rest_own c.args.now (kept_in c.args.stripe.now) (kept_in c.cut_rest.new.stripe) _ _ sealed _ stopped.1
 

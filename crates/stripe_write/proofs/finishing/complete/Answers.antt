@@ -1,28 +1,32 @@
 use Rattle.std.proofs.Common.{ℕ, List, refl, ◌≡◌, sym, ◌∙◌, ap, subst, arith, true, false, Ok}
-use Rattle.std.specs.Prelude.{Some}
+use Rattle.std.specs.Prelude.{Bool, Some, find, ◌==◌}
 use Rattle.device_log.specs.Calls.{Call}
 use Rattle.cache_model.specs.Kept.{Kept, state_of}
-use Rattle.cache_model.specs.State.{vector_piece}
+use Rattle.cache_model.specs.State.{PutRow, vector_piece}
 use Rattle.stripe_core.specs.Acts.{IsCommitting}
 use Rattle.stripe_core.specs.Place.{PlacesVector}
 use Rattle.stripe_core.specs.declared.refusal.Placed.{Placed}
 use Rattle.stripe_write.specs.declared.writer.Writer.{Writer}
+use Rattle.stripe_write.proofs.Pushed.{pushed_by}
 use Rattle.stripe_write.proofs.Spending.{state_behind}
 use Rattle.logged_disk.specs.Device.{State as Device}
 use Rattle.stripe_core.specs.Stripe.{kept_in, state_in}
 use Rattle.stripe_vectors.specs.declared.spelling.Spelled.{Spelled}
 use Rattle.stripe_write.specs.Finishing.{picked}
 use Rattle.stripe_write.proofs.Owning.{owns, owns_none, owns_vector, then_owns}
-use Rattle.stripe_write.proofs.Completing.{IsClosing, completes, is_closing, not_placed, picked_lists, refused_finishes, refused_writer, vector_for, vector_of_put}
+use Rattle.stripe_write.proofs.Completing.{IsClosing, completes, is_closing, not_placed, picked_lists, refused_finishes, refused_writer, vector_for, vector_of_put, vector_state}
 use Rattle.stripe_core.proofs.Continuing.{continues_still, then_rests}
+use Rattle.stripe_core.proofs.Displacing.{displaced_puts}
 use Rattle.stripe_write.proofs.finishing.complete.Goals as goal
 
 -- behind its vector a put may be committed
-is_committing : (old new : Kept) (before after : List Call) (w : Writer) (pin : ℕ) (payload : List ℕ) (placed : Placed) → IsClosing (state_of old) w
-    → PlacesVector old new before after (vector_piece w.key w.put) pin 0 payload (Ok placed) → IsCommitting (state_of new) w.put w.key
+is_committing : {packed : Bool} (old new : Kept) (before after : List Call) (w : Writer) (pin : ℕ) (payload : List ℕ) (placed : Placed) → IsClosing (state_of old) w
+    → PlacesVector packed old new before after (vector_piece w.key w.put) pin 0 payload (Ok placed) → IsCommitting (state_of new) w.put w.key
 is_committing old new before after w pin payload placed c h =
-    subst (λ t. IsCommitting t w.put w.key) (sym (state_behind old new _ h.adds))
-    (record { w = c.row; found = c.writing.found; is_open = c.writing.is_open; key_is = c.key_is; pending = ap (λ k. Some (vector_piece k w.put)) (sym c.key_is) })
+    let s = state_of old in
+    let behind = displaced_puts s h.places.are.displaced (pushed_by s (vector_piece w.key w.put) pin 0 payload h.places.added h.places.are) in
+    subst (λ t. IsCommitting t w.put w.key) (sym (state_behind old new h.places.added h.places.adds ∙ vector_state s w.key w.put pin payload h.places.added h.places.are))
+    (record { w = c.row; found = ap (find (λ (p : PutRow). p.put == w.put)) behind.puts ∙ c.writing.found; is_open = c.writing.is_open; key_is = c.key_is; pending = ap (λ k. Some (vector_piece k w.put)) (sym c.key_is) })
 
 pub place_piece-requires-clause-placing : goal.place_piece-requires-clause-placing
 place_piece-requires-clause-placing g c =
@@ -36,7 +40,7 @@ returns-in-Err-clause-does g c =
     let s = state_in c.args.stripe.now in
     let w = c.args.writer.now in
     let closing = is_closing s w c.requires.resting.quiet c.requires.open c.requires.writer c.requires.cut in
-    refused_finishes c.args.now (kept_in c.args.stripe.now) (kept_in c.place_piece.new.self) _ _ w c.args.vectors c.pick-spelled.result.now.pin c.deref.result.now closing
+    refused_finishes g.R.Directory.purges c.args.now (kept_in c.args.stripe.now) (kept_in c.place_piece.new.self) _ _ w c.args.vectors c.pick-spelled.result.now.pin c.deref.result.now closing
     (vector_of_put s w c.args.vectors c.pick-spelled.result.now.pin c.deref.result.now closing c.requires.spelled c.requires.room
     (c.deref.ensures.value ∙ ap (λ (x : Spelled). x.bytes.items) (c.pick-spelled.ensures ∙ ap (picked c.args.vectors) c.is_live-live.ensures)) (ap (λ (x : Spelled). x.pin) (c.pick-spelled.ensures ∙ ap (picked c.args.vectors) c.is_live-live.ensures)) c.requires.whole)
     c.in-Err.why c.in-Err.ensures.does (c.in-Err.ensures.memory (omega (arith, c.requires.units)) (λ e. let clash : true ≡ false = e in cc))
@@ -46,7 +50,7 @@ returns-in-Ok-clause-does g c =
     let s = state_in c.args.stripe.now in
     let w = c.args.writer.now in
     let closing = is_closing s w c.requires.resting.quiet c.requires.open c.requires.writer c.requires.cut in
-    completes c.args.now (kept_in c.args.stripe.now) (kept_in c.commit.new.stripe) _ _ w c.args.vectors c.pick-spelled.result.now.pin c.deref.result.now closing
+    completes g.R.Directory.purges c.args.now (kept_in c.args.stripe.now) (kept_in c.commit.new.stripe) _ _ w c.args.vectors c.pick-spelled.result.now.pin c.deref.result.now closing
     (vector_of_put s w c.args.vectors c.pick-spelled.result.now.pin c.deref.result.now closing c.requires.spelled c.requires.room
     (c.deref.ensures.value ∙ ap (λ (x : Spelled). x.bytes.items) (c.pick-spelled.ensures ∙ ap (picked c.args.vectors) c.is_live-live.ensures)) (ap (λ (x : Spelled). x.pin) (c.pick-spelled.ensures ∙ ap (picked c.args.vectors) c.is_live-live.ensures)) c.requires.whole)
     (kept_in c.place_piece.new.self) _ c.in-Ok.field-0 c.commit.result c.into_list.result
@@ -55,19 +59,19 @@ returns-in-Ok-clause-does g c =
 
 pub returns-in-Err-clause-writer : goal.returns-in-Err-clause-writer
 returns-in-Err-clause-writer g c =
-    refused_writer (kept_in c.args.stripe.now) (kept_in c.place_piece.new.self) _ _ c.args.writer.now c.pick-spelled.result.now.pin c.deref.result.now c.in-Err.why c.in-Err.ensures.does
+    refused_writer g.R.Directory.purges (kept_in c.args.stripe.now) (kept_in c.place_piece.new.self) _ _ c.args.writer.now c.pick-spelled.result.now.pin c.deref.result.now c.in-Err.why c.in-Err.ensures.does
     c.requires.writer
 
 pub returns-in-Err-clause-own : goal.returns-in-Err-clause-own
 returns-in-Err-clause-own g c =
     owns_none c.args.writer.now.put (kept_in c.args.stripe.now) (kept_in c.place_piece.new.self)
-    (not_placed (kept_in c.args.stripe.now) (kept_in c.place_piece.new.self) _ _ _ c.pick-spelled.result.now.pin c.deref.result.now c.in-Err.why c.in-Err.ensures.does)
+    (not_placed g.R.Directory.purges (kept_in c.args.stripe.now) (kept_in c.place_piece.new.self) _ _ _ c.pick-spelled.result.now.pin c.deref.result.now c.in-Err.why c.in-Err.ensures.does)
 
 pub returns-in-Ok-clause-own : goal.returns-in-Ok-clause-own
 returns-in-Ok-clause-own g c =
     then_owns c.args.writer.now.put (kept_in c.args.stripe.now) (kept_in c.place_piece.new.self) (kept_in c.commit.new.stripe)
     (owns_vector c.args.writer.now.put (kept_in c.args.stripe.now) (kept_in c.place_piece.new.self) c.args.writer.now.key c.pick-spelled.result.now.pin c.deref.result.now c.in-Ok.field-0
-    c.in-Ok.ensures.does.adds)
+    c.in-Ok.ensures.does.places)
     (owns c.args.writer.now.put (kept_in c.place_piece.new.self) (kept_in c.commit.new.stripe) _ c.commit.ensures.adds (refl, tt))
 
 pub returns-in-Ok-clause-rests : goal.returns-in-Ok-clause-rests
@@ -83,5 +87,5 @@ commit-requires-clause-committing g c =
 pub returns-in-Err-clause-rests : goal.returns-in-Err-clause-rests
 returns-in-Err-clause-rests g c =
     continues_still _ _ c.place_piece.ensures.continues
-    (not_placed (kept_in c.args.stripe.now) (kept_in c.place_piece.new.self) _ _ _ c.pick-spelled.result.now.pin c.deref.result.now c.in-Err.why c.in-Err.ensures.does)
+    (not_placed g.R.Directory.purges (kept_in c.args.stripe.now) (kept_in c.place_piece.new.self) _ _ _ c.pick-spelled.result.now.pin c.deref.result.now c.in-Err.why c.in-Err.ensures.does)
     c.requires.resting

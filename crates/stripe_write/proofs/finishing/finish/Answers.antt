@@ -46,7 +46,7 @@ pub returns-in-Ok-clause-does : goal.returns-in-Ok-clause-does
 returns-in-Ok-clause-does g c =
     let s = state_in c.args.stripe.now in
     let w = c.args.writer.now in
-    behind_room c.args.now (kept_in c.args.stripe.now) (kept_in c.make_room.new.stripe) (kept_in c.end.new.stripe)
+    behind_room g.R.Directory.purges c.args.now (kept_in c.args.stripe.now) (kept_in c.make_room.new.stripe) (kept_in c.end.new.stripe)
     (seen_in c.args.stripe.now).device (seen_in c.make_room.new.stripe).device (seen_in c.end.new.stripe).device w c.args.vectors
     (is_closing s w c.requires.resting.quiet c.requires.open c.requires.writer c.requires.cut) c.requires.spelled c.in-Ok.field-0 c.end.result c.make_room.ensures.continues.between.goes c.end.ensures.rests.between.goes
     c.in-Ok.ensures.does c.end.ensures.does
@@ -55,7 +55,7 @@ pub returns-in-Err-clause-does : goal.returns-in-Err-clause-does
 returns-in-Err-clause-does g c =
     let s = state_in c.args.stripe.now in
     let w = c.args.writer.now in
-    no_room_ends c.args.now (kept_in c.args.stripe.now) (kept_in c.make_room.new.stripe) _ _ w c.args.vectors (is_closing s w c.requires.resting.quiet c.requires.open c.requires.writer c.requires.cut)
+    no_room_ends g.R.Directory.purges c.args.now (kept_in c.args.stripe.now) (kept_in c.make_room.new.stripe) _ _ w c.args.vectors (is_closing s w c.requires.resting.quiet c.requires.open c.requires.writer c.requires.cut)
     c.requires.spelled c.in-Err.why c.in-Err.ensures.does c.in-Err.ensures.full c.in-Err.ensures.stops
 
 pub returns-in-Err-clause-rests : goal.returns-in-Err-clause-rests

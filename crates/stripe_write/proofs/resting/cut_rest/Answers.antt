@@ -36,11 +36,11 @@ returns-in-Err-clause-writer g c =
     let w = c.args.writer.now in
     subst (IsWriterOf (state_in c.cut.new.stripe)) (sym c.in-Err.ensures.same)
     (left_writer (state_in c.args.stripe.now) (state_in c.cut.new.stripe) w
-    (failed_leaves c.args.now (kept_in c.args.stripe.now) (kept_in c.cut.new.stripe) _ _ (next_id w) w.pin (next_start w) w.gathered.items c.in-Err.refusal c.in-Err.ensures.does) c.requires.writer)
+    (failed_leaves g.R.Directory.purges c.args.now (kept_in c.args.stripe.now) (kept_in c.cut.new.stripe) _ _ (next_id w) w.pin (next_start w) w.gathered.items c.in-Err.refusal c.in-Err.ensures.does) c.requires.writer)
 
 pub returns-in-Err-clause-does : goal.returns-in-Err-clause-does
 returns-in-Err-clause-does g c =
     let w = c.args.writer.now in
     let some : 0 < length w.gathered.items = grind (arith, c.is_empty.ensures, c.if-is_empty.false) in
-    rest_refused c.args.now (kept_in c.args.stripe.now) (kept_in c.cut.new.stripe) _ _ w
+    rest_refused g.R.Directory.purges c.args.now (kept_in c.args.stripe.now) (kept_in c.cut.new.stripe) _ _ w
     c.in-Err.refusal some (c.in-Err.ensures.memory c.requires.unit c.requires.row) c.in-Err.ensures.does

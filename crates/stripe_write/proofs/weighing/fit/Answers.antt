@@ -5,7 +5,7 @@ use Rattle.alternate_vector.specs.Alternates.{Stored, stored_of, vector_size}
 use Rattle.cache_model.specs.declared.record.Rec.TheVariants as rec
 use Rattle.stripe_core.specs.Stripe.{kept_in, state_in}
 use Rattle.stripe_write.specs.Closing.{alternate_at_close}
-use Rattle.stripe_write.specs.Weighing.{FitsWhere, IsSpelledAlone}
+use Rattle.stripe_write.specs.Weighing.{IsSpelledAlone}
 use Rattle.stripe_write.specs.Writers.{IsWriterOf}
 use Rattle.stripe_write.proofs.Ended.{giving_up, no_writer}
 use Rattle.stripe_write.proofs.Spending.{state_behind}

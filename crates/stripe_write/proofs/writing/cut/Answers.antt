@@ -23,7 +23,7 @@ place_piece-requires-clause-placing g c =
 
 pub returns-clause-does : goal.returns-clause-does
 returns-clause-does g c =
-    cuts_behind c.args.writer.now c.len.result c.total.result c.deref-payload.result.now c.len.ensures.len c.total.ensures c.deref-payload.ensures.value c.args.now
+    cuts_behind c.args.writer.now c.len.result c.total.result c.deref-payload.result.now c.len.ensures.len c.total.ensures c.deref-payload.ensures.value g.R.Directory.purges c.args.now
     (kept_in c.args.stripe.now) (kept_in c.place_piece.new.self) (seen_in c.args.stripe.now).device.past (seen_in c.place_piece.new.self).device
     (Ok c.in_ok-placed.placed) c.in_ok-placed.ensures.does
 
@@ -32,7 +32,7 @@ returns-clause-rests g c =
     let old = kept_in c.args.stripe.now in
     let new = kept_in c.place_piece.new.self in
     let w = c.args.writer.now in
-    let cuts : CutsAsAsked c.args.now old new (seen_in c.args.stripe.now).device.past (seen_in c.place_piece.new.self).device (next_id w) w.pin (next_start w) w.gathered.items
+    let cuts : CutsAsAsked g.R.Directory.purges c.args.now old new (seen_in c.args.stripe.now).device.past (seen_in c.place_piece.new.self).device (next_id w) w.pin (next_start w) w.gathered.items
     (Ok c.in_ok-placed.placed) = returns-clause-does g c in
     continues_rests _ _ c.place_piece.ensures.continues
     (subst IsQuiet (sym (state_behind old new cuts.added cuts.adds)) (cut_quiet (state_in c.args.stripe.now) (next_id w) w.pin (next_start w) w.gathered.items cuts.added c.in_ok-placed.placed (next_no_vector w) cuts.shape c.requires.resting.quiet))
@@ -42,7 +42,7 @@ returns-clause-writer g c =
     let old = kept_in c.args.stripe.now in
     let new = kept_in c.place_piece.new.self in
     let w = c.args.writer.now in
-    let cuts : CutsAsAsked c.args.now old new (seen_in c.args.stripe.now).device.past (seen_in c.place_piece.new.self).device (next_id w) w.pin (next_start w) w.gathered.items
+    let cuts : CutsAsAsked g.R.Directory.purges c.args.now old new (seen_in c.args.stripe.now).device.past (seen_in c.place_piece.new.self).device (next_id w) w.pin (next_start w) w.gathered.items
     (Ok c.in_ok-placed.placed) = returns-clause-does g c in
     cut_writer (state_in c.args.stripe.now) (state_in c.place_piece.new.self) w _ cuts.added c.in_ok-placed.placed c.requires.ready cuts.shape (state_behind old new cuts.added cuts.adds)
     refl refl refl refl refl refl c.clear.ensures.items
@@ -52,7 +52,7 @@ returns-clause-writer g c =
 pub returns-in_err-placed-clause-does : goal.returns-in_err-placed-clause-does
 returns-in_err-placed-clause-does g c =
     let refused = err_from_is_err_and c.from_residual.result c.from_residual.ensures.1 in
-    rw (refused.1, refused.2) (cuts_behind c.args.writer.now c.len.result c.total.result c.deref-payload.result.now c.len.ensures.len c.total.ensures c.deref-payload.ensures.value c.args.now
+    rw (refused.1, refused.2) (cuts_behind c.args.writer.now c.len.result c.total.result c.deref-payload.result.now c.len.ensures.len c.total.ensures c.deref-payload.ensures.value g.R.Directory.purges c.args.now
     (kept_in c.args.stripe.now) (kept_in c.place_piece.new.self) (seen_in c.args.stripe.now).device.past (seen_in c.place_piece.new.self).device
     (Err c.in_err-placed.field-0.0) c.in_err-placed.ensures.does)
 
@@ -60,9 +60,9 @@ pub returns-in_err-placed-clause-number : goal.returns-in_err-placed-clause-numb
 returns-in_err-placed-clause-number g c =
     let w = c.args.writer.now in
     let refused = err_from_is_err_and c.from_residual.result c.from_residual.ensures.1 in
-    rw (refused.1, refused.2) (cut_stops c.args.now (kept_in c.args.stripe.now) (kept_in c.place_piece.new.self) (seen_in c.args.stripe.now).device.past
+    rw (refused.1, refused.2) (cut_stops g.R.Directory.purges c.args.now (kept_in c.args.stripe.now) (kept_in c.place_piece.new.self) (seen_in c.args.stripe.now).device.past
     (seen_in c.place_piece.new.self).device (next_id w) w.pin (next_start w) w.gathered.items c.in_err-placed.field-0.0
-    (cuts_behind w c.len.result c.total.result c.deref-payload.result.now c.len.ensures.len c.total.ensures c.deref-payload.ensures.value c.args.now
+    (cuts_behind w c.len.result c.total.result c.deref-payload.result.now c.len.ensures.len c.total.ensures c.deref-payload.ensures.value g.R.Directory.purges c.args.now
     (kept_in c.args.stripe.now) (kept_in c.place_piece.new.self) (seen_in c.args.stripe.now).device.past (seen_in c.place_piece.new.self).device
     (Err c.in_err-placed.field-0.0) c.in_err-placed.ensures.does))
 
@@ -70,9 +70,9 @@ pub returns-in_err-placed-clause-rests : goal.returns-in_err-placed-clause-rests
 returns-in_err-placed-clause-rests g c =
     let w = c.args.writer.now in
     continues_rests _ _ c.place_piece.ensures.continues
-    ((failed_leaves c.args.now (kept_in c.args.stripe.now) (kept_in c.place_piece.new.self) (seen_in c.args.stripe.now).device.past
+    ((failed_leaves g.R.Directory.purges c.args.now (kept_in c.args.stripe.now) (kept_in c.place_piece.new.self) (seen_in c.args.stripe.now).device.past
     (seen_in c.place_piece.new.self).device (next_id w) w.pin (next_start w) w.gathered.items c.in_err-placed.field-0.0
-    (cuts_behind w c.len.result c.total.result c.deref-payload.result.now c.len.ensures.len c.total.ensures c.deref-payload.ensures.value c.args.now
+    (cuts_behind w c.len.result c.total.result c.deref-payload.result.now c.len.ensures.len c.total.ensures c.deref-payload.ensures.value g.R.Directory.purges c.args.now
     (kept_in c.args.stripe.now) (kept_in c.place_piece.new.self) (seen_in c.args.stripe.now).device.past (seen_in c.place_piece.new.self).device
     (Err c.in_err-placed.field-0.0) c.in_err-placed.ensures.does)).pending ∙ c.requires.resting.quiet)
 

@@ -116,7 +116,7 @@ returns-in-Err-clause-writer g c =
     ∙ (ap (λ (x : Writer). take c.len-before.result x.gathered.items) same
     ∙ (ap (take c.len-before.result) c.in_ok-extend_from_slice.ensures.items ∙ taken_back w c.args.bytes.now c.min-taken.result c.len-before.result (omega (arith, c.len-before.ensures)))) in
     left_writer (state_in c.prepare.new.self) (state_in c.cut.new.stripe) _
-    (failed_leaves c.args.now (kept_in c.prepare.new.self) (kept_in c.cut.new.stripe) _ _ (next_id held) held.pin (next_start held) held.gathered.items c.in-Err.refusal c.in-Err.ensures.does)
+    (failed_leaves g.R.Directory.purges c.args.now (kept_in c.prepare.new.self) (kept_in c.cut.new.stripe) _ _ (next_id held) held.pin (next_start held) held.gathered.items c.in-Err.refusal c.in-Err.ensures.does)
     (same_writer (state_in c.prepare.new.self) w _
     (back w held _ first
     (record {
