@@ -1,30 +1,33 @@
 -- What a writer has of a body, one write behind the other.
 use Rattle.std.proofs.Common.{◌≡◌, ℕ, ◌+◌, ◌-◌, ◌<◌, ◌≤◌, List, [], ◌∷◌, ◌++◌, refl, sym, ◌∙◌, ap, subst, arith, Bool, true, false, length, drop, take}
-use Rattle.std.specs.Prelude.{Option, Some, None, cond, find, option_map, unwrap_or, ◌==◌, min, if◌then◌else◌, MatchBool}
+use Rattle.std.specs.Prelude.{Option, Some, None, cond, find, map, option_map, unwrap_or, ◌==◌, min, if◌then◌else◌, MatchBool}
 use Rattle.std.specs.List.{AllByRecursion}
 use Rattle.std.proofs.lemmas.Bool.{eq-eqb}
 use Rattle.std.proofs.lemmas.List.{length-append, length-drop, length-take-le}
 use Rattle.std.proofs.lemmas.List.Sums.{sum_by-append}
 use Rattle.tape_base.specs.declared.actors.Actor.{Actor}
 use Rattle.tape_base.specs.declared.keys.Key.{Key}
+use Rattle.tape_base.specs.declared.pieces.PieceId.{PieceId}
 use Rattle.tape_base.specs.Digest.{digest_of}
 use Rattle.fragment_table.specs.Table.{TableRow, made_row, total_length}
 use Rattle.alternate_vector.specs.Field.{Field}
 use Rattle.cache_model.specs.declared.record.Rec.{Rec}
 use Rattle.cache_model.specs.declared.record.Rec.TheVariants as rec
-use Rattle.cache_model.specs.State.{Closed, GivenUp, Open, PutRow, State, Writing, after_all, opened_put, put_of, state_after, with_cut}
+use Rattle.cache_model.specs.State.{Closed, GivenUp, Open, PutRow, Row, State, Writing, after_all, opened_put, put_of, state_after, with_cut}
 use Rattle.cache_model.specs.Kept.{state_of}
+use Rattle.cache_model.specs.Permit.{Setting}
+use Rattle.cache_model.specs.Room.{MayDisplace, displaced_record, placed_record}
 use Rattle.cache_model.specs.Verdict.{is_open}
 use Rattle.cache_model.proofs.ByNumber.{find-changed}
 use Rattle.cache_model.proofs.Found.{no_truth}
 use Rattle.cache_model.proofs.Steps.{after_all-append}
-use Rattle.call_laws.specs.Moments.{At}
+use Rattle.call_laws.specs.Moments.{At, permit_of}
 use Rattle.call_laws.proofs.Joined.{state_behind}
 use Rattle.cache_calls.specs.Actors.{IsAtHand, IsWriterOf, WriterSeen}
 use Rattle.cache_calls.specs.Adds.{IsOfFlush}
 use Rattle.cache_calls.specs.Asked.{gathered_with, is_cut, rest_rows, rows_at_close}
 use Rattle.cache_calls.specs.Keeping.{Keeps, state_at}
-use Rattle.cache_calls.specs.Writers.{CutsAs, HasBegun, HasTaken, Takes, fragment_records, opened_record}
+use Rattle.cache_calls.specs.Writers.{CutsAs, HasBegun, HasTaken, IsPushedOut, Takes, fragment_records, next_fragment, opened_record}
 
 -- how many bytes of its body a writer has
 abbrev pub held : WriterSeen → ℕ
@@ -81,6 +84,17 @@ flush_leaves : (s : State) (recs : List Rec) → AllByRecursion IsOfFlush recs �
 flush_leaves s [] h = refl
 flush_leaves s (r ∷ recs) h = flush_leaves (state_after s r) recs h.1 ∙ one_of_flush s r h.0
 
+-- nor do those of what an entry displaces
+displaced_leave : (segment live : ℕ) (rows : List Row) (s : State) → (after_all s (map (displaced_record segment live) rows)).puts ≡ s.puts
+displaced_leave segment live [] s = refl
+displaced_leave segment live (row ∷ rows) s = displaced_leave segment live rows (state_after s (displaced_record segment live row))
+
+pushed_leave : (setting : Setting) (s t : State) (id : PieceId) (displaced : List Rec) → IsPushedOut setting s id displaced
+    → (after_all t displaced).puts ≡ t.puts
+pushed_leave setting s t id displaced pushed =
+    let m : MayDisplace (permit_of 0 setting [] []) s id displaced = pushed (permit_of 0 setting [] []) refl in
+    subst (λ (recs : List Rec). (after_all t recs).puts ≡ t.puts) (sym m.is) (displaced_leave _ _ m.purged t)
+
 abbrev row_for : List ℕ → TableRow
 row_for payload = made_row (length payload) (digest_of payload).0
 
@@ -88,13 +102,25 @@ row_for payload = made_row (length payload) (digest_of payload).0
 cut_found : (old new : At) (w : WriterSeen) (payload : List ℕ) (row : PutRow) → CutsAs old new w payload → put_of (state_at old) w.put ≡ Some row
     → put_of (state_at new) w.put ≡ Some (with_cut (row_for payload) row)
 cut_found old new w payload row c found =
-    ap (λ (x : State). put_of x w.put)
-    (state_behind old.kept new.kept (c.room ++ fragment_records room w payload) c.adds ∙ after_all-append (state_at old) c.room (fragment_records room w payload))
+    ap (λ (x : State). put_of x w.put) there
+    ∙ (ap (find (λ (p : PutRow). p.put == w.put)) (pushed_leave old.setting room cut (next_fragment w) c.displaced c.pushed)
     ∙ (find-changed (λ (p : PutRow). p.put) (with_cut (row_for payload)) (λ x. refl) w.put w.put room.puts
-    ∙ rw (eq-eqb w.put w.put refl) (ap (option_map (with_cut (row_for payload))) (ap (find (λ (p : PutRow). p.put == w.put)) left ∙ found)))
+    ∙ rw (eq-eqb w.put w.put refl) (ap (option_map (with_cut (row_for payload))) (ap (find (λ (p : PutRow). p.put == w.put)) left ∙ found))))
   where
     room : State
     room = after_all (state_at old) c.room
+
+    cut : State
+    cut = state_after room (rec.Cut w.put (length w.cuts + 1) (length payload) (digest_of payload))
+
+    placed : Rec
+    placed = placed_record room (next_fragment w) w.pin (total_length w.cuts) (length payload) payload
+
+    there : state_at new ≡ state_after (after_all cut c.displaced) placed
+    there =
+        let recs : List Rec = fragment_records room w payload c.displaced in
+        state_behind old.kept new.kept (c.room ++ recs) c.adds
+        ∙ (after_all-append (state_at old) c.room recs ∙ after_all-append cut c.displaced (placed ∷ []))
 
     left : room.puts ≡ (state_at old).puts
     left = flush_leaves (state_at old) c.room c.kinds

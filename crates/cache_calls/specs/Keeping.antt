@@ -1,5 +1,5 @@
 -- What holds of a cache between calls, and what each call keeps.
-use Rattle.std.specs.Prelude.{ℕ, ◌≡◌, ◌/◌, ◌<◌, ◌≤◌, false, List, [], ◌∷◌, ◌++◌, length, map}
+use Rattle.std.specs.Prelude.{ℕ, ◌≡◌, ◌/◌, ◌<◌, ◌≤◌, Bool, false, true, List, [], ◌∷◌, ◌++◌, length, map}
 use Rattle.std.specs.List.{AllByRecursion}
 use Rattle.device_log.specs.Calls.{Call, Read}
 use Rattle.device_log.specs.Image.{span}
@@ -23,9 +23,8 @@ abbrev pub FallBelow : ℕ → List ℕ → Type 0
 FallBelow high [] = 1 ≤ high
 FallBelow high (n ∷ ns) = (n < high) × FallBelow n ns
 
--- a cache that neither displaces nor syncs
+-- a cache that does not sync
 pub record IsPlain (setting : Setting) : Type 0 where
-  pub packed : setting.packed ≡ false
   pub syncs : setting.syncs ≡ false
 
 -- such a cache has a step of any calls, at each moment and behind any others: what is said of each step is said of one
@@ -33,9 +32,13 @@ abbrev pub PlainHasSteps : Type 0
 PlainHasSteps = (setting : Setting) → IsPlain setting → (now : ℕ) (past calls : List Call)
     → Encloses now setting (permit_of now setting past calls) [] calls
 
--- one of these whose content area begins at the first block of its device
+-- one of these whose content area begins at the first block of its device, and whose directory displaces (`packed`) or not
+abbrev pub unsynced_setting : Bool → Setting
+unsynced_setting packed = record { packed = packed; syncs = false; area = 0 }
+
+-- that of the program's cache: its directory displaces
 abbrev pub plain_setting : Setting
-plain_setting = record { packed = false; syncs = false; area = 0 }
+plain_setting = unsynced_setting true
 
 -- no vector is placed that is not committed, the pieces lie as those of a tape do, no fault was told above the device's count,
 -- each put and each reader has a number of its own, below the next one, and the cache is a plain one

@@ -16,7 +16,8 @@ use Rattle.cache_model.specs.declared.record.Rec.TheVariants as rec
 use Rattle.cache_model.specs.State.{Row, State, after_all, fragment_piece, live_row_of, most_fragments, place_now}
 use Rattle.cache_model.specs.Verdict.{cause_of_piece, cuts_of}
 use Rattle.cache_model.specs.Legal.{is_writing, most_writers, open_writers, vector_length}
-use Rattle.cache_model.specs.Room.{copies_end, has_room, limit, placed_record}
+use Rattle.cache_model.specs.Permit.{Permit, Setting}
+use Rattle.cache_model.specs.Room.{MayDisplace, copies_end, has_room, limit, placed_record}
 use Rattle.call_laws.specs.Moments.{At, Facts, OfState}
 use Rattle.cache_calls.specs.declared.calls.Receipt.{Receipt}
 use Rattle.cache_calls.specs.declared.calls.Refusal.{Refusal}
@@ -48,7 +49,7 @@ pub record HasBegun (old new : At) (opened : Rec) (w : WriterSeen) : Type 0 wher
 -- why none has
 abbrev pub OpensNone : State → Refusal → Type 0
 OpensNone s refusal.TooManyWriters = most_writers ≤ open_writers s
-OpensNone s (refusal.Exhausted number) = number ≡ s.next_put + 1
+OpensNone s (refusal.Exhausted number) = (number ≡ s.next_put + 1) × (limit ≤ number)
 OpensNone s (refusal.Memory e) = HasNumber s
 OpensNone s _ = ⊥
 
@@ -100,20 +101,29 @@ pub record IsCutting (s : State) (w : WriterSeen) (bytes : List ℕ) : Type 0 wh
   pub few : length w.cuts < most_fragments
   pub full : is_cut s.geometry w (taken_of s.geometry w bytes) ≡ true
 
--- the records of these bytes as the next fragment, which has room
-abbrev pub fragment_records : State → WriterSeen → List ℕ → List Rec
-fragment_records s w payload =
+-- the piece that is cut next
+abbrev pub next_fragment : WriterSeen → PieceId
+next_fragment w = fragment_piece w.key w.put (length w.cuts + 1)
+
+-- what the entry of a piece displaces, in each step of such a cache
+abbrev pub IsPushedOut : Setting → State → PieceId → List Rec → Type 0
+IsPushedOut setting s id displaced = (p : Permit) → p.packed ≡ setting.packed → MayDisplace p s id displaced
+
+-- the records of these bytes as the next fragment, which has room, with those of what its entry displaces
+abbrev pub fragment_records : State → WriterSeen → List ℕ → (displaced : List Rec) → List Rec
+fragment_records s w payload displaced =
     rec.Cut w.put (length w.cuts + 1) (length payload) (digest_of payload)
-    ∷ placed_record s (fragment_piece w.key w.put (length w.cuts + 1)) w.pin (total_length w.cuts) (length payload) payload
-    ∷ []
+    ∷ (displaced ++ placed_record s (next_fragment w) w.pin (total_length w.cuts) (length payload) payload ∷ [])
 
 -- they are cut and placed, behind the flush for which there was need
 pub record CutsAs (old new : At) (w : WriterSeen) (payload : List ℕ) : Type 0 where
   pub room : List Rec
+  pub displaced : List Rec
   pub kinds : AllByRecursion IsOfFlush room
   pub none : has_room (state_at old) (length payload) ≡ true → room ≡ []
   pub live : LiveBefore (state_at old) (after_all (state_at old) room)
-  pub adds : AddsAll (room ++ fragment_records (after_all (state_at old) room) w payload) old new
+  pub pushed : IsPushedOut old.setting (after_all (state_at old) room) (next_fragment w) displaced
+  pub adds : AddsAll (room ++ fragment_records (after_all (state_at old) room) w payload displaced) old new
 
 -- the device stopped that flush, or the limit did
 pub record StopsAs (old new : At) : Type 0 where

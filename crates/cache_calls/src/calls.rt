@@ -148,8 +148,8 @@ pub trait Calls {
         ensures own { Adds (IsOfPut (state_at (at self.old)).next_put) (at self.old) (at self.new) };
 
     /// Takes bytes up to the next cut, and says how many. As soon as a fragment has gathered it is
-    /// cut and placed, behind a flush where it has no room, which copies what is due at `now`. A
-    /// refusal leaves the writer as it was.
+    /// cut and placed, behind a flush where it has no room, which copies what is due at `now`. Where
+    /// the directory is full, pieces of others may go for it. A refusal leaves the writer as it was.
     fn write(&mut self, writer: &mut Self::Writer, bytes: &[u8], now: u64) -> Result<usize, Refusal>
         requires holds { holds self.old }
         requires writer { IsWriterOf (state_at (at self.old)) (written writer.old) }
@@ -165,7 +165,8 @@ pub trait Calls {
     /// Closes a put: what is gathered is its last fragment, and its vector is placed, with the
     /// alternates that the key had and that its request does not match. Where a fragment is lost, or
     /// the vector is no piece, the put is given up. A writer that the device refuses may be closed
-    /// again or given up. A flush copies what is due at `now`.
+    /// again or given up. A flush copies what is due at `now`. Pieces of others may go for what is
+    /// placed.
     fn close_write(&mut self, writer: &mut Self::Writer, now: u64) -> Result<Receipt, Refusal>
         requires holds { holds self.old }
         requires writer { IsWriterOf (state_at (at self.old)) (written writer.old) }
@@ -259,6 +260,6 @@ pub trait Calls {
         ensures keeps { Keeps at holds self.old self.new }
         ensures own { Adds (IsOfReader (reading reader).reader) (at self.old) (at self.new) };
 
-    /// What `holds` tells of the records, and that the cache neither syncs nor displaces.
+    /// What `holds` tells of the records, and that the cache does not sync.
     ghost at_rest: { (cache : Self) → holds cache → IsAtRest (at cache) };
 }

@@ -10,7 +10,7 @@ pub fn calls_keep<S: Calls>()
     ensures keeps { KeepOn S.at S.holds }
 {}
 
-/// A cache that neither syncs nor displaces has a step of any calls.
+/// A cache that does not sync has a step of any calls.
 pub fn plain_has_steps()
     ensures { PlainHasSteps }
 {}

@@ -1,15 +1,14 @@
 -- A writer closes.
-use Rattle.std.proofs.Common.{◌≡◌, ℕ, ◌+◌, ◌==◌, true, false, Bool, List, [], ◌∷◌, ◌++◌, refl, sym, ◌∙◌, ap, subst, Result, Ok, Err, inl, inr, ◌⊎◌, length}
-use Rattle.std.specs.Prelude.{IfErr, Option, Some, None, if◌then◌else◌, option_and_then}
+use Rattle.std.proofs.Common.{◌≡◌, ℕ, ◌==◌, true, false, Bool, List, [], ◌∷◌, ◌++◌, refl, sym, ◌∙◌, ap, subst, Result, Ok, Err, inl, inr, length}
+use Rattle.std.specs.Prelude.{IfErr, Some, if◌then◌else◌, option_and_then}
 use Rattle.alternate_vector.specs.Alternates.{Stored, vector_size}
 use Rattle.fragment_table.specs.Table.{TableRow, total_length}
 use Rattle.logged_disk.specs.Device.{State as Device}
 use Rattle.cache_model.specs.declared.record.Rec.{Rec}
 use Rattle.cache_model.specs.State.{PutRow, Row, State, put_of}
-use Rattle.cache_model.specs.Kept.{Kept, state_of, with_records}
+use Rattle.cache_model.specs.Kept.{Kept, state_of}
 use Rattle.cache_model.specs.Legal.{is_writing, vector_length}
-use Rattle.cache_model.specs.Pair.{IsKeyPair, ShowsPair}
-use Rattle.cache_model.specs.Permit.{Commit, Exhausted, Fails, Faulted, Finish, Intent, Lost, Permit, Reason, TooLarge, Weigh}
+use Rattle.cache_model.specs.Permit.{Commit, Exhausted, Faulted, Finish, Intent, Lost, Permit, TooLarge, Weigh}
 use Rattle.cache_model.specs.ToRead.{to_read}
 use Rattle.cache_model.specs.Vectors.{IsVectorAs}
 use Rattle.cache_model.specs.Verdict.{cuts_of, live_vector_of}
@@ -34,8 +33,8 @@ use Rattle.cache_calls.specs.declared.calls.Receipt as receipt
 use Rattle.cache_calls.specs.declared.calls.Refusal as refused
 use Rattle.cache_calls.specs.declared.calls.Refusal.TheVariants as said
 use Rattle.cache_calls.specs.Adds.{Adds, IsOfPut}
-use Rattle.cache_calls.specs.Asked.{close_asks, cuts_next, ending_asks, progress_at, rest_asks, rest_rows, rows_at_close}
-use Rattle.cache_calls.specs.Writers.{Closes, ClosesOpen, IsComplete, NumberAtClose, SealsWhere, StopsAtLimit, WriterCloses, bytes_next, size_at_close}
+use Rattle.cache_calls.specs.Asked.{close_asks, ending_asks, progress_at, rest_asks, rest_rows, rows_at_close}
+use Rattle.cache_calls.specs.Writers.{Closes, IsComplete, NumberAtClose, SealsWhere, StopsAtLimit, WriterCloses, bytes_next, size_at_close}
 use Rattle.stripe_calls.specs.Answers.{answer_as, receipt_as}
 use Rattle.stripe_calls.specs.Seen.{at_by, written_as}
 use Rattle.stripe_calls.proofs.Serving.{all_left, one_stays, same_added, serves_by, shows_asked, spends_done, spends_fails}
@@ -90,19 +89,19 @@ weighs : (s : State) (w : Writer) (row : PutRow) (rest : ℕ) → put_of s w.put
 weighs s w row rest found key vector live =
     ap (λ o. option_and_then (λ (x : PutRow). live_vector_of s x.key) o) found ∙ (ap (live_vector_of s) key ∙ live)
 
-module _ (k l : Kept) (d e : Device) (now : ℕ) (w : Writer) (accounted : IsAccounted d.past e.past k l) where
+module _ (packed : Bool) (k l : Kept) (d e : Device) (now : ℕ) (w : Writer) (accounted : IsAccounted d.past e.past k l) where
   abbrev Served : List Intent → Progress → Result Receipt Refusal → Type 0
-  Served asked o result = ServesFrom IsVectorAs now (at_by k d) (at_by l e) asked o IsToldAt (NumberAtClose (written_as w) (answer_as receipt_as result))
+  Served asked o result = ServesFrom IsVectorAs now (at_by packed k d) (at_by packed l e) asked o IsToldAt (NumberAtClose (written_as w) (answer_as receipt_as result))
 
   -- what is asked of an open put comes there, in each step that covers the call; or a pair is shown
   comes : (o : Progress) (result : Result Receipt Refusal) → writers.IsWriterOf (state_of k) w → is_writing (state_of k) w.put ≡ true
       → ((p : Permit) (added : List Rec) → closes.Spent p (state_of k) w result added → Spends p (state_of k) (closing.close_intents w) added o)
-      → ClosesAsAsked now d.past e.past k l w result → Served (ending_asks (written_as w)) o result
+      → ClosesAsAsked packed now d.past e.past k l w result → Served (ending_asks (written_as w)) o result
   comes o result own writing law h =
       let row = open_put (put_of (state_of k) w.put) writing in
       subst (λ is. Served is o result) (asks_are w)
       (serves_by accounted (closing.close_intents w) o IsToldAt accounted.added accounted.adds
-      (λ p past moment step told. elim (h.does p moment step told) [
+      (λ p past packs moment step told. elim (h.does p packs moment step told) [
         | inl closed ↦ inl (
           law p accounted.added (subst (closes.Spent p (state_of k) w result) (same_added k l closed.added accounted.added closed.adds accounted.adds) closed.does),
           λ later. number_at (state_of l) w result closed.number,
@@ -127,7 +126,7 @@ module _ (k l : Kept) (d e : Device) (now : ℕ) (w : Writer) (accounted : IsAcc
       subst (λ left. Served own_asks (Leaves left) result) first (opened (Leaves (closing.close_intents w)) result writing h)
 
   pub close_serves : (result : Result Receipt Refusal) → writers.IsWriterOf (state_of k) w → is_writing (state_of k) w.put ≡ true
-      → ClosesWhere (state_of k) (state_of l) w result → ClosesAsAsked now d.past e.past k l w result
+      → ClosesWhere (state_of k) (state_of l) w result → ClosesAsAsked packed now d.past e.past k l w result
       → Served own_asks (progress_at w.put own_asks (answer_as receipt_as result)) result
   close_serves (Ok given) own writing is h =
       opened AllDone (Ok given) writing (comes AllDone (Ok given) own writing (λ p added. spends_done p (state_of k) (closing.close_intents w) added) h)
@@ -157,7 +156,7 @@ none_added put a = record { added = []; adds = sym (nothing_more a.kept); own = 
 
 -- ---- what it gives
 
-module _ (k l : Kept) (d e : Device) (w : Writer) where
+module _ (packed : Bool) (k l : Kept) (d e : Device) (w : Writer) where
   complete : (given : Receipt) → closes.IsComplete w given → IsComplete (written_as w) (receipt_as given)
   complete given h = record {
     put = h.put;
@@ -179,7 +178,7 @@ module _ (k l : Kept) (d e : Device) (w : Writer) where
       }
 
   pub close_gives : (result : Result Receipt Refusal) → is_writing (state_of k) w.put ≡ true → ClosesWhere (state_of k) (state_of l) w result
-      → IfErr result (IsCounted e.faults) → Closes (at_by k d) (at_by l e) (written_as w) (answer_as receipt_as result)
+      → IfErr result (IsCounted e.faults) → Closes (at_by packed k d) (at_by packed l e) (written_as w) (answer_as receipt_as result)
   close_gives (Ok given) writing is counts = (is.0, complete given is.1)
   close_gives (Err (refusal.VectorTooLarge bytes)) writing is counts = (is.0, (is.1 ∙ size_is, is.2))
   close_gives (Err (refusal.Lost index why)) writing is counts = (is.0, is.1)

@@ -1,21 +1,16 @@
 -- A writer takes bytes.
 use Rattle.std.proofs.Common.{◌≡◌, ℕ, ◌+◌, ◌<◌, ◌==◌, ◌&&◌, arith, true, false, Bool, List, [], ◌∷◌, ◌++◌, refl, sym, ◌∙◌, ap, subst, Result, Ok, Err, inl, length}
 use Rattle.std.specs.Prelude.{IfErr, IfOk, MatchBool, OnErr, if◌then◌else◌, not, nat_lt}
-use Rattle.std.specs.List.{AllByRecursion}
 use Rattle.std.proofs.lemmas.Bool.{eq-eqb, eqb-true, ltb-false, ltb-true}
-use Rattle.fragment_table.specs.Table.{Table}
 use Rattle.logged_disk.specs.Device.{State as Device}
-use Rattle.device_log.specs.Calls.{Call}
 use Rattle.tape_base.specs.Digest.{digest_of}
-use Rattle.tape_base.specs.Piece.{is_vector}
 use Rattle.cache_model.specs.declared.record.Rec.{Rec}
 use Rattle.cache_model.specs.declared.record.Rec.TheVariants as rec
 use Rattle.cache_model.specs.State.{State, after_all, most_fragments}
 use Rattle.cache_model.specs.Kept.{Kept, state_of, with_records}
-use Rattle.cache_model.specs.Legal.{is_writing}
-use Rattle.cache_model.specs.Permit.{Done, End, Exhausted, Fails, Faulted, Intent, ManyFragments, Overflow, Permit, Reason}
-use Rattle.cache_model.specs.Room.{has_room, placed_record}
-use Rattle.call_laws.specs.Moments.{IsToldAt, NothingKnown}
+use Rattle.cache_model.specs.Permit.{Exhausted, Fails, Faulted, Intent, ManyFragments, Overflow, Reason}
+use Rattle.cache_model.specs.Room.{placed_record}
+use Rattle.call_laws.specs.Moments.{IsToldAt}
 use Rattle.call_laws.specs.Progress.{AllDone, Leaves, Progress, Stops}
 use Rattle.call_laws.specs.Serves.{ServesTold}
 use Rattle.call_laws.proofs.Grown.{one_spends}
@@ -25,9 +20,9 @@ use Rattle.stripe_core.specs.declared.refusal.Refusal.{Refusal}
 use Rattle.stripe_core.specs.declared.refusal.Refusal.TheVariants as refusal
 use Rattle.stripe_core.specs.declared.refusal.Stop.{Stop}
 use Rattle.stripe_core.specs.declared.refusal.Stop.TheVariants as stop
-use Rattle.stripe_core.specs.Covers.{Covers, Spends}
+use Rattle.stripe_core.specs.Covers.{Spends}
 use Rattle.stripe_core.specs.Faults.{IsAccounted}
-use Rattle.stripe_core.specs.Place.{IsCutAs, IsFragmentAs, IsStoppedAs, piece_records, place_end}
+use Rattle.stripe_core.specs.Place.{IsCutAs, IsStoppedAs, cut_records, place_end}
 use Rattle.stripe_write.specs.declared.writer.Writer.{Writer}
 use Rattle.stripe_write.specs.Numbers as numbers
 use Rattle.stripe_write.specs.Writers as writers
@@ -35,13 +30,12 @@ use Rattle.stripe_write.specs.Writes as writes
 use Rattle.stripe_write.specs.Writes.{CutsNext, IsTaking, SameWriter, WritesAsAsked, WritesWhere, cuts_fragment, gathered_with, next_id, next_payload, next_start, is_cut, taken_of}
 use Rattle.stripe_write.proofs.Cutting.{next_no_vector}
 use Rattle.stripe_write.proofs.Spending.{nothing_more}
-use Rattle.cache_calls.specs.Actors.{WriterSeen}
 use Rattle.cache_calls.specs.Adds.{AddsSoundly, IsOfPut}
-use Rattle.cache_calls.specs.Asked.{cuts_next, is_overflow, fed_asks, progress_at, refused_at, write_asks}
-use Rattle.cache_calls.specs.Writers.{CutsAs, GoesOnWriting, HasTaken, IsCutting, LiveBefore, StopsAs, WriterGoesOn, Writes, fragment_records}
+use Rattle.cache_calls.specs.Asked.{cuts_next, fed_asks, progress_at, write_asks}
+use Rattle.cache_calls.specs.Writers.{CutsAs, IsCutting, LiveBefore, StopsAs, WriterGoesOn, Writes, fragment_records}
 use Rattle.stripe_calls.specs.Answers.{answer_as, same_as}
 use Rattle.stripe_calls.specs.Seen.{at_by, written_as}
-use Rattle.stripe_calls.proofs.Serving.{adds_none, all_left, one_done, one_fails, serves_by}
+use Rattle.stripe_calls.proofs.Serving.{all_left, one_done, one_fails, serves_by}
 use Rattle.stripe_calls.proofs.Words.{flush_records, live_before, put_records, writer_as}
 
 -- ---- what is asked
@@ -95,38 +89,38 @@ module _ (s : State) (w : Writer) (bytes : List ℕ) where
 
 -- ---- what it serves
 
-module _ (k l : Kept) (d e : Device) (now : ℕ) (w : Writer) (bytes : List ℕ) (accounted : IsAccounted d.past e.past k l) where
+module _ (packed : Bool) (k l : Kept) (d e : Device) (now : ℕ) (w : Writer) (bytes : List ℕ) (accounted : IsAccounted d.past e.past k l) where
   abbrev Served : List Intent → Progress → Type 0
-  Served is o = ServesTold now (at_by k d) (at_by l e) is o
+  Served is o = ServesTold now (at_by packed k d) (at_by packed l e) is o
 
   abbrev own_asks : List Intent
   own_asks = asks (state_of k) w bytes
 
   took : (n : ℕ) (added : List Rec) → l ≡ with_records k added → (b : Bool)
-      → MatchBool b ((placed : Placed) × CutsNext now (state_of k) d.past e w (gathered_with w bytes n) added (Ok placed)) (added ≡ [])
+      → MatchBool b ((placed : Placed) × CutsNext packed now (state_of k) d.past e w (gathered_with w bytes n) added (Ok placed)) (added ≡ [])
       → Served (cut_asks (state_of k) w bytes b (gathered_with w bytes n)) AllDone
   took n added adds true h =
       serves_by accounted (cuts_fragment w (gathered_with w bytes n) ∷ []) AllDone IsToldAt added adds
-      (λ p past moment step told. inl (one_done (h.1.does p moment step), λ later. tt))
+      (λ p past packs moment step told. inl (one_done (h.1.does p packs moment step), λ later. tt))
   took n added adds false h = all_left accounted [] IsToldAt (subst (λ recs. l ≡ with_records k recs) h adds ∙ nothing_more k) (λ later. tt)
 
   stopped : (why : Reason) (end : Result Placed Stop) (added : List Rec) → place_end end ≡ Fails why → l ≡ with_records k added
-      → writes.IsCutting (state_of k) w bytes → CutsNext now (state_of k) d.past e w (next_payload (state_of k) w bytes) added end
+      → writes.IsCutting (state_of k) w bytes → CutsNext packed now (state_of k) d.past e w (next_payload (state_of k) w bytes) added end
       → Served own_asks (Stops why)
   stopped why end added is adds cutting h =
       let payload = next_payload (state_of k) w bytes in
       subst (λ them. Served them (Stops why)) (sym (cutting_asks (state_of k) w bytes cutting))
       (serves_by accounted (cuts_fragment w payload ∷ []) (Stops why) IsToldAt added adds
-      (λ p past moment step told. inl (
+      (λ p past packs moment step told. inl (
         one_fails why
-            (subst (Spends p (state_of k) (cuts_fragment w payload) added) is (h.does p moment step)),
+            (subst (Spends p (state_of k) (cuts_fragment w payload) added) is (h.does p packs moment step)),
         λ later. tt,
       )))
 
   left : (added : List Rec) → l ≡ with_records k added → added ≡ [] → Served own_asks (Leaves own_asks)
   left added adds none = all_left accounted own_asks IsToldAt (subst (λ recs. l ≡ with_records k recs) none adds ∙ nothing_more k) (λ later. tt)
 
-  pub write_serves : (result : Result ℕ Refusal) → WritesWhere (state_of k) w bytes result → WritesAsAsked now k l d.past e w bytes result
+  pub write_serves : (result : Result ℕ Refusal) → WritesWhere (state_of k) w bytes result → WritesAsAsked packed now k l d.past e w bytes result
       → Served own_asks (progress_at w.put own_asks (answer_as same_as result))
   write_serves (Ok n) is h =
       subst (λ them. Served them AllDone)
@@ -138,7 +132,7 @@ module _ (k l : Kept) (d e : Device) (now : ℕ) (w : Writer) (bytes : List ℕ)
   write_serves (Err refusal.TooManyFragments) is h =
       subst (λ them. Served them (Stops (ManyFragments w.put))) (sym (over_asks (state_of k) w bytes is.0 is.1 is.2))
       (serves_by accounted (Overflow w.put ∷ []) (Stops (ManyFragments w.put)) IsToldAt h.added h.adds
-      (λ p past moment step told. inl (one_spends p (state_of k) (Overflow w.put) h.added (Fails (ManyFragments w.put)) (h.does.1 p), λ later. tt)))
+      (λ p past packs moment step told. inl (one_spends p (state_of k) (Overflow w.put) h.added (Fails (ManyFragments w.put)) (h.does.1 p), λ later. tt)))
   write_serves (Err refusal.NoSuchWriter) is h = left h.added h.adds h.does
   write_serves (Err refusal.Sealed) is h = left h.added h.adds h.does
   write_serves (Err (refusal.Memory error)) is h = left h.added h.adds h.does
@@ -146,28 +140,33 @@ module _ (k l : Kept) (d e : Device) (now : ℕ) (w : Writer) (bytes : List ℕ)
 
 -- ---- what it gives
 
-module _ (k l : Kept) (d e : Device) (w : Writer) where
+module _ (packed : Bool) (k l : Kept) (d e : Device) (w : Writer) where
   as_it_was : (added : List Rec) → l ≡ with_records k added → added ≡ [] → l ≡ k
   as_it_was added adds none = subst (λ recs. l ≡ with_records k recs) none adds ∙ nothing_more k
 
   -- the records of a fragment
-  pieces_are : (s : State) (payload : List ℕ) → piece_records s (next_id w) w.pin (next_start w) payload ≡ fragment_records s (written_as w) payload
-  pieces_are s payload =
+  pieces_are : (s : State) (payload : List ℕ) (displaced : List Rec)
+      → cut_records (next_id w) payload ++ (displaced ++ placed_record s (next_id w) w.pin (next_start w) (length payload) payload ∷ [])
+      ≡ fragment_records s (written_as w) payload displaced
+  pieces_are s payload displaced =
       ap (λ b. (if b then [] else rec.Cut w.put (length w.table.rows + 1) (length payload) (digest_of payload) ∷ [])
-      ++ placed_record s (next_id w) w.pin (next_start w) (length payload) payload ∷ []) (next_no_vector w)
+      ++ (displaced ++ placed_record s (next_id w) w.pin (next_start w) (length payload) payload ∷ [])) (next_no_vector w)
 
   cuts : (payload : List ℕ) (added : List Rec) (placed : Placed) → l ≡ with_records k added
-      → IsCutAs (state_of k) (next_id w) w.pin (next_start w) payload added placed → CutsAs (at_by k d) (at_by l e) (written_as w) payload
+      → IsCutAs packed (state_of k) (next_id w) w.pin (next_start w) payload added placed → CutsAs (at_by packed k d) (at_by packed l e) (written_as w) payload
   cuts payload added placed adds h = record {
     room = h.room;
+    displaced = h.are.displaced;
     kinds = flush_records h.room h.kinds;
     none = h.none;
     live = live_before (state_of k) (after_all (state_of k) h.room) h.live;
-    adds = adds ∙ ap (with_records k) (h.is ∙ ap (λ recs. h.room ++ recs) (pieces_are (after_all (state_of k) h.room) payload));
+    pushed = h.are.pushed;
+    adds = adds
+        ∙ ap (with_records k) (h.is ∙ ap (λ recs. h.room ++ recs) (h.are.is ∙ pieces_are (after_all (state_of k) h.room) payload h.are.displaced));
   }
 
   stops : (payload : List ℕ) (added : List Rec) (why : Stop) → l ≡ with_records k added → IsStoppedAs (state_of k) e.faults payload added why
-      → StopsAs (at_by k d) (at_by l e)
+      → StopsAs (at_by packed k d) (at_by packed l e)
   stops payload added why adds h = record {
     flush = record { added = added; adds = adds; own = flush_records added h.kinds };
     live = subst (LiveBefore (state_of k)) (sym (state_behind k l added adds))
@@ -176,8 +175,8 @@ module _ (k l : Kept) (d e : Device) (w : Writer) where
 
   module _ (now : ℕ) (bytes : List ℕ) where
     taken : (n : ℕ) (added : List Rec) → l ≡ with_records k added → (b : Bool)
-        → MatchBool b ((placed : Placed) × CutsNext now (state_of k) d.past e w (gathered_with w bytes n) added (Ok placed)) (added ≡ [])
-        → MatchBool b (CutsAs (at_by k d) (at_by l e) (written_as w) (gathered_with w bytes n)) (l ≡ k)
+        → MatchBool b ((placed : Placed) × CutsNext packed now (state_of k) d.past e w (gathered_with w bytes n) added (Ok placed)) (added ≡ [])
+        → MatchBool b (CutsAs (at_by packed k d) (at_by packed l e) (written_as w) (gathered_with w bytes n)) (l ≡ k)
     taken n added adds true h = cuts (gathered_with w bytes n) added h.0 adds h.1.shape
     taken n added adds false h = as_it_was added adds h
 
@@ -185,8 +184,8 @@ module _ (k l : Kept) (d e : Device) (w : Writer) where
     cutting h = record { taking = h.taking; few = h.few; full = h.full }
 
     pub write_gives : (result : Result ℕ Refusal) → WritesWhere (state_of k) w bytes result
-        → IfErr result (numbers.StopsAtLimit (state_of l) (state_of k).geometry.fragment) → WritesAsAsked now k l d.past e w bytes result
-        → Writes (at_by k d) (at_by l e) (written_as w) bytes (answer_as same_as result)
+        → IfErr result (numbers.StopsAtLimit (state_of l) (state_of k).geometry.fragment) → WritesAsAsked packed now k l d.past e w bytes result
+        → Writes (at_by packed k d) (at_by packed l e) (written_as w) bytes (answer_as same_as result)
     write_gives (Ok n) is number h =
         record { taking = is.0; count = is.1; few = is.2; cuts = taken n h.added h.adds (is_cut (state_of k).geometry w n) h.does }
     write_gives (Err (refusal.DeviceFault count)) is number h =
@@ -201,7 +200,7 @@ module _ (k l : Kept) (d e : Device) (w : Writer) where
     write_gives (Err (refusal.Memory error)) is number h = (is, as_it_was h.added h.adds h.does)
     write_gives (Err _) is number h = absurd is
 
-    pub write_owns : (result : Result ℕ Refusal) → WritesAsAsked now k l d.past e w bytes result → AddsSoundly (IsOfPut w.put) (at_by k d) (at_by l e)
+    pub write_owns : (result : Result ℕ Refusal) → WritesAsAsked packed now k l d.past e w bytes result → AddsSoundly (IsOfPut w.put) (at_by packed k d) (at_by packed l e)
     write_owns result h = record { added = h.added; adds = h.adds; own = put_records w.put h.added h.own; undamaged = h.unharmed }
 
 -- ---- the writer

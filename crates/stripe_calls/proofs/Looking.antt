@@ -1,5 +1,5 @@
 -- A reader opens, and is closed.
-use Rattle.std.proofs.Common.{◌≡◌, ℕ, ◌≤◌, List, [], ◌∷◌, ◌++◌, refl, sym, ◌∙◌, ap, subst, Result, Ok, Err, inl, inr, ◌⊎◌}
+use Rattle.std.proofs.Common.{◌≡◌, ℕ, Bool, List, [], ◌∷◌, ◌++◌, refl, sym, ◌∙◌, ap, Result, Ok, Err, inl, inr}
 use Rattle.std.specs.Prelude.{IfErr, IfOk, OnErr, OnOk, Option, Some, None, option_map}
 use Rattle.std.specs.declared.alloc.AllocError.{AllocError}
 use Rattle.tape_base.specs.declared.actors.Actor.{Actor}
@@ -14,9 +14,9 @@ use Rattle.cache_model.specs.declared.record.Rec.TheVariants as rec
 use Rattle.cache_model.specs.State.{Row, State}
 use Rattle.cache_model.specs.Kept.{Kept, state_of, with_records}
 use Rattle.cache_model.specs.Permit.{Done, Intent, Look, StopReading}
-use Rattle.cache_model.specs.Verdict.{cause_of_miss, live_vector_of}
+use Rattle.cache_model.specs.Verdict.{live_vector_of}
 use Rattle.call_laws.specs.Moments.{IsToldAt}
-use Rattle.call_laws.specs.Progress.{AllDone, Leaves}
+use Rattle.call_laws.specs.Progress.{AllDone}
 use Rattle.call_laws.specs.Serves.{ServesFrom, ServesTold}
 use Rattle.call_laws.proofs.Grown.{one_spends}
 use Rattle.stripe_core.specs.Faults.{IsAccounted}
@@ -33,7 +33,7 @@ use Rattle.cache_calls.specs.Readers as seam
 use Rattle.cache_calls.specs.Readers.{ClosesReader, HasItsTable, IsCountedMiss, OpensReader, TellsReader, open_adds, vector_trouble}
 use Rattle.stripe_calls.specs.Answers.{given_as, opened_as}
 use Rattle.stripe_calls.specs.Seen.{at_by, reading_as}
-use Rattle.stripe_calls.proofs.Serving.{adds_none, all_left, group_serves, serves_by, shows_asked}
+use Rattle.stripe_calls.proofs.Serving.{all_left, group_serves, serves_by, shows_asked}
 use Rattle.stripe_calls.proofs.Words.{are_seen, cause_same, counted_cause, reader_as, table_as}
 
 -- ---- the records of a lookup
@@ -80,7 +80,7 @@ counted_as faults s key (opened.Miss why) h = elim h [ inl is ↦ inl is | inr c
 
 -- ---- a reader opens
 
-module _ (k l : Kept) (d e : Device) (who : Actor) (key : Key) (request : List Field) where
+module _ (packed : Bool) (k l : Kept) (d e : Device) (who : Actor) (key : Key) (request : List Field) where
   abbrev asked : List Intent
   asked = Look who.0 key request ∷ []
 
@@ -91,12 +91,12 @@ module _ (k l : Kept) (d e : Device) (who : Actor) (key : Key) (request : List F
   Found result = IfOk result (Opens (state_of k) (state_of l) d e who key request)
 
   pub look_serves : (now : ℕ) → IsAccounted d.past e.past k l → (result : Result Opened AllocError) → Added result → Found result → OnErr result (l ≡ k)
-      → ServesFrom IsVectorAs now (at_by k d) (at_by l e) asked (unless_wanting asked (given_as opened_as result)) IsToldAt
+      → ServesFrom IsVectorAs now (at_by packed k d) (at_by packed l e) asked (unless_wanting asked (given_as opened_as result)) IsToldAt
       (HasItsTable reading_as (given_as opened_as result))
   look_serves now accounted (Ok given) adds h same =
       let added : List Rec = lookups.open_adds (state_of k) who key request (answer_in given) in
       serves_by accounted asked AllDone IsToldAt added adds
-      (λ p past moment step told. elim (h.does p step told.vectors) [
+      (λ p past packs moment step told. elim (h.does p step told.vectors) [
         | inl v ↦ inl (
           one_spends p (state_of k) (Look who.0 key request) added Done v.0,
           λ later. if_reader (readers.IsReaderOf (state_of l)) (λ r. IsReaderOf (state_of l) (reading_as r)) (table_as (state_of l)) given v.1,
@@ -107,30 +107,30 @@ module _ (k l : Kept) (d e : Device) (who : Actor) (key : Key) (request : List F
 
   pub look_gives : (result : Result Opened AllocError) → Added result → Found result → IfOk result (IfReader (readers.IsOpenReader (state_of l)))
       → IfOk result (Tells (state_of k).next_reader) → OnErr result (l ≡ k)
-      → OpensReader reading_as (at_by k d) (at_by l e) who key request (given_as opened_as result)
+      → OpensReader reading_as (at_by packed k d) (at_by packed l e) who key request (given_as opened_as result)
   look_gives (Ok given) adds h reader tells same = record {
     adds = adds ∙ ap (with_records k) (adds_same (state_of k) who key request given);
     tells = tells_as (state_of k).next_reader given tells;
     reader = if_reader (readers.IsOpenReader (state_of l)) (λ r. IsOpenReader (state_of l) (reading_as r)) (reader_as (state_of l)) given reader;
     counted = counted_as e.faults (state_of k) key given h.counted;
-    read = are_seen k l d e h.seen;
+    read = are_seen packed k l d e h.seen;
   }
   look_gives (Err error) adds h reader tells same = same
 
 -- ---- a reader is closed
 
-module _ (k l : Kept) (d e : Device) (r : Reader) where
+module _ (packed : Bool) (k l : Kept) (d e : Device) (r : Reader) where
   abbrev Closed : Result (Unit {0}) (AllocError × Reader) → Type 0
   Closed result = OnOk result (l ≡ with_records k (rec.ReadClosed r.reader ∷ []))
 
   pub close_reader_serves : (now : ℕ) → IsAccounted d.past e.past k l → (result : Result (Unit {0}) (AllocError × Reader)) → Closed result
       → readers.ClosesAsAsked (state_of k) r → IfErr result (λ back. l ≡ k)
-      → ServesTold now (at_by k d) (at_by l e) (StopReading r.reader ∷ []) (unless_wanting (StopReading r.reader ∷ []) result)
+      → ServesTold now (at_by packed k d) (at_by packed l e) (StopReading r.reader ∷ []) (unless_wanting (StopReading r.reader ∷ []) result)
   close_reader_serves now accounted (Ok u) adds does same =
-      group_serves accounted (StopReading r.reader) Done IsToldAt (rec.ReadClosed r.reader ∷ []) adds (λ p moment step. does p)
+      group_serves accounted (StopReading r.reader) Done IsToldAt (rec.ReadClosed r.reader ∷ []) adds (λ p packs moment step. does p)
   close_reader_serves now accounted (Err back) adds does same = all_left accounted (StopReading r.reader ∷ []) IsToldAt same (λ later. tt)
 
   pub close_reader_gives : (result : Result (Unit {0}) (AllocError × Reader)) → Closed result → IfErr result (λ back. l ≡ k) → IfErr result (λ back. back.1 ≡ r)
-      → ClosesReader reading_as (at_by k d) (at_by l e) r result
+      → ClosesReader reading_as (at_by packed k d) (at_by packed l e) r result
   close_reader_gives (Ok u) adds same back = adds
   close_reader_gives (Err error) adds same back = (same, back)

@@ -1,5 +1,5 @@
 -- A writer opens, and is given up.
-use Rattle.std.proofs.Common.{◌≡◌, ℕ, ◌+◌, true, false, List, [], ◌∷◌, refl, ◌∙◌, ap, subst, Result, Ok, Err}
+use Rattle.std.proofs.Common.{◌≡◌, ℕ, Bool, ◌+◌, ◌≤◌, false, List, [], ◌∷◌, refl, sym, ◌∙◌, ap, subst, Result, Ok, Err}
 use Rattle.std.specs.Prelude.{IfOk, OnErr, OnOk}
 use Rattle.tape_base.specs.declared.actors.Actor.{Actor}
 use Rattle.tape_base.specs.declared.keys.Key.{Key}
@@ -10,8 +10,9 @@ use Rattle.cache_model.specs.declared.record.Rec.TheVariants as rec
 use Rattle.cache_model.specs.State.{State}
 use Rattle.cache_model.specs.Kept.{Kept, state_of, with_records}
 use Rattle.cache_model.specs.Permit.{Done, Exhausted, Fails, GiveUp, Intent, ManyWriters, Write}
-use Rattle.cache_model.specs.Legal.{Does}
-use Rattle.call_laws.specs.Moments.{IsToldAt}
+use Rattle.cache_model.specs.Legal.{Does, DoesWrite}
+use Rattle.cache_model.specs.Room.{limit}
+use Rattle.call_laws.specs.Moments.{IsToldAt, permit_of}
 use Rattle.call_laws.specs.Serves.{ServesTold}
 use Rattle.stripe_core.specs.declared.refusal.Refusal.{Refusal}
 use Rattle.stripe_core.specs.declared.refusal.Refusal.TheVariants as refusal
@@ -23,6 +24,7 @@ use Rattle.stripe_write.specs.Writes.{AbortsAsAsked, AbortsWhere, abort_adds, nu
 use Rattle.stripe_write.proofs.Spending.{nothing_more}
 use Rattle.cache_calls.specs.Adds.{Adds, IsOfPut}
 use Rattle.cache_calls.specs.Asked.{given_up_at, progress_at}
+use Rattle.cache_calls.specs.Keeping.{unsynced_setting}
 use Rattle.cache_calls.specs.Writers.{GivesUp, HasNumber, OpensWriter}
 use Rattle.stripe_calls.specs.Answers.{answer_as, same_as}
 use Rattle.stripe_calls.specs.Seen.{at_by, written_as}
@@ -32,7 +34,12 @@ use Rattle.stripe_actors.specs.Calls as calls
 
 -- ---- a writer opens
 
-module _ (k l : Kept) (d e : Device) (who : Actor) (key : Key) (request response : List Field) (pin : ℕ) where
+-- where that is refused at the end of the numbers, the next one is there
+at_the_end : {s : State} {actor : ℕ} {key : Key} {request response : List Field} {pin : ℕ}
+    → DoesWrite s actor key request response pin [] (Fails Exhausted) → limit ≤ s.next_put + 1
+at_the_end (DoesWrite.exhausted quiet few over none) = over
+
+module _ (packed : Bool) (k l : Kept) (d e : Device) (who : Actor) (key : Key) (request response : List Field) (pin : ℕ) where
   abbrev asked : List Intent
   asked = Write who.0 key request response pin ∷ []
 
@@ -44,13 +51,13 @@ module _ (k l : Kept) (d e : Device) (who : Actor) (key : Key) (request response
 
   module _ (now : ℕ) (accounted : IsAccounted d.past e.past k l) where
     pub open_serves : (result : Result Writer Refusal) → OnOk result (l ≡ with_records k (opened ∷ [])) → OnErr result (l ≡ k) → Opens result
-        → ServesTold now (at_by k d) (at_by l e) asked (progress_at (state_of k).next_put asked (answer_as same_as result))
+        → ServesTold now (at_by packed k d) (at_by packed l e) asked (progress_at (state_of k).next_put asked (answer_as same_as result))
     open_serves (Ok w) adds same does =
-        group_serves accounted (Write who.0 key request response pin) Done IsToldAt (opened ∷ []) adds (λ p moment step. does.1 p)
+        group_serves accounted (Write who.0 key request response pin) Done IsToldAt (opened ∷ []) adds (λ p packs moment step. does.1 p)
     open_serves (Err refusal.TooManyWriters) adds same does =
-        group_serves accounted (Write who.0 key request response pin) (Fails ManyWriters) IsToldAt [] (adds_none k l same) (λ p moment step. does.1 p)
+        group_serves accounted (Write who.0 key request response pin) (Fails ManyWriters) IsToldAt [] (adds_none k l same) (λ p packs moment step. does.1 p)
     open_serves (Err (refusal.Exhausted number)) adds same does =
-        group_serves accounted (Write who.0 key request response pin) (Fails Exhausted) IsToldAt [] (adds_none k l same) (λ p moment step. does.1 p)
+        group_serves accounted (Write who.0 key request response pin) (Fails Exhausted) IsToldAt [] (adds_none k l same) (λ p packs moment step. does.1 p)
     open_serves (Err (refusal.Memory error)) adds same does = all_left accounted asked IsToldAt same (λ later. tt)
     open_serves (Err _) adds same does = absurd does
 
@@ -59,24 +66,26 @@ module _ (k l : Kept) (d e : Device) (who : Actor) (key : Key) (request response
 
   pub open_gives : (result : Result Writer Refusal) → OnOk result (l ≡ with_records k (opened ∷ [])) → OnErr result (l ≡ k) → Opens result
       → IfOk result (writers.IsWriterOf (state_of l)) → IfOk result (λ w. w.gathered.items ≡ []) → IfOk result (λ w. w.sealed ≡ false) → e ≡ d
-      → OpensWriter written_as (at_by k d) (at_by l e) opened (answer_as same_as result)
+      → OpensWriter written_as (at_by packed k d) (at_by packed l e) opened (answer_as same_as result)
   open_gives (Ok w) adds same does writer empty unsealed still = record {
     answers = record { adds = adds; put = does.0; empty = empty; unsealed = unsealed; writer = writer_as (state_of l) w writer };
     still = still;
   }
   open_gives (Err refusal.TooManyWriters) adds same does writer empty unsealed still = record { answers = (same, does.0); still = still }
-  open_gives (Err (refusal.Exhausted number)) adds same does writer empty unsealed still = record { answers = (same, does.0); still = still }
+  open_gives (Err (refusal.Exhausted number)) adds same does writer empty unsealed still =
+      let over : limit ≤ (state_of k).next_put + 1 = at_the_end (does.1 (permit_of 0 (unsynced_setting packed) [] [])) in
+      record { answers = (same, (does.0, subst (λ n. limit ≤ n) (sym does.0) over)); still = still }
   open_gives (Err (refusal.Memory error)) adds same does writer empty unsealed still = record { answers = (same, has_number does); still = still }
   open_gives (Err _) adds same does writer empty unsealed still = absurd does
 
   pub open_owns : (result : Result Writer Refusal) → OnOk result (l ≡ with_records k (opened ∷ [])) → OnErr result (l ≡ k)
-      → Adds (IsOfPut (state_of k).next_put) (at_by k d) (at_by l e)
+      → Adds (IsOfPut (state_of k).next_put) (at_by packed k d) (at_by packed l e)
   open_owns (Ok w) adds same = record { added = opened ∷ []; adds = adds; own = (refl, tt) }
   open_owns (Err why) adds same = record { added = []; adds = adds_none k l same; own = tt }
 
 -- ---- a writer is given up
 
-module _ (k l : Kept) (d e : Device) (w : Writer) where
+module _ (packed : Bool) (k l : Kept) (d e : Device) (w : Writer) where
   -- it is the put of the writer that was given up
   given_up : (n : ℕ) → n ≡ w.put → l ≡ with_records k (rec.Aborted n w.key ∷ []) → l ≡ with_records k (rec.Aborted w.put w.key ∷ [])
   given_up n is adds = adds ∙ ap (λ put. with_records k (rec.Aborted put w.key ∷ [])) is
@@ -87,22 +96,22 @@ module _ (k l : Kept) (d e : Device) (w : Writer) where
   module _ (now : ℕ) (accounted : IsAccounted d.past e.past k l) where
     pub abort_serves : (result : Result ℕ Refusal) → l ≡ with_records k (abort_adds w.key result) → AbortsWhere (state_of k) w.put result
         → AbortsAsAsked (state_of k) w.put w.key result
-        → ServesTold now (at_by k d) (at_by l e) (GiveUp w.put ∷ []) (given_up_at w.put (answer_as same_as result))
+        → ServesTold now (at_by packed k d) (at_by packed l e) (GiveUp w.put ∷ []) (given_up_at w.put (answer_as same_as result))
     abort_serves (Ok n) adds is does =
         group_serves accounted (GiveUp w.put) Done IsToldAt (rec.Aborted w.put w.key ∷ []) (given_up n is.0 adds)
-        (λ p moment step. subst (λ put. Does p (state_of k) (GiveUp w.put) (rec.Aborted put w.key ∷ []) Done) is.0 (does p))
-    abort_serves (Err refusal.NoSuchWriter) adds is does = group_serves accounted (GiveUp w.put) Done IsToldAt [] adds (λ p moment step. does p)
+        (λ p packs moment step. subst (λ put. Does p (state_of k) (GiveUp w.put) (rec.Aborted put w.key ∷ []) Done) is.0 (does p))
+    abort_serves (Err refusal.NoSuchWriter) adds is does = group_serves accounted (GiveUp w.put) Done IsToldAt [] adds (λ p packs moment step. does p)
     abort_serves (Err (refusal.Memory error)) adds is does = all_left accounted (GiveUp w.put ∷ []) IsToldAt (as_it_was adds) (λ later. tt)
     abort_serves (Err _) adds is does = absurd is
 
   pub abort_gives : (result : Result ℕ Refusal) → l ≡ with_records k (abort_adds w.key result) → AbortsWhere (state_of k) w.put result
-      → GivesUp (at_by k d) (at_by l e) (written_as w) (answer_as same_as result)
+      → GivesUp (at_by packed k d) (at_by packed l e) (written_as w) (answer_as same_as result)
   abort_gives (Ok n) adds is = (is.0, is.1, given_up n is.0 adds)
   abort_gives (Err refusal.NoSuchWriter) adds is = (is, as_it_was adds)
   abort_gives (Err (refusal.Memory error)) adds is = (is, as_it_was adds)
   abort_gives (Err _) adds is = absurd is
 
   pub abort_owns : (result : Result ℕ Refusal) → l ≡ with_records k (abort_adds w.key result) → AbortsWhere (state_of k) w.put result
-      → Adds (IsOfPut w.put) (at_by k d) (at_by l e)
+      → Adds (IsOfPut w.put) (at_by packed k d) (at_by packed l e)
   abort_owns (Ok n) adds is = record { added = rec.Aborted w.put w.key ∷ []; adds = given_up n is.0 adds; own = (refl, tt) }
   abort_owns (Err why) adds is = record { added = []; adds = adds; own = tt }

@@ -1,13 +1,11 @@
 -- An object is removed, and the buffer is written out.
-use Rattle.std.proofs.Common.{◌≡◌, ℕ, ◌≤◌, true, List, [], ◌∷◌, refl, sym, ◌∙◌, subst, Result, Ok, Err}
+use Rattle.std.proofs.Common.{◌≡◌, ℕ, Bool, ◌≤◌, true, List, [], ◌∷◌, sym, ◌∙◌, subst, Result, Ok, Err}
 use Rattle.std.specs.Prelude.{IfErr, IfOk, OnErr, OnOk}
 use Rattle.std.specs.declared.alloc.AllocError.{AllocError}
 use Rattle.tape_base.specs.declared.keys.Key.{Key}
 use Rattle.tape_base.specs.Geometry.{budget_of}
 use Rattle.logged_disk.specs.Device.{State as Device}
 use Rattle.cache_model.specs.declared.record.Rec.{Rec}
-use Rattle.cache_model.specs.declared.record.Rec.TheVariants as rec
-use Rattle.cache_model.specs.State.{State}
 use Rattle.cache_model.specs.Kept.{Kept, state_of, with_records}
 use Rattle.cache_model.specs.Legal.{IsQuiet}
 use Rattle.cache_model.specs.Permit.{Done, Exhausted, Fails, Faulted, Flush, Remove}
@@ -38,26 +36,26 @@ use Rattle.stripe_calls.proofs.Words.{flush_records, is_idle, live_before}
 
 -- ---- an object is removed
 
-module _ (k l : Kept) (d e : Device) (key : Key) where
+module _ (packed : Bool) (k l : Kept) (d e : Device) (key : Key) where
   abbrev Added : Result Removal AllocError → Type 0
   Added result = IfOk result (λ answer. l ≡ with_records k (removal_adds key answer))
 
   pub remove_serves : (now : ℕ) → IsAccounted d.past e.past k l → (result : Result Removal AllocError) → Added result
       → IfOk result (RemovesAsIsAsked (state_of k) key) → OnErr result (l ≡ k)
-      → ServesTold now (at_by k d) (at_by l e) (Remove key ∷ []) (unless_wanting (Remove key ∷ []) (given_as removal_as result))
+      → ServesTold now (at_by packed k d) (at_by packed l e) (Remove key ∷ []) (unless_wanting (Remove key ∷ []) (given_as removal_as result))
   remove_serves now accounted (Ok answer) adds does same =
-      group_serves accounted (Remove key) Done IsToldAt (removal_adds key answer) adds (λ p moment step. does p)
+      group_serves accounted (Remove key) Done IsToldAt (removal_adds key answer) adds (λ p packs moment step. does p)
   remove_serves now accounted (Err error) adds does same = all_left accounted (Remove key ∷ []) IsToldAt same (λ later. tt)
 
   pub remove_gives : (result : Result Removal AllocError) → Added result → IfOk result (RemovesWhere (state_of k) key) → OnErr result (l ≡ k)
-      → Removes (at_by k d) (at_by l e) key (given_as removal_as result)
+      → Removes (at_by packed k d) (at_by packed l e) key (given_as removal_as result)
   remove_gives (Ok (removal.Removed put)) adds is same = (is, adds)
   remove_gives (Ok (removal.Absent why)) adds is same = (is.0, is.1, adds ∙ nothing_more k)
   remove_gives (Err error) adds is same = same
 
 -- ---- the buffer is written out
 
-module _ (k l : Kept) (d e : Device) (now : ℕ) where
+module _ (packed : Bool) (k l : Kept) (d e : Device) (now : ℕ) where
   abbrev Does : Result Flushed Refusal → Type 0
   Does result = Answers result (FlushesAsAsked now k l d.past e) (l ≡ k)
 
@@ -65,17 +63,17 @@ module _ (k l : Kept) (d e : Device) (now : ℕ) where
   Stops result = Answers result (λ r. IfErr r (StopsWith (state_of k) e.faults)) (Unit {0})
 
   pub flush_serves : IsAccounted d.past e.past k l → (result : Result Flushed Refusal) → Does result
-      → ServesTold now (at_by k d) (at_by l e) (Flush ∷ []) (progress_at 0 (Flush ∷ []) (answer_as flushed_as result))
-  flush_serves accounted (Ok flushed) h = group_serves accounted Flush Done IsToldAt h.added h.adds h.does
-  flush_serves accounted (Err (refusal.DeviceFault count)) h = group_serves accounted Flush (Fails (Faulted count)) IsToldAt h.added h.adds h.does
-  flush_serves accounted (Err (refusal.Exhausted number)) h = group_serves accounted Flush (Fails Exhausted) IsToldAt h.added h.adds h.does
+      → ServesTold now (at_by packed k d) (at_by packed l e) (Flush ∷ []) (progress_at 0 (Flush ∷ []) (answer_as flushed_as result))
+  flush_serves accounted (Ok flushed) h = group_serves accounted Flush Done IsToldAt h.added h.adds (λ p packs. h.does p)
+  flush_serves accounted (Err (refusal.DeviceFault count)) h = group_serves accounted Flush (Fails (Faulted count)) IsToldAt h.added h.adds (λ p packs. h.does p)
+  flush_serves accounted (Err (refusal.Exhausted number)) h = group_serves accounted Flush (Fails Exhausted) IsToldAt h.added h.adds (λ p packs. h.does p)
   flush_serves accounted (Err (refusal.Memory error)) h = all_left accounted (Flush ∷ []) IsToldAt h (λ later. tt)
   flush_serves accounted (Err _) h = absurd h
 
-  sound : (r : Result Flushed Stop) → FlushesAsAsked now k l d.past e r → AddsSoundly IsOfFlush (at_by k d) (at_by l e)
+  sound : (r : Result Flushed Stop) → FlushesAsAsked now k l d.past e r → AddsSoundly IsOfFlush (at_by packed k d) (at_by packed l e)
   sound r h = record { added = h.added; adds = h.adds; own = flush_records h.added h.kinds; undamaged = h.unharmed }
 
-  pub flush_owns : (result : Result Flushed Refusal) → Does result → AddsSoundly IsOfFlush (at_by k d) (at_by l e)
+  pub flush_owns : (result : Result Flushed Refusal) → Does result → AddsSoundly IsOfFlush (at_by packed k d) (at_by packed l e)
   flush_owns (Ok flushed) h = sound _ h
   flush_owns (Err (refusal.DeviceFault count)) h = sound _ h
   flush_owns (Err (refusal.Exhausted number)) h = sound _ h
@@ -84,7 +82,7 @@ module _ (k l : Kept) (d e : Device) (now : ℕ) where
 
   answers : (result : Result Flushed Refusal) → Does result → IfOk result (flush.Tells (state_of k) (state_of l))
       → OnOk result ((state_of l).filled ≤ budget_of (state_of l).geometry) → Stops result → Wanting result (IsStill d e)
-      → FlushesAs (at_by k d) (at_by l e) (answer_as flushed_as result)
+      → FlushesAs (at_by packed k d) (at_by packed l e) (answer_as flushed_as result)
   answers (Ok flushed) h tells room stops still =
       (record { blocks = tells.blocks; cursor = tells.cursor; floor = tells.floor; room = room }, live_before (state_of k) (state_of l) h.live)
   answers (Err (refusal.DeviceFault count)) h tells room stops still = (stops, live_before (state_of k) (state_of l) h.live)
@@ -95,7 +93,7 @@ module _ (k l : Kept) (d e : Device) (now : ℕ) where
   pub flush_gives : (result : Result Flushed Refusal) → Does result → IfOk result (flush.Tells (state_of k) (state_of l))
       → OnOk result ((state_of l).filled ≤ budget_of (state_of l).geometry) → Stops result → Wanting result (IsStill d e)
       → ((state_of k).filled ≡ 0 → IsStill d e) → (is_flush_exhausted (state_of k) ≡ true → IsStill d e)
-      → Flushes (at_by k d) (at_by l e) (answer_as flushed_as result)
+      → Flushes (at_by packed k d) (at_by packed l e) (answer_as flushed_as result)
   flush_gives result h tells room stops wanting still ended = record {
     answers = answers result h tells room stops wanting;
     still = λ empty. is_idle (still empty);

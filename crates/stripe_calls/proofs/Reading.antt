@@ -1,5 +1,5 @@
 -- A reader reads on.
-use Rattle.std.proofs.Common.{◌≡◌, ℕ, ◌+◌, ◌≤◌, List, [], ◌∷◌, ◌++◌, refl, sym, ◌∙◌, ap, subst, Result, Ok, Err, inl, inr, ◌⊎◌}
+use Rattle.std.proofs.Common.{◌≡◌, ℕ, Bool, List, [], ◌∷◌, ◌++◌, refl, sym, ◌∙◌, ap, Result, Ok, Err, inl, inr, ◌⊎◌}
 use Rattle.std.specs.Prelude.{IfOk, OnErr, Option, Some, None, option_map}
 use Rattle.std.specs.declared.alloc.AllocError.{AllocError}
 use Rattle.fragment_table.specs.Table.{Table}
@@ -24,7 +24,7 @@ use Rattle.stripe_read.specs.Nexts.{ReadsOn}
 use Rattle.stripe_read.specs.Readers as readers
 use Rattle.cache_calls.specs.Asked.{unless_wanting}
 use Rattle.cache_calls.specs.Keeping.{StaysUnharmed}
-use Rattle.cache_calls.specs.Readers.{GoesOn, IsCountedBreak, IsFragment, IsGiven, IsGivenAs, IsOtherNext, IsToldTo, ReaderGoesOn, ReadsNext, next_behind, next_trouble, noted, read_adds}
+use Rattle.cache_calls.specs.Readers.{IsCountedBreak, IsFragment, IsGiven, IsGivenAs, IsOtherNext, IsToldTo, ReaderGoesOn, ReadsNext, next_behind, next_trouble, noted, read_adds}
 use Rattle.stripe_calls.specs.Answers.{given_as, piece_as}
 use Rattle.stripe_calls.specs.Seen.{at_by, reading_as}
 use Rattle.stripe_calls.proofs.Serving.{all_left, covers_in, serves_by}
@@ -81,7 +81,7 @@ counted_as faults s r (piece.Broken why) h = elim h [ inl is ↦ inl is | inr co
 
 -- ---- the call
 
-module _ (k l : Kept) (d e : Device) (r : Reader) where
+module _ (packed : Bool) (k l : Kept) (d e : Device) (r : Reader) where
   abbrev asked : List Intent
   asked = ReadOn r.reader ∷ []
 
@@ -93,23 +93,23 @@ module _ (k l : Kept) (d e : Device) (r : Reader) where
 
   pub next_serves : (now : ℕ) (into : List ℕ) → IsAccounted d.past e.past k l → (result : Result NextPiece AllocError) → Added result → Read result into
       → OnErr result (l ≡ k)
-      → ServesFrom IsVectorAs now (at_by k d) (at_by l e) asked (unless_wanting asked (given_as piece_as result)) (IsToldTo (reading_as r)) NothingKnown
+      → ServesFrom IsVectorAs now (at_by packed k d) (at_by packed l e) asked (unless_wanting asked (given_as piece_as result)) (IsToldTo (reading_as r)) NothingKnown
   next_serves now into accounted (Ok given) adds h same =
       let added : List Rec = nexts.read_adds (state_of k) r given in
       serves_by accounted asked AllDone (IsToldTo (reading_as r)) added adds
-      (λ p past moment step told. inl (one_spends p (state_of k) (ReadOn r.reader) added Done (h.does p step (table_is (state_of k) r told.1)), λ later. tt))
+      (λ p past packs moment step told. inl (one_spends p (state_of k) (ReadOn r.reader) added Done (h.does p step (table_is (state_of k) r told.1)), λ later. tt))
   next_serves now into accounted (Err error) adds h same = all_left accounted asked (IsToldTo (reading_as r)) same (λ later. tt)
 
-  is_given : (given : NextPiece) (into : List ℕ) → ReadsOn (state_of k) d e r given into → IsGiven (at_by k d) (at_by l e) (reading_as r) (piece_as given) into
+  is_given : (given : NextPiece) (into : List ℕ) → ReadsOn (state_of k) d e r given into → IsGiven (at_by packed k d) (at_by packed l e) (reading_as r) (piece_as given) into
   is_given given into h = λ now p earlier calls past step. given_so p (state_of k) r given into (h.gives p (covers_in d.past e.past past step))
 
   pub next_gives : (into : List ℕ) (result : Result NextPiece AllocError) → Added result → Read result into → OnErr result (l ≡ k)
-      → ReadsNext (at_by k d) (at_by l e) (reading_as r) (given_as piece_as result) into
+      → ReadsNext (at_by packed k d) (at_by packed l e) (reading_as r) (given_as piece_as result) into
   next_gives into (Ok given) adds h same = record {
     adds = adds ∙ ap (with_records k) (adds_same (state_of k) r given);
     given = is_given given into h;
     counted = counted_as e.faults (state_of k) r given h.counted;
-    read = are_seen k l d e h.seen;
+    read = are_seen packed k l d e h.seen;
   }
   next_gives into (Err error) adds h same = same
 
@@ -117,7 +117,7 @@ module _ (k l : Kept) (d e : Device) (r : Reader) where
   other_next h = record { entry = h.entry; row = h.row; found = h.found; cut = h.cut; live = h.live; unlike = h.unlike }
 
   pub next_unharmed : IsBetween d e k l ⊎ nexts.IsOtherNext (state_of k) r
-      → StaysUnharmed (at_by k d) (at_by l e) ⊎ IsOtherNext (state_of k) (reading_as r)
+      → StaysUnharmed (at_by packed k d) (at_by packed l e) ⊎ IsOtherNext (state_of k) (reading_as r)
   next_unharmed h = elim h [ inl between ↦ inl (stays_unharmed between) | inr other ↦ inr (other_next other) ]
 
 -- ---- the reader

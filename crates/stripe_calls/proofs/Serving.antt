@@ -1,6 +1,6 @@
 -- A call of a stripe serves what it is asked, by what the stripe says of it in each step that covers it.
-use Rattle.std.proofs.Common.{◌≡◌, ℕ, true, false, List, [], ◌∷◌, ◌++◌, refl, sym, ◌∙◌, ap, subst, append-nil, inl, inr, ◌⊎◌}
-use Rattle.std.specs.Prelude.{Option, Some, None}
+use Rattle.std.proofs.Common.{◌≡◌, ℕ, Bool, true, false, List, [], ◌∷◌, ◌++◌, refl, sym, ◌∙◌, ap, subst, append-nil, inl, inr, ◌⊎◌}
+use Rattle.std.specs.Prelude.{Some, None}
 use Rattle.std.specs.List.{AllByRecursion}
 use Rattle.std.proofs.lemmas.List.{append_cancel_left}
 use Rattle.device_log.specs.Calls.{Call}
@@ -28,7 +28,7 @@ use Rattle.stripe_core.specs.Faults.{IsAccounted}
 use Rattle.stripe_core.proofs.Covering.{made_is}
 use Rattle.stripe_write.specs.Closing.{SpendsAll}
 use Rattle.stripe_write.proofs.Spending.{nothing_more}
-use Rattle.cache_calls.specs.Keeping.{plain_setting}
+use Rattle.cache_calls.specs.Keeping.{unsynced_setting}
 use Rattle.stripe_calls.specs.Seen.{at_by}
 
 -- ---- steps
@@ -47,10 +47,9 @@ all_are P [] each = tt
 all_are P (x ∷ xs) each = (each x (inl refl), all_are P xs (λ y h. each y (inr h)))
 
 -- what has the calls of a call covers it
-pub covers_in : {now : ℕ} {p : Permit} {earlier calls : List Call} (before after : List Call) → after ≡ calls ++ before
-    → Encloses now plain_setting p earlier calls → Covers p before after
+pub covers_in : {packed : Bool} {now : ℕ} {p : Permit} {earlier calls : List Call} (before after : List Call) → after ≡ calls ++ before
+    → Encloses now (unsynced_setting packed) p earlier calls → Covers p before after
 covers_in {p = p} {earlier = earlier} {calls = calls} before after is h = record {
-  plain = h.set.packed;
   unsynced = h.set.syncs;
   content = h.set.area;
   knows = λ made there. subst (λ cs. AllByRecursion (λ call. IsAmong call p.events) cs) (sym (made_is before after made calls is there)) own;
@@ -61,7 +60,7 @@ covers_in {p = p} {earlier = earlier} {calls = calls} before after is h = record
         (λ x among. subst (IsAmong x) (sym h.events) (among_behind x h.later (calls ++ earlier) (among_front x calls earlier among)))
 
 -- no step of such a cache syncs
-pub never_syncs : {past : List Call} {p : Permit} → IsSetBy plain_setting past p → p.syncs ≡ true → ⊥
+pub never_syncs : {packed : Bool} {past : List Call} {p : Permit} → IsSetBy (unsynced_setting packed) past p → p.syncs ≡ true → ⊥
 never_syncs set syncs = clash (sym set.syncs ∙ syncs)
   where
     clash : false ≡ true → ⊥
@@ -118,13 +117,13 @@ shows_asked {p} {s} {key} {i} rest added reads h = record {
 -- ---- calls
 
 -- What a call brings in each step, where this is known before: what is asked there, and what is known behind; or a pair.
-abbrev pub Brings : (now : ℕ) (k l : Kept) (d e : Device) → List Intent → Progress → (before known : Facts) → List Rec → Type 0
-Brings now k l d e asked o before known added = (p : Permit) (past : List Call) → p.now ≡ now → Covers p d.past e.past → before past (state_of k)
-    → (Spends p (state_of k) asked added o × ((later : List Call) → known later (state_of l))) ⊎ ShowsPair IsVectorAs p (state_of k) asked added
+abbrev pub Brings : (packed : Bool) (now : ℕ) (k l : Kept) (d e : Device) → List Intent → Progress → (before known : Facts) → List Rec → Type 0
+Brings packed now k l d e asked o before known added = (p : Permit) (past : List Call) → p.packed ≡ packed → p.now ≡ now → Covers p d.past e.past
+    → before past (state_of k) → (Spends p (state_of k) asked added o × ((later : List Call) → known later (state_of l))) ⊎ ShowsPair IsVectorAs p (state_of k) asked added
 
-module _ {k l : Kept} {d e : Device} (accounted : IsAccounted d.past e.past k l) where
+module _ {packed : Bool} {k l : Kept} {d e : Device} (accounted : IsAccounted d.past e.past k l) where
   pub serves_by : {now : ℕ} {known : Facts} (asked : List Intent) (o : Progress) (before : Facts) (added : List Rec) → l ≡ with_records k added
-      → Brings now k l d e asked o before known added → ServesFrom IsVectorAs now (at_by k d) (at_by l e) asked o before known
+      → Brings packed now k l d e asked o before known added → ServesFrom IsVectorAs now (at_by packed k d) (at_by packed l e) asked o before known
   serves_by {now} {known} asked o before added adds law =
       let calls : List Call = accounted.faults.made in
       let same : added ≡ accounted.added = same_added k l added accounted.added adds accounted.adds in
@@ -134,7 +133,7 @@ module _ {k l : Kept} {d e : Device} (accounted : IsAccounted d.past e.past k l)
         added = added;
         happens = happens_plainly calls added refl refl accounted.faults.past adds effects;
         does = λ p earlier step. record {
-          from = λ told. elim (law p (so_far p earlier) step.moment (covers_in d.past e.past accounted.faults.past step) told) [
+          from = λ told. elim (law p (so_far p earlier) step.set.packed step.moment (covers_in d.past e.past accounted.faults.past step) told) [
             | inl v ↦ inl (record {
               spends = v.0;
               behind = subst (known (so_far p (calls ++ earlier))) (state_behind k l added adds) (v.1 (so_far p (calls ++ earlier)));
@@ -147,13 +146,13 @@ module _ {k l : Kept} {d e : Device} (accounted : IsAccounted d.past e.past k l)
 
   -- one group of records
   pub group_serves : {now : ℕ} (i : Intent) (end : End) (before : Facts) (added : List Rec) → l ≡ with_records k added
-      → ((p : Permit) → p.now ≡ now → Covers p d.past e.past → Does p (state_of k) i added end)
-      → ServesFrom IsVectorAs now (at_by k d) (at_by l e) (i ∷ []) (progress_of i end) before NothingKnown
+      → ((p : Permit) → p.packed ≡ packed → p.now ≡ now → Covers p d.past e.past → Does p (state_of k) i added end)
+      → ServesFrom IsVectorAs now (at_by packed k d) (at_by packed l e) (i ∷ []) (progress_of i end) before NothingKnown
   group_serves i end before added adds law = serves_by (i ∷ []) (progress_of i end) before added adds
-      (λ p past moment step told. inl (one_spends p (state_of k) i added end (law p moment step), λ later. tt))
+      (λ p past packs moment step told. inl (one_spends p (state_of k) i added end (law p packs moment step), λ later. tt))
 
   -- no record, and all is left
   pub all_left : {now : ℕ} {known : Facts} (asked : List Intent) (before : Facts) → l ≡ k → ((later : List Call) → known later (state_of l))
-      → ServesFrom IsVectorAs now (at_by k d) (at_by l e) asked (Leaves asked) before known
+      → ServesFrom IsVectorAs now (at_by packed k d) (at_by packed l e) asked (Leaves asked) before known
   all_left asked before same behind =
-      serves_by asked (Leaves asked) before [] (adds_none k l same) (λ p past moment step told. inl (nothing, behind))
+      serves_by asked (Leaves asked) before [] (adds_none k l same) (λ p past packs moment step told. inl (nothing, behind))

@@ -1,17 +1,16 @@
 -- The words of a stripe, as those of a cache.
-use Rattle.std.proofs.Common.{◌≡◌, ℕ, ◌+◌, ◌<◌, ◌≤◌, true, false, List, [], ◌∷◌, ◌++◌, refl, sym, ◌∙◌, ap, subst, inl, inr, ◌⊎◌, length}
+use Rattle.std.proofs.Common.{◌≡◌, ℕ, Bool, List, refl, sym, ◌∙◌, inl, inr}
 use Rattle.std.specs.Prelude.{Option, Some, None, is_some, option_map}
 use Rattle.std.specs.List.{AllByRecursion}
-use Rattle.tape_base.specs.declared.pieces.PieceId.{PieceId}
 use Rattle.device_log.specs.Calls.{Call, Read}
-use Rattle.fragment_table.specs.Table.{Table, TableRow, total_length}
+use Rattle.fragment_table.specs.Table.{Table}
 use Rattle.logged_disk.specs.Device.{State as Device}
 use Rattle.cache_model.specs.declared.cause.Cause.{Cause}
 use Rattle.cache_model.specs.declared.cause.Cause.TheVariants as cause
 use Rattle.cache_model.specs.declared.record.Rec.{Rec}
 use Rattle.cache_model.specs.declared.record.Rec.TheVariants as rec
-use Rattle.cache_model.specs.State.{PutRow, Row, State, live_row_of}
-use Rattle.cache_model.specs.Kept.{Kept, state_of, with_records}
+use Rattle.cache_model.specs.State.{Row, State}
+use Rattle.cache_model.specs.Kept.{Kept, state_of}
 use Rattle.cache_model.proofs.Steps.{all_as}
 use Rattle.stripe_core.specs.Between.{IsBetween}
 use Rattle.stripe_core.specs.Counts as counts
@@ -28,7 +27,7 @@ use Rattle.stripe_read.specs.Others as others
 use Rattle.stripe_read.specs.Readers as readers
 use Rattle.cache_calls.specs.Actors.{IsAllCut, IsAtHand, IsOpenReader, IsReaderOf, IsWriterOf}
 use Rattle.cache_calls.specs.Adds.{Adds, IsOfFlush, IsOfPut, IsOfReader}
-use Rattle.cache_calls.specs.Keeping.{AreSeen, Goes, IsIdle, IsSeenOn, IsUnharmed, Keeps, StaysUnharmed}
+use Rattle.cache_calls.specs.Keeping.{AreSeen, IsIdle, IsSeenOn, IsUnharmed, StaysUnharmed}
 use Rattle.cache_calls.specs.Readers.{IsCountedCause, cause_records}
 use Rattle.cache_calls.specs.Writers.{LiveBefore}
 use Rattle.stripe_calls.specs.Seen.{at_by, reading_as, written_as}
@@ -123,10 +122,10 @@ put_records put recs each = all_as (puts.IsOfPut put) (IsOfPut put) (put_record 
 pub flush_records : (recs : List Rec) → flush.AreOfFlush recs → AllByRecursion IsOfFlush recs
 flush_records recs each = all_as flush.IsOfFlush IsOfFlush flush_record recs each
 
-pub put_adds : {k l : Kept} {d e : Device} (put : ℕ) → puts.AddsOfPut put k l → Adds (IsOfPut put) (at_by k d) (at_by l e)
+pub put_adds : {packed : Bool} {k l : Kept} {d e : Device} (put : ℕ) → puts.AddsOfPut put k l → Adds (IsOfPut put) (at_by packed k d) (at_by packed l e)
 put_adds put h = record { added = h.added; adds = h.adds; own = put_records put h.added h.own }
 
-pub reader_adds : {k l : Kept} {d e : Device} (reader : ℕ) → others.AddsOfReader reader k l → Adds (IsOfReader reader) (at_by k d) (at_by l e)
+pub reader_adds : {packed : Bool} {k l : Kept} {d e : Device} (reader : ℕ) → others.AddsOfReader reader k l → Adds (IsOfReader reader) (at_by packed k d) (at_by packed l e)
 reader_adds reader h = record {
   added = h.added;
   adds = h.adds;
@@ -135,16 +134,16 @@ reader_adds reader h = record {
 
 -- ---- the frame
 
-unharmed_as : {k : Kept} {d : Device} → unharmed.IsUnharmed d (state_of k) → IsUnharmed (at_by k d)
+unharmed_as : {packed : Bool} {k : Kept} {d : Device} → unharmed.IsUnharmed d (state_of k) → IsUnharmed (at_by packed k d)
 unharmed_as h = record { unharmed = h.unharmed }
 
-unharmed_is : {k : Kept} {d : Device} → IsUnharmed (at_by k d) → unharmed.IsUnharmed d (state_of k)
+unharmed_is : {packed : Bool} {k : Kept} {d : Device} → IsUnharmed (at_by packed k d) → unharmed.IsUnharmed d (state_of k)
 unharmed_is h = record { unharmed = h.unharmed }
 
-pub stays_unharmed : {k l : Kept} {d e : Device} → IsBetween d e k l → StaysUnharmed (at_by k d) (at_by l e)
-stays_unharmed {k} {l} {d} {e} h = λ (u : IsUnharmed (at_by k d)). unharmed_as (h.unharmed (unharmed_is u))
+pub stays_unharmed : {packed : Bool} {k l : Kept} {d e : Device} → IsBetween d e k l → StaysUnharmed (at_by packed k d) (at_by packed l e)
+stays_unharmed {packed} {k} {l} {d} {e} h = λ (u : IsUnharmed (at_by packed k d)). unharmed_as (h.unharmed (unharmed_is u))
 
-pub is_idle : {k l : Kept} {d e : Device} → IsStill d e → IsIdle (at_by k d) (at_by l e)
+pub is_idle : {packed : Bool} {k l : Kept} {d e : Device} → IsStill d e → IsIdle (at_by packed k d) (at_by packed l e)
 is_idle h = record { past = h.past; faults = h.faults }
 
 -- ---- what is live, and what is seen
@@ -158,8 +157,8 @@ seen_on : (device : Device) (call : Call) → covers.IsSeenOn device call → Is
 seen_on device (Read at bytes) h = h
 seen_on device _ h = tt
 
-pub are_seen : (k l : Kept) (d e : Device) → covers.AreSeen d e → AreSeen (at_by k d) (at_by l e)
-are_seen k l d e h = λ made past trusted. all_as (covers.IsSeenOn e) (IsSeenOn e) (seen_on e) made (h made past trusted)
+pub are_seen : (packed : Bool) (k l : Kept) (d e : Device) → covers.AreSeen d e → AreSeen (at_by packed k d) (at_by packed l e)
+are_seen packed k l d e h = λ made past trusted. all_as (covers.IsSeenOn e) (IsSeenOn e) (seen_on e) made (h made past trusted)
 
 -- ---- causes
 

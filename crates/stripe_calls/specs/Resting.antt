@@ -21,5 +21,5 @@ is_at_rest cache h = record {
   counted = h.stripe.pieces.faults;
   puts = falls _ _ h.stripe.actors.puts_fall;
   readers = falls _ _ h.stripe.actors.readers_fall;
-  plain = record { packed = refl; syncs = refl };
+  plain = record { syncs = refl };
 }

@@ -1,4 +1,5 @@
 -- What a stripe, a writer and a reader are as those of a cache.
+use Rattle.std.specs.Prelude.{Bool}
 use Rattle.logged_disk.specs.Device.{State as Device}
 use Rattle.logged_disk.specs.declared.device.Disk.{Ghosts as DiskGhosts}
 use Rattle.dir_table.specs.declared.directory.Directory.{Ghosts as DirectoryGhosts}
@@ -11,15 +12,15 @@ use Rattle.stripe_read.specs.declared.reader.Reader.{Reader}
 use Rattle.stripe_read.specs.Readers.{rows_in}
 use Rattle.call_laws.specs.Moments.{At}
 use Rattle.cache_calls.specs.Actors.{ReaderSeen, WriterSeen}
-use Rattle.cache_calls.specs.Keeping.{plain_setting}
+use Rattle.cache_calls.specs.Keeping.{unsynced_setting}
 
--- these records and this device at a moment of such a cache
-abbrev pub at_by : Kept → Device → At
-at_by kept device = record { kept = kept; device = device; setting = plain_setting }
+-- these records and this device at a moment of a cache whose directory displaces (`packed`) or not
+abbrev pub at_by : Bool → Kept → Device → At
+at_by packed kept device = record { kept = kept; device = device; setting = unsynced_setting packed }
 
 -- those of a stripe
 abbrev pub at_in : {D R C : Type 0} {d : DiskGhosts D} {r : DirectoryGhosts R} {c : ChronicleGhosts C} → Stripe D R C d r c → At
-at_in t = at_by (kept_in t) (seen_in t).device
+at_in {r = r} t = at_by r.purges (kept_in t) (seen_in t).device
 
 -- a writer
 abbrev pub written_as : Writer → WriterSeen

@@ -4,19 +4,19 @@ ghost use Rattle.std.specs.Prelude.{◌≡◌};
 use crate::cache::StripeCache;
 use cache_calls::Formats;
 use cache_chronicle::FullChronicle;
-use dir_table::ListDirectory;
 use logged_disk::Disk;
+use packed_directory::PackedDirectory;
 use std::alloc::{AllocError, Global};
 use stripe_core::Stripe;
 use tape_base::Geometry;
 
-/// Its directory is a list, and its chronicle keeps each record.
-impl<D: Disk> Formats<D> for StripeCache<D, ListDirectory, FullChronicle> {
+/// Its directory has packed entries, and its chronicle keeps each record.
+impl<D: Disk> Formats<D> for StripeCache<D, PackedDirectory, FullChronicle> {
     fn format(
         alloc: Global,
         device: D,
         geometry: Geometry,
-    ) -> Result<StripeCache<D, ListDirectory, FullChronicle>, (AllocError, D)> {
+    ) -> Result<StripeCache<D, PackedDirectory, FullChronicle>, (AllocError, D)> {
         match Stripe::format(alloc, device, FullChronicle::new(alloc), geometry) {
             Ok(stripe) => Ok(StripeCache { stripe }),
             // A format is refused for memory alone.

@@ -1,4 +1,3 @@
-use Rattle.std.proofs.Common.{ℕ}
 use Rattle.stripe_core.specs.Stripe.{kept_in, seen_in, state_in}
 use Rattle.stripe_calls.proofs.Openings.{abort_gives, abort_owns, abort_serves}
 use Rattle.stripe_calls.proofs.Resting.{cache_keeps}
@@ -10,19 +9,19 @@ abort_write-requires-clause-writer g c = writer_is (state_in c.args.self.now.str
 
 pub returns-clause-serves : goal.returns-clause-serves
 returns-clause-serves g c = λ now. rw c.unchanged.ensures
-    (abort_serves (kept_in c.args.self.now.stripe) (kept_in c.abort_write.new.stripe)
+    (abort_serves g.R.Directory.purges (kept_in c.args.self.now.stripe) (kept_in c.abort_write.new.stripe)
     (seen_in c.args.self.now.stripe).device (seen_in c.abort_write.new.stripe).device
     c.args.writer.now now c.abort_write.ensures.rests.between.accounted c.abort_write.result c.abort_write.ensures.adds c.abort_write.ensures.aborts c.abort_write.ensures.does)
 
 pub returns-clause-gives : goal.returns-clause-gives
 returns-clause-gives g c = rw c.unchanged.ensures
-    (abort_gives (kept_in c.args.self.now.stripe) (kept_in c.abort_write.new.stripe)
+    (abort_gives g.R.Directory.purges (kept_in c.args.self.now.stripe) (kept_in c.abort_write.new.stripe)
     (seen_in c.args.self.now.stripe).device (seen_in c.abort_write.new.stripe).device
     c.args.writer.now c.abort_write.result c.abort_write.ensures.adds c.abort_write.ensures.aborts)
 
 pub returns-clause-own : goal.returns-clause-own
 returns-clause-own g c =
-    abort_owns (kept_in c.args.self.now.stripe) (kept_in c.abort_write.new.stripe)
+    abort_owns g.R.Directory.purges (kept_in c.args.self.now.stripe) (kept_in c.abort_write.new.stripe)
     (seen_in c.args.self.now.stripe).device (seen_in c.abort_write.new.stripe).device
     c.args.writer.now c.abort_write.result c.abort_write.ensures.adds c.abort_write.ensures.aborts
 

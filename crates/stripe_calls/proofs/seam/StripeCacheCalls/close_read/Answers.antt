@@ -1,4 +1,3 @@
-use Rattle.std.proofs.Common.{ℕ}
 use Rattle.stripe_core.specs.Stripe.{kept_in, seen_in, state_in}
 use Rattle.stripe_calls.proofs.Looking.{close_reader_gives, close_reader_serves}
 use Rattle.stripe_calls.proofs.Resting.{cache_keeps}
@@ -10,13 +9,13 @@ close_read-requires-clause-reader g c = reader_is (state_in c.args.self.now.stri
 
 pub returns-clause-serves : goal.returns-clause-serves
 returns-clause-serves g c = λ now.
-    close_reader_serves (kept_in c.args.self.now.stripe) (kept_in c.close_read.new.stripe)
+    close_reader_serves g.R.Directory.purges (kept_in c.args.self.now.stripe) (kept_in c.close_read.new.stripe)
     (seen_in c.args.self.now.stripe).device (seen_in c.close_read.new.stripe).device
     c.args.reader now c.close_read.ensures.rests.between.accounted c.close_read.result c.close_read.ensures.adds c.close_read.ensures.does c.close_read.ensures.err
 
 pub returns-clause-gives : goal.returns-clause-gives
 returns-clause-gives g c =
-    close_reader_gives (kept_in c.args.self.now.stripe) (kept_in c.close_read.new.stripe)
+    close_reader_gives g.R.Directory.purges (kept_in c.args.self.now.stripe) (kept_in c.close_read.new.stripe)
     (seen_in c.args.self.now.stripe).device (seen_in c.close_read.new.stripe).device
     c.args.reader c.close_read.result c.close_read.ensures.adds c.close_read.ensures.err c.close_read.ensures.back
 

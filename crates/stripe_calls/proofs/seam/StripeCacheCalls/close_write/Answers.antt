@@ -13,7 +13,7 @@ pub returns-then-not-is_open-clause-serves : goal.returns-then-not-is_open-claus
 returns-then-not-is_open-clause-serves g c =
     let k = kept_in c.args.self.now.stripe in
     let d = (seen_in c.args.self.now.stripe).device in
-    not_open_serves k k d d c.args.now c.args.writer.now (nothing_closed k d) (sym c.is_open.ensures ∙ c.if-not-is_open.true) refl
+    not_open_serves g.R.Directory.purges k k d d c.args.now c.args.writer.now (nothing_closed k d) (sym c.is_open.ensures ∙ c.if-not-is_open.true) refl
 
 pub returns-then-not-is_open-clause-gives : goal.returns-then-not-is_open-clause-gives
 returns-then-not-is_open-clause-gives g c = (sym c.is_open.ensures ∙ c.if-not-is_open.true, refl)
@@ -31,7 +31,7 @@ returns-then-not-is_open-clause-keeps g c = keeps_still c.args.self.now c.requir
 
 pub returns-clause-serves : goal.returns-clause-serves
 returns-clause-serves g c = rw c.closed.ensures
-    (close_serves (kept_in c.args.self.now.stripe) (kept_in c.close_write.new.stripe)
+    (close_serves g.R.Directory.purges (kept_in c.args.self.now.stripe) (kept_in c.close_write.new.stripe)
     (seen_in c.args.self.now.stripe).device (seen_in c.close_write.new.stripe).device
     c.args.now c.args.writer.now c.close_write.ensures.rests.between.accounted c.close_write.result
     (writer_is (state_in c.args.self.now.stripe) c.args.writer.now c.requires.writer) (sym c.is_open.ensures ∙ c.if-not-is_open.false)
@@ -39,7 +39,7 @@ returns-clause-serves g c = rw c.closed.ensures
 
 pub returns-clause-gives : goal.returns-clause-gives
 returns-clause-gives g c = rw c.closed.ensures
-    (close_gives (kept_in c.args.self.now.stripe) (kept_in c.close_write.new.stripe)
+    (close_gives g.R.Directory.purges (kept_in c.args.self.now.stripe) (kept_in c.close_write.new.stripe)
     (seen_in c.args.self.now.stripe).device (seen_in c.close_write.new.stripe).device
     c.args.writer.now c.close_write.result (sym c.is_open.ensures ∙ c.if-not-is_open.false) c.close_write.ensures.closes c.close_write.ensures.counts)
 

@@ -1,4 +1,3 @@
-use Rattle.std.proofs.Common.{ℕ}
 use Rattle.stripe_core.specs.Stripe.{kept_in, seen_in, state_in}
 use Rattle.stripe_calls.proofs.Reading.{next_gives, next_goes, next_serves, next_unharmed}
 use Rattle.stripe_calls.proofs.Resting.{cache_goes}
@@ -10,13 +9,13 @@ read_next-requires-clause-reader g c = reader_is (state_in c.args.self.now.strip
 
 pub returns-clause-serves : goal.returns-clause-serves
 returns-clause-serves g c = λ now. rw c.given.ensures
-    (next_serves (kept_in c.args.self.now.stripe) (kept_in c.read_next.new.stripe)
+    (next_serves g.R.Directory.purges (kept_in c.args.self.now.stripe) (kept_in c.read_next.new.stripe)
     (seen_in c.args.self.now.stripe).device (seen_in c.read_next.new.stripe).device
     c.args.reader.now now c.read_next.new.into c.read_next.ensures.proceeds.accounted c.read_next.result c.read_next.ensures.adds c.read_next.ensures.reads c.read_next.ensures.err)
 
 pub returns-clause-gives : goal.returns-clause-gives
 returns-clause-gives g c = rw c.given.ensures
-    (next_gives (kept_in c.args.self.now.stripe) (kept_in c.read_next.new.stripe)
+    (next_gives g.R.Directory.purges (kept_in c.args.self.now.stripe) (kept_in c.read_next.new.stripe)
     (seen_in c.args.self.now.stripe).device (seen_in c.read_next.new.stripe).device
     c.args.reader.now c.read_next.new.into c.read_next.result c.read_next.ensures.adds c.read_next.ensures.reads c.read_next.ensures.err)
 
@@ -25,7 +24,7 @@ returns-clause-keeps g c = cache_goes _ _ c.read_next.ensures.resting c.read_nex
 
 pub returns-clause-unharmed : goal.returns-clause-unharmed
 returns-clause-unharmed g c =
-    next_unharmed (kept_in c.args.self.now.stripe) (kept_in c.read_next.new.stripe)
+    next_unharmed g.R.Directory.purges (kept_in c.args.self.now.stripe) (kept_in c.read_next.new.stripe)
     (seen_in c.args.self.now.stripe).device (seen_in c.read_next.new.stripe).device
     c.args.reader.now c.read_next.ensures.unharmed
 

@@ -1,4 +1,3 @@
-use Rattle.std.proofs.Common.{ℕ}
 use Rattle.stripe_core.specs.Stripe.{kept_in, seen_in, state_in}
 use Rattle.stripe_calls.proofs.Feeding.{write_gives, write_goes, write_owns, write_serves}
 use Rattle.stripe_calls.proofs.Resting.{cache_keeps}
@@ -10,19 +9,19 @@ write-requires-clause-writer g c = writer_is (state_in c.args.self.now.stripe) c
 
 pub returns-clause-serves : goal.returns-clause-serves
 returns-clause-serves g c = rw c.unchanged.ensures
-    (write_serves (kept_in c.args.self.now.stripe) (kept_in c.write.new.stripe)
+    (write_serves g.R.Directory.purges (kept_in c.args.self.now.stripe) (kept_in c.write.new.stripe)
     (seen_in c.args.self.now.stripe).device (seen_in c.write.new.stripe).device
     c.args.now c.args.writer.now c.args.bytes.now c.write.ensures.rests.between.accounted c.write.result c.write.ensures.writes c.write.ensures.does)
 
 pub returns-clause-gives : goal.returns-clause-gives
 returns-clause-gives g c = rw c.unchanged.ensures
-    (write_gives (kept_in c.args.self.now.stripe) (kept_in c.write.new.stripe)
+    (write_gives g.R.Directory.purges (kept_in c.args.self.now.stripe) (kept_in c.write.new.stripe)
     (seen_in c.args.self.now.stripe).device (seen_in c.write.new.stripe).device
     c.args.writer.now c.args.now c.args.bytes.now c.write.result c.write.ensures.writes c.write.ensures.number c.write.ensures.does)
 
 pub returns-clause-own : goal.returns-clause-own
 returns-clause-own g c =
-    write_owns (kept_in c.args.self.now.stripe) (kept_in c.write.new.stripe)
+    write_owns g.R.Directory.purges (kept_in c.args.self.now.stripe) (kept_in c.write.new.stripe)
     (seen_in c.args.self.now.stripe).device (seen_in c.write.new.stripe).device
     c.args.writer.now c.args.now c.args.bytes.now c.write.result c.write.ensures.does
 
