@@ -8,9 +8,9 @@ use Rattle.cache_model.specs.declared.answer.ReadAnswer.{ReadAnswer}
 use Rattle.cache_model.specs.declared.answer.ReadAnswer.TheVariants as read
 use Rattle.cache_model.specs.declared.record.Rec.{Rec}
 use Rattle.cache_model.specs.declared.record.Rec.TheVariants as rec
-use Rattle.cache_model.specs.State.{State, PutRow, ReaderRow, Closed, GivenUp, after_all, change_put, change_reader, opened_reader, put_of, reader_of, state_after, with_cut, with_writing, without_reader}
+use Rattle.cache_model.specs.State.{State, PutRow, ReaderRow, Closed, GivenUp, after_all, change_put, change_reader, opened_reader, put_of, reader_of, state_after, with_cut, with_writing, without_reader, AllAlong}
 use Rattle.cache_model.specs.Verdict.{cuts_of}
-use Rattle.model_laws.specs.StepLaws.{AllAlong, IsNumbered}
+use Rattle.model_laws.specs.StepLaws.{IsNumbered}
 use Rattle.cache_model.proofs.ByNumber.{find-changed, find-without}
 use Rattle.script_run.proofs.Changed.{changed, either, found_changed}
 use Rattle.script_run.proofs.Values.{other_than}

@@ -18,3 +18,7 @@ pub mod Lengths
 pub mod Measures
 pub mod Firsts
 pub mod Damages
+pub mod Since
+pub mod Actors
+pub mod Names
+pub mod Openers

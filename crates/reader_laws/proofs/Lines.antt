@@ -6,11 +6,11 @@ use Rattle.tape_base.specs.declared.geometries.BadGeometry.{BadGeometry}
 use Rattle.tape_base.specs.Limits.{first_refusal}
 use Rattle.cache_model.specs.declared.record.Rec.{Rec}
 use Rattle.cache_model.specs.declared.record.Rec.TheVariants as rec
-use Rattle.cache_model.specs.State.{State, ReaderRow, after_all, reader_of, state_after}
+use Rattle.cache_model.specs.State.{State, ReaderRow, after_all, reader_of, state_after, AllAlong}
 use Rattle.cache_model.specs.Permit.{End, Intent, ReadOn, StopReading}
 use Rattle.cache_model.specs.Legal
 use Rattle.cache_model.specs.Legal.{IsQuiet, IsStep}
-use Rattle.model_laws.specs.StepLaws.{AllAlong, IsNumbered, NumbersFollow, OneGroup, ReaderIsClosed}
+use Rattle.model_laws.specs.StepLaws.{IsNumbered, NumbersFollow, OneGroup, ReaderIsClosed}
 use Rattle.cache_model.proofs.Found.{no_truth, none_is}
 use Rattle.script_lang.specs.declared.step.Step.{Step}
 use Rattle.script_lang.specs.declared.step.Step.TheVariants as step

@@ -175,7 +175,7 @@ module _ (laws : OfLines) (run : Run) (turn : Turn) where
   -- a copied vector shows them some way into the step, and so does a fragment
   vector_shows : (s : State) (st : Step) → SessionTakes run s turn st → ShowsPair IsVectorAs turn.device s (asked run s st) turn.added → SessionShows run s turn st
   vector_shows s st takes v = record {
-    plain = takes.plain;
+    packs = takes.packs;
     unsynced = takes.unsynced;
     content = takes.content;
     moment = takes.moment;
@@ -190,7 +190,7 @@ module _ (laws : OfLines) (run : Run) (turn : Turn) where
         | inr v ↦ inr (vector_shows s st takes v)
         | inl told ↦ elim (laws.steps_own run s turn st k.sound h.told k.quiet h.own (are_writing run s k.held) takes.legal) [
           | inl own ↦ inl (record { keeps = keeps_step laws.kept run turn s st takes k; told = told; own = own })
-          | inr shown ↦ inr (record { plain = takes.plain; unsynced = takes.unsynced; content = takes.content; moment = takes.moment; shows = shown })
+          | inr shown ↦ inr (record { packs = takes.packs; unsynced = takes.unsynced; content = takes.content; moment = takes.moment; shows = shown })
         ]
       ]
 

@@ -4,11 +4,11 @@ use Rattle.std.specs.Prelude.{Option, Some, None, find, if◌then◌else◌, is_
 use Rattle.fragment_table.specs.Table.{made_row}
 use Rattle.cache_model.specs.declared.record.Rec.{Rec}
 use Rattle.cache_model.specs.declared.record.Rec.TheVariants as rec
-use Rattle.cache_model.specs.State.{State, PutRow, Closed, GivenUp, after_all, change_put, put_of, reader_of, state_after, with_cut, with_writing}
+use Rattle.cache_model.specs.State.{State, PutRow, Closed, GivenUp, after_all, change_put, put_of, reader_of, state_after, with_cut, with_writing, AllAlong}
 use Rattle.cache_model.specs.Verdict.{is_open}
 use Rattle.cache_model.specs.Permit.{Intent, GiveUp, ReadOn, StopReading}
 use Rattle.cache_model.specs.Legal.{IsStep, is_writing}
-use Rattle.model_laws.specs.StepLaws.{AllAlong, IsNumbered, NumbersFollow}
+use Rattle.model_laws.specs.StepLaws.{IsNumbered, NumbersFollow}
 use Rattle.cache_model.proofs.Found.{none_is, number_of}
 use Rattle.actor_table.specs.Table.{number_of as number_in}
 use Rattle.script_lang.specs.declared.step.Step.{Step}

@@ -1,3 +1,4 @@
 pub mod Given
 pub mod Along
 pub mod Laws
+pub mod Actors

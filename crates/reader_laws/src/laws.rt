@@ -1,4 +1,5 @@
 // Laws of all that a reader is given. These functions do nothing when they run.
+ghost use Rattle.reader_laws.specs.Actors.{ReaderIsOpened};
 ghost use Rattle.reader_laws.specs.Laws.{AllGiven, DamageIsGiven, EndIsAll, FirstGiven, FollowIsAsked, FragmentsGiven, GotIsPut, HitIsAsked, HitOpens, LegalIsKept, LegalIsOwn, LengthIsTold, OpensFirst, OwnIsKeptAlong, PutIsMeasured};
 
 use model_laws::{
@@ -154,6 +155,20 @@ pub fn put_is_measured()
     steps_are_sound();
     formats_keep();
     steps_keep();
+}
+
+/// Behind each legal script the reader that an actor has was opened by a line of that actor in the session, and all
+/// that it was given since the lines of that actor were given.
+pub fn reader_is_opened()
+    ensures { ReaderIsOpened }
+{
+    one_group();
+    numbers_follow();
+    legal_is_sound();
+    steps_are_sound();
+    formats_keep();
+    steps_keep();
+    hit_is_put();
 }
 
 /// Behind each legal script a piece is told as damaged only where the device gave, in that line, a document of

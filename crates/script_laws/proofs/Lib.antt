@@ -1,8 +1,8 @@
 mod Among
 mod Losses
 mod Standing
-mod Groups
-mod Walking
+pub mod Groups
+pub mod Walking
 mod Said
 mod Faults
 mod Damages
@@ -14,3 +14,6 @@ mod Formats
 mod Uncalled
 mod Alike
 mod Agreeing
+mod Quiet
+mod Recorded
+mod Vectors

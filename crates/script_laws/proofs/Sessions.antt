@@ -25,7 +25,7 @@ use Rattle.script_laws.specs.Sessions.{IsLegalWhere, IsOfLegal}
 -- of a stripe that does not sync nothing is asked of its copies, and none of the calls before
 set_by : (run : Run) (s : State) (turn : Turn) (step : Step) (calls : List Call) → SessionTakes run s turn step → IsSetBy plain_setting calls turn.device
 set_by run s turn step calls takes = record {
-  packed = takes.plain;
+  packed = takes.packs;
   syncs = takes.unsynced;
   area = takes.content;
   copies = λ on. absurd cc;

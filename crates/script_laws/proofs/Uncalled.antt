@@ -63,13 +63,13 @@ uncalled_twice run = ended_as run (map without_calls run.ended) (sym (twice run.
 -- what its lines take
 session_takes : (run : Run) (s : State) (turn : Turn) (step : Step) → SessionTakes run s turn step → SessionTakes (uncalled run) s turn step
 session_takes run s turn (step.Format name segments buckets content agg reach fragment generation alternates) takes =
-    record { plain = takes.plain; unsynced = takes.unsynced; content = takes.content; moment = takes.moment; legal = takes.legal; own = takes.own }
-session_takes run s turn _ takes = record { plain = takes.plain; unsynced = takes.unsynced; content = takes.content; moment = takes.moment; legal = takes.legal; own = takes.own }
+    record { packs = takes.packs; unsynced = takes.unsynced; content = takes.content; moment = takes.moment; legal = takes.legal; own = takes.own }
+session_takes run s turn _ takes = record { packs = takes.packs; unsynced = takes.unsynced; content = takes.content; moment = takes.moment; legal = takes.legal; own = takes.own }
 
 takes_session : (run : Run) (s : State) (turn : Turn) (step : Step) → SessionTakes (uncalled run) s turn step → SessionTakes run s turn step
 takes_session run s turn (step.Format name segments buckets content agg reach fragment generation alternates) takes =
-    record { plain = takes.plain; unsynced = takes.unsynced; content = takes.content; moment = takes.moment; legal = takes.legal; own = takes.own }
-takes_session run s turn _ takes = record { plain = takes.plain; unsynced = takes.unsynced; content = takes.content; moment = takes.moment; legal = takes.legal; own = takes.own }
+    record { packs = takes.packs; unsynced = takes.unsynced; content = takes.content; moment = takes.moment; legal = takes.legal; own = takes.own }
+takes_session run s turn _ takes = record { packs = takes.packs; unsynced = takes.unsynced; content = takes.content; moment = takes.moment; legal = takes.legal; own = takes.own }
 
 step_takes : (run : Run) (turn : Turn) (o : Option State) (step : Step) → Takes run turn o step → Takes (uncalled run) turn o step
 step_takes run turn o (step.Format name segments buckets content agg reach fragment generation alternates) takes = takes

@@ -1,4 +1,4 @@
--- A step behind which no fault and no damage is told recorded neither, nor a displacement where its directory displaces nothing.
+-- A step that displaced nothing, and behind which no fault and no damage is told, recorded no trouble.
 use Rattle.std.proofs.Common.{◌≡◌, List, [], ◌∷◌, false, refl, sym, ◌∙◌, inl}
 use Rattle.std.specs.Prelude.{Option}
 use Rattle.std.specs.List.{AllByRecursion}
@@ -9,7 +9,6 @@ use Rattle.cache_model.specs.Permit.{Intent, Permit, Reason}
 use Rattle.cache_model.specs.Legal.{IsStep}
 use Rattle.model_laws.specs.Agreeing.{IsUntroubled, is_trouble}
 use Rattle.model_laws.specs.RoomLaws.{TellNoDisplacement, is_displacement}
-use Rattle.model_laws.proofs.Undisplaced.{plain_displaces_nothing}
 use Rattle.cache_model.proofs.Found.{no_truth}
 use Rattle.device_log.specs.Calls.{Call}
 use Rattle.script_run.specs.Run.{IsHarmless}
@@ -34,7 +33,6 @@ each_untroubled p calls s [] kept stay clean = tt
 each_untroubled p calls s (r ∷ recs) kept stay clean =
     (first_untroubled p calls s r recs kept stay.0 clean, each_untroubled p calls (state_after s r) recs kept.1 stay.1 clean)
 
-pub step_untroubled : (p : Permit) (calls : List Call) (s : State) (intents : List Intent) (added : List Rec) (refused : Option Reason) → p.packed ≡ false
+pub step_untroubled : (p : Permit) (calls : List Call) (s : State) (intents : List Intent) (added : List Rec) (refused : Option Reason) → TellNoDisplacement added
     → IsStep p s intents added refused → IsHarmless (harm_in calls (after_all s added)) → IsUntroubled added
-step_untroubled p calls s intents added refused plain h clean =
-    each_untroubled p calls s added (walked h.grows).kept (plain_displaces_nothing p s intents added refused plain h) clean
+step_untroubled p calls s intents added refused stay h clean = each_untroubled p calls s added (walked h.grows).kept stay clean

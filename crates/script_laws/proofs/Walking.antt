@@ -5,12 +5,12 @@ use Rattle.std.specs.List.{AllByRecursion}
 use Rattle.cache_model.specs.declared.cause.Cause.{Cause}
 use Rattle.cache_model.specs.declared.record.Rec.{Rec}
 use Rattle.cache_model.specs.declared.record.Rec.TheVariants as rec
-use Rattle.cache_model.specs.State.{State, after_all, state_after}
+use Rattle.cache_model.specs.State.{State, after_all, state_after, AllAlong}
 use Rattle.cache_model.specs.Permit.{Permit, Intent, IsAmong, End, Stays, Done, Fails, Faulted, Reason, Work, work_after}
 use Rattle.cache_model.specs.Legal.{Advances, MayGrow, nothing, more, IsStep}
 use Rattle.edge_io.specs.Causes.{Rose}
 use Rattle.cache_model.proofs.Found.{none_is}
-use Rattle.model_laws.specs.StepLaws.{AllAlong, IsRisen}
+use Rattle.model_laws.specs.StepLaws.{IsRisen}
 use Rattle.model_laws.proofs.Backed.{faults_rise}
 use Rattle.script_laws.specs.Causes.{IsTraced, cause_told}
 use Rattle.script_laws.specs.Troubles.{IsFaultRecorded}

@@ -1,8 +1,10 @@
--- What a script prints is fixed by its bytes, where no device was in trouble, or two documents of one SHA-256
--- are shown.
+-- What a script prints is fixed by its bytes, where nothing was displaced and no device was in trouble, or two documents
+-- of one SHA-256 are shown.
 use Rattle.std.specs.Prelude.{ℕ, ◌≡◌, ◌⊎◌, Option, Some, None, List, [], ◌∷◌, ◌++◌, All, map}
+use Rattle.std.specs.List.{AllByRecursion}
 use Rattle.cache_model.specs.State.{State}
 use Rattle.model_laws.specs.Agreeing.{ShowsOtherCopy}
+use Rattle.model_laws.specs.RoomLaws.{TellNoDisplacement}
 use Rattle.script_lang.specs.declared.step.Step.{Step}
 use Rattle.script_lang.specs.declared.line.LineAnswer.{LineAnswer}
 use Rattle.script_lang.specs.declared.line.LineAnswer.TheVariants as line
@@ -12,6 +14,10 @@ use Rattle.script_run.specs.Turn.{Turn}
 use Rattle.script_run.specs.Asked.{asked}
 use Rattle.script_run.specs.Behind.{harms_of}
 use Rattle.script_run.specs.Takes.{IsRun, output_of, run_after}
+
+-- nothing was displaced in these turns
+abbrev pub NoneDisplaced : List Turn → Type 0
+NoneDisplaced turns = AllByRecursion (λ (turn : Turn). TellNoDisplacement turn.added) turns
 
 -- of no device a fault or damage was told
 abbrev pub NoneHarmed : Run → Type 0
@@ -61,8 +67,10 @@ pub record ShowsOtherAlong (run : Run) (lines : List (List ℕ)) (one other : Li
   pub same : AreSame run before earlier other_earlier
   pub shows : ReadingShowsOther turn other_turn (run_after run before earlier) (reading_of bytes)
 
--- from one run the same lines go on to print the same, and to leave the same but for the calls of the devices, where no
--- fault and no damage was told of any device either time, or a line of them shows two documents of one SHA-256
+-- from one run the same lines go on to print the same, and to leave the same but for the calls of the devices, where either
+-- time nothing was displaced, and of no device a fault or damage was told; or a line of them shows two documents of one
+-- SHA-256
 abbrev pub OutputIsFixed : Type 0
 OutputIsFixed = (run : Run) (lines : List (List ℕ)) (one other : List Turn) → IsRun run lines one → IsRun run lines other
+    → NoneDisplaced one → NoneDisplaced other
     → NoneHarmed (run_after run lines one) → NoneHarmed (run_after run lines other) → AreSame run lines one other ⊎ ShowsOtherAlong run lines one other

@@ -4,4 +4,5 @@ pub mod Damages
 pub mod Runs
 pub mod Counts
 pub mod Sessions
+pub mod Vectors
 pub mod Agreeing

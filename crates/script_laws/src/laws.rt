@@ -5,6 +5,7 @@ ghost use Rattle.script_laws.specs.Damages.{DamageIsRecorded, DamageStays};
 ghost use Rattle.script_laws.specs.Runs.{FaultlessRuns, UndamagedRuns};
 ghost use Rattle.script_laws.specs.Counts.{RunsAreCounted};
 ghost use Rattle.script_laws.specs.Sessions.{SessionsAreLegal};
+ghost use Rattle.script_laws.specs.Vectors.{VectorsAreOnRecord};
 ghost use Rattle.script_run.specs.Losses.{FormatsLoseNone, LossesStay};
 ghost use Rattle.script_laws.specs.Troubles.{FaultIsRecorded, FaultStays, RefusalIsRecorded};
 
@@ -72,14 +73,20 @@ pub fn runs_are_counted()
     ensures { RunsAreCounted }
 {}
 
+/// In each session of a script the last vector of a key that was not removed stands, live or not, or its loss is
+/// recorded.
+pub fn vectors_are_on_record()
+    ensures { VectorsAreOnRecord }
+{}
+
 /// The records of each session of a script are those of a legal chronicle, in whose steps the device made the
 /// calls of the session's lines.
 pub fn sessions_are_legal()
     ensures { SessionsAreLegal }
 {}
 
-/// Where no fault and no damage was told in either of two runs of a script, they print the same, or a line of
-/// it shows two documents of one SHA-256.
+/// Where nothing was displaced, and no fault and no damage was told, in either of two runs of a script, they print
+/// the same, or a line of it shows two documents of one SHA-256.
 pub fn output_is_fixed()
     ensures { OutputIsFixed }
 {

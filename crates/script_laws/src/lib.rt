@@ -7,4 +7,5 @@ pub use laws::{
     answers_are_traced, causes_are_traced, damage_is_recorded, damage_stays, fault_is_recorded,
     fault_stays, faultless_runs, formats_lose_none, losses_stay, output_is_fixed,
     refusal_is_recorded, runs_are_counted, sessions_are_legal, undamaged_runs,
+    vectors_are_on_record,
 };

@@ -1,5 +1,5 @@
 -- What a line may do: all that it must, and no more.
-use Rattle.std.specs.Prelude.{ℕ, ◌≡◌, ⊤, false, if◌then◌else◌, List, [], ◌∷◌, ◌++◌, Option, Some, None}
+use Rattle.std.specs.Prelude.{ℕ, ◌≡◌, ⊤, false, true, if◌then◌else◌, List, [], ◌∷◌, ◌++◌, Option, Some, None}
 use Rattle.tape_base.specs.declared.geometries.Geometry.{Geometry}
 use Rattle.tape_base.specs.declared.geometries.BadGeometry.{BadGeometry}
 use Rattle.tape_base.specs.Geometry.{HasNumbers}
@@ -56,11 +56,11 @@ FormatTakes added segments buckets content agg reach fragment generation alterna
 FormatTakes added segments buckets content agg reach fragment generation alternates None =
     (g : Geometry) × HasNumbers g segments buckets content agg reach fragment generation alternates × (added ≡ format_records g)
 
--- a line on a session is one step of its records, with a directory that displaces nothing and a stripe that does not
--- sync, on a device whose content area begins at its first block, in which pins are weighed by the moment of the run; and
--- the bytes that it gives are those that were put
+-- a line on a session is one step of its records, with a directory that displaces and a stripe that does not sync, on a
+-- device whose content area begins at its first block, in which pins are weighed by the moment of the run; and the bytes
+-- that it gives are those that were put
 pub record SessionTakes (run : Run) (s : State) (turn : Turn) (step : Step) : Type 0 where
-  pub plain : turn.device.packed ≡ false
+  pub packs : turn.device.packed ≡ true
   pub unsynced : turn.device.syncs ≡ false
   pub content : turn.device.area ≡ 0
   pub moment : turn.device.now ≡ run.now
@@ -121,7 +121,7 @@ streams_with run s _ = run.streams
 -- some way into the turn of a step on a session two documents of one SHA-256 are shown for a piece that the step
 -- reads there: the one as which it was placed, and other bytes, which the device gave in that turn
 pub record SessionShows (run : Run) (s : State) (turn : Turn) (step : Step) : Type 0 where
-  pub plain : turn.device.packed ≡ false
+  pub packs : turn.device.packed ≡ true
   pub unsynced : turn.device.syncs ≡ false
   pub content : turn.device.area ≡ 0
   pub moment : turn.device.now ≡ run.now
