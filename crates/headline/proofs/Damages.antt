@@ -31,7 +31,7 @@ use Rattle.reader_laws.specs.Laws.{DamageIsGiven, IsOfOtherBytes}
 use Rattle.headline.specs.Account.{Account, IsDeviceBehind, Logs, Tells, begun_in, sessions_begun}
 use Rattle.headline.specs.Causes.{WasGiven}
 use Rattle.headline.proofs.Along.{AreSeen, IsSeen, device_seen, reading_seen, run_length, run_seen}
-use Rattle.headline.proofs.Lost.{LostWhere, ToldAlong, told_along}
+use Rattle.headline.proofs.Lost.{LossAlong, damaged_by, loss_is_told}
 use Rattle.headline.proofs.Places.{Found, OnSession, kind_of, told_line}
 use Rattle.headline.proofs.Troubles.{answer_is, come, did_before, line_seen, seen_behind}
 
@@ -81,18 +81,18 @@ module _ (given : DamageIsGiven) (law : DamageStays) (l : Logs) (a : Account l) 
       )
 
   -- or an earlier one of the session did
-  module _ (t : ToldAlong piece place kept found fresh lines f.earlier) where
+  module _ (t : LossAlong (piece, cause.Damaged place kept found) fresh lines f.earlier) where
     abbrev Then : Run
     Then = run_after fresh t.before t.earlier
 
     abbrev Harmed : Harm
-    Harmed = harm_in (t.turn.device.events ++ Then.calls) (after_all t.s t.turn.added)
+    Harmed = harm_in (t.turn.device.events ++ Then.calls) (after_all t.made.s t.turn.added)
 
     begun : sessions_begun t.before ≡ length Then.ended + 1
     begun =
         let all : length (harms_of Then) ≡ length (harms_of fresh) + sessions_begun t.before = run_length t.before t.earlier fresh t.legal in
-        let here : length (harms_of Then) ≡ length (Then.ended ++ harm_in Then.calls t.s ∷ []) = ap (λ (o : Option State). length (Then.ended ++ harm_of Then.calls o)) t.state in
-        omega (arith, all, here, length-append Then.ended (harm_in Then.calls t.s ∷ []))
+        let here : length (harms_of Then) ≡ length (Then.ended ++ harm_in Then.calls t.made.s ∷ []) = ap (λ (o : Option State). length (Then.ended ++ harm_of Then.calls o)) t.made.state in
+        omega (arith, all, here, length-append Then.ended (harm_in Then.calls t.made.s ∷ []))
 
     same_device : IsDeviceBehind l t.before device
     same_device = record {
@@ -109,11 +109,14 @@ module _ (given : DamageIsGiven) (law : DamageStays) (l : Logs) (a : Account l) 
         reading_seen law ds (run_after fresh lines f.earlier) f.turn (line.Step asks) f.takes (seen_behind l a lines asks said f law) in
         let behind : AreSeen (harms_of (after_line Then t.turn t.bytes)) ds =
         run_seen law ds t.later t.rest (after_line Then t.turn t.bytes) t.goes (subst (λ (run : Run). AreSeen (harms_of run) ds) t.ends before) in
-        device_seen l t.before device Then.ended Harmed ds (come l a lines asks said f).returned (subst (λ (hs : List Harm). AreSeen hs ds) (ap harms_of t.next) behind) same_device begun
+        device_seen l t.before device Then.ended Harmed ds (come l a lines asks said f).returned (subst (λ (hs : List Harm). AreSeen hs ds) (ap harms_of t.made.next) behind) same_device begun
 
     by_earlier : Result
     by_earlier =
-        let told = is_among (IsOfOtherBytes t.turn.device t.s) (rec.Damaged piece place kept found) t.turn.added (given t.before t.earlier t.s t.turn t.asks t.legal t.state t.takes) t.told in (
+        let among : IsAmong (rec.Damaged piece place kept found) t.turn.added =
+        subst (λ (r : Rec). IsAmong r t.turn.added) (damaged_by t.made.told piece place kept found t.made.tells) t.made.among in
+        let told = is_among (IsOfOtherBytes t.turn.device t.made.s) (rec.Damaged piece place kept found) t.turn.added
+        (given t.before t.earlier t.made.s t.turn t.made.asks t.legal t.made.state t.made.takes) among in (
           record {
             earlier = t.before;
             since = t.bytes ∷ t.later;
@@ -127,18 +130,15 @@ module _ (given : DamageIsGiven) (law : DamageStays) (l : Logs) (a : Account l) 
               legal = t.legal;
             };
             made = record { newer = seen.calls.later; is = seen.calls.is };
-            s = t.s;
-            session = t.state;
+            s = t.made.s;
+            session = t.made.state;
             given = told.0;
           },
           told.1,
         )
 
   by_lost : IsAmong (piece, cause.Damaged place kept found) on.s.lost → Result
-  by_lost h = elim (told_along piece place kept found lines f.earlier fresh f.legal (subst (LostWhere piece place kept found) (sym on.state) h)) [
-    | inl old ↦ absurd old.0
-    | inr t ↦ by_earlier t
-  ]
+  by_lost h = by_earlier (loss_is_told (piece, cause.Damaged place kept found) lines f.earlier on.s f.legal on.state h)
 
 module _ (given : DamageIsGiven) (law : DamageStays) (l : Logs) (a : Account l) (lines : List (List ℕ)) (asks : Step) (said : StepAnswer) (place : ℕ) (kept found : Digest) (device : Device) (which : IsDeviceBehind l lines device)
     (f : Found fresh a.turns lines asks said (run_after fresh a.told a.turns)) (on : OnSession (run_after fresh lines f.earlier) f.turn (run_after fresh lines f.earlier).state asks) where

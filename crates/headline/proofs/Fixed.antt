@@ -1,5 +1,5 @@
--- What the source gave fixes what the sink took.
-use Rattle.std.proofs.Common.{◌≡◌, ℕ, List, [], ◌∷◌, ◌++◌, sym, ◌∙◌, ap, subst, arith, inl, inr, ◌⊎◌, append-nil}
+-- What the source gave fixes what the sink took, or a piece was displaced.
+use Rattle.std.proofs.Common.{◌≡◌, ℕ, List, [], ◌∷◌, ◌++◌, sym, ◌∙◌, ap, subst, arith, inl, inr, ◌⊎◌, append-nil, refl, true, false, Bool}
 use Rattle.std.specs.Prelude.{All, ⊤}
 use Rattle.std.specs.List.{AllByRecursion}
 use Rattle.std.proofs.lemmas.List.{append_cancel_right}
@@ -9,17 +9,21 @@ use Rattle.edge_io.specs.Text.{spelled, text_read}
 use Rattle.edge_io.specs.Lines.{AreLines, lines_of}
 use Rattle.edge_io.specs.Laws.{SpelledAreLines}
 use Rattle.logged_disk.specs.Device.{State as Device}
+use Rattle.cache_model.specs.declared.record.Rec.{Rec}
+use Rattle.cache_model.specs.Permit.{IsAmong}
+use Rattle.model_laws.specs.RoomLaws.{TellNoDisplacement, is_displacement}
 use Rattle.script_run.specs.Run.{Harm, IsHarmless, fresh}
+use Rattle.script_run.specs.Turn.{Turn}
 use Rattle.script_run.specs.Behind.{harms_of}
 use Rattle.script_run.specs.Takes.{IsRun, output_of, run_after}
 use Rattle.script_run.specs.Ledger.{AreReached}
-use Rattle.script_laws.specs.Agreeing.{NoneHarmed, OutputIsFixed}
+use Rattle.script_laws.specs.Agreeing.{NoneDisplaced, NoneHarmed, OutputIsFixed}
 use Rattle.run_promise.specs.Lines.{TextsAreOutput, texts_of}
 use Rattle.run_promise.specs.declared.status.Status.TheVariants as status
 use Rattle.run_promise.specs.Story.{IsReadThrough, Recorded, ShownAlong, Taken, all_in}
 use Rattle.run_promise.specs.Top.{EachBack}
 use Rattle.headline.specs.Account.{ComeBackFrom, IsConcluded, Logs, OrShown}
-use Rattle.headline.specs.Fixed.{AreSteady, GiveSame, IsSteady, ShowPair, ShowsPairAmong, TakeSame}
+use Rattle.headline.specs.Fixed.{AreSteady, GiveSame, HasDisplaced, IsSteady, OneDisplaced, ShowPair, ShowsPairAmong, TakeSame}
 use Rattle.headline.proofs.Devices.{come_back}
 use Rattle.headline.proofs.Outlines.{shown_made}
 
@@ -30,6 +34,44 @@ none_harmed [] ds r s = All-nil IsHarmless
 none_harmed (h ∷ hs) [] r s = absurd r
 none_harmed (h ∷ hs) (d ∷ ds) r s =
     All-cons IsHarmless h hs (record { faultless = omega (arith, r.0.counted, s.0.unfaulted); undamaged = r.0.unharmed s.0.tells }) (none_harmed hs ds r.1 s.1)
+
+-- ---- displacements
+
+-- a record among these tells of one
+record TellsOne (added : List Rec) : Type 0 where
+  told : Rec
+  recorded : IsAmong told added
+  tells : is_displacement told ≡ true
+
+-- so does one of a turn among these
+record HasTurn (turns : List Turn) : Type 0 where
+  turn : Turn
+  among : IsAmong turn turns
+  one : TellsOne turn.added
+
+-- a test passes nothing, or something among these
+none_or_one : {X : Type 0} (None One : X → Type 0) → ((x : X) → None x ⊎ One x) → (xs : List X) → AllByRecursion None xs ⊎ ((x : X) × IsAmong x xs × One x)
+none_or_one None One test [] = inl tt
+none_or_one None One test (x ∷ xs) = elim (test x) [
+  | inr one ↦ inr (x, inl refl, one)
+  | inl none ↦ elim (none_or_one None One test xs) [ inl rest ↦ inl (none, rest) | inr later ↦ inr (later.0, inr later.1, later.2) ]
+]
+
+either_way : (b : Bool) → (b ≡ false) ⊎ (b ≡ true)
+either_way true = inr refl
+either_way false = inl refl
+
+tells_or_not : (turn : Turn) → TellNoDisplacement turn.added ⊎ TellsOne turn.added
+tells_or_not turn = elim (none_or_one (λ r. is_displacement r ≡ false) (λ r. is_displacement r ≡ true) (λ r. either_way (is_displacement r)) turn.added) [
+  | inl none ↦ inl none
+  | inr one ↦ inr (record { told = one.0; recorded = one.1; tells = one.2 })
+]
+
+displaces_or_not : (turns : List Turn) → NoneDisplaced turns ⊎ HasTurn turns
+displaces_or_not turns = elim (none_or_one (λ (turn : Turn). TellNoDisplacement turn.added) (λ (turn : Turn). TellsOne turn.added) tells_or_not turns) [
+  | inl none ↦ inl none
+  | inr one ↦ inr (record { turn = one.0; among = one.1; one = one.2 })
+]
 
 -- ---- a run that was read to its end
 
@@ -82,6 +124,19 @@ module _ (l : Logs) (c : IsConcluded l status.Done) where
   made : (r : Records) → ComeBackFrom l (harms_of (run_after fresh Lines r.turns))
   made r = come_back l (harms_of (run_after fresh Lines r.turns)) r.devices.back
 
+  displaces : TextsAreOutput → (r : Records) → HasTurn r.turns → HasDisplaced l Lines
+  displaces texts r h = record {
+    turns = r.turns;
+    legal = r.legal;
+    prints = wrote texts r;
+    made = made r;
+    turn = h.turn;
+    among = h.among;
+    told = h.one.told;
+    recorded = h.one.recorded;
+    tells = h.one.tells;
+  }
+
 -- ---- two of them
 
 module _ (fixed : OutputIsFixed) (texts : TextsAreOutput) (spells : SpelledAreLines) (l m : Logs) (c : IsConcluded l status.Done) (d : IsConcluded m status.Done) (same : GiveSame l m) where
@@ -94,19 +149,25 @@ module _ (fixed : OutputIsFixed) (texts : TextsAreOutput) (spells : SpelledAreLi
       sym (text_is l c) ∙ (ap text_read (reads_are l c same.reads same.since) ∙ (same.same ∙ (ap text_read (sym (reads_are m d same.others same.since_too)) ∙ text_is m d))) in
       sym (lines_read (Lines l c) c.story.taken.each) ∙ (ap lines_of texts_same ∙ lines_read (Lines m d) d.story.taken.each)
 
-  both_told : AreSteady l → AreSteady m → Records l c → Records m d → OrShown (TakeSame l m) (ShowPair l m same)
-  both_told steady steady_too r q =
+  abbrev Outcome : Type 0
+  Outcome = OrShown (TakeSame l m ⊎ OneDisplaced l m same) (ShowPair l m same)
+
+  one_displaced : HasDisplaced l (Lines l c) ⊎ HasDisplaced m (Lines l c) → Outcome
+  one_displaced h = inl (inr (record { lines = Lines l c; taken = taken_all l c same.reads same.since; displaces = h }))
+
+  none_displaced : AreSteady l → AreSteady m → (r : Records l c) (q : Records m d) → NoneDisplaced r.turns → NoneDisplaced q.turns → Outcome
+  none_displaced steady steady_too r q stay stay_too =
       let lines : List (List ℕ) = Lines l c in
       let legal_too : IsRun fresh lines q.turns = subst (λ (xs : List (List ℕ)). IsRun fresh xs q.turns) (sym lines_same) q.legal in
       let harmless_too : NoneHarmed (run_after fresh lines q.turns) = subst (λ (xs : List (List ℕ)). NoneHarmed (run_after fresh xs q.turns)) (sym lines_same) (harmless m d steady_too q) in
       let wrote_too : taken_by m.new ≡ taken_by m.old ++ output_of fresh lines q.turns =
       subst (λ (xs : List (List ℕ)). taken_by m.new ≡ taken_by m.old ++ output_of fresh xs q.turns) (sym lines_same) (wrote m d texts q) in
-      elim (fixed fresh lines r.turns q.turns r.legal legal_too (harmless l c steady r) harmless_too) [
-        | inl alike ↦ inl (record {
+      elim (fixed fresh lines r.turns q.turns r.legal legal_too stay stay_too (harmless l c steady r) harmless_too) [
+        | inl alike ↦ inl (inl (record {
           output = output_of fresh lines r.turns;
           taken = wrote l c texts r;
           taken_too = wrote_too ∙ ap (λ (xs : List ℕ). taken_by m.old ++ xs) (sym alike.output);
-        })
+        }))
         | inr other ↦ inr (record {
           lines = lines;
           taken = taken_all l c same.reads same.since;
@@ -122,7 +183,16 @@ module _ (fixed : OutputIsFixed) (texts : TextsAreOutput) (spells : SpelledAreLi
         })
       ]
 
-  either : AreSteady l → AreSteady m → Records l c ⊎ Pairs l c → Records m d ⊎ Pairs m d → OrShown (TakeSame l m) (ShowPair l m same)
+  both_told : AreSteady l → AreSteady m → Records l c → Records m d → Outcome
+  both_told steady steady_too r q = elim (displaces_or_not r.turns) [
+    | inr one ↦ one_displaced (inl (displaces l c texts r one))
+    | inl stay ↦ elim (displaces_or_not q.turns) [
+      | inr other ↦ one_displaced (inr (subst (λ (xs : List (List ℕ)). HasDisplaced m xs) (sym lines_same) (displaces m d texts q other)))
+      | inl stay_too ↦ none_displaced steady steady_too r q stay stay_too
+    ]
+  ]
+
+  either : AreSteady l → AreSteady m → Records l c ⊎ Pairs l c → Records m d ⊎ Pairs m d → Outcome
   either steady steady_too (inl r) (inl q) = both_told steady steady_too r q
   either steady steady_too (inr p) q = inr (record { lines = Lines l c; taken = taken_all l c same.reads same.since; shows = inl (inl (shows l c p)) })
   either steady steady_too (inl r) (inr p) = inr (record {
@@ -131,5 +201,5 @@ module _ (fixed : OutputIsFixed) (texts : TextsAreOutput) (spells : SpelledAreLi
     shows = inl (inr (subst (λ (xs : List (List ℕ)). ShowsPairAmong m xs) (sym lines_same) (shows m d p)));
   })
 
-  pub source_fixes_sink : AreSteady l → AreSteady m → OrShown (TakeSame l m) (ShowPair l m same)
+  pub source_fixes_sink : AreSteady l → AreSteady m → Outcome
   source_fixes_sink steady steady_too = either steady steady_too c.story.records d.story.records

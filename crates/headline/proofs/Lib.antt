@@ -7,6 +7,10 @@ mod Whole
 mod Troubles
 mod Lost
 mod Damages
+mod Missing
+mod Displaced
+mod NeverPut
 mod Endings
 mod Accounts
 mod Fixed
+mod Readers

@@ -17,6 +17,7 @@ use Rattle.script_run.specs.Turn.{Turn}
 use Rattle.script_run.specs.Answers.{format_said, session_said, step_answer, step_said}
 use Rattle.script_run.specs.Behind.{after_line, after_reading, after_step, behind, in_session}
 use Rattle.script_run.specs.Takes.{IsRun, ReadingTakes, SessionTakes, StepTakes, Takes, run_after}
+use Rattle.script_laws.specs.Causes.{cause_answered}
 use Rattle.script_laws.specs.Runs.{answers_damage, answers_fault}
 use Rattle.run_promise.specs.Lines.{answers_of, reading_answer}
 use Rattle.headline.specs.Account.{Account, Logs, Tells}
@@ -91,19 +92,20 @@ pub record OnSession (run : Run) (turn : Turn) (o : Option State) (asks : Step) 
   pub said : step_said run turn o asks ≡ session_said run s (after_all s turn.added) turn asks
   pub next : behind run turn o asks ≡ in_session run s (after_all s turn.added) turn asks
 
--- the answer tells no trouble
+-- the answer tells no trouble, and no cause
 pub record IsUntroubled (said : StepAnswer) : Type 0 where
   pub no_fault : answers_fault said ≡ false
   pub no_damage : answers_damage said ≡ false
+  pub no_cause : cause_answered said ≡ None
 
 format_untroubled : (added : List Rec) (bad : Option BadGeometry) → IsUntroubled (format_said added bad)
-format_untroubled added None = record { no_fault = refl; no_damage = refl }
-format_untroubled added (Some bad) = record { no_fault = refl; no_damage = refl }
+format_untroubled added None = record { no_fault = refl; no_damage = refl; no_cause = refl }
+format_untroubled added (Some bad) = record { no_fault = refl; no_damage = refl; no_cause = refl }
 
 kinds : (run : Run) (turn : Turn) (o : Option State) (asks : Step) → Takes run turn o asks → OnSession run turn o asks ⊎ IsUntroubled (step_said run turn o asks)
 kinds run turn o (step.Format name segments buckets content agg reach fragment generation alternates) takes =
     inr (format_untroubled turn.added (first_refusal segments buckets content agg reach fragment alternates))
-kinds run turn o (step.Now at) takes = inr (record { no_fault = refl; no_damage = refl })
+kinds run turn o (step.Now at) takes = inr (record { no_fault = refl; no_damage = refl; no_cause = refl })
 kinds run turn (Some s) _ takes = inl (record { s = s; state = refl; takes = takes; said = refl; next = refl })
 kinds run turn None _ takes = absurd takes
 

@@ -9,11 +9,11 @@ use Rattle.cache_model.specs.declared.cause.Cause.{Cause}
 use Rattle.cache_model.specs.declared.cause.Cause.TheVariants as cause
 use Rattle.cache_model.specs.declared.record.Rec.{Rec}
 use Rattle.cache_model.specs.declared.record.Rec.TheVariants as rec
-use Rattle.cache_model.specs.State.{State, after_all, state_after}
+use Rattle.cache_model.specs.State.{State, after_all, state_after, AllAlong}
 use Rattle.cache_model.specs.Damage.{has_damage, is_damage}
 use Rattle.cache_model.specs.Permit.{IsAmong, Permit}
 use Rattle.cache_model.proofs.Found.{no_truth, none_is}
-use Rattle.model_laws.specs.StepLaws.{AllAlong, FaultsRise, IsRisen}
+use Rattle.model_laws.specs.StepLaws.{FaultsRise, IsRisen}
 use Rattle.script_lang.specs.declared.answer.Refused.TheVariants as refused
 use Rattle.script_lang.specs.declared.answer.StepAnswer.{StepAnswer}
 use Rattle.script_lang.specs.declared.answer.StepAnswer.TheVariants as answer

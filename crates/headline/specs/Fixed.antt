@@ -1,13 +1,16 @@
--- Determinism: what the source gave fixes what the sink took.
-use Rattle.std.specs.Prelude.{◌≡◌, ℕ, List, [], ◌∷◌, ◌++◌, ◌⊎◌}
+-- Determinism: what the source gave fixes what the sink took, where nothing was displaced.
+use Rattle.std.specs.Prelude.{◌≡◌, ℕ, List, [], ◌∷◌, ◌++◌, ◌⊎◌, true}
 use Rattle.std.specs.List.{AllByRecursion}
 use Rattle.device_log.specs.Streams.{SourceRead, taken_by}
 use Rattle.edge_io.specs.Text.{text_read}
 use Rattle.logged_disk.specs.Device.{State as Device, TellsAll}
+use Rattle.cache_model.specs.declared.record.Rec.{Rec}
+use Rattle.cache_model.specs.Permit.{IsAmong}
+use Rattle.model_laws.specs.RoomLaws.{is_displacement}
 use Rattle.script_run.specs.Run.{fresh}
 use Rattle.script_run.specs.Turn.{Turn}
 use Rattle.script_run.specs.Behind.{harms_of}
-use Rattle.script_run.specs.Takes.{IsRun, LineShows, run_after}
+use Rattle.script_run.specs.Takes.{IsRun, LineShows, output_of, run_after}
 use Rattle.script_laws.specs.Agreeing.{ShowsOtherAlong}
 use Rattle.run_promise.specs.Outline.{called}
 use Rattle.run_promise.specs.declared.status.Status.TheVariants as status
@@ -36,6 +39,25 @@ pub record TakeSame (l m : Logs) : Type 0 where
   pub output : List ℕ
   pub taken : taken_by l.new ≡ taken_by l.old ++ output
   pub taken_too : taken_by m.new ≡ taken_by m.old ++ output
+
+-- in a legal run of these lines, which print what the sink took, a line recorded that a piece was displaced; the logs of the
+-- devices of the run have the calls of its turns
+pub record HasDisplaced (l : Logs) (lines : List (List ℕ)) : Type 0 where
+  pub turns : List Turn
+  pub legal : IsRun fresh lines turns
+  pub prints : taken_by l.new ≡ taken_by l.old ++ output_of fresh lines turns
+  pub made : ComeBackFrom l (harms_of (run_after fresh lines turns))
+  pub turn : Turn
+  pub among : IsAmong turn turns
+  pub told : Rec
+  pub recorded : IsAmong told turn.added
+  pub tells : is_displacement told ≡ true
+
+-- the lines of the text that both sources gave displaced a piece, in the one run or the other
+pub record OneDisplaced (l m : Logs) (same : GiveSame l m) : Type 0 where
+  pub lines : List (List ℕ)
+  pub taken : Taken (text_read same.reads) lines []
+  pub displaces : HasDisplaced l lines ⊎ HasDisplaced m lines
 
 -- one of these lines shows a pair, in a legal run of those before it; the log of a device of the run has the calls of the
 -- turn that shows it, behind those of the earlier lines of its session
@@ -67,7 +89,8 @@ pub record ShowPair (l m : Logs) (same : GiveSame l m) : Type 0 where
   pub taken : Taken (text_read same.reads) lines []
   pub shows : (ShowsPairAmong l lines ⊎ ShowsPairAmong m lines) ⊎ ShowsOtherAmong l m lines
 
--- two runs that were read to their end, over sources that gave the same and devices that were steady, wrote the same
+-- two runs that were read to their end, over sources that gave the same and devices that were steady, wrote the same, or one
+-- of them displaced a piece
 abbrev pub SourceFixesSink : Type 0
 SourceFixesSink = (l m : Logs) → IsConcluded l status.Done → IsConcluded m status.Done → (same : GiveSame l m) → AreSteady l → AreSteady m
-    → OrShown (TakeSame l m) (ShowPair l m same)
+    → OrShown (TakeSame l m ⊎ OneDisplaced l m same) (ShowPair l m same)

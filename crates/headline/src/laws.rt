@@ -1,16 +1,22 @@
 // The sentences of the headline. These functions do nothing when they run.
 ghost use Rattle.headline.specs.Reads.{FollowWasPut, GotIsWhole, HitIsWhole};
+ghost use Rattle.headline.specs.Readers.{EndIsRead};
 ghost use Rattle.headline.specs.Causes.{DamageWasGiven, FaultsWereRefused};
+ghost use Rattle.headline.specs.Misses.{DisplacedWasTold, NeverPutWasNone, VectorWasLost};
 ghost use Rattle.headline.specs.Troubles.{CountsAreReached, NoFalseDamage, NoFalseFaults};
 ghost use Rattle.headline.specs.Endings.{DoneWhereFine, EndsAreCaused, RunsAreTold};
 ghost use Rattle.headline.specs.Fixed.{SourceFixesSink};
 
 use edge_io::texts_have_lines;
 use model_laws::faults_rise;
-use reader_laws::{damage_is_given, follow_is_asked, got_is_put, hit_is_asked, length_is_told};
+use reader_laws::{
+    all_given, damage_is_given, follow_is_asked, got_is_put, hit_is_asked, length_is_told,
+    reader_is_opened,
+};
 use run_promise::texts_are_output;
 use script_laws::{
     answers_are_traced, damage_is_recorded, damage_stays, fault_is_recorded, output_is_fixed,
+    vectors_are_on_record,
 };
 
 /// What is concluded of a run that was begun gives its account: what the sink took is the text of its answers, as far
@@ -37,6 +43,15 @@ pub fn hit_is_whole()
     length_is_told();
 }
 
+/// Each line answered `end` is of a reader that an earlier line of the session opened; and the pieces that the lines
+/// of its actor were answered since are, joined, all that the writer of its put took.
+pub fn end_is_read()
+    ensures { EndIsRead }
+{
+    reader_is_opened();
+    all_given();
+}
+
 /// What a line is answered that it follows was opened by an earlier line under the asked key, with lines that
 /// fit the request.
 pub fn follow_was_put()
@@ -61,6 +76,25 @@ pub fn damage_was_given()
     damage_is_given();
     damage_stays();
 }
+
+/// Where a line is answered never-put, no earlier line of its session completed, gave up or removed a put of the key.
+pub fn never_put_was_none()
+    ensures { NeverPutWasNone }
+{
+    vectors_are_on_record();
+}
+
+/// Where a line tells a displacement as a cause, it was recorded in that line or an earlier one of its session.
+pub fn displaced_was_told()
+    ensures { DisplacedWasTold }
+{
+    answers_are_traced();
+}
+
+/// And where it is why there is nothing under a key, the piece was the vector of the key's last commit.
+pub fn vector_was_lost()
+    ensures { VectorWasLost }
+{}
 
 /// No line answers a count above that with which its device came back.
 pub fn counts_are_reached()
@@ -94,7 +128,8 @@ pub fn ends_are_caused()
     ensures { EndsAreCaused }
 {}
 
-/// Over devices that tell their content and refuse nothing, what the source gave fixes what the sink took.
+/// Over devices that tell their content and refuse nothing, and where nothing was displaced, what the source gave
+/// fixes what the sink took.
 pub fn source_fixes_sink()
     ensures { SourceFixesSink }
 {

@@ -1,0 +1,42 @@
+-- Complete reads by `next`: what an actor was answered whose reader comes to the end.
+use Rattle.std.specs.Prelude.{◌≡◌, ◌⊎◌, ◌+◌, ℕ, List, ◌∷◌, ◌++◌, drop, length}
+use Rattle.tape_base.specs.declared.keys.Key.{Key}
+use Rattle.alternate_vector.specs.Field.{Field}
+use Rattle.script_lang.specs.declared.step.Step.TheVariants as step
+use Rattle.script_lang.specs.declared.answer.StepAnswer.TheVariants as answer
+use Rattle.script_run.specs.Run.{fresh}
+use Rattle.script_run.specs.Takes.{run_after}
+use Rattle.reader_laws.specs.Actors.{pieces_told}
+use Rattle.reader_laws.specs.Along.{AreOfSession}
+use Rattle.reader_laws.specs.Laws.{WasPutFor}
+use Rattle.headline.specs.Account.{Account, Logs, Tells}
+use Rattle.headline.specs.Reads.{DidBefore}
+
+module _ {l : Logs} where
+  -- the line behind these opened a reader for the actor of this name: it was answered that it hit the put, or follows it,
+  -- which an earlier line of the session opened under the asked key, with lines that fit the request
+  pub record HasOpened (a : Account l) (lines : List (List ℕ)) (name : List ℕ) (put : ℕ) : Type 0 where
+    pub key : Key
+    pub request : List Field
+    pub said : ((size : ℕ) × Tells a lines (step.OpenRead name key request) (answer.Hit put size)) ⊎ Tells a lines (step.OpenRead name key request) (answer.Follow put)
+    pub did : DidBefore a.turns lines
+    pub put_for : WasPutFor lines did.earlier key request put
+
+  -- an earlier line of the session opened a reader for the actor; the pieces that the lines of the actor were answered since
+  -- are, joined, all that the writer of its put took, and so many bytes
+  pub record IsReadToEnd (a : Account l) (lines : List (List ℕ)) (name : List ℕ) (size : ℕ) : Type 0 where
+    pub did : DidBefore a.turns lines
+    pub before : List (List ℕ)
+    pub bytes : List ℕ
+    pub later : List (List ℕ)
+    pub lines_are : lines ≡ before ++ bytes ∷ later
+    pub same_session : AreOfSession later
+    pub put : ℕ
+    pub opened : HasOpened a before name put
+    pub pieces : pieces_told name later (drop (length before + 1) a.answers) ≡ ((run_after fresh lines did.earlier).streams put).bytes
+    pub sized : size ≡ length ((run_after fresh lines did.earlier).streams put).bytes
+
+-- each line answered `end` ends such a reader
+abbrev pub EndIsRead : Type 0
+EndIsRead = (l : Logs) (a : Account l) (lines : List (List ℕ)) (name : List ℕ) (size : ℕ)
+    → Tells a lines (step.Next name) (answer.End size) → IsReadToEnd a lines name size
