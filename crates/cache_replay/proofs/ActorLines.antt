@@ -1,11 +1,10 @@
 -- What the actors have behind a line of one of them, and lines that do nothing.
-use Rattle.std.proofs.Common.{◌≡◌, ℕ, ◌+◌, ◌*◌, ◌≤◌, List, [], ◌∷◌, ◌++◌, length, refl, sym, ◌∙◌, ap, subst, Bool, true, false, inl, inr, arith, Result, Ok, Err}
+use Rattle.std.proofs.Common.{◌≡◌, ℕ, ◌+◌, ◌≤◌, List, [], ◌∷◌, ◌++◌, length, refl, sym, ◌∙◌, ap, subst, Bool, true, false, inl, inr, arith, Result, Ok, Err}
 use Rattle.std.specs.Prelude.{Option, Some, None, IfSome, IsErrAnd, ◌==◌, if◌then◌else◌, option_map}
 use Rattle.std.proofs.lemmas.Bool.{eqb-true, eq-eqb}
 use Rattle.std.proofs.lemmas.List.{length-append}
 use Rattle.std.specs.Global.{Vec}
 use Rattle.std.specs.Vec.{with_items}
-use Rattle.tape_base.specs.Geometry.{budget_of}
 use Rattle.actor_table.specs.Table.{Seen, number_of, slot_of, with_actor}
 use Rattle.cache_model.specs.Kept.{state_of}
 use Rattle.cache_model.specs.State.{State}
@@ -34,8 +33,8 @@ use Rattle.cache_replay.specs.Moves.{Moves, MovesOrShows}
 use Rattle.cache_replay.specs.OneLine.{AnswersActor}
 use Rattle.run_promise.specs.Outline.{count_in}
 use Rattle.cache_replay.specs.Plays.{IsHeldAs, PartEnds, PlaysIn, PlaysPart}
-use Rattle.cache_replay.specs.Session.{AreHeld, HoldingSeen, IsActive, IsHeld, IsPart, LeavesBut, at_in, holding_seen, slots_of, state_in}
-use Rattle.cache_replay.proofs.Frames.{Changed, leaves_all}
+use Rattle.cache_replay.specs.Session.{AreHeld, HoldingSeen, IsActive, IsHeld, at_in, holding_seen, slots_of, state_in}
+use Rattle.cache_replay.proofs.Frames.{Changed, leaves_all, part_behind}
 use Rattle.cache_replay.proofs.Plain.{none_else, still_plays}
 use Rattle.cache_replay.proofs.OnSession.{StandsBehind, stands_behind}
 use Rattle.cache_replay.proofs.Whole.{moves_line, serves_whole}
@@ -129,16 +128,6 @@ pub refilled : (v : Vec ℕ) (ws : List ℕ) → length (with_items v ws).items 
 refilled v ws = sym (with_items v ws).ok.0 ∙ v.ok.0
 
 module _ {S W R : Type 0} {c : CallsGhosts S W R} where
-  pub part_behind : (old new : Part S W R c) → IsPart old → Goes c.at c.holds old.cache new.cache → IsAtRest (at_in new)
-      → length new.page.items ≡ length old.page.items → (put reader : Option ℕ) → LeavesBut put reader (state_in old) (state_in new) → IsPart new
-  part_behind old new part goes rest page put reader leaves = record {
-    holds = goes.holds_then;
-    rest = rest;
-    plain = goes.setting ∙ part.plain;
-    losses = leaves.losses part.losses;
-    page = page ∙ (part.page ∙ ap (λ g. 512 * budget_of g) (sym leaves.geometry));
-  }
-
   -- where no actor has anything else
   pub same_active : (part : Part S W R c) (slots later : ℕ → Option HoldingSeen) → ((m : ℕ) → later m ≡ slots m) → IsActive part slots → IsActive part later
   same_active part slots later same active = record {

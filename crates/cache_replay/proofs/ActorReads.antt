@@ -23,8 +23,8 @@ use Rattle.cache_replay.specs.OneLine.{AnswersActor}
 use Rattle.cache_replay.specs.Plays.{PartEnds, PlaysPart}
 use Rattle.cache_replay.specs.ReaderLines.{IsReadBy, LeavesReader, NextEnds, ReadsOnLine, reader_held}
 use Rattle.cache_replay.specs.Session.{IsActive, ReaderHeld, at_in, slots_of, state_in}
-use Rattle.cache_replay.proofs.ActorLines.{changed_again, names_within, part_behind, still_line}
-use Rattle.cache_replay.proofs.Frames.{Changed, reader_leaves}
+use Rattle.cache_replay.proofs.ActorLines.{changed_again, names_within, still_line}
+use Rattle.cache_replay.proofs.Frames.{Changed, part_behind, reader_leaves}
 use Rattle.cache_replay.proofs.ReaderLines.{Took, Turns, apart_else, held_reader, reader_ends, reads_none, reads_with, still_held, turns_active}
 
 -- the actor still has it

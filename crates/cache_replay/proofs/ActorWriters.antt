@@ -1,7 +1,7 @@
 -- What a line on an actor's writer makes of the actors, and of the run.
 use Rattle.std.proofs.Common.{◌≡◌, ℕ, ◌≤◌, List, [], ◌∷◌, length, refl, sym, ◌∙◌, ap, subst, Bool, true, false, inl, inr, Result, Ok, Err}
 use Rattle.std.specs.Prelude.{Option, Some, None, IfSome, IfOk, IfErr, ◌==◌, if◌then◌else◌, is_some, option_and_then, option_map}
-use Rattle.std.proofs.lemmas.Bool.{eqb-true, eq-eqb}
+use Rattle.std.proofs.lemmas.Bool.{eqb-false, eqb-true}
 use Rattle.tape_base.specs.declared.keys.Key.{Key}
 use Rattle.alternate_vector.specs.Field.{Field}
 use Rattle.actor_table.specs.Table.{Seen, number_of, slot_of, with_actor}
@@ -31,8 +31,8 @@ use Rattle.cache_replay.specs.Session.{AreApart, AreHeld, Differ, HoldingSeen, I
 use Rattle.cache_replay.specs.Session.{state_in}
 use Rattle.cache_replay.specs.WriterLines.{Closes, Feeds, GivesUp, HasNoWriter, IsLeft, IsPlayed, LeavesWriter, OpenDoes, Opens, TakesWriter, WriterDoes, WriterEnds, WriterLine}
 use Rattle.cache_replay.specs.WriterLines.{WriterMoves, held_in, step_of, writes_in}
-use Rattle.cache_replay.proofs.ActorLines.{DoesNothing, changed_from, held_is, names_are, names_within, part_behind, seen_same, still_line, with_here, with_other}
-use Rattle.cache_replay.proofs.Frames.{Changed, IsElse, IsMine, OthersElse, SameStreams, all_apart, all_held, all_held_as, put_leaves}
+use Rattle.cache_replay.proofs.ActorLines.{DoesNothing, changed_from, held_is, names_are, names_within, seen_same, still_line, with_here, with_other}
+use Rattle.cache_replay.proofs.Frames.{Changed, IsElse, IsMine, OthersElse, SameStreams, all_apart, all_held, all_held_as, part_behind, put_leaves}
 use Rattle.cache_replay.proofs.Free.{others_write_older}
 use Rattle.cache_replay.proofs.OnSession.{StandsBehind, stands_behind}
 
@@ -42,12 +42,9 @@ else_by : (w : WriterSeen) (h : HoldingSeen) → Differ (WriterHeld w) h → IsE
 else_by w (WriterHeld v) d = λ same. let is : w.put ≡ v.put = cc in d is
 else_by w (ReaderHeld r) d = λ same. cc
 
-not_same : (m n : ℕ) → (m == n) ≡ false → n ≡ m → ⊥
-not_same m n nope is = let yea : (m == n) ≡ true = eq-eqb m n (sym is) in cc
-
 -- no other actor has the writer of the same put
 pub others_else : (slots : ℕ → Option HoldingSeen) (n : ℕ) (w : WriterSeen) → AreApart slots → slots n ≡ Some (WriterHeld w) → OthersElse slots n (Some w.put) None
-others_else slots n w apart mine = λ m h nope is. else_by w h (apart n m (WriterHeld w) h (not_same m n nope) mine is)
+others_else slots n w apart mine = λ m h nope is. else_by w h (apart n m (WriterHeld w) h (λ same. eqb-false m n nope (sym same)) mine is)
 
 -- the writer that is left is open
 held_left : (t : State) (put : ℕ) (left : Option WriterSeen) → IsLeft t put left → IfSome (held_in left) (IsHeld t)

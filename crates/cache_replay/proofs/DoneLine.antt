@@ -28,8 +28,8 @@ use Rattle.cache_replay.specs.OneLine.{AnswersActor}
 use Rattle.cache_replay.specs.Plays.{PartEnds, PlaysPart}
 use Rattle.cache_replay.specs.ReaderLines.{reader_held}
 use Rattle.cache_replay.specs.Session.{IsActive, at_in, slots_of, state_in}
-use Rattle.cache_replay.proofs.ActorLines.{names_within, part_behind, still_line}
-use Rattle.cache_replay.proofs.Frames.{reader_leaves}
+use Rattle.cache_replay.proofs.ActorLines.{names_within, still_line}
+use Rattle.cache_replay.proofs.Frames.{part_behind, reader_leaves}
 use Rattle.cache_replay.proofs.ReaderLines.{Took, Turns, apart_else, held_reader, reader_ends, reads_none, reads_with, still_held, turns_active}
 use Rattle.cache_replay.proofs.Whole.{moves_line, serves_whole}
 

@@ -22,7 +22,8 @@ use Rattle.script_run.specs.Asked.{feed_intents, rest_behind, whole_fragments}
 use Rattle.cache_replay.specs.Replies.{count_of_refusal}
 use Rattle.cache_replay.specs.Feeding.{FeedsAsAsked, FeedsWhere, IsCutUp, IsCutWhere, IsFed, IsOpenBehind, feed_progress, taken_of}
 use Rattle.cache_replay.proofs.CutBodies.{cut_first, not_most, rest_first, whole_first}
-use Rattle.cache_replay.proofs.FeedRounds.{Cuts, Wrote, adds_then, few, within}
+use Rattle.cache_replay.proofs.FeedRounds.{Cuts, Wrote, few, within}
+use Rattle.cache_replay.proofs.Frames.{adds_then}
 
 -- ---- what holds where feeding ends
 

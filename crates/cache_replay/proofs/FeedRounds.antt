@@ -2,23 +2,26 @@
 use Rattle.std.proofs.Common.{◌≡◌, ℕ, ◌+◌, ◌-◌, ◌<◌, ◌≤◌, List, [], ◌∷◌, ◌++◌, inl, inr, refl, sym, ◌∙◌, ap, subst, arith, Bool, true, false, length, take}
 use Rattle.std.specs.Prelude.{Option, Some, option_map, unwrap_or, find, ◌==◌, ◌&&◌, not, min, nat_lt, if◌then◌else◌, MatchBool}
 use Rattle.std.specs.List.{AllByRecursion}
-use Rattle.std.proofs.ByRecursion.{All-append}
 use Rattle.std.proofs.lemmas.Bool.{eqb-true, eq-eqb, ltb-true, lt-ltb}
 use Rattle.std.proofs.lemmas.Bool.Decides.{eqb_tells}
-use Rattle.std.proofs.lemmas.List.{append_assoc, length-append, length-take-le}
+use Rattle.std.proofs.lemmas.List.{length-append, length-take-le}
+use Rattle.tape_base.specs.declared.pieces.PieceId.{PieceId}
 use Rattle.tape_base.specs.Digest.{digest_of}
-use Rattle.fragment_table.specs.Table.{TableRow, made_row}
+use Rattle.fragment_table.specs.Table.{TableRow, made_row, total_length}
 use Rattle.cache_model.specs.declared.record.Rec.{Rec}
 use Rattle.cache_model.specs.declared.record.Rec.TheVariants as rec
 use Rattle.cache_model.specs.State.{PutRow, State, after_all, change_put, most_fragments, put_of, state_after, with_cut}
-use Rattle.cache_model.specs.Kept.{Kept, state_of, with_records}
-use Rattle.cache_model.specs.Permit.{Intent, Overflow}
+use Rattle.cache_model.specs.Kept.{state_of}
+use Rattle.cache_model.specs.Permit.{Permit, Intent, Overflow}
+use Rattle.cache_model.specs.Room.{MayDisplace, placed_record}
 use Rattle.cache_model.specs.Verdict.{cuts_of, is_open}
 use Rattle.cache_model.specs.Legal.{is_writing}
 use Rattle.cache_model.proofs.Found.{cuts_found}
 use Rattle.cache_model.proofs.ByNumber.{find-changed}
+use Rattle.cache_model.proofs.Sound.{buffer_left, displaced_leave}
 use Rattle.cache_model.proofs.Steps.{after_all-append}
-use Rattle.call_laws.specs.Moments.{At}
+use Rattle.model_laws.proofs.Told.{displaced_behind}
+use Rattle.call_laws.specs.Moments.{At, permit_of}
 use Rattle.call_laws.specs.Progress.{AllDone}
 use Rattle.call_laws.specs.Serves.{Serves}
 use Rattle.call_laws.proofs.Joined.{state_behind}
@@ -26,20 +29,11 @@ use Rattle.cache_calls.specs.Actors.{IsAtHand, IsWriterOf, WriterSeen}
 use Rattle.cache_calls.specs.Adds.{Adds, IsOfFlush, IsOfPut}
 use Rattle.cache_calls.specs.Asked.{cuts_next, fed_asks, gathered_with, is_cut, is_overflow, next_payload, taken_of, write_asks}
 use Rattle.cache_calls.specs.Keeping.{state_at}
-use Rattle.cache_calls.specs.Writers.{CutsAs, HasTaken, IsTaking, Takes, fragment_records}
+use Rattle.cache_calls.specs.Writers.{CutsAs, HasTaken, IsTaking, Takes, fragment_records, next_fragment}
 use Rattle.script_run.proofs.Ended.{IsFoundOpen, open_row}
 use Rattle.cache_replay.proofs.CutBodies.{not_most}
 
 -- ---- what is added
-
--- records of one kind, and then others
-pub adds_then : (P : Rec → Type 0) (a b c : At) → Adds P a b → Adds P b c → Adds P a c
-adds_then P a b c f l = record {
-  added = f.added ++ l.added;
-  adds = l.adds ∙ (ap (λ k. with_records k l.added) f.adds
-      ∙ ap (λ recs. let k : Kept = record { told = a.kept.told; base = a.kept.base; since = recs } in k) (append_assoc a.kept.since f.added l.added));
-  own = All-append P f.added l.added f.own l.own;
-}
 
 -- no put is another behind some records
 pub record SamePuts (s t : State) : Type 0 where
@@ -61,6 +55,13 @@ flush_leaves s (r ∷ recs) h =
     let first : SamePuts s (state_after s r) = one_of_flush s r h.0 in
     let others : SamePuts (state_after s r) (after_all (state_after s r) recs) = flush_leaves (state_after s r) recs h.1 in
     record { puts = others.puts ∙ first.puts; geometry = others.geometry ∙ first.geometry }
+
+-- nor behind those of what an entry displaces
+pushed_leave : (p : Permit) (s t : State) (piece : PieceId) (displaced : List Rec) → MayDisplace p s piece displaced → SamePuts t (after_all t displaced)
+pushed_leave p s t piece displaced m = record {
+  puts = subst (λ recs. (after_all t recs).puts ≡ t.puts) (sym m.is) (displaced_behind t _ _ m.purged 0).puts;
+  geometry = (buffer_left t displaced (displaced_leave p s piece displaced m)).0;
+}
 
 -- ---- what is asked
 
@@ -123,17 +124,28 @@ module _ (old new : At) (w : WriterSeen) (payload : List ℕ) (c : CutsAs old ne
   room_left : SamePuts (state_at old) room
   room_left = flush_leaves (state_at old) c.room c.kinds
 
-  cut_state : state_at new ≡ after_all room (fragment_records room w payload)
+  abbrev cut : State
+  cut = state_after room (rec.Cut w.put (length w.cuts + 1) (length payload) (digest_of payload))
+
+  abbrev placed : Rec
+  placed = placed_record room (next_fragment w) w.pin (total_length w.cuts) (length payload) payload
+
+  pushed_left : SamePuts cut (after_all cut c.displaced)
+  pushed_left = let p : Permit = permit_of 0 old.setting [] [] in pushed_leave p room cut (next_fragment w) c.displaced (c.pushed p refl)
+
+  cut_state : state_at new ≡ state_after (after_all cut c.displaced) placed
   cut_state =
-      state_behind old.kept new.kept (c.room ++ fragment_records room w payload) c.adds ∙ after_all-append (state_at old) c.room (fragment_records room w payload)
+      let recs : List Rec = fragment_records room w payload c.displaced in
+      state_behind old.kept new.kept (c.room ++ recs) c.adds ∙ (after_all-append (state_at old) c.room recs ∙ after_all-append cut c.displaced (placed ∷ []))
 
   cut_found : (row : PutRow) → put_of (state_at old) w.put ≡ Some row → put_of (state_at new) w.put ≡ Some (with_cut (row_for payload) row)
   cut_found row found =
       ap (λ (x : State). put_of x w.put) cut_state
-      ∙ found_changed w.put (with_cut (row_for payload)) room.puts row (λ x. refl) (ap (find (λ (p : PutRow). p.put == w.put)) room_left.puts ∙ found)
+      ∙ (ap (find (λ (p : PutRow). p.put == w.put)) pushed_left.puts
+      ∙ found_changed w.put (with_cut (row_for payload)) room.puts row (λ x. refl) (ap (find (λ (p : PutRow). p.put == w.put)) room_left.puts ∙ found))
 
   cut_geometry : (state_at new).geometry ≡ (state_at old).geometry
-  cut_geometry = ap (λ (x : State). x.geometry) cut_state ∙ room_left.geometry
+  cut_geometry = ap (λ (x : State). x.geometry) cut_state ∙ (pushed_left.geometry ∙ room_left.geometry)
 
 -- ---- a write that took bytes
 

@@ -1,8 +1,10 @@
 -- What a call does not speak of stays.
-use Rattle.std.proofs.Common.{◌≡◌, ℕ, ◌+◌, List, refl, sym, ◌∙◌, ap, subst, arith, Bool, true, false, ◌⊎◌, inl, inr}
+use Rattle.std.proofs.Common.{◌≡◌, ℕ, ◌+◌, ◌*◌, List, ◌++◌, length, refl, sym, ◌∙◌, ap, subst, arith, Bool, true, false, ◌⊎◌, inl, inr}
 use Rattle.std.specs.Prelude.{Option, Some, None, IfSome, ◌==◌, if◌then◌else◌, find, option_map, unwrap_or}
+use Rattle.std.proofs.ByRecursion.{All-append}
 use Rattle.std.proofs.lemmas.Bool.{eqb-true}
-use Rattle.std.proofs.lemmas.List.{append_cancel_left}
+use Rattle.std.proofs.lemmas.List.{append_assoc, append_cancel_left}
+use Rattle.tape_base.specs.Geometry.{budget_of}
 use Rattle.cache_model.specs.declared.record.Rec.{Rec}
 use Rattle.cache_model.specs.State.{PutRow, ReaderRow, State, put_of, reader_of}
 use Rattle.cache_model.specs.Kept.{Kept, with_records}
@@ -10,21 +12,34 @@ use Rattle.cache_model.specs.Verdict.{is_open}
 use Rattle.cache_model.specs.Legal.{is_writing}
 use Rattle.call_laws.specs.Moments.{At}
 use Rattle.call_laws.proofs.Joined.{state_behind}
+use Rattle.cache_calls.specs.declared.calls.Calls.{Ghosts as CallsGhosts}
 use Rattle.cache_calls.specs.Actors.{IsAtHand, IsWriterOf, WriterSeen}
 use Rattle.cache_calls.specs.Adds.{Adds, AddsAll, IsOfPut, IsOfReader}
-use Rattle.cache_calls.specs.Keeping.{state_at}
+use Rattle.cache_calls.specs.Keeping.{Goes, IsAtRest, state_at}
 use Rattle.cache_calls.specs.Others.{LeavesOtherReaders, LeavesOthers}
 use Rattle.cache_calls.proofs.Others.{others_stay, readers_stay, reads_leave_others}
 use Rattle.script_run.specs.Losses.{NoLossIsAFault}
 use Rattle.script_run.proofs.Losses.{losses_stay}
 use Rattle.script_run.specs.Run.{Run}
-use Rattle.cache_replay.specs.Session.{AreApart, AreHeld, Differ, HoldingSeen, IsHeld, LeavesBut, ReaderHeld, WriterHeld}
+use Rattle.cache_replay.specs.declared.session.Part.{Part}
+use Rattle.cache_replay.specs.Session.{AreApart, AreHeld, Differ, HoldingSeen, IsHeld, IsPart, LeavesBut, ReaderHeld, WriterHeld, at_in, state_in}
 use Rattle.cache_replay.specs.Plays.{IsHeldAs, IsStreamOf}
 
 -- ---- what is there
 
 pub some_is : {X : Type 0} (x y : X) → Some x ≡ Some y → x ≡ y
 some_is x y e = cc
+
+-- ---- what is added
+
+-- records of one kind, and then others
+pub adds_then : (P : Rec → Type 0) (a b c : At) → Adds P a b → Adds P b c → Adds P a c
+adds_then P a b c f l = record {
+  added = f.added ++ l.added;
+  adds = l.adds ∙ (ap (λ k. with_records k l.added) f.adds
+      ∙ ap (λ recs. let k : Kept = record { told = a.kept.told; base = a.kept.base; since = recs } in k) (append_assoc a.kept.since f.added l.added));
+  own = All-append P f.added l.added f.own l.own;
+}
 
 -- ---- what the calls of one actor leave
 
@@ -219,3 +234,17 @@ pub all_apart : (put reader : Option ℕ) (slots new : ℕ → Option HoldingSee
 all_apart put reader slots new n x changed others mine apart = λ m k a b differ at too.
     apart_by put reader slots n m k x a b others mine apart differ (at_by slots n m x a (m == n) refl (sym (changed m) ∙ at))
     (at_by slots n k x b (k == n) refl (sym (changed k) ∙ too))
+
+-- ---- the part
+
+module _ {S W R : Type 0} {c : CallsGhosts S W R} where
+  -- behind a call
+  pub part_behind : (old new : Part S W R c) → IsPart old → Goes c.at c.holds old.cache new.cache → IsAtRest (at_in new)
+      → length new.page.items ≡ length old.page.items → (put reader : Option ℕ) → LeavesBut put reader (state_in old) (state_in new) → IsPart new
+  part_behind old new part goes rest page put reader leaves = record {
+    holds = goes.holds_then;
+    rest = rest;
+    plain = goes.setting ∙ part.plain;
+    losses = leaves.losses part.losses;
+    page = page ∙ (part.page ∙ ap (λ g. 512 * budget_of g) (sym leaves.geometry));
+  }

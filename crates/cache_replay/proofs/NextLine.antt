@@ -1,5 +1,5 @@
 -- A reader reads on.
-use Rattle.std.proofs.Common.{◌≡◌, ℕ, ◌≤◌, List, [], ◌∷◌, ◌++◌, length, take, refl, sym, ◌∙◌, ap, subst, inl, inr, ◌⊎◌, arith, Result, Ok, Err}
+use Rattle.std.proofs.Common.{◌≡◌, ℕ, ◌≤◌, List, [], ◌∷◌, ◌++◌, length, take, refl, sym, ◌∙◌, ap, subst, inl, inr, arith, Result, Ok, Err}
 use Rattle.std.specs.Prelude.{Option, Some, None, IsErrAnd, min, option_and_then}
 use Rattle.std.proofs.lemmas.List.{length-take}
 use Rattle.device_log.specs.Calls.{Call}
@@ -24,7 +24,7 @@ use Rattle.cache_calls.specs.declared.calls.NextPiece.{NextPiece}
 use Rattle.cache_calls.specs.declared.calls.NextPiece.TheVariants as piece
 use Rattle.cache_calls.specs.Actors.{IsOpenReader, IsReaderOf, ReaderSeen, as_row, row_by}
 use Rattle.cache_calls.specs.Keeping.{IsAtRest, IsPlain, StaysUnharmed, plain_setting, state_at}
-use Rattle.cache_calls.specs.Readers.{HasRead, IsGiven, IsGivenAs, IsOtherNext, IsToldTo, cause_records, listed_length, next_trouble, noted, read_adds}
+use Rattle.cache_calls.specs.Readers.{HasRead, IsGiven, IsGivenAs, IsToldTo, cause_records, listed_length, next_trouble, noted, read_adds}
 use Rattle.cache_calls.proofs.Keeping.{plain_has_steps}
 use Rattle.script_lang.specs.declared.step.Step.TheVariants as step
 use Rattle.script_lang.specs.declared.answer.StepAnswer.{StepAnswer}
@@ -35,8 +35,6 @@ use Rattle.script_run.specs.Asked as asks
 use Rattle.script_run.specs.Answers as says
 use Rattle.script_run.specs.Own.{AreOwn, IsPlacedAs, piece_of}
 use Rattle.script_run.specs.Takes.{IsNextPiece, IsPiece}
-use Rattle.script_run.proofs.Fragments.{own_is_kept}
-use Rattle.script_run.proofs.Others.{none_is_unlike}
 use Rattle.script_run.proofs.Reading.{read_is_own}
 use Rattle.cache_replay.specs.declared.stop.Stop.{Stop}
 use Rattle.cache_replay.specs.declared.stop.Stop.TheVariants.{Memory}
@@ -47,7 +45,7 @@ use Rattle.cache_replay.proofs.Whole.{moves_line, serves_whole, shows_line}
 
 -- ---- what the reader was told
 
-later_none : (o : Option Rec) → later None o ≡ o
+pub later_none : (o : Option Rec) → later None o ≡ o
 later_none None = refl
 later_none (Some r) = refl
 
@@ -155,18 +153,6 @@ next_ends a b r later given into setting plain rest first serves read keeps run 
     serves_whole None in_full setting rest.quiet (by.told, by.reader) (serves run.now) in
     ends_with a b r later setting first run name by (keeps by.reader) w given into
     (same_added a.kept b.kept w.added (read_adds (state_at a) r given) w.happens.adds read.adds) (given_in run.now a b r given into w.calls plain w.happens.past read.given)
-
--- ---- a reader of what is own
-
--- what the fragment that it takes next is, as the records tell it, is the one that is listed
-none_other : (s : State) (streams : ℕ → Stream) (r : ReaderSeen) → 1 ≤ r.next → AreOwn s streams → IsReaderOf s r → IsOtherNext s r → ⊥
-none_other s streams r first owned reader other =
-    none_is_unlike s streams r.reader (row_by reader.actor r) other.entry other.row other.found (own_is_kept s streams owned) first reader.found other.cut other.live other.unlike
-
-pub next_stays : (a b : At) (r : ReaderSeen) → 1 ≤ r.next → StaysUnharmed a b ⊎ IsOtherNext (state_at a) r → (streams : ℕ → Stream) → AreOwn (state_at a) streams
-    → IsReaderOf (state_at a) r → StaysUnharmed a b
-next_stays a b r first (inl stays) streams owned reader = stays
-next_stays a b r first (inr other) streams owned reader = absurd (none_other (state_at a) streams r first owned reader other)
 
 -- where memory was wanting it is answered nothing
 pub reads_wanting : (a b : At) (r later : ReaderSeen) (result : Result StepAnswer Stop) → IsErrAnd result (λ why. why ≡ Memory) → IsOpenReader (state_at b) later

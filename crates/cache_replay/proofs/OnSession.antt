@@ -65,7 +65,7 @@ module _ {S W R : Type 0} {c : CallsGhosts S W R} where
     shows_so pair = record {
       turn = m.turn;
       calls = m.calls;
-      shows = record { plain = m.takes.plain; unsynced = m.takes.unsynced; content = m.takes.content; moment = m.takes.moment; shows = pair };
+      shows = record { packs = m.takes.packs; unsynced = m.takes.unsynced; content = m.takes.content; moment = m.takes.moment; shows = pair };
     }
 
     pub stands_behind : (slots : ℕ → Option HoldingSeen) → IsActive old slots → PlaysIn run (state_in old) slots

@@ -45,9 +45,9 @@ use Rattle.cache_replay.specs.OneLine.{AnswersActor}
 use Rattle.cache_replay.specs.Plays.{IsHeldAs, PartEnds, PlaysPart}
 use Rattle.cache_replay.specs.ReaderLines.{as_held, opened_answer, reader_opened}
 use Rattle.cache_replay.specs.Session.{HoldingSeen, IsActive, ReaderHeld, WriterHeld, at_in, slots_of, state_in}
-use Rattle.cache_replay.proofs.ActorLines.{names_within, part_behind, still_line}
+use Rattle.cache_replay.proofs.ActorLines.{names_within, still_line}
 use Rattle.cache_replay.proofs.Counts.{missed_tells}
-use Rattle.cache_replay.proofs.Frames.{Changed, reader_leaves, same_added}
+use Rattle.cache_replay.proofs.Frames.{Changed, part_behind, reader_leaves, same_added}
 use Rattle.cache_replay.proofs.Free.{no_next_reader, others_read_older}
 use Rattle.cache_replay.proofs.ReaderLines.{Turns, as_run, holds_none, none_some, reader_ends, turns_active}
 use Rattle.cache_replay.proofs.Whole.{moves_line, serves_whole, shows_line, shows_placed}

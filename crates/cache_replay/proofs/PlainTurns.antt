@@ -1,8 +1,7 @@
 -- Removals and flushes as lines on a part.
-use Rattle.std.proofs.Common.{◌≡◌, ℕ, ◌*◌, List, [], ◌∷◌, refl, sym, ◌∙◌, ap, subst, arith, inl, length, Result, Ok, Err}
+use Rattle.std.proofs.Common.{◌≡◌, ℕ, List, [], ◌∷◌, refl, sym, ◌∙◌, ap, subst, arith, inl, length, Result, Ok, Err}
 use Rattle.std.specs.Prelude.{IfErr, IfOk, Option, Some, None}
 use Rattle.std.specs.List.{AllByRecursion}
-use Rattle.tape_base.specs.Geometry.{budget_of}
 use Rattle.tape_base.specs.declared.keys.Key.{Key}
 use Rattle.cache_model.specs.declared.cause.Cause.{Cause}
 use Rattle.cache_model.specs.declared.record.Rec.{Rec}
@@ -23,7 +22,7 @@ use Rattle.cache_calls.specs.declared.calls.Refusal.{Refusal}
 use Rattle.cache_calls.specs.declared.calls.Refusal.TheVariants as refusal
 use Rattle.cache_calls.specs.Adds.{AddsAll, AddsSoundly, IsAsItWas, IsOfFlush, IsOfPut}
 use Rattle.cache_calls.specs.Asked.{progress_at}
-use Rattle.cache_calls.specs.Keeping.{Goes, IsAtRest, Keeps, state_at}
+use Rattle.cache_calls.specs.Keeping.{IsAtRest, Keeps, state_at}
 use Rattle.cache_calls.specs.Plain.{FlushesAs, Tells}
 use Rattle.script_lang.specs.declared.step.Step.{Step}
 use Rattle.script_lang.specs.declared.step.Step.TheVariants as step
@@ -40,22 +39,11 @@ use Rattle.cache_replay.specs.OneLine.{AnswersPlainly}
 use Rattle.run_promise.specs.Outline.{count_of}
 use Rattle.cache_replay.specs.Replies.{flush_refused}
 use Rattle.cache_replay.proofs.Counts.{miss_counts}
-use Rattle.cache_replay.proofs.Frames.{any_leaves, leaves_all, same_added}
+use Rattle.cache_replay.proofs.Frames.{any_leaves, leaves_all, part_behind, same_added}
 use Rattle.cache_replay.proofs.Whole.{moves_line, serves_whole}
 
 module _ {S W R : Type 0} {c : CallsGhosts S W R} where
   -- ---- in general
-
-  -- the part behind a call
-  pub part_behind : (old new : Part S W R c) {put reader : Option ℕ} → IsPart old → Goes c.at c.holds old.cache new.cache → IsAtRest (at_in new)
-      → LeavesBut put reader (state_in old) (state_in new) → length new.page.items ≡ length old.page.items → IsPart new
-  part_behind old new part goes rest leaves page = record {
-    holds = goes.holds_then;
-    rest = rest;
-    plain = goes.setting ∙ part.plain;
-    losses = leaves.losses part.losses;
-    page = page ∙ (part.page ∙ ap (λ g. 512 * budget_of g) (sym leaves.geometry));
-  }
 
   -- a line that is one call
   pub one_call : (now : ℕ) (step : Step) (old new : Part S W R c) (result : Result StepAnswer Stop) → IsPart old → Keeps c.at c.holds old.cache new.cache
@@ -64,7 +52,7 @@ module _ {S W R : Type 0} {c : CallsGhosts S W R} where
       → IfOk result (TellsCount (Some new)) → IfErr result (λ why. why ≡ Memory)
       → AnswersPlainly now step None None old new result
   one_call now step old new result part keeps rest leaves page ends counts stop = record {
-    part = part_behind old new part keeps.goes_on rest leaves page;
+    part = part_behind old new part keeps.goes_on rest page None None leaves;
     goes = keeps.goes_on;
     leaves = leaves;
     ends = whoever result ends;

@@ -27,9 +27,8 @@ use Rattle.run_promise.specs.Outline.{count_in}
 use Rattle.cache_replay.specs.Replies.{closed_answer, count_of_refusal, receipt_answer}
 use Rattle.cache_replay.specs.Putting.{IsSaidAs, PutsWhere, TellsOfPut, progress_with, reason_of}
 use Rattle.cache_replay.specs.Session.{IsPart, at_in, state_in}
-use Rattle.cache_replay.proofs.ActorLines.{part_behind}
 use Rattle.cache_replay.proofs.Fed.{refused_counts}
-use Rattle.cache_replay.proofs.Frames.{put_leaves}
+use Rattle.cache_replay.proofs.Frames.{part_behind, put_leaves}
 use Rattle.cache_replay.proofs.Whole.{moves_line, serves_whole}
 
 ends_with : (why : Option Reason) → EndsWith (progress_with why) why

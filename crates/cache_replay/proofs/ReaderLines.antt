@@ -1,7 +1,7 @@
 -- A line of a reader, from what its calls did.
-use Rattle.std.proofs.Common.{◌≡◌, ℕ, List, refl, sym, ◌∙◌, ap, subst, true, false, inl, inr}
+use Rattle.std.proofs.Common.{◌≡◌, ℕ, List, refl, sym, ◌∙◌, ap, subst, true, inl, inr}
 use Rattle.std.specs.Prelude.{Option, Some, None, IfSome, ◌==◌, if◌then◌else◌, option_map, option_and_then}
-use Rattle.std.proofs.lemmas.Bool.{eq-eqb}
+use Rattle.std.proofs.lemmas.Bool.{eqb-false}
 use Rattle.actor_table.specs.Table.{Seen, number_of, with_actor}
 use Rattle.cache_model.specs.State.{State, reader_of}
 use Rattle.cache_model.specs.Legal.{is_writing}
@@ -39,11 +39,8 @@ else_reader : (r : ReaderSeen) (h : HoldingSeen) → Differ (ReaderHeld r) h →
 else_reader r (WriterHeld w) d = λ e. none_some w.put e
 else_reader r (ReaderHeld q) d = λ e. d (some_is r.reader q.reader e)
 
-not_same : (m n : ℕ) → (m == n) ≡ false → n ≡ m → ⊥
-not_same m n other is = let same : (m == n) ≡ true = eq-eqb m n (sym is) in cc
-
 pub apart_else : (slots : ℕ → Option HoldingSeen) (n : ℕ) (r : ReaderSeen) → AreApart slots → slots n ≡ Some (ReaderHeld r) → OthersElse slots n None (Some r.reader)
-apart_else slots n r apart has = λ m h other is. else_reader r h (apart n m (ReaderHeld r) h (not_same m n other) has is)
+apart_else slots n r apart has = λ m h other is. else_reader r h (apart n m (ReaderHeld r) h (λ same. eqb-false m n other (sym same)) has is)
 
 mine_held : (reader : ℕ) (has : Option ReaderSeen) → IfSome has (λ r. r.reader ≡ reader) → (h : HoldingSeen) → as_held has ≡ Some h → IsMine None (Some reader) h
 mine_held reader None number h is = absurd (none_some h is)

@@ -1,10 +1,8 @@
 -- One call of a reader behind another.
-use Rattle.std.proofs.Common.{◌≡◌, ℕ, ◌*◌, List, [], ◌++◌, length, sym, ◌∙◌, ap, subst, append_assoc}
+use Rattle.std.proofs.Common.{◌≡◌, ℕ, ◌*◌, List, [], length, sym, ◌∙◌, ap, subst}
 use Rattle.tape_base.specs.declared.geometries.Geometry.{Geometry}
 use Rattle.tape_base.specs.Geometry.{budget_of}
 use Rattle.cache_model.specs.declared.record.Rec.{Rec}
-use Rattle.cache_model.specs.Kept.{Kept, with_records}
-use Rattle.cache_model.proofs.Steps.{all_append}
 use Rattle.call_laws.specs.Moments.{At}
 use Rattle.call_laws.proofs.Joined.{nothing_more}
 use Rattle.cache_calls.specs.declared.calls.Calls.{Ghosts as CallsGhosts}
@@ -13,19 +11,11 @@ use Rattle.cache_calls.specs.Keeping.{Keeps, state_at}
 use Rattle.cache_calls.proofs.Keeping.{goes_still, goes_then}
 use Rattle.cache_calls.proofs.Others.{reads_leave_others}
 use Rattle.script_run.specs.Losses.{NoLossIsAFault}
-use Rattle.cache_replay.proofs.Frames.{losses_kept}
+use Rattle.cache_replay.proofs.Frames.{adds_then, losses_kept}
 use Rattle.cache_replay.specs.ReaderLines.{IsReady, LeavesReader}
 
 own_still : (P : Rec → Type 0) (a : At) → Adds P a a
 own_still P a = record { added = []; adds = nothing_more a.kept; own = tt }
-
-own_then : (P : Rec → Type 0) (a b c : At) → Adds P a b → Adds P b c → Adds P a c
-own_then P a b c first next = record {
-  added = first.added ++ next.added;
-  adds = next.adds ∙ (ap (λ (k : Kept). with_records k next.added) first.adds
-      ∙ ap (λ recs. let k : Kept = record { told = a.kept.told; base = a.kept.base; since = recs } in k) (append_assoc a.kept.since first.added next.added));
-  own = all_append P first.added next.added first.own next.own;
-}
 
 pub losses_read : (n : ℕ) (a b : At) → Adds (IsOfReader n) a b → NoLossIsAFault (state_at a) → NoLossIsAFault (state_at b)
 losses_read n a b own none = losses_kept a b own.added own.adds none
@@ -38,7 +28,7 @@ module _ {S W R : Type 0} {c : CallsGhosts S W R} where
   pub leaves_more : (n m : ℕ) (x y z : S) → m ≡ n → LeavesReader c x y n → LeavesReader c y z m → LeavesReader c x z n
   leaves_more n m x y z same first next = record {
     goes = goes_then first.goes next.goes;
-    own = own_then (IsOfReader n) (c.at x) (c.at y) (c.at z) first.own (subst (λ k. Adds (IsOfReader k) (c.at y) (c.at z)) same next.own);
+    own = adds_then (IsOfReader n) (c.at x) (c.at y) (c.at z) first.own (subst (λ k. Adds (IsOfReader k) (c.at y) (c.at z)) same next.own);
   }
 
   pub closed_leaves : (n : ℕ) (a b : S) → Keeps c.at c.holds a b → Adds (IsOfReader n) (c.at a) (c.at b) → LeavesReader c a b n

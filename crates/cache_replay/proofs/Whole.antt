@@ -58,7 +58,7 @@ module _ (run : Run) (step : Step) (a b : At) (now : ℕ) (plain : a.setting ≡
     turn = turn_by added None calls [];
     calls = past;
     shows = record {
-      plain = ap (λ (setting : Rattle.cache_model.specs.Permit.Setting). setting.packed) plain;
+      packs = ap (λ (setting : Rattle.cache_model.specs.Permit.Setting). setting.packed) plain;
       unsynced = ap (λ (setting : Rattle.cache_model.specs.Permit.Setting). setting.syncs) plain;
       content = ap (λ (setting : Rattle.cache_model.specs.Permit.Setting). setting.area) plain;
       moment = sym moment;
@@ -73,7 +73,7 @@ module _ (run : Run) (step : Step) (a b : At) (now : ℕ) (plain : a.setting ≡
       → IsStep (permit_of now a.setting [] w.calls) (state_at a) asks w.added why
       → SessionTakes run (state_at a) (turn_by w.added why w.calls given) step
   takes_line asks why given same w own legal = record {
-    plain = ap (λ (setting : Rattle.cache_model.specs.Permit.Setting). setting.packed) plain;
+    packs = ap (λ (setting : Rattle.cache_model.specs.Permit.Setting). setting.packed) plain;
     unsynced = ap (λ (setting : Rattle.cache_model.specs.Permit.Setting). setting.syncs) plain;
     content = ap (λ (setting : Rattle.cache_model.specs.Permit.Setting). setting.area) plain;
     moment = sym moment;

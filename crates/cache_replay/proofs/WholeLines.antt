@@ -42,7 +42,7 @@ module _ (run : Run) (now : ℕ) (a b : At) (key : Key) (request : List Field) (
         | inl way ↦ inl (record {
           turn = turn_by run (step.Get key request) a b now plain moment call.added None call.calls given;
           takes = record {
-            plain = ap (λ (setting : Setting). setting.packed) plain;
+            packs = ap (λ (setting : Setting). setting.packed) plain;
             unsynced = ap (λ (setting : Setting). setting.syncs) plain;
             content = ap (λ (setting : Setting). setting.area) plain;
             moment = sym moment;

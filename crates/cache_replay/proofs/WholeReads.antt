@@ -54,13 +54,10 @@ use Rattle.script_run.proofs.Reading.{all_is_given, read_is_own}
 use Rattle.script_lang.specs.declared.answer.StepAnswer.{StepAnswer}
 use Rattle.script_lang.specs.declared.answer.StepAnswer.TheVariants as answer
 use Rattle.cache_replay.proofs.Frames.{same_added}
+use Rattle.cache_replay.proofs.NextLine.{later_none}
 use Rattle.cache_replay.specs.Getting.{Answers, Comes, IsAnswered, IsHit, IsKnownTo, IsUnderway, Knowing, Underway, rows_left}
 
 -- ---- what was answered among records
-
-pub later_none : (o : Option Rec) → later None o ≡ o
-later_none None = refl
-later_none (Some r) = refl
 
 later_later : (a b c : Option Rec) → later a (later b c) ≡ later (later a b) c
 later_later a b None = refl

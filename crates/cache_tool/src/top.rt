@@ -14,15 +14,15 @@ use crate::run::{Ending, run_lines};
 use cache_chronicle::FullChronicle;
 use cache_replay::{Session, begin, close};
 use device_bay::Bay;
-use dir_table::ListDirectory;
 use edge_io::{LineBuffer, LineReader, Sink, Source};
+use packed_directory::PackedDirectory;
 use run_promise::Status;
 use script_lang::{LastLine, last_line_text, usage_text};
 use std::alloc::Global;
 use stripe_calls::StripeCache;
 
-// The cache of the program: its directory is a list, and its chronicle keeps each record.
-type Cache<D> = StripeCache<D, ListDirectory, FullChronicle>;
+// The cache of the program: its directory has packed entries, and its chronicle keeps each record.
+type Cache<D> = StripeCache<D, PackedDirectory, FullChronicle>;
 
 fn is_replay(words: &[String]) -> bool
     ensures { IsTrue result ↔ IsReplay words.now }

@@ -6,8 +6,7 @@ use Rattle.cache_calls.proofs.Keeping.{keeps_then}
 use Rattle.cache_replay.specs.Feeding.{FeedsWhere, IsCutWhere, IsOpenBehind}
 use Rattle.cache_replay.specs.Replies.{count_of_refusal}
 use Rattle.cache_replay.proofs.PutEnds.{close_counts, closes_fill, err_when, refused_fill}
-use Rattle.cache_replay.proofs.FeedRounds.{adds_then}
-use Rattle.cache_replay.proofs.Frames.{losses_kept}
+use Rattle.cache_replay.proofs.Frames.{adds_then, losses_kept}
 use Rattle.cache_replay.proofs.putting.fill.Given.{Over}
 use Rattle.cache_replay.proofs.putting.fill.Goals.{After-close_write}
 use Rattle.cache_replay.proofs.putting.fill.Goals as goal

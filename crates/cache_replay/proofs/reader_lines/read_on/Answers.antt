@@ -3,7 +3,8 @@ use Rattle.cache_calls.specs.Keeping.{state_at}
 use Rattle.run_promise.specs.Outline.{count_in}
 use Rattle.cache_replay.specs.ReaderLines.{NextEnds}
 use Rattle.cache_replay.proofs.Counts.{piece_counts, piece_tells}
-use Rattle.cache_replay.proofs.NextLine.{next_ends, next_stays, read_within, reads_wanting}
+use Rattle.cache_replay.proofs.NextLine.{next_ends, read_within, reads_wanting}
+use Rattle.cache_replay.proofs.OtherNext.{next_stays}
 use Rattle.cache_replay.proofs.reader_lines.read_on.Goals as goal
 
 pub piece_said-requires : goal.piece_said-requires
@@ -21,7 +22,7 @@ returns-in_err-piece-clause-reads g c =
     let r = g.S.Calls.reading c.args.reader.now in
     let after = c.in_err-piece.ensures.reader in
     reads_wanting a b r (g.S.Calls.reading c.read_next.new.reader) c.from_residual.result c.from_residual.ensures.1 after.reader (ap (λ x. x.reader) after.goes)
-    (next_stays a b r c.requires.reader.first c.read_next.ensures.unharmed)
+    (next_stays _ r c.requires.reader.first c.read_next.ensures.unharmed)
 
 pub returns-in_err-piece_said-clause-reads : goal.returns-in_err-piece_said-clause-reads
 returns-in_err-piece_said-clause-reads g c =
@@ -31,7 +32,7 @@ returns-in_err-piece_said-clause-reads g c =
     let after = c.in_ok-piece.ensures.reader in
     reads_wanting a b r (g.S.Calls.reading c.read_next.new.reader) c.from_residual-in_err-piece_said.result c.from_residual-in_err-piece_said.ensures.1
     after.reader after.goes.reader
-    (next_stays a b r c.requires.reader.first c.read_next.ensures.unharmed)
+    (next_stays _ r c.requires.reader.first c.read_next.ensures.unharmed)
 
 pub returns-clause-reads : goal.returns-clause-reads
 returns-clause-reads g c =
@@ -48,7 +49,7 @@ returns-clause-reads g c =
       ends = λ run name by. subst (NextEnds run name a b later) (sym c.in_ok-piece_said.ensures)
           (next_ends a b r later c.in_ok-piece.piece c.read_next.new.into c.requires.plain rest.plain rest_then c.requires.reader.first c.in_ok-piece.ensures.serves
           c.in_ok-piece.ensures.gives after.keeps run name by);
-      unharmed = next_stays a b r c.requires.reader.first c.read_next.ensures.unharmed;
+      unharmed = next_stays _ r c.requires.reader.first c.read_next.ensures.unharmed;
       counts = λ none. subst (λ said. count_in said ≤ b.device.faults) (sym c.in_ok-piece_said.ensures)
           (piece_tells c.in_ok-piece.piece c.read_next.new.into _ (piece_counts (state_at a) r b.device.faults c.in_ok-piece.piece none c.in_ok-piece.ensures.gives.counted));
     }
