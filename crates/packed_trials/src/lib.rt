@@ -6,6 +6,8 @@ mod driving;
 #[cfg(test)]
 mod images;
 #[cfg(test)]
+mod lookups;
+#[cfg(test)]
 mod tables;
 #[cfg(test)]
 mod taped;

@@ -1,6 +1,7 @@
 // Worked bytes, purges, wraps, images from outside, and many calls on both directories.
 use crate::driving::{Tally, drive, key_of};
 use crate::images::{count_image, image_length, is_written_again, read_image};
+use crate::lookups::{are_missed, are_short, chains_of, fill};
 use crate::tables::{GOOD, Good};
 use crate::taped::{Taped, image_of};
 use crate::walks::all_rows;
@@ -281,5 +282,28 @@ fn ten_thousand_calls_differ_by_purges_alone(rt: HostRuntime) -> Result<(), Fail
     let tally = driven(rt.alloc(), 4)?;
     assert!(rt; tally.purges > 100);
     assert!(rt; tally.inserts > 3000 && tally.found > 500);
+    Ok(())
+}
+
+// So many entries stand in the one segment of the next test.
+const ENTRIES: u32 = 3000;
+
+// Whether no lookup takes more steps than its chain has entries.
+fn has_short_lookups(alloc: Global, taped: &Taped<PackedDirectory>) -> Result<bool, AllocError> {
+    let rows = all_rows(alloc, &taped.directory)?;
+    let chains = chains_of(alloc, &rows, taped.geometry.buckets)?;
+    Ok(
+        rows.len() == ENTRIES as usize
+            && are_short(taped, &chains, ENTRIES)
+            && are_missed(taped, &chains, ENTRIES, 2 * ENTRIES),
+    )
+}
+
+#[test]
+fn a_lookup_takes_no_more_steps_than_its_chain_has_entries(rt: HostRuntime) -> Result<(), Fail> {
+    let g = geometry_of((1, 4096, 16_384, 4096, 4096, 4))?;
+    let mut taped: Taped<PackedDirectory> = Taped::new(rt.alloc(), &g)?;
+    assert!(rt; fill(&mut taped, ENTRIES)?);
+    assert!(rt; has_short_lookups(rt.alloc(), &taped)?);
     Ok(())
 }
