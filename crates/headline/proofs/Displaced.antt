@@ -1,11 +1,8 @@
 -- What a line tells as displaced was recorded in it, or in an earlier line of its session.
 use Rattle.std.proofs.Common.{◌≡◌, ℕ, List, [], ◌∷◌, ◌++◌, Bool, true, false, refl, sym, ◌∙◌, ap, subst, append_assoc, append-nil, inl, inr}
-use Rattle.std.specs.Prelude.{Option, Some, None, cond, if◌then◌else◌, option_map, unwrap_or, ◌==◌}
-use Rattle.std.specs.Map.{lookup}
+use Rattle.std.specs.Prelude.{Option, Some, None, if◌then◌else◌, option_map, unwrap_or, ◌==◌}
 use Rattle.tape_base.specs.declared.keys.Key.{Key}
 use Rattle.tape_base.specs.declared.pieces.PieceId.{PieceId}
-use Rattle.tape_base.specs.Piece.{same_piece}
-use Rattle.tape_base.proofs.NameLaws.{same_piece-true}
 use Rattle.cache_model.specs.declared.cause.Cause.{Cause}
 use Rattle.cache_model.specs.declared.cause.Cause.TheVariants as cause
 use Rattle.cache_model.specs.declared.record.Rec.{Rec}
@@ -13,7 +10,7 @@ use Rattle.cache_model.specs.declared.record.Rec.TheVariants as rec
 use Rattle.cache_model.specs.State.{State, Row, LastVector, Complete, TakenOut, last_abort, last_vector, live_row_of, row_of, vector_piece}
 use Rattle.cache_model.specs.Verdict.{cause_of_beginning, cause_of_last, cause_of_loss, cause_of_miss, cause_of_piece, cause_without_vector, no_match, no_record, passed}
 use Rattle.cache_model.specs.Permit.{IsAmong}
-use Rattle.cache_model.proofs.Found.{no_truth, none_is, same_some}
+use Rattle.cache_model.proofs.Found.{no_truth, none_is}
 use Rattle.script_lang.specs.declared.step.Step.{Step}
 use Rattle.script_lang.specs.declared.answer.StepAnswer.{StepAnswer}
 use Rattle.script_run.specs.Run.{Run, fresh}
@@ -23,7 +20,7 @@ use Rattle.script_laws.specs.Causes
 use Rattle.script_laws.specs.Causes.{AnswersAreTraced, IsTraced, cause_answered, cause_given}
 use Rattle.headline.specs.Account.{Account, Logs, Tells}
 use Rattle.headline.specs.Misses.{Misses, VectorWasDisplaced, WasRecorded}
-use Rattle.headline.proofs.Lost.{IsLost, LossAlong, displaced_by, loss_is_told}
+use Rattle.headline.proofs.Lost.{IsLost, LossAlong, displaced_by, loss_found, loss_is_told}
 use Rattle.headline.proofs.Missing.{MissesHere, misses_here}
 use Rattle.headline.proofs.Places.{Found, OnSession, kind_of, told_line}
 use Rattle.headline.proofs.Troubles.{answer_is, did_before}
@@ -85,20 +82,6 @@ displaced_was_told traced l a lines asks said segment live at names =
     ]
 
 -- ---- of a miss
-
--- the loss that is told of a piece
-loss_by : (id : PieceId) (first : PieceId × Cause) (losses : List (PieceId × Cause)) (why : Cause) (b : Bool) → same_piece first.0 id ≡ b
-    → (lookup (λ lost. same_piece lost id) losses ≡ Some why → IsAmong (id, why) losses)
-    → cond b (Some first.1) (lookup (λ lost. same_piece lost id) losses) ≡ Some why → IsAmong (id, why) (first ∷ losses)
-loss_by id first losses why true e rest found =
-    let piece : first.0 ≡ id = same_piece-true first.0 id e in
-    let same : first.1 ≡ why = same_some first.1 why (Some first.1) refl found in
-    inl (λ i. (sym piece i, sym same i))
-loss_by id first losses why false e rest found = inr (rest found)
-
-pub loss_found : (id : PieceId) (losses : List (PieceId × Cause)) (why : Cause) → lookup (λ lost. same_piece lost id) losses ≡ Some why → IsAmong (id, why) losses
-loss_found id [] why h = none_is h
-loss_found id (first ∷ losses) why h = loss_by id first losses why (same_piece first.0 id) refl (loss_found id losses why) h
 
 -- the vector of the last commit is lost so
 record LostLast (s : State) (key : Key) (why : Cause) : Type 0 where

@@ -9,7 +9,16 @@ mod Lost
 mod Damages
 mod Missing
 mod Displaced
+mod Causing
+mod Staying
+mod Last
 mod NeverPut
+mod Keeping
+mod Standing
+mod Written
+mod Listing
+mod Breaking
+mod Getting
 mod Endings
 mod Accounts
 mod Fixed

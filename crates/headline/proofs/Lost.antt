@@ -1,18 +1,23 @@
 -- A piece that is lost in a session was told so by a record of one of its lines.
-use Rattle.std.proofs.Common.{◌≡◌, ℕ, List, refl, sym, ap, inl, inr, ◌⊎◌, subst}
-use Rattle.std.specs.Prelude.{Option, Some, None}
+use Rattle.std.proofs.Common.{◌≡◌, ℕ, List, [], ◌∷◌, Bool, true, false, refl, sym, ap, inl, inr, ◌⊎◌, subst}
+use Rattle.std.specs.Prelude.{Option, Some, None, cond}
+use Rattle.std.specs.Map.{lookup}
 use Rattle.tape_base.specs.declared.digests.Digest.{Digest}
 use Rattle.tape_base.specs.declared.pieces.PieceId.{PieceId}
+use Rattle.tape_base.specs.Piece.{same_piece}
+use Rattle.tape_base.proofs.NameLaws.{same_piece-true}
 use Rattle.cache_model.specs.declared.cause.Cause.{Cause}
 use Rattle.cache_model.specs.declared.cause.Cause.TheVariants as cause
 use Rattle.cache_model.specs.declared.record.Rec.{Rec}
 use Rattle.cache_model.specs.declared.record.Rec.TheVariants as rec
 use Rattle.cache_model.specs.State.{State, state_after}
+use Rattle.cache_model.specs.Verdict.{cause_of_loss}
 use Rattle.cache_model.specs.Permit.{IsAmong}
 use Rattle.cache_model.proofs.Found.{none_is, same_some}
 use Rattle.script_run.specs.Run.{Run, fresh}
 use Rattle.script_run.specs.Turn.{Turn}
 use Rattle.script_run.specs.Takes.{IsRun, run_after}
+use Rattle.script_laws.specs.Causes.{is_standing}
 use Rattle.reader_laws.proofs.Since.{HoldsWhere, ToldAlong, told_along}
 
 -- the loss that a record tells
@@ -62,8 +67,31 @@ displaced_by (rec.Displaced p a b) piece segment live h = let is = parts _ _ h i
 displaced_by (rec.Damaged p at k f) piece segment live h = let why : cause.Damaged at k f ≡ cause.Displaced segment live = (parts _ _ h).1 in absurd cc
 displaced_by _ piece segment live h = none_is h
 
--- nothing is lost without a record
-pub never_is_no_loss : (r : Rec) (piece : PieceId) → loss_in r ≡ Some (piece, cause.NeverPut) → ⊥
-never_is_no_loss (rec.Displaced p segment live) piece h = let why : cause.Displaced segment live ≡ cause.NeverPut = (parts _ _ h).1 in cc
-never_is_no_loss (rec.Damaged p place kept found) piece h = let why : cause.Damaged place kept found ≡ cause.NeverPut = (parts _ _ h).1 in cc
-never_is_no_loss _ piece h = none_is h
+-- a loss is no cause of how things stand
+loss_stands_none : (r : Rec) (piece : PieceId) (why : Cause) → loss_in r ≡ Some (piece, why) → is_standing why ≡ false
+loss_stands_none (rec.Displaced p segment live) piece why h = let same : cause.Displaced segment live ≡ why = (parts _ _ h).1 in ap is_standing (sym same)
+loss_stands_none (rec.Damaged p place kept found) piece why h = let same : cause.Damaged place kept found ≡ why = (parts _ _ h).1 in ap is_standing (sym same)
+loss_stands_none _ piece why h = none_is h
+
+-- ---- of a state
+
+-- the loss that is told of a piece
+loss_by : (id : PieceId) (first : PieceId × Cause) (losses : List (PieceId × Cause)) (why : Cause) (b : Bool) → same_piece first.0 id ≡ b
+    → (lookup (λ lost. same_piece lost id) losses ≡ Some why → IsAmong (id, why) losses)
+    → cond b (Some first.1) (lookup (λ lost. same_piece lost id) losses) ≡ Some why → IsAmong (id, why) (first ∷ losses)
+loss_by id first losses why true e rest found =
+    let piece : first.0 ≡ id = same_piece-true first.0 id e in
+    let same : first.1 ≡ why = same_some first.1 why (Some first.1) refl found in
+    inl (λ i. (sym piece i, sym same i))
+loss_by id first losses why false e rest found = inr (rest found)
+
+pub loss_found : (id : PieceId) (losses : List (PieceId × Cause)) (why : Cause) → lookup (λ lost. same_piece lost id) losses ≡ Some why → IsAmong (id, why) losses
+loss_found id [] why h = none_is h
+loss_found id (first ∷ losses) why h = loss_by id first losses why (same_piece first.0 id) refl (loss_found id losses why) h
+
+-- no piece of a script is lost for a cause of how things stand
+pub no_standing_loss : (lines : List (List ℕ)) (turns : List Turn) (s : State) → IsRun fresh lines turns → (run_after fresh lines turns).state ≡ Some s → (id : PieceId) (why : Cause)
+    → cause_of_loss s id ≡ Some why → is_standing why ≡ false
+no_standing_loss lines turns s is e id why found =
+    let t : LossAlong (id, why) fresh lines turns = loss_is_told (id, why) lines turns s is e (loss_found id s.lost why found) in
+    loss_stands_none t.made.told id why t.made.tells

@@ -39,24 +39,24 @@ lookup_hits t reader (Some (read.Follow writer)) put size h = absurd cc
 lookup_hits t reader (Some (read.Miss why)) put size h = absurd (no_miss_hits why put size h)
 
 module _ (run : Run) (turn : Turn) (key : Key) (request : List Field) (put size : ℕ) where
-  chosen : (s : State) → run.state ≡ Some s → IsAnswer s key request (read.Hit put) → IsChosen run key request put
-  chosen s e (inl verdict) =
+  pub chosen_of : (s : State) → run.state ≡ Some s → IsAnswer s key request (read.Hit put) → IsChosen run key request put
+  chosen_of s e (inl verdict) =
       let h = hit_of s key request put verdict in
       record { s = s; state = e; alternate = h.a; found = h.found; put_is = h.put_is }
-  chosen s e (inr miss) = let no : read.Hit put ≡ read.Miss miss.0 = miss.1 in absurd cc
+  chosen_of s e (inr miss) = let no : read.Hit put ≡ read.Miss miss.0 = miss.1 in absurd cc
 
-  get_chosen : (bytes : List ℕ) (o : Option State) → run.state ≡ o → Takes run turn o (step.Get key request) → step_said run turn o (step.Get key request) ≡ answer.Got put size bytes → IsChosen run key request put
+  pub get_chosen : (bytes : List ℕ) (o : Option State) → run.state ≡ o → Takes run turn o (step.Get key request) → step_said run turn o (step.Get key request) ≡ answer.Got put size bytes → IsChosen run key request put
   get_chosen bytes None e takes said = absurd takes
   get_chosen bytes (Some s) e takes said =
-      chosen s e (step_answers turn.device s 0 key request _ turn.added turn.refused (read.Hit put) takes.legal (got_by turn.given (told_in turn.added) (lookup_in turn.added) put size bytes said).hit)
+      chosen_of s e (step_answers turn.device s 0 key request _ turn.added turn.refused (read.Hit put) takes.legal (got_by turn.given (told_in turn.added) (lookup_in turn.added) put size bytes said).hit)
 
   free_chosen : (s t : State) (actor : ℕ) (held : Option Holding) → run.state ≡ Some s → IsStep turn.device s (Asked.if_free held (Look actor key request ∷ [])) turn.added turn.refused
       → if_free held (lookup_said t s.next_reader (lookup_in turn.added)) ≡ answer.Hit put size → IsChosen run key request put
   free_chosen s t actor None e legal said =
-      chosen s e (step_answers turn.device s actor key request [] turn.added turn.refused (read.Hit put) legal (lookup_hits t s.next_reader (lookup_in turn.added) put size said))
+      chosen_of s e (step_answers turn.device s actor key request [] turn.added turn.refused (read.Hit put) legal (lookup_hits t s.next_reader (lookup_in turn.added) put size said))
   free_chosen s t actor (Some holding) e legal said = absurd cc
 
-  open_chosen : (name : List ℕ) (o : Option State) → run.state ≡ o → Takes run turn o (step.OpenRead name key request) → step_said run turn o (step.OpenRead name key request) ≡ answer.Hit put size → IsChosen run key request put
+  pub open_chosen : (name : List ℕ) (o : Option State) → run.state ≡ o → Takes run turn o (step.OpenRead name key request) → step_said run turn o (step.OpenRead name key request) ≡ answer.Hit put size → IsChosen run key request put
   open_chosen name None e takes said = absurd takes
   open_chosen name (Some s) e takes said = free_chosen s (after_all s turn.added) _ (held_by run name) e takes.legal said
 

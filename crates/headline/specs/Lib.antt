@@ -6,3 +6,5 @@ pub mod Troubles
 pub mod Endings
 pub mod Fixed
 pub mod Misses
+pub mod Standing
+pub mod Breaks

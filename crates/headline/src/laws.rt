@@ -1,8 +1,10 @@
 // The sentences of the headline. These functions do nothing when they run.
 ghost use Rattle.headline.specs.Reads.{FollowWasPut, GotIsWhole, HitIsWhole};
 ghost use Rattle.headline.specs.Readers.{EndIsRead};
+ghost use Rattle.headline.specs.Breaks.{BreakWasAborted, BreakWasPassed, GetWasPassed};
 ghost use Rattle.headline.specs.Causes.{DamageWasGiven, FaultsWereRefused};
 ghost use Rattle.headline.specs.Misses.{DisplacedWasTold, NeverPutWasNone, VectorWasLost};
+ghost use Rattle.headline.specs.Standing.{AbortedWasLast, FoundIsListed, NoMatchFitsNone, PassedWasPlaced, RemovedWasRecorded};
 ghost use Rattle.headline.specs.Troubles.{CountsAreReached, NoFalseDamage, NoFalseFaults};
 ghost use Rattle.headline.specs.Endings.{DoneWhereFine, EndsAreCaused, RunsAreTold};
 ghost use Rattle.headline.specs.Fixed.{SourceFixesSink};
@@ -10,13 +12,13 @@ ghost use Rattle.headline.specs.Fixed.{SourceFixesSink};
 use edge_io::texts_have_lines;
 use model_laws::faults_rise;
 use reader_laws::{
-    all_given, damage_is_given, follow_is_asked, got_is_put, hit_is_asked, length_is_told,
-    reader_is_opened,
+    all_given, damage_is_given, follow_is_asked, got_is_put, hit_is_asked, legal_is_kept,
+    length_is_told, reader_is_opened,
 };
 use run_promise::texts_are_output;
 use script_laws::{
     answers_are_traced, damage_is_recorded, damage_stays, fault_is_recorded, output_is_fixed,
-    vectors_are_on_record,
+    runs_are_counted, vectors_are_on_record,
 };
 
 /// What is concluded of a run that was begun gives its account: what the sink took is the text of its answers, as far
@@ -41,6 +43,14 @@ pub fn hit_is_whole()
 {
     hit_is_asked();
     length_is_told();
+}
+
+/// What a line gets or hits the lines of the session completed, and the vector of the key's put that they completed
+/// last, and did not remove since, lists it.
+pub fn found_is_listed()
+    ensures { FoundIsListed }
+{
+    legal_is_kept();
 }
 
 /// Each line answered `end` is of a reader that an earlier line of the session opened; and the pieces that the lines
@@ -94,6 +104,49 @@ pub fn displaced_was_told()
 /// And where it is why there is nothing under a key, the piece was the vector of the key's last commit.
 pub fn vector_was_lost()
     ensures { VectorWasLost }
+{}
+
+/// Where a line is answered removed, an earlier line of its session recorded that the key's put was removed, and no
+/// record since is of one that was completed.
+pub fn removed_was_recorded()
+    ensures { RemovedWasRecorded }
+{}
+
+/// Where a line is answered no-match, the vector of the put that the lines completed last lists so many alternates,
+/// and none of them fits the request.
+pub fn no_match_fits_none()
+    ensures { NoMatchFitsNone }
+{
+    runs_are_counted();
+}
+
+/// Where a line is answered aborted, that put of the key was given up last in its session, and none was completed or
+/// removed.
+pub fn aborted_was_last()
+    ensures { AbortedWasLast }
+{}
+
+/// Where a line is answered passed, the vector of the put that the lines completed last was placed or copied there
+/// last, and the floor is above it.
+pub fn passed_was_placed()
+    ensures { PassedWasPlaced }
+{}
+
+/// Where a line that reads on is answered passed, the reader's next piece was placed or copied there last, and the
+/// floor is above it.
+pub fn break_was_passed()
+    ensures { BreakWasPassed }
+{}
+
+/// Where a whole read is answered passed, so it is of a piece that stood there before the line.
+pub fn get_was_passed()
+    ensures { GetWasPassed }
+{}
+
+/// Where a line that reads on is answered aborted, the reader's put is that one, which an earlier line of its session
+/// gave up.
+pub fn break_was_aborted()
+    ensures { BreakWasAborted }
 {}
 
 /// No line answers a count above that with which its device came back.
