@@ -4,12 +4,15 @@ use Rattle.tape_base.specs.declared.geometries.Geometry.{Geometry}
 use Rattle.logged_disk.specs.Device.{State as Device}
 use Rattle.cache_model.specs.Kept.{all_of}
 use Rattle.cache_model.specs.Legal.{format_records}
+use Rattle.call_laws.specs.Contents.{Contents}
 use Rattle.call_laws.specs.Moments.{At}
 use Rattle.cache_calls.specs.Keeping.{plain_setting}
 
--- a plain cache that rests on this device, which made no call for it, with the records of a format alone
-pub record Begins {S : Type 0} (at : S → At) (holds : S → Type 0) (geometry : Geometry) (device : Device) (cache : S) : Type 0 where
+-- a plain cache that rests on this device, which made no call for it, with the records of a format alone; it has no piece, so that
+-- whatever is told of pieces stands
+pub record Begins {S : Type 0} (at : S → At) (holds : S → Type 0) (stands : S → Contents → Type 0) (geometry : Geometry) (device : Device) (cache : S) : Type 0 where
   pub holds_first : holds cache
   pub kept : (at cache).kept ≡ all_of (format_records geometry)
   pub device_is : (at cache).device ≡ device
+  pub contents : (contents : Contents) → stands cache contents
   pub setting : (at cache).setting ≡ plain_setting

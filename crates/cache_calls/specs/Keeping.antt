@@ -40,10 +40,11 @@ unsynced_setting packed = record { packed = packed; syncs = false; area = 0 }
 abbrev pub plain_setting : Setting
 plain_setting = unsynced_setting true
 
--- no vector is placed that is not committed, the pieces lie as those of a tape do, no fault was told above the device's count,
+-- no vector is placed that is not committed, no insert goes on, the pieces lie as those of a tape do, no fault was told above the device's count,
 -- each put and each reader has a number of its own, below the next one, and the cache is a plain one
 pub record IsAtRest (a : At) : Type 0 where
   pub quiet : IsQuiet (state_at a)
+  pub none : (state_at a).displaced ≡ []
   pub sound : IsSound (state_at a)
   pub counted : (state_at a).fault ≤ a.device.faults
   pub puts : FallBelow (state_at a).next_put (map (λ (w : PutRow). w.put) (state_at a).puts)

@@ -7,3 +7,4 @@ pub mod Writers
 pub mod Plain
 pub mod Readers
 pub mod Others
+pub mod Standing

@@ -3,7 +3,9 @@ ghost use Rattle.std.specs.Prelude.{ℕ, ◌≡◌, ◌*◌, ◌⊎◌, [], ◌�
 ghost use Rattle.tape_base.specs.Geometry.{budget_of};
 ghost use Rattle.cache_model.specs.Legal.{is_writing};
 ghost use Rattle.cache_model.specs.Permit.{Flush, GiveUp, Look, ReadOn, Remove, StopReading, Write};
-ghost use Rattle.cache_model.specs.Vectors.{IsVectorAs};
+ghost use Rattle.logged_disk.specs.Device.{TellsAll};
+ghost use Rattle.cache_model.specs.Vectors.{AreVectors, IsVectorAs};
+ghost use Rattle.call_laws.specs.Contents.{AnyContents, AreRecordedAs, Contents, Untold};
 ghost use Rattle.call_laws.specs.Moments.{At, IsToldAt, NothingKnown};
 ghost use Rattle.call_laws.specs.Serves.{ServesFrom, ServesTold};
 ghost use Rattle.cache_calls.specs.Actors.{IsOpenReader, IsWriterOf, ReaderSeen, WriterSeen};
@@ -11,6 +13,7 @@ ghost use Rattle.cache_calls.specs.Adds.{Adds, AddsSoundly, IsOfFlush, IsOfPut, 
 ghost use Rattle.cache_calls.specs.Asked.{close_asks, given_up_at, progress_at, unless_wanting, write_asks};
 ghost use Rattle.cache_calls.specs.Keeping.{Goes, IsAtRest, Keeps, StaysUnharmed, state_at};
 ghost use Rattle.cache_calls.specs.Plain.{Flushes, Removes};
+ghost use Rattle.cache_calls.specs.Standing.{GivesAsTold, IsToldClosed, IsToldWritten, StaysStanding};
 ghost use Rattle.cache_calls.specs.Readers.{ClosesReader, HasItsTable, IsOtherNext, IsToldTo, OpensReader, ReaderGoesOn, ReadsNext};
 ghost use Rattle.cache_calls.specs.Writers.{Closes, GivesUp, NumberAtClose, OpensWriter, WriterCloses, WriterGoesOn, Writes, opened_record};
 
@@ -95,8 +98,9 @@ pub enum NextPiece {
 
 /// A cache: objects by their keys, which are written and read in parts.
 ///
-/// Of each call `serves` says which step of a legal history it makes, or that it shows two documents
-/// of one SHA-256; `gives` when each answer comes, and which records stand then; `keeps` what every
+/// Of each call `serves` says which step of a legal history it makes, or, on a device that did not tell
+/// its content, that it shows two documents of one SHA-256; `stands` which bytes of pieces stand behind
+/// it; `gives` when each answer comes, and which records stand then; `keeps` what every
 /// call keeps; `own` of whom its records speak; and `writer` or `reader` what became of that. A call
 /// that has no `now` is the same at every moment.
 pub trait Calls {
@@ -111,6 +115,9 @@ pub trait Calls {
 
     /// What holds between calls.
     ghost holds: { Self → Type 0 };
+
+    /// What is told of the bytes of pieces stands, as long as the device tells its content.
+    ghost stands: { Self → Contents → Type 0 };
 
     ghost written: { Self.Writer → WriterSeen };
 
@@ -144,6 +151,7 @@ pub trait Calls {
             (progress_at (state_at (at self.old)).next_put asked result) }
         ensures gives { OpensWriter written (at self.old) (at self.new)
             (opened_record (state_at (at self.old)) actor key request response pin) result }
+        ensures stands { StaysStanding stands AnyContents self.old self.new }
         ensures keeps { Keeps at holds self.old self.new }
         ensures own { Adds (IsOfPut (state_at (at self.old)).next_put) (at self.old) (at self.new) };
 
@@ -157,6 +165,8 @@ pub trait Calls {
             ServesTold now (at self.old) (at self.new) asked
             (progress_at (written writer.old).put asked result) }
         ensures gives { Writes (at self.old) (at self.new) (written writer.old) bytes.now result }
+        ensures stands { StaysStanding stands (IsToldWritten (state_at (at self.old)) (written writer.old)
+            bytes.now result) self.old self.new }
         ensures keeps { Keeps at holds self.old self.new }
         ensures own { AddsSoundly (IsOfPut (written writer.old).put) (at self.old) (at self.new) }
         ensures writer { WriterGoesOn (written writer.old) bytes.now result
@@ -171,10 +181,12 @@ pub trait Calls {
         requires holds { holds self.old }
         requires writer { IsWriterOf (state_at (at self.old)) (written writer.old) }
         ensures serves { let asked = close_asks (state_at (at self.old)) (written writer.old) in
-            ServesFrom IsVectorAs now (at self.old) (at self.new) asked
+            ServesFrom (Untold (at self.new).device IsVectorAs) now (at self.old) (at self.new) asked
             (progress_at (written writer.old).put asked result)
             IsToldAt (NumberAtClose (written writer.old) result) }
         ensures gives { Closes (at self.old) (at self.new) (written writer.old) result }
+        ensures stands { StaysStanding stands (IsToldClosed (state_at (at self.new))
+            (written writer.old)) self.old self.new }
         ensures keeps { Keeps at holds self.old self.new }
         ensures own { Adds (IsOfPut (written writer.old).put) (at self.old) (at self.new) }
         ensures writer { WriterCloses (written writer.old) result
@@ -188,6 +200,7 @@ pub trait Calls {
             (now : ℕ) → ServesTold now (at self.old) (at self.new) (GiveUp put ∷ [])
             (given_up_at put result) }
         ensures gives { GivesUp (at self.old) (at self.new) (written writer.old) result }
+        ensures stands { StaysStanding stands AnyContents self.old self.new }
         ensures keeps { Keeps at holds self.old self.new }
         ensures own { Adds (IsOfPut (written writer.old).put) (at self.old) (at self.new) }
         ensures same { writer.new ≡ writer.old }
@@ -199,6 +212,7 @@ pub trait Calls {
         ensures serves { (now : ℕ) → ServesTold now (at self.old) (at self.new) (Remove key ∷ [])
             (unless_wanting (Remove key ∷ []) result) }
         ensures gives { Removes (at self.old) (at self.new) key result }
+        ensures stands { StaysStanding stands AnyContents self.old self.new }
         ensures keeps { Keeps at holds self.old self.new };
 
     /// Writes the buffer out where it is not empty, begins the next one, and copies into it, within
@@ -209,6 +223,7 @@ pub trait Calls {
         ensures serves { ServesTold now (at self.old) (at self.new) (Flush ∷ [])
             (progress_at 0 (Flush ∷ []) result) }
         ensures gives { Flushes (at self.old) (at self.new) result }
+        ensures stands { StaysStanding stands AnyContents self.old self.new }
         ensures keeps { Keeps at holds self.old self.new }
         ensures own { AddsSoundly IsOfFlush (at self.old) (at self.new) };
 
@@ -222,9 +237,10 @@ pub trait Calls {
     ) -> Result<Opened<Self::Reader>, AllocError>
         requires { holds self.old }
         ensures serves { let asked = Look actor.0 key request ∷ [] in
-            (now : ℕ) → ServesFrom IsVectorAs now (at self.old) (at self.new) asked
+            (now : ℕ) → ServesFrom (Untold (at self.new).device IsVectorAs) now (at self.old) (at self.new) asked
             (unless_wanting asked result) IsToldAt (HasItsTable reading result) }
         ensures gives { OpensReader reading (at self.old) (at self.new) actor key request result }
+        ensures stands { StaysStanding stands AnyContents self.old self.new }
         ensures keeps { Keeps at holds self.old self.new }
         ensures own { Adds (IsOfReader (state_at (at self.old)).next_reader)
             (at self.old) (at self.new) };
@@ -239,9 +255,11 @@ pub trait Calls {
         requires reader { IsOpenReader (state_at (at self.old)) (reading reader.old) }
         requires into { length into.old ≡ 512 * budget_of (state_at (at self.old)).geometry }
         ensures serves { let asked = ReadOn (reading reader.old).reader ∷ [] in
-            (now : ℕ) → ServesFrom IsVectorAs now (at self.old) (at self.new) asked
+            (now : ℕ) → ServesFrom (Untold (at self.new).device IsVectorAs) now (at self.old) (at self.new) asked
             (unless_wanting asked result) (IsToldTo (reading reader.old)) NothingKnown }
         ensures gives { ReadsNext (at self.old) (at self.new) (reading reader.old) result into.new }
+        ensures stands { StaysStanding stands AnyContents self.old self.new }
+        ensures exact { GivesAsTold at stands self.old self.new (reading reader.old) result into.new }
         ensures keeps { Goes at holds self.old self.new }
         ensures unharmed { StaysUnharmed (at self.old) (at self.new)
             ⊎ IsOtherNext (state_at (at self.old)) (reading reader.old) }
@@ -257,9 +275,22 @@ pub trait Calls {
             (now : ℕ) → ServesTold now (at self.old) (at self.new) asked
             (unless_wanting asked result) }
         ensures gives { ClosesReader reading (at self.old) (at self.new) reader result }
+        ensures stands { StaysStanding stands AnyContents self.old self.new }
         ensures keeps { Keeps at holds self.old self.new }
         ensures own { Adds (IsOfReader (reading reader).reader) (at self.old) (at self.new) };
 
     /// What `holds` tells of the records, and that the cache does not sync.
     ghost at_rest: { (cache : Self) → holds cache → IsAtRest (at cache) };
+
+    /// On a device that tells its content each vector lists what the records say.
+    ghost vectors_listed: { (cache : Self) → holds cache → TellsAll (at cache).device
+        → AreVectors (state_at (at cache)) };
+
+    /// What stands is recorded as its document.
+    ghost recorded: { (cache : Self) (contents : Contents) → holds cache → stands cache contents
+        → TellsAll (at cache).device → AreRecordedAs contents (state_at (at cache)) };
+
+    /// On a device that does not tell its content all stands.
+    ghost where_told: { (cache : Self) (contents : Contents)
+        → (TellsAll (at cache).device → stands cache contents) → stands cache contents };
 }

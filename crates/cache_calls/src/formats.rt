@@ -13,7 +13,8 @@ pub trait Formats<D: Disk>: Calls {
     /// back.
     fn format(alloc: Global, device: D, geometry: Geometry) -> Result<Self, (AllocError, D)>
         requires sized { geometry.content ≤ (D.state device).size }
-        ensures begins { IfOk result (Begins Self.at Self.holds geometry (D.state device)) }
+        ensures begins { IfOk result (Begins Self.at Self.holds Self.stands geometry
+            (D.state device)) }
         ensures back { IfErr result (λ refused. refused.1 ≡ device) };
 
     /// Ends the session. What was not written out is gone.

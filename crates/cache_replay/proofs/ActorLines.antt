@@ -8,6 +8,7 @@ use Rattle.std.specs.Vec.{with_items}
 use Rattle.actor_table.specs.Table.{Seen, number_of, slot_of, with_actor}
 use Rattle.cache_model.specs.Kept.{state_of}
 use Rattle.cache_model.specs.State.{State}
+use Rattle.call_laws.specs.Contents.{Untold}
 use Rattle.call_laws.specs.Moments.{IsToldAt, permit_of}
 use Rattle.call_laws.specs.Progress.{in_full}
 use Rattle.call_laws.specs.Whole.{IsWholeStep}
@@ -24,19 +25,20 @@ use Rattle.script_run.specs.Asked.{asked}
 use Rattle.script_run.specs.Turn.{Turn}
 use Rattle.script_run.specs.Answers.{session_said}
 use Rattle.script_run.specs.Behind.{actors_behind, held_behind, holds_behind, in_session, streams_behind}
+use Rattle.script_run.specs.Own.{AreOwn}
 use Rattle.script_run.specs.Takes.{GivesOwn}
 use Rattle.cache_replay.specs.declared.session.Holding.{Holding}
 use Rattle.cache_replay.specs.declared.session.Part.{Part}
 use Rattle.cache_replay.specs.declared.stop.Stop.{Stop}
 use Rattle.cache_replay.specs.declared.stop.Stop.TheVariants.{Memory}
-use Rattle.cache_replay.specs.Moves.{Moves, MovesOrShows}
+use Rattle.cache_replay.specs.Moves.{MovesOrShows}
 use Rattle.cache_replay.specs.OneLine.{AnswersActor}
 use Rattle.run_promise.specs.Outline.{count_in}
 use Rattle.cache_replay.specs.Plays.{IsHeldAs, PartEnds, PlaysIn, PlaysPart}
+use Rattle.cache_replay.specs.Standing.{OwnStands}
 use Rattle.cache_replay.specs.Session.{AreHeld, HoldingSeen, IsActive, IsHeld, at_in, holding_seen, slots_of, state_in}
 use Rattle.cache_replay.proofs.Frames.{Changed, leaves_all, part_behind}
 use Rattle.cache_replay.proofs.Plain.{none_else, still_plays}
-use Rattle.cache_replay.proofs.OnSession.{StandsBehind, stands_behind}
 use Rattle.cache_replay.proofs.Whole.{moves_line, serves_whole}
 
 -- ---- slots
@@ -173,40 +175,45 @@ module _ {S W R : Type 0} {c : CallsGhosts S W R} where
     still_moves : (run : Run) (said : StepAnswer) → PlaysPart run part before → DoesNothing run (state_in part) step name said
         → MovesOrShows run step (at_in part) (at_in part) said
     still_moves run said plays none =
-        let w : IsWholeStep IsVectorAs run.now [] (at_in part) (at_in part) [] None IsToldAt =
+        let w : IsWholeStep (Untold (at_in part).device IsVectorAs) run.now [] (at_in part) (at_in part) [] None IsToldAt =
         serves_whole None in_full active.part_is.plain active.part_is.rest.quiet plays.at.told (serves_still [] (record { kept = refl; past = refl; setting = refl })) in
         let turn : Turn = record { added = w.added; refused = None; device = permit_of run.now (at_in part).setting [] w.calls; given = [] } in
         moves_line run step (at_in part) (at_in part) run.now active.part_is.plain refl [] None [] said none.asks w (none.own turn refl) (λ known. none.says turn)
 
-    -- the run goes on with what its actors have
-    still : (run : Run) (said : StepAnswer) → PlaysPart run part before → DoesNothing run (state_in part) step name said
-        → (m : Moves run step (at_in part) (at_in part) said) → StandsBehind run step part part m.turn
-        → PlaysIn (in_session run (state_in part) (state_in part) m.turn step) (state_in part) (slots_of c before)
-    still run said plays none m stands =
-        still_plays None None run (in_session run (state_in part) (state_in part) m.turn step) (state_in part) (state_in part) (slots_of c before)
-        (leaves_all None None (state_in part) (state_in part) refl) (none_else (slots_of c before))
-        (λ q other. ap (λ (f : ℕ → Stream). f q) (none.streams m.turn)) (held_still run (state_in part) (state_in part) step name actor none.holds)
-        refl stands.told stands.own plays.at
+    -- what stands is as it was: the records are, and so is what writers took
+    module _ (run : Run) (said : StepAnswer) (plays : PlaysPart run part before) (none : DoesNothing run (state_in part) step name said)
+        (turn : Turn) where
+      still_own : AreOwn (state_in part) (streams_behind run (state_in part) (state_in part) turn step)
+      still_own = subst (AreOwn (state_in part)) (sym (none.streams turn)) plays.at.own
+
+      still_stands : OwnStands (streams_behind run (state_in part) (state_in part) turn step) (state_in part) (c.stands part.cache)
+      still_stands = subst (λ (streams : ℕ → Stream). OwnStands streams (state_in part) (c.stands part.cache)) (sym (none.streams turn)) plays.stands
+
+      -- the run goes on with what its actors have
+      still : PlaysIn (in_session run (state_in part) (state_in part) turn step) (state_in part) (slots_of c before)
+      still =
+          still_plays None None run (in_session run (state_in part) (state_in part) turn step) (state_in part) (state_in part) (slots_of c before)
+          (leaves_all None None (state_in part) (state_in part) refl) (none_else (slots_of c before))
+          (λ q other. ap (λ (f : ℕ → Stream). f q) (none.streams turn)) (held_still run (state_in part) (state_in part) step name actor none.holds)
+          refl plays.at.told still_own plays.at
 
     still_ends : (run : Run) (said : StepAnswer) → PlaysPart run part before → DoesNothing run (state_in part) step name said → PartEnds run step part part after said
     still_ends run said plays none = elim (still_moves run said plays none) [
       | inr pair ↦ inr pair
-      | inl m ↦ elim (stands_behind run step part part said m (slots_of c before) active plays.at) [
-        | inr pair ↦ inr pair
-        | inl stands ↦ inl (record {
-          moves = m;
-          plays = record {
-            names = names_are run (state_in part) (state_in part) m.turn step name before.names after.names actor plays.names names;
-            at = record {
-              state = refl;
-              told = stands.told;
-              own = stands.own;
-              held = λ k. subst (IsHeldAs (in_session run (state_in part) (state_in part) m.turn step) (state_in part) k) (sym (same k))
-                  ((still run said plays none m stands).held k);
-            };
+      | inl m ↦ inl (record {
+        moves = m;
+        plays = record {
+          names = names_are run (state_in part) (state_in part) m.turn step name before.names after.names actor plays.names names;
+          at = record {
+            state = refl;
+            told = plays.at.told;
+            own = still_own run said plays none m.turn;
+            held = λ k. subst (IsHeldAs (in_session run (state_in part) (state_in part) m.turn step) (state_in part) k) (sym (same k))
+                ((still run said plays none m.turn).held k);
           };
-        })
-      ]
+          stands = still_stands run said plays none m.turn;
+        };
+      })
     ]
 
     pub still_line : (now : ℕ) (said : StepAnswer) → ((run : Run) → PlaysPart run part before → DoesNothing run (state_in part) step name said) → count_in said ≡ 0

@@ -22,10 +22,11 @@ use Rattle.cache_replay.specs.declared.stop.Stop.TheVariants.{Memory}
 use Rattle.cache_replay.specs.OneLine.{AnswersActor}
 use Rattle.cache_replay.specs.Plays.{PartEnds, PlaysPart}
 use Rattle.cache_replay.specs.ReaderLines.{IsReadBy, LeavesReader, NextEnds, ReadsOnLine, reader_held}
-use Rattle.cache_replay.specs.Session.{IsActive, ReaderHeld, at_in, slots_of, state_in}
+use Rattle.cache_replay.specs.Session.{IsActive, IsPart, ReaderHeld, at_in, slots_of, state_in}
 use Rattle.cache_replay.proofs.ActorLines.{changed_again, names_within, still_line}
 use Rattle.cache_replay.proofs.Frames.{Changed, part_behind, reader_leaves}
 use Rattle.cache_replay.proofs.ReaderLines.{Took, Turns, apart_else, held_reader, reader_ends, reads_none, reads_with, still_held, turns_active}
+use Rattle.cache_replay.proofs.Stood.{IsLawful}
 
 -- the actor still has it
 next_has : (run : Run) (t : State) (name : List ℕ) (r later : ReaderSeen) → held_by run name ≡ Some (Reads r.reader) → later.reader ≡ r.reader → IsReaderOf t later
@@ -40,11 +41,11 @@ if_then (Ok x) f h = f x h
 if_then (Err e) f h = h
 
 module _ {S W R : Type 0} {c : CallsGhosts S W R} where
-  module _ (old new : Part S W R c) (before mid after : Seen (Holding W R)) (name : List ℕ) (n : ℕ) (r later : ReaderSeen)
+  module _ (laws : IsLawful c) (old new : Part S W R c) (before mid after : Seen (Holding W R)) (name : List ℕ) (n : ℕ) (r later : ReaderSeen)
       (number : n ≡ number_of before.names name) (names : after.names ≡ with_actor before.names name) (taken : Took (slots_of c before) (slots_of c mid) n r)
       (set : Changed (slots_of c mid) (slots_of c after) n (Some (ReaderHeld later))) (active : IsActive old (slots_of c before))
       (leaves : LeavesReader c old.cache new.cache r.reader) (rest : IsAtRest (at_in new)) (page : length new.page.items ≡ length old.page.items)
-      (result : Result StepAnswer Stop) (reads : ReadsOnLine (at_in old) (at_in new) r later result) where
+      (result : Result StepAnswer Stop) (reads : ReadsOnLine c old.cache new.cache r later result) where
     turns : Turns r.reader (state_in old) (state_in new) (slots_of c before) (slots_of c after) n (Some later)
     turns = record {
       leaves = reader_leaves r.reader (at_in old) (at_in new) leaves.own;
@@ -52,6 +53,9 @@ module _ {S W R : Type 0} {c : CallsGhosts S W R} where
       others = apart_else (slots_of c before) n r active.apart taken.had;
       number = reads.same;
     }
+
+    part : IsPart new
+    part = part_behind old new active.part_is leaves.goes rest page None (Some r.reader) turns.leaves
 
     read_by : (run : Run) → PlaysPart run old before → IsReadBy run name (state_in old) r
     read_by run plays = record {
@@ -65,15 +69,14 @@ module _ {S W R : Type 0} {c : CallsGhosts S W R} where
         → PartEnds run (step.Next name) old new after said
     ends run said plays (inr pair) = inr pair
     ends run said plays (inl m) =
-        reader_ends run (step.Next name) name refl old new before after n number names active plays r.reader (Some later) turns (λ turn. refl)
+        reader_ends laws run (step.Next name) name refl old new before after n number names active part leaves.stands plays r.reader (Some later) turns (λ turn. refl)
         (next_has run (state_in new) name r later (held_reader run old before name n number plays r taken.had).0 reads.same m.keeps) m.keeps said m.moves
 
     pub next_line : (now : ℕ) → IfErr result (λ why. why ≡ Memory) → AnswersActor now (step.Next name) old new before after result
     next_line now stop = record {
-      active = turns_active old new (slots_of c before) (slots_of c after) n r.reader (Some later) active
-          (part_behind old new active.part_is leaves.goes rest page None (Some r.reader) turns.leaves) turns reads.reader;
+      active = turns_active old new (slots_of c before) (slots_of c after) n r.reader (Some later) active part turns reads.reader;
       goes = leaves.goes;
-      ends = if_then result (λ said next run moment plays. ends run said plays (next run name (read_by run plays))) reads.ends;
+      ends = if_then result (λ said next run moment plays. ends run said plays (next run name (read_by run plays) plays.stands)) reads.ends;
       unharmed = λ run plays. reads.unharmed run.streams plays.at.own (read_by run plays).reader;
       counts = if_then result (λ said counts. counts active.part_is.losses) reads.counts;
       stop = stop;

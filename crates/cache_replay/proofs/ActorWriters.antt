@@ -6,10 +6,13 @@ use Rattle.tape_base.specs.declared.keys.Key.{Key}
 use Rattle.alternate_vector.specs.Field.{Field}
 use Rattle.actor_table.specs.Table.{Seen, number_of, slot_of, with_actor}
 use Rattle.cache_model.specs.Permit.{GiveUp, Write}
-use Rattle.cache_model.specs.State.{State}
+use Rattle.cache_model.specs.Legal.{IsStep}
+use Rattle.cache_model.specs.State.{State, after_all}
+use Rattle.call_laws.specs.Contents.{AnyContents, Contents}
 use Rattle.cache_calls.specs.declared.calls.Calls.{Ghosts as CallsGhosts}
 use Rattle.cache_calls.specs.Actors.{WriterSeen}
 use Rattle.cache_calls.specs.Keeping.{IsAtRest}
+use Rattle.cache_calls.specs.Standing.{IsToldClosed, StaysStanding}
 use Rattle.script_lang.specs.declared.answer.StepAnswer.{StepAnswer}
 use Rattle.script_lang.specs.declared.answer.StepAnswer.TheVariants as answer
 use Rattle.script_lang.specs.declared.step.Step.TheVariants as step
@@ -19,22 +22,31 @@ use Rattle.script_run.specs.Answers as says
 use Rattle.script_run.specs.Answers.{busy, idle}
 use Rattle.script_run.specs.Asked as asks
 use Rattle.script_run.specs.Turn.{Turn}
-use Rattle.script_run.specs.Behind.{holds_behind, in_session, of_put, or_else, still_open, streams_closed, streams_fed, streams_opened, writer_at}
+use Rattle.script_run.specs.Behind.{holds_behind, in_session, of_put, or_else, still_open, streams_behind, streams_closed, streams_fed, streams_opened, writer_at}
+use Rattle.script_run.specs.Own.{AreOwn, AreWriting}
+use Rattle.script_run.proofs.Fragments.{own_is_kept}
 use Rattle.cache_replay.specs.declared.session.Holding.{Holding}
 use Rattle.cache_replay.specs.declared.session.Part.{Part}
 use Rattle.cache_replay.specs.declared.stop.Stop.{Stop}
 use Rattle.cache_replay.specs.declared.stop.Stop.TheVariants.{Memory}
+use Rattle.cache_replay.specs.Moves.{Moves}
 use Rattle.cache_replay.specs.OneLine.{AnswersActor}
 use Rattle.run_promise.specs.Outline.{count_in}
 use Rattle.cache_replay.specs.Plays.{IsHeldAs, IsStreamOf, PartEnds, PlaysIn, PlaysPart}
 use Rattle.cache_replay.specs.Session.{AreApart, AreHeld, Differ, HoldingSeen, IsActive, IsHeld, IsOpenWriter, LeavesBut, ReaderHeld, TellsCount, WriterHeld, at_in, slots_of}
 use Rattle.cache_replay.specs.Session.{state_in}
+use Rattle.cache_replay.specs.Standing.{IsToldFrom, OwnStands, TellsOwn}
 use Rattle.cache_replay.specs.WriterLines.{Closes, Feeds, GivesUp, HasNoWriter, IsLeft, IsPlayed, LeavesWriter, OpenDoes, Opens, TakesWriter, WriterDoes, WriterEnds, WriterLine}
 use Rattle.cache_replay.specs.WriterLines.{WriterMoves, held_in, step_of, writes_in}
 use Rattle.cache_replay.proofs.ActorLines.{DoesNothing, changed_from, held_is, names_are, names_within, seen_same, still_line, with_here, with_other}
 use Rattle.cache_replay.proofs.Frames.{Changed, IsElse, IsMine, OthersElse, SameStreams, all_apart, all_held, all_held_as, part_behind, put_leaves}
 use Rattle.cache_replay.proofs.Free.{others_write_older}
-use Rattle.cache_replay.proofs.OnSession.{StandsBehind, stands_behind}
+use Rattle.cache_replay.proofs.OnSession.{are_writing, stands_behind}
+use Rattle.cache_replay.proofs.PutsGrown.{GrowsFrom, put_grows}
+use Rattle.cache_replay.proofs.Stood.{IsLawful, Stood, kept_then, stands_on, stands_then}
+use Rattle.cache_replay.proofs.ToldFrom.{IsLater, gathered_few, later_of}
+use Rattle.cache_replay.proofs.ToldWriters.{closed_bytes, closed_cut, fed_cut, opened_cut, told_close, told_fed, writer_cuts}
+use Rattle.cache_replay.proofs.WriterSteps.{feeding_asks, has_put}
 
 -- ---- what the actors have
 
@@ -126,6 +138,13 @@ is_played run name s slots n w is mine plays =
 
 -- ---- a line that has no writer
 
+-- what is told of the fragments that a line cuts, where it cuts any
+abbrev pub ToldBy : WriterLine → State → WriterSeen → Contents → Type 0
+ToldBy (Feeds body) t w = IsToldFrom t w body
+ToldBy Closes t w = IsToldClosed t w
+ToldBy GivesUp t w = AnyContents
+ToldBy (Opens key pin request response) t w = AnyContents
+
 -- a line on a writer that is there
 abbrev pub IsOnWriter : WriterLine → Type 0
 IsOnWriter (Opens key pin request response) = ⊥
@@ -214,7 +233,7 @@ module _ {S W R : Type 0} {c : CallsGhosts S W R} where
   module _ (now : ℕ) (line : WriterLine) (part new : Part S W R c) (actors last : Seen (Holding W R)) (name : List ℕ) (n put : ℕ) (left : Option W) (given : Option StepAnswer)
       (number : n ≡ number_of actors.names name) (names : last.names ≡ with_actor actors.names name) (active : IsActive part (slots_of c actors))
       (others : OthersElse (slots_of c actors) n (Some put) None) (changed : Changed (slots_of c actors) (slots_of c last) n (held_in (option_map c.written left)))
-      (page : new.page ≡ part.page) (rest : IsAtRest (at_in new)) (leaves : LeavesWriter c part.cache new.cache put left given) where
+      (page : new.page ≡ part.page) (lawful : IsLawful c) (leaves : LeavesWriter c part.cache new.cache put left given) where
     abbrev s : State
     s = state_in part
 
@@ -226,17 +245,23 @@ module _ {S W R : Type 0} {c : CallsGhosts S W R} where
 
     active_behind : IsActive new (slots_of c last)
     active_behind = record {
-      part_is = part_behind part new active.part_is leaves.keeps.goes_on rest (ap (λ p. length p.items) page) (Some put) None but_put;
+      part_is = part_behind part new active.part_is leaves.keeps.goes_on (lawful.rest new.cache leaves.keeps.goes_on.holds_then)
+          (ap (λ p. length p.items) page) (Some put) None but_put;
       held = all_held (Some put) None s t (slots_of c actors) (slots_of c last) n (held_in (option_map c.written left)) but_put changed others active.held
           (held_left t put (option_map c.written left) leaves.left_is);
       apart = all_apart (Some put) None (slots_of c actors) (slots_of c last) n (held_in (option_map c.written left)) changed others
           (mine_left t put (option_map c.written left) leaves.left_is) active.apart;
     }
 
+    -- what stands behind it
+    abbrev Stands : (run : Run) (said : StepAnswer) → Moves run (step_of line name) (at_in part) (at_in new) said → Type 0
+    Stands run said m = OwnStands (streams_behind run s t m.turn (step_of line name)) t (c.stands new.cache)
+
     moved : (run : Run) (said : StepAnswer) → PlaysPart run part actors → IsPutOf run s line name put
         → (m : WriterMoves run name (at_in part) (at_in new) line (option_map c.written left) said)
-        → StandsBehind run (step_of line name) part new m.moves.turn → PlaysPart (in_session run s t m.moves.turn (step_of line name)) new last
-    moved run said plays of m stands =
+        → Stood run (step_of line name) part new said m.moves → Stands run said m.moves
+        → PlaysPart (in_session run s t m.moves.turn (step_of line name)) new last
+    moved run said plays of m there stands =
         let turn = m.moves.turn in
         let later : Run = in_session run s t turn (step_of line name) in
         let at : n ≡ number_of run.actors name = number ∙ ap (λ (all : List (List ℕ)). number_of all name) (sym plays.names) in
@@ -244,32 +269,37 @@ module _ {S W R : Type 0} {c : CallsGhosts S W R} where
           names = names_are run s t turn (step_of line name) name actors.names last.names (actor_is line name) plays.names names;
           at = record {
             state = refl;
-            told = stands.told;
-            own = stands.own;
+            told = there.told;
+            own = there.own;
             held = all_held_as (Some put) None run later s t (slots_of c actors) (slots_of c last) n (held_in (option_map c.written left)) but_put
                 (same_streams line run s t turn name put of) (λ m nope. held_there line run s t turn name n m at nope) changed others plays.at.held
                 (here_left later t n (option_map c.written left) (held_here line run s t turn name n at ∙ m.held) m.stream);
           };
+          stands = stands;
         }
 
     ends_in : (run : Run) (said : StepAnswer) → PlaysPart run part actors → IsPutOf run s line name put
+        → ((m : Moves run (step_of line name) (at_in part) (at_in new) said) → Stands run said m)
         → WriterEnds run name (at_in part) (at_in new) line (option_map c.written left) said
         → PartEnds run (step_of line name) part new last said
-    ends_in run said plays of (inr pair) = inr pair
-    ends_in run said plays of (inl m) = elim (stands_behind run (step_of line name) part new said m.moves (slots_of c actors) active plays.at) [
-      | inr pair ↦ inr pair
-      | inl stands ↦ inl (record { moves = m.moves; plays = moved run said plays of m stands })
-    ]
+    ends_in run said plays of stands (inr pair) = inr pair
+    ends_in run said plays of stands (inl m) =
+        elim (stands_behind lawful run (step_of line name) part new said m.moves (slots_of c actors) active leaves.keeps.goes_on.holds_then plays.at
+        (stands m.moves)) [
+          | inr pair ↦ inr pair
+          | inl there ↦ inl (record { moves = m.moves; plays = moved run said plays of m there (stands m.moves) })
+        ]
 
     answers : (result : Result StepAnswer Stop) → IfOk result (λ said. given ≡ Some said) → IfErr result (λ why. why ≡ Memory)
         → ((run : Run) (said : StepAnswer) → run.now ≡ now → PlaysPart run part actors → given ≡ Some said
-        → IsPutOf run s line name put × WriterEnds run name (at_in part) (at_in new) line (option_map c.written left) said)
+        → IsPutOf run s line name put × ((m : Moves run (step_of line name) (at_in part) (at_in new) said) → Stands run said m)
+        × WriterEnds run name (at_in part) (at_in new) line (option_map c.written left) said)
         → AnswersActor now (step_of line name) part new actors last result
     answers result said stop does = record {
       active = active_behind;
       goes = leaves.keeps.goes_on;
       ends = ends_if result given (λ said. (run : Run) → run.now ≡ now → PlaysPart run part actors → PartEnds run (step_of line name) part new last said) said
-          (λ said is run moment plays. let d = does run said moment plays is in ends_in run said plays d.0 d.1);
+          (λ said is run moment plays. let d = does run said moment plays is in ends_in run said plays d.0 d.1 d.2);
       unharmed = λ run plays. leaves.keeps.unharmed;
       counts = ends_if result given (TellsCount (Some new)) said
           (λ said is. some_at (λ said. Rattle.script_run.specs.Losses.NoLossIsAFault s → count_in said ≤ (at_in new).device.faults) given said is leaves.counts
@@ -278,26 +308,78 @@ module _ {S W R : Type 0} {c : CallsGhosts S W R} where
       names = names_within actors.names last.names name names;
     }
 
+  -- ---- what stands behind a line on a writer
+
+  module _ (run : Run) (name : List ℕ) (part new : Part S W R c) (said : StepAnswer) where
+    -- of a writer that is fed
+    fed_told : (body : List ℕ) (m : Moves run (step.Feed name body) (at_in part) (at_in new) said) (w : WriterSeen)
+        → IsPlayed run name (state_in part) w → IsOpenWriter (state_in part) w → IsAtRest (at_in part) → AreOwn (state_in part) run.streams
+        → (state_in new).geometry ≡ (state_in part).geometry → (contents : Contents)
+        → TellsOwn (of_put run (writer_of run name) (streams_fed run (state_in new) body m.turn.refused)) (state_in new) contents
+        → IsToldFrom (state_in new) w body contents
+    fed_told body m w played at_hand rest own same =
+        let s : State = state_in part in
+        let why = m.turn.refused in
+        subst (λ t. (contents : Contents) → TellsOwn (of_put run (writer_of run name) (streams_fed run t body why)) t contents
+        → IsToldFrom t w body contents) (sym m.state)
+        (λ contents tells.
+        told_fed run s w body at_hand played.stream rest.sound rest.none rest.quiet (own_is_kept s run.streams own) m.turn.device m.turn.added why
+        (subst (λ is. IsStep m.turn.device s is m.turn.added why) (feeding_asks run name s w body played at_hand) m.takes.legal)
+        (ap (λ (u : State). u.geometry) (sym m.state) ∙ same) contents
+        (subst (λ o. TellsOwn (of_put run o (streams_fed run (after_all s m.turn.added) body why)) (after_all s m.turn.added) contents)
+        (has_put run name s w played) tells))
+
+    writer_stands : (line : WriterLine) → IsOnWriter line → (m : Moves run (step_of line name) (at_in part) (at_in new) said) (w : WriterSeen)
+        → IsPlayed run name (state_in part) w → IsOpenWriter (state_in part) w → IsAtRest (at_in part)
+        → AreOwn (state_in part) run.streams → AreWriting run (state_in part) → ((n : ℕ) → GrowsFrom (state_in part) (state_in new) n)
+        → StaysStanding c.stands (ToldBy line (state_in new) w) part.cache new.cache → OwnStands run.streams (state_in part) (c.stands part.cache)
+        → OwnStands (streams_behind run (state_in part) (state_in new) m.turn (step_of line name)) (state_in new) (c.stands new.cache)
+    writer_stands (Feeds body) on m w played at_hand rest own writing grows stays stands =
+        stands_then run (step.Feed name body) part new said m (IsToldFrom (state_in new) w body) grows
+        (fed_cut run (state_in part) name w.put own.puts (has_put run name (state_in part) w played) at_hand.writing (state_in new) body
+        m.turn.refused)
+        (fed_told body m w played at_hand rest own (grows w.put).geometry) stays stands
+    writer_stands Closes on m w played at_hand rest own writing grows stays stands =
+        let has = has_put run name (state_in part) w played in
+        let later : IsLater (state_in part) (state_in new) w =
+        later_of (state_in part) (state_in new) w at_hand.writing at_hand.writer (grows w.put) in
+        stands_then run (step.Close name) part new said m (IsToldClosed (state_in new) w) grows
+        (closed_cut run (state_in part) name w.put own.puts has m.turn.refused)
+        (told_close (state_in part) (state_in new) (run.streams w.put) w (of_put run (writer_of run name) (streams_closed run m.turn.refused))
+        later played.stream (writer_cuts (state_in part) run.streams w own.puts at_hand)
+        (kept_then run (step.Close name) part new said m rest played.told own writing).puts
+        (closed_bytes run (state_in part) name w.put own.puts has m.turn.refused)
+        (gathered_few (state_in part) (state_in new) w later.geometry at_hand))
+        stays stands
+    writer_stands GivesUp on m w played at_hand rest own writing grows stays stands =
+        stands_on run (step.Abort name) part new said m refl grows stays stands
+    writer_stands (Opens key pin request response) on m w played at_hand rest own writing grows stays stands = absurd on
+
   -- a line on the writer that an actor has
   pub writer_answers : (now : ℕ) (line : WriterLine) → IsOnWriter line → (part new : Part S W R c) (actors numbered taken last : Seen (Holding W R)) (name : List ℕ) (n : ℕ)
       (w : W) (left : Option W)
       (given : Option StepAnswer) (result : Result StepAnswer Stop) → n ≡ number_of actors.names name → ((m : ℕ) → slot_of numbered.slots m ≡ slot_of actors.slots m)
       → last.names ≡ with_actor actors.names name → IsActive part (slots_of c actors)
       → TakesWriter c numbered taken n (Some w) → ((m : ℕ) → slots_of c last m ≡ (if m == n then held_in (option_map c.written left) else slots_of c taken m))
-      → new.page ≡ part.page → IsAtRest (at_in new)
+      → new.page ≡ part.page → IsLawful c
       → LeavesWriter c part.cache new.cache (c.written w).put left given
+      → StaysStanding c.stands (ToldBy line (state_in new) (c.written w)) part.cache new.cache
       → WriterDoes now (at_in part) (at_in new) line (c.written w) (option_map c.written left) given
       → IfOk result (λ said. given ≡ Some said) → IfErr result (λ why. why ≡ Memory)
       → AnswersActor now (step_of line name) part new actors last result
-  writer_answers now line on part new actors numbered taken last name n w left given result number same names active takes back page rest leaves does said stop =
+  writer_answers now line on part new actors numbered taken last name n w left given result number same names active takes back page lawful leaves stays does said stop =
       let v : WriterSeen = c.written w in
       let mine : slots_of c actors n ≡ Some (WriterHeld v) = sym (seen_same c actors numbered same n) ∙ takes.0 in
       answers now line part new actors last name n v.put left given number names active (others_else (slots_of c actors) n v active.apart mine)
-      (given_back c actors numbered taken last n w (option_map c.written left) same takes back) page rest leaves result said stop
+      (given_back c actors numbered taken last n w (option_map c.written left) same takes back) page lawful leaves result said stop
       (λ run said moment plays is.
       let at : n ≡ number_of run.actors name = number ∙ ap (λ (all : List (List ℕ)). number_of all name) (sym plays.names) in
       let played = is_played run name (state_in part) (slots_of c actors) n v at mine plays.at in (
         put_played line run name (state_in part) v on played,
+        λ m. writer_stands run name part new said line on m v played
+            (some_at (IsHeld (state_in part)) (slots_of c actors n) (WriterHeld v) mine (active.held n)) active.part_is.rest
+            plays.at.own (are_writing run (state_in part) (slots_of c actors) plays.at active.held)
+            (λ q. put_grows (at_in part) (at_in new) (lawful.rest new.cache leaves.keeps.goes_on.holds_then) q v.put leaves.own) stays plays.stands,
         some_at (λ said. (run : Run) (name : List ℕ) → run.now ≡ now → IsPlayed run name (state_in part) v
             → WriterEnds run name (at_in part) (at_in new) line (option_map c.written left) said)
             given said is does run name moment played,
@@ -325,22 +407,26 @@ module _ {S W R : Type 0} {c : CallsGhosts S W R} where
       (given : Option StepAnswer) (result : Result StepAnswer Stop) → n ≡ number_of actors.names name → ((m : ℕ) → slot_of numbered.slots m ≡ slot_of actors.slots m)
       → last.names ≡ with_actor actors.names name → IsActive part (slots_of c actors)
       → slot_of numbered.slots n ≡ None → ((m : ℕ) → slots_of c last m ≡ (if m == n then held_in (option_map c.written left) else slots_of c numbered m))
-      → new.page ≡ part.page → IsAtRest (at_in new)
+      → new.page ≡ part.page → IsLawful c
       → LeavesWriter c part.cache new.cache (state_in part).next_put left given
+      → StaysStanding c.stands AnyContents part.cache new.cache
       → OpenDoes (at_in part) (at_in new) n (Opens key pin request response) (option_map c.written left) given
       → IfOk result (λ said. given ≡ Some said) → IfErr result (λ why. why ≡ Memory)
       → AnswersActor now (step.OpenWrite name key pin request response) part new actors last result
-  open_answers now part new actors numbered last name key pin request response n left given result number same names active free back page rest leaves does said stop =
+  open_answers now part new actors numbered last name key pin request response n left given result number same names active free back page lawful leaves stays does said stop =
       let line : WriterLine = Opens key pin request response in
       let none : slots_of c actors n ≡ None = ap (option_map (Rattle.cache_replay.specs.Session.holding_seen c)) (sym (same n) ∙ free) in
       answers now line part new actors last name n (state_in part).next_put left given number names active
       (others_write_older (at_in part) active.part_is.rest (slots_of c actors) active.held n)
-      (changed_from (slots_of c actors) (slots_of c numbered) (slots_of c last) n (held_in (option_map c.written left)) (seen_same c actors numbered same) back) page rest leaves
+      (changed_from (slots_of c actors) (slots_of c numbered) (slots_of c last) n (held_in (option_map c.written left)) (seen_same c actors numbered same) back) page lawful leaves
       result said stop
       (λ run said moment plays is.
       let at : n ≡ number_of run.actors name = number ∙ ap (λ (all : List (List ℕ)). number_of all name) (sym plays.names) in
       let nobody : held_by run name ≡ None = ap run.held (sym at) ∙ subst (IsHeldAs run (state_in part) n) none (plays.at.held n) in (
         (nobody, refl),
+        λ m. stands_then run (step.OpenWrite name key pin request response) part new said m AnyContents
+            (λ q. put_grows (at_in part) (at_in new) (lawful.rest new.cache leaves.keeps.goes_on.holds_then) q (state_in part).next_put leaves.own)
+            (opened_cut run (state_in part) (held_by run name) plays.at.own.puts nobody) (λ contents tells. tt) stays plays.stands,
         some_at (λ said. (run : Run) (name : List ℕ) → held_by run name ≡ None → n ≡ number_of run.actors name → Rattle.cache_model.specs.Vectors.AreTold (state_in part)
             → WriterEnds run name (at_in part) (at_in new) line (option_map c.written left) said) given said is does run name nobody at plays.at.told,
       ))

@@ -22,7 +22,7 @@ use Rattle.script_run.proofs.Reading.{formats_own}
 use Rattle.cache_replay.specs.declared.session.Part.{Part}
 use Rattle.cache_replay.specs.declared.session.Session.{Session}
 use Rattle.cache_replay.specs.Session.{AreApart, AreHeld, HoldingSeen, IsAt, IsHeld, IsPart, IsSession, at_in, names_in, return_in, return_of, slots_in, state_in}
-use Rattle.cache_replay.specs.Plays.{CallsAt, IsHeldAs, IsUnharmedAt, Plays, PlaysAt, PlaysIn}
+use Rattle.cache_replay.specs.Plays.{CallsAt, IsHeldAs, IsUnharmedAt, Plays, PlaysAt, PlaysIn, StandsAt}
 
 -- ---- no actor has anything
 
@@ -37,7 +37,7 @@ module _ (slots : ℕ → Option HoldingSeen) (none : (n : ℕ) → slots n ≡ 
   none_held_as run s nothing = λ n. subst (IsHeldAs run s n) (sym (none n)) (nothing n)
 
 module _ {S W R : Type 0} {c : CallsGhosts S W R} (geometry : Geometry) (device : Device) (part : Part S W R c)
-    (begins : Begins c.at c.holds geometry device part.cache) where
+    (begins : Begins c.at c.holds c.stands geometry device part.cache) where
   -- ---- a part
 
   begun_state : state_in part ≡ after_all nothing_yet (format_records geometry)
@@ -91,5 +91,6 @@ module _ {S W R : Type 0} {c : CallsGhosts S W R} (geometry : Geometry) (device 
           now = plays.now ∙ sym now;
           at = subst (λ p. PlaysAt later p (slots_in new)) (sym is) (begun_plays run name (slots_in new) none);
           unharmed = subst (λ p. IsUnharmedAt p) (sym is) begun_unharmed;
+          stands = subst (λ p. StandsAt later p) (sym is) (λ contents told. begins.contents contents);
           calls = subst (λ p. CallsAt later p) (sym is) (ap (λ (d : Device). d.past) begins.device_is ∙ past);
         }

@@ -88,7 +88,8 @@ module _ {S W R : Type 0} {c : CallsGhosts S W R} where
         | inr pair ↦ inr (record {
           turn = pair.turn;
           shows = pair.shows;
-          outlines = shown_outlines run pair.turn s old new said ledger needs later tells pair.calls (plays_outlined run old is plays);
+          outlines =
+              shown_outlines run pair.turn s old new said ledger needs later tells pair.calls pair.untold (plays_outlined run old is plays);
         })
       ]
   all_ends (Err why) s old new ledger needs is later tells h = tt

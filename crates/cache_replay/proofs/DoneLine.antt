@@ -7,6 +7,7 @@ use Rattle.cache_model.specs.declared.record.Rec.TheVariants as rec
 use Rattle.cache_model.specs.State.{ReaderRow, State, reader_of, state_after}
 use Rattle.cache_model.specs.Permit.{StopReading}
 use Rattle.cache_model.proofs.ByNumber.{find-without}
+use Rattle.call_laws.specs.Contents.{AnyContents}
 use Rattle.call_laws.specs.Progress.{AllDone, in_full}
 use Rattle.call_laws.specs.Serves.{ServesTold}
 use Rattle.call_laws.proofs.Joined.{state_behind}
@@ -14,6 +15,7 @@ use Rattle.cache_calls.specs.declared.calls.Calls.{Ghosts as CallsGhosts}
 use Rattle.cache_calls.specs.Actors.{ReaderSeen}
 use Rattle.cache_calls.specs.Adds.{Adds, AddsAll, IsOfReader}
 use Rattle.cache_calls.specs.Keeping.{IsAtRest, Keeps}
+use Rattle.cache_calls.specs.Standing.{StaysStanding}
 use Rattle.script_lang.specs.declared.step.Step.TheVariants as step
 use Rattle.script_lang.specs.declared.answer.StepAnswer.{StepAnswer}
 use Rattle.script_lang.specs.declared.answer.StepAnswer.TheVariants as answer
@@ -27,10 +29,11 @@ use Rattle.cache_replay.specs.Moves.{MovesOrShows}
 use Rattle.cache_replay.specs.OneLine.{AnswersActor}
 use Rattle.cache_replay.specs.Plays.{PartEnds, PlaysPart}
 use Rattle.cache_replay.specs.ReaderLines.{reader_held}
-use Rattle.cache_replay.specs.Session.{IsActive, at_in, slots_of, state_in}
+use Rattle.cache_replay.specs.Session.{IsActive, IsPart, at_in, slots_of, state_in}
 use Rattle.cache_replay.proofs.ActorLines.{names_within, still_line}
 use Rattle.cache_replay.proofs.Frames.{part_behind, reader_leaves}
 use Rattle.cache_replay.proofs.ReaderLines.{Took, Turns, apart_else, held_reader, reader_ends, reads_none, reads_with, still_held, turns_active}
+use Rattle.cache_replay.proofs.Stood.{IsLawful}
 use Rattle.cache_replay.proofs.Whole.{moves_line, serves_whole}
 
 -- it is closed then
@@ -44,10 +47,10 @@ closed_has run s name reader by =
     ap (still_open (state_after s (rec.ReadClosed reader))) by ∙ ap (λ (o : Option ReaderRow). if is_some o then Some (Reads reader) else None) (closed_is_none s reader)
 
 module _ {S W R : Type 0} {c : CallsGhosts S W R} where
-  module _ (old new : Part S W R c) (before after : Seen (Holding W R)) (name : List ℕ) (n : ℕ) (r : ReaderSeen)
+  module _ (laws : IsLawful c) (old new : Part S W R c) (before after : Seen (Holding W R)) (name : List ℕ) (n : ℕ) (r : ReaderSeen)
       (number : n ≡ number_of before.names name) (names : after.names ≡ with_actor before.names name) (taken : Took (slots_of c before) (slots_of c after) n r)
       (active : IsActive old (slots_of c before)) (keeps : Keeps c.at c.holds old.cache new.cache) (rest : IsAtRest (at_in new))
-      (page : length new.page.items ≡ length old.page.items)
+      (stays : StaysStanding c.stands AnyContents old.cache new.cache) (page : length new.page.items ≡ length old.page.items)
       (adds : AddsAll (rec.ReadClosed r.reader ∷ []) (at_in old) (at_in new)) (own : Adds (IsOfReader r.reader) (at_in old) (at_in new))
       (serves : (now : ℕ) → ServesTold now (at_in old) (at_in new) (StopReading r.reader ∷ []) AllDone) where
     turns : Turns r.reader (state_in old) (state_in new) (slots_of c before) (slots_of c after) n None
@@ -57,6 +60,9 @@ module _ {S W R : Type 0} {c : CallsGhosts S W R} where
       others = apart_else (slots_of c before) n r active.apart taken.had;
       number = tt;
     }
+
+    part : IsPart new
+    part = part_behind old new active.part_is keeps.goes_on rest page None (Some r.reader) turns.leaves
 
     moves : (run : Run) → PlaysPart run old before → MovesOrShows run (step.Done name) (at_in old) (at_in new) answer.Done
     moves run plays =
@@ -70,15 +76,14 @@ module _ {S W R : Type 0} {c : CallsGhosts S W R} where
     ends run plays = elim (moves run plays) [
       | inr pair ↦ inr pair
       | inl m ↦
-          reader_ends run (step.Done name) name refl old new before after n number names active plays r.reader None turns (λ turn. refl)
+          reader_ends laws run (step.Done name) name refl old new before after n number names active part stays plays r.reader None turns (λ turn. refl)
           (ap (λ t. still_open t (held_by run name)) (state_behind (at_in old).kept (at_in new).kept (rec.ReadClosed r.reader ∷ []) adds)
           ∙ closed_has run (state_in old) name r.reader (held_reader run old before name n number plays r taken.had).0) tt answer.Done m
     ]
 
     pub done_line : (now : ℕ) → AnswersActor now (step.Done name) old new before after (Ok answer.Done)
     done_line now = record {
-      active = turns_active old new (slots_of c before) (slots_of c after) n r.reader None active
-          (part_behind old new active.part_is keeps.goes_on rest page None (Some r.reader) turns.leaves) turns tt;
+      active = turns_active old new (slots_of c before) (slots_of c after) n r.reader None active part turns tt;
       goes = keeps.goes_on;
       ends = λ run moment plays. ends run plays;
       unharmed = λ run plays. keeps.unharmed;

@@ -1,10 +1,9 @@
 -- What becomes of a put that is closed, along the records.
 use Rattle.std.proofs.Common.{◌≡◌, ℕ, List, [], ◌∷◌, ◌++◌, length, refl, sym, ◌∙◌, ap, subst, Bool, false, cond}
-use Rattle.std.specs.Prelude.{Option, Some, None, ◌==◌, option_map, unwrap_or, filter, find, map}
+use Rattle.std.specs.Prelude.{Option, Some, None, ◌==◌, option_map, unwrap_or, filter, find}
 use Rattle.std.proofs.lemmas.Bool.{eq-eqb}
 use Rattle.tape_base.specs.Digest.{digest_of}
 use Rattle.tape_base.specs.declared.keys.Key.{Key}
-use Rattle.tape_base.specs.declared.pieces.PieceId.{PieceId}
 use Rattle.fragment_table.specs.Table.{TableRow, made_row, total_length}
 use Rattle.alternate_vector.specs.Alternates.{Stored}
 use Rattle.cache_model.specs.declared.record.Rec.{Rec}
@@ -17,13 +16,14 @@ use Rattle.cache_model.specs.Legal.{Advances, Does, DoesCommit, DoesFinish, Does
 use Rattle.cache_model.specs.Legal.{vector_length, vector_payload}
 use Rattle.cache_model.specs.Due.{due_pieces}
 use Rattle.cache_model.specs.Syncing.{DoesSync, MaySyncBehind, Syncing, Unmarks, WhereDue}
-use Rattle.cache_model.specs.Outcomes.{Copy, Outcome, began_record, copies_of, flush_records, front_of, moved_record, moved_records, records_of}
-use Rattle.cache_model.specs.Room.{MayDisplace, displaced_record, greatest_pin, placed_record}
+use Rattle.cache_model.specs.Outcomes.{flush_records}
+use Rattle.cache_model.specs.Room.{greatest_pin, placed_record}
 use Rattle.cache_model.proofs.Steps.{after_all-append, none_left}
 use Rattle.cache_model.proofs.ByNumber.{find-changed}
 use Rattle.cache_model.proofs.Found.{no_truth, number_of}
 use Rattle.cache_model.proofs.Syncing.{flush_among_syncs}
 use Rattle.script_run.proofs.Synced.{AllSyncing, IsSyncing, unmark_syncing}
+use Rattle.cache_replay.proofs.KeptPuts.{displaced_puts, flush_leaves}
 
 -- ---- what closing asks of a put
 
@@ -146,38 +146,6 @@ cut_done s put index payload w found =
       ended = λ e. cc;
     }
 
-all_displaced : (segment live : ℕ) (rows : List Row) (t : State) → (after_all t (map (displaced_record segment live) rows)).puts ≡ t.puts
-all_displaced segment live [] t = refl
-all_displaced segment live (row ∷ rows) t = all_displaced segment live rows (state_after t (displaced_record segment live row))
-
-displaced_puts : (p : Permit) (s : State) (id : PieceId) (recs : List Rec) → MayDisplace p s id recs → (t : State) → (after_all t recs).puts ≡ t.puts
-displaced_puts p s id recs d t = subst (λ (rs : List Rec). (after_all t rs).puts ≡ t.puts) (sym d.is) (all_displaced _ _ d.purged t)
-
--- ---- the records of a flush
-
-outcome_puts : (s : State) (row : Row) (o : Outcome) → (after_all s (records_of row o)).puts ≡ s.puts
-outcome_puts s row Outcome.NoRoom = refl
-outcome_puts s row (Outcome.Copied bytes) = refl
-outcome_puts s row (Outcome.Spoiled found) = refl
-outcome_puts s row (Outcome.Refused count) = refl
-
-front_puts : (s : State) (rows : List Row) (outcomes : List Outcome) → (after_all s (front_of rows outcomes)).puts ≡ s.puts
-front_puts s [] outcomes = refl
-front_puts s (row ∷ rows) [] = refl
-front_puts s (row ∷ rows) (o ∷ outcomes) =
-    ap (λ (t : State). t.puts) (after_all-append s (records_of row o) (front_of rows outcomes)) ∙ (front_puts (after_all s (records_of row o)) rows outcomes ∙ outcome_puts s row o)
-
-moved_puts : (s : State) (copies : List Copy) → (after_all s (moved_records s copies)).puts ≡ s.puts
-moved_puts s [] = refl
-moved_puts s (c ∷ copies) = moved_puts (state_after s (moved_record s c)) copies
-
-flush_puts : (s : State) (rows : List Row) (outcomes : List Outcome) → (after_all s (flush_records s rows outcomes)).puts ≡ s.puts
-flush_puts s rows outcomes =
-    let front : State = after_all s (front_of rows outcomes) in
-    let began : State = state_after front (began_record s) in
-    ap (λ (t : State). t.puts) (after_all-append s (front_of rows outcomes) (began_record s ∷ moved_records began (copies_of rows outcomes)))
-    ∙ (moved_puts began (copies_of rows outcomes) ∙ front_puts s rows outcomes)
-
 -- ---- syncs
 
 sync_puts : (s : State) (r : Rec) → IsSyncing r → (state_after s r).puts ≡ s.puts
@@ -193,7 +161,7 @@ syncing_puts s (r ∷ recs) h = syncing_puts (state_after s r) recs h.1 ∙ sync
 
 -- a flush among syncs
 synced_puts : (p : Permit) (k : Syncing) (s : State) (added : List Rec) → MaySyncBehind p k s added → (after_all s added).puts ≡ s.puts
-synced_puts p k s added m = ap (λ (t : State). t.puts) (flush_among_syncs p k s added m).1 ∙ flush_puts s (due_pieces s p.now) m.outcomes
+synced_puts p k s added m = ap (λ (t : State). t.puts) (flush_among_syncs p k s added m).1 ∙ flush_leaves s (due_pieces s p.now) m.outcomes
 
 -- ---- one group of records
 
@@ -234,7 +202,7 @@ unmarked_group p s i put added e (Unmarks.exhausted must high is) = tt
 rooms_group : (p : Permit) (s : State) (i : Intent) (put bytes : ℕ) (added : List Rec) (e : End) → MakesRoom p s bytes added e → IsGroup i e s (after_all s added) put
 rooms_group p s i put bytes added e (MakesRoom.flushes full may) =
     subst (λ (rs : List Rec). put_of (after_all s rs) put ≡ put_of s put) (sym may.is) (same_puts s (after_all s (flush_records s (due_pieces s p.now) may.outcomes)) put
-    (flush_puts s (due_pieces s p.now) may.outcomes))
+    (flush_leaves s (due_pieces s p.now) may.outcomes))
 rooms_group p s i put bytes added e (MakesRoom.stops count full may) = tt
 rooms_group p s i put bytes added e (MakesRoom.exhausted full above none) = tt
 rooms_group p s i put bytes added e (MakesRoom.syncs end full sync is) = subst (λ x. IsGroup i x s (after_all s added) put) (sym is) (synced_group p s i put added end sync)

@@ -19,13 +19,10 @@ use Rattle.cache_calls.specs.declared.calls.Refusal.TheVariants as refusal
 use Rattle.cache_calls.specs.Actors.{WriterSeen}
 use Rattle.cache_calls.specs.Adds.{IsAsItWas}
 use Rattle.cache_calls.specs.Keeping.{plain_setting, state_at}
-use Rattle.script_lang.specs.declared.step.Step.TheVariants as step
 use Rattle.script_lang.specs.declared.answer.Refused.TheVariants as refused
 use Rattle.script_lang.specs.declared.answer.StepAnswer.{StepAnswer}
 use Rattle.script_lang.specs.declared.answer.StepAnswer.TheVariants as answer
-use Rattle.script_run.specs.Run.{Run, Stream, gathered_of, with_value, writer_of}
-use Rattle.script_run.specs.Asked as asks
-use Rattle.script_run.specs.Asked.{asked, feed_intents}
+use Rattle.script_run.specs.Run.{Run, Stream, with_value, writer_of}
 use Rattle.script_run.specs.Answers as says
 use Rattle.script_run.specs.Answers.{feed_said, said, took_of}
 use Rattle.script_run.specs.Behind as behind
@@ -37,7 +34,7 @@ use Rattle.cache_replay.specs.Plays.{IsStreamOf}
 use Rattle.cache_replay.specs.Session.{IsOpenWriter}
 use Rattle.cache_replay.specs.WriterLines.{Feeds, IsPlayed, WriterDoes}
 use Rattle.cache_replay.proofs.Whole.{serves_whole}
-use Rattle.cache_replay.proofs.WriterSteps.{LeftOpen, cuts_at, gathered_at, has_put, held_open, of_left, writer_ends}
+use Rattle.cache_replay.proofs.WriterSteps.{LeftOpen, cuts_at, feeding_asks, has_put, held_open, of_left, writer_ends}
 
 -- what it took is that before and what it took now
 pub stream_fed : (stream : Stream) (w new : WriterSeen) (body : List ℕ) (taken : ℕ) → IsStreamOf stream w → IsFed w body taken new → taken ≤ length body
@@ -67,14 +64,6 @@ module _ (now : ℕ) (a b : At) (plain : a.setting ≡ plain_setting) (quiet : I
   abbrev cut_since : ℕ
   cut_since = taken_of t w body (Some refusal.Sealed)
 
-  feeding_asks : (run : Run) (name : List ℕ) → IsPlayed run name s w → asked run s (step.Feed name body) ≡ (if (run.streams w.put).sealed then [] else feed_asks s w body)
-  feeding_asks run name played =
-      ap (λ o. asks.if_has o (asks.feeding run s body)) (has_put run name s w played)
-      ∙ (ap (λ (rows : List TableRow). if (run.streams w.put).sealed then [] else feed_intents s.geometry.fragment w.put (length rows) (gathered_of run s w.put ++ body))
-      (cuts_at s w own)
-      ∙ ap (λ (bytes : List ℕ). if (run.streams w.put).sealed then [] else feed_intents s.geometry.fragment w.put (length w.cuts) (bytes ++ body))
-      (gathered_at run name s w played own))
-
   -- the bytes of which the fragments are cut are those of before, and what it took
   took_is : (run : Run) (name : List ℕ) → IsPlayed run name s w → took_of run t w.put ≡ cut_since
   took_is run name played =
@@ -98,7 +87,7 @@ module _ (now : ℕ) (a b : At) (plain : a.setting ≡ plain_setting) (quiet : I
       ∙ (ap (λ (b : Bool). (if b then run.streams else with_value run.streams w.put x) last.put) nope
       ∙ (ap (λ (b : Bool). if b then x else run.streams last.put) (eq-eqb last.put w.put fed_.put) ∙ ap (fed (run.streams w.put) body) (takes run took))) in
       writer_ends run name a b now plain moment (Feeds body) (feed_asks s w body) why left said_
-      (feeding_asks run name played ∙ ap (λ (b : Bool). if b then [] else feed_asks s w body) nope)
+      (feeding_asks run name s w body played own ∙ ap (λ (b : Bool). if b then [] else feed_asks s w body) nope)
       (serves_whole why ends plain quiet played.told serves)
       (λ legal there known. record {
         held = ap (still_open t) played.held ∙ held_open t w.put last left fed_.put open_left;
@@ -129,7 +118,7 @@ module _ (now : ℕ) (a b : At) (plain : a.setting ≡ plain_setting) (quiet : I
       ap (λ o. of_put run o (streams_fed run t body None) last.put) has
       ∙ (ap (λ (b : Bool). (if b then run.streams else with_value run.streams w.put (fed (run.streams w.put) body (length body))) last.put) yea ∙ ap run.streams fed_.put) in
       writer_ends run name a b now plain moment (Feeds body) [] None left (refusal_answer refusal.Sealed (Some taken))
-      (feeding_asks run name played ∙ ap (λ (b : Bool). if b then [] else feed_asks s w body) yea)
+      (feeding_asks run name s w body played own ∙ ap (λ (b : Bool). if b then [] else feed_asks s w body) yea)
       (serves_whole None progress.EndsWith.in_full plain quiet played.told serves)
       (λ legal there known. record {
         held = ap (still_open t) played.held ∙ held_open t w.put last left fed_.put open_left;

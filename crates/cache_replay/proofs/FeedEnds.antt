@@ -9,6 +9,7 @@ use Rattle.fragment_table.specs.Table.{TableRow, total_length}
 use Rattle.cache_model.specs.State.{State, most_fragments}
 use Rattle.cache_model.specs.Verdict.{cuts_of}
 use Rattle.cache_model.specs.Permit.{Fragment, Intent}
+use Rattle.logged_disk.specs.Device.{TellsAll}
 use Rattle.call_laws.specs.Moments.{At}
 use Rattle.call_laws.specs.Serves.{Serves}
 use Rattle.call_laws.proofs.Served.{serves_first}
@@ -22,7 +23,7 @@ use Rattle.script_run.specs.Asked.{feed_intents, rest_behind, whole_fragments}
 use Rattle.cache_replay.specs.Replies.{count_of_refusal}
 use Rattle.cache_replay.specs.Feeding.{FeedsAsAsked, FeedsWhere, IsCutUp, IsCutWhere, IsFed, IsOpenBehind, feed_progress, taken_of}
 use Rattle.cache_replay.proofs.CutBodies.{cut_first, not_most, rest_first, whole_first}
-use Rattle.cache_replay.proofs.FeedRounds.{Cuts, Wrote, few, within}
+use Rattle.cache_replay.proofs.FeedRounds.{Cuts, Wrote, few, serves_later, within}
 use Rattle.cache_replay.proofs.Frames.{adds_then}
 
 -- ---- what holds where feeding ends
@@ -36,6 +37,7 @@ pub record Ends (now : ℕ) (old new : At) (w v : WriterSeen) (bytes : List ℕ)
   pub writing : IsOpenBehind (state_at new) w.put why
   pub own : Adds (IsOfPut w.put) old new
   pub grown : total_length w.cuts ≤ total_length (cuts_of (state_at new) w.put)
+  pub told : TellsAll new.device → TellsAll old.device
 
 pub total_more : (rows more : List TableRow) (row : TableRow) → more ≡ rows ++ row ∷ [] → total_length more ≡ total_length rows + row.length
 total_more rows more row is =
@@ -49,6 +51,15 @@ pub length_more : (rows more : List TableRow) (row : TableRow) → more ≡ rows
 length_more rows more row is = ap length is ∙ length-append rows (row ∷ [])
 
 -- ---- a fragment is cut, and then the rest is fed
+
+module _ {now : ℕ} {old mid : At} {w v : WriterSeen} {bytes : List ℕ} {n : ℕ} (c : Cuts now old mid w v bytes n) where
+  pub rows_count : length v.cuts ≡ length w.cuts + 1
+  rows_count = length_more w.cuts v.cuts c.row c.rows
+
+  -- what is left stands behind the fragment
+  pub rest_is : v.gathered ++ drop n bytes ≡ drop (state_at old).geometry.fragment (w.gathered ++ bytes)
+  rest_is =
+      ap (λ xs. xs ++ drop n bytes) c.empty ∙ sym (ap (λ k. drop k (w.gathered ++ bytes)) (sym c.full) ∙ drop-append-add w.gathered bytes n)
 
 module _ (now : ℕ) (old mid new : At) (w v end : WriterSeen) (bytes : List ℕ) (n : ℕ) (h : Wrote now old mid w v bytes n) (c : Cuts now old mid w v bytes n) where
   abbrev s : State
@@ -72,20 +83,11 @@ module _ (now : ℕ) (old mid new : At) (w v end : WriterSeen) (bytes : List ℕ
   take_is : take f all ≡ gathered_with w bytes n
   take_is = ap (λ k. take k all) (sym c.full) ∙ take-append-add w.gathered bytes n
 
-  drop_is : drop f all ≡ drop n bytes
-  drop_is = ap (λ k. drop k all) (sym c.full) ∙ drop-append-add w.gathered bytes n
-
-  rest_is : v.gathered ++ drop n bytes ≡ drop f all
-  rest_is = ap (λ xs. xs ++ drop n bytes) c.empty ∙ sym drop_is
-
   bytes_some : 0 < length bytes
   bytes_some = let few : length w.gathered < f = few now old mid w v bytes n h in omega (arith, few, c.full, in_time)
 
   room : (length w.cuts == most_fragments) ≡ false
   room = not_most (length w.cuts) (h.takes.few bytes_some)
-
-  rows_count : length v.cuts ≡ length w.cuts + 1
-  rows_count = length_more w.cuts v.cuts c.row c.rows
 
   rows_total : total_length v.cuts ≡ total_length w.cuts + f
   rows_total = total_more w.cuts v.cuts c.row c.rows ∙ ap (λ k. total_length w.cuts + k) c.size
@@ -96,30 +98,32 @@ module _ (now : ℕ) (old mid new : At) (w v end : WriterSeen) (bytes : List ℕ
       cut_first f w.put (length w.cuts) all some whole room
       ∙ (ap (λ xs. Fragment w.put (length w.cuts + 1) xs ∷ feed_intents f w.put (length w.cuts + 1) (drop f all)) take_is
       ∙ ap (λ is. cuts_next w (gathered_with w bytes n) ∷ is)
-      (ap (feed_intents f w.put (length w.cuts + 1)) (sym rest_is)
-      ∙ (ap (λ k. feed_intents f w.put k (v.gathered ++ drop n bytes)) (sym rows_count)
+      (ap (feed_intents f w.put (length w.cuts + 1)) (sym (rest_is c))
+      ∙ (ap (λ k. feed_intents f w.put k (v.gathered ++ drop n bytes)) (sym (rows_count c))
       ∙ (ap (λ q. feed_intents f q (length v.cuts) (v.gathered ++ drop n bytes)) (sym h.gathers.put)
       ∙ ap (λ (g : Geometry). feed_intents g.fragment v.put (length v.cuts) (v.gathered ++ drop n bytes)) (sym c.stands.geometry)))))
 
-  asks : (why : Option Refusal) → FeedsAsAsked now mid new v (drop n bytes) why → FeedsAsAsked now old new w bytes why
-  asks why rest = record {
+  asks : (why : Option Refusal) → (TellsAll new.device → TellsAll mid.device) → FeedsAsAsked now mid new v (drop n bytes) why
+      → FeedsAsAsked now old new w bytes why
+  asks why told rest = record {
     open_still = h.takes.taking.1;
     serves = subst (λ (is : List Intent). Serves now old new is (feed_progress w.put why)) (sym intents_are)
-        (serves_first c.serves (subst (λ q. Serves now mid new
+        (serves_first (serves_later new told c.serves) (subst (λ q. Serves now mid new
         (feed_intents (state_at mid).geometry.fragment v.put (length v.cuts) (v.gathered ++ drop n bytes)) (feed_progress q why)) h.gathers.put rest.serves));
   }
 
-  then_feeds : (why : Option Refusal) → FeedsWhere now mid new v (drop n bytes) why → FeedsWhere now old new w bytes why
-  then_feeds None rest = asks None rest
-  then_feeds (Some refusal.TooManyFragments) rest = asks (Some refusal.TooManyFragments) rest
-  then_feeds (Some (refusal.DeviceFault count)) rest = asks (Some (refusal.DeviceFault count)) rest
-  then_feeds (Some (refusal.Exhausted number)) rest = asks (Some (refusal.Exhausted number)) rest
-  then_feeds (Some (refusal.Memory e)) rest = tt
-  then_feeds (Some refusal.Sealed) rest = let clash : true ≡ false = sym rest.0 ∙ (h.gathers.sealed ∙ h.takes.taking.1) in cc
-  then_feeds (Some refusal.TooManyWriters) rest = absurd rest
-  then_feeds (Some refusal.NoSuchWriter) rest = absurd rest
-  then_feeds (Some (refusal.VectorTooLarge size)) rest = absurd rest
-  then_feeds (Some (refusal.Lost index cause)) rest = absurd rest
+  then_feeds : (why : Option Refusal) → (TellsAll new.device → TellsAll mid.device) → FeedsWhere now mid new v (drop n bytes) why
+      → FeedsWhere now old new w bytes why
+  then_feeds None told rest = asks None told rest
+  then_feeds (Some refusal.TooManyFragments) told rest = asks (Some refusal.TooManyFragments) told rest
+  then_feeds (Some (refusal.DeviceFault count)) told rest = asks (Some (refusal.DeviceFault count)) told rest
+  then_feeds (Some (refusal.Exhausted number)) told rest = asks (Some (refusal.Exhausted number)) told rest
+  then_feeds (Some (refusal.Memory e)) told rest = tt
+  then_feeds (Some refusal.Sealed) told rest = let clash : true ≡ false = sym rest.0 ∙ (h.gathers.sealed ∙ h.takes.taking.1) in cc
+  then_feeds (Some refusal.TooManyWriters) told rest = absurd rest
+  then_feeds (Some refusal.NoSuchWriter) told rest = absurd rest
+  then_feeds (Some (refusal.VectorTooLarge size)) told rest = absurd rest
+  then_feeds (Some (refusal.Lost index cause)) told rest = absurd rest
 
   then_takes : (more : ℕ) (why : Option Refusal) → total_length v.cuts ≤ total_length (cuts_of (state_at new) v.put) → more ≡ taken_of (state_at new) v (drop n bytes) why
       → n + more ≡ taken_of (state_at new) w bytes why
@@ -161,9 +165,9 @@ module _ (now : ℕ) (old mid new : At) (w v end : WriterSeen) (bytes : List ℕ
   then_cut None rest =
       let here : IsCutUp f v (drop n bytes) end = subst (λ (g : Geometry). IsCutUp g.fragment v (drop n bytes) end) c.stands.geometry rest in
       record {
-        fragments = here.fragments ∙ (ap (λ xs. length v.cuts + whole_fragments f xs) rest_is
-            ∙ (counts (length v.cuts) (length w.cuts) (whole_fragments f (drop f all)) rows_count ∙ ap (λ k. length w.cuts + k) (sym (whole_first f all some whole))));
-        rest = here.rest ∙ (ap (rest_behind f) rest_is ∙ sym (rest_first f all some whole));
+        fragments = here.fragments ∙ (ap (λ xs. length v.cuts + whole_fragments f xs) (rest_is c)
+            ∙ (counts (length v.cuts) (length w.cuts) (whole_fragments f (drop f all)) (rows_count c) ∙ ap (λ k. length w.cuts + k) (sym (whole_first f all some whole))));
+        rest = here.rest ∙ (ap (rest_behind f) (rest_is c) ∙ sym (rest_first f all some whole));
       }
     where
       counts : (a b k : ℕ) → a ≡ b + 1 → a + k ≡ b + (k + 1)
@@ -172,7 +176,7 @@ module _ (now : ℕ) (old mid new : At) (w v end : WriterSeen) (bytes : List ℕ
 
   pub then_ends : (more : ℕ) (why : Option Refusal) → Ends now mid new v end (drop n bytes) more why → Ends now old new w end bytes (n + more) why
   then_ends more why rest = record {
-    feeds = then_feeds why rest.feeds;
+    feeds = then_feeds why rest.told rest.feeds;
     counts = rest.counts;
     takes = then_takes more why rest.grown rest.takes;
     fed = then_fed more rest.fed;
@@ -183,4 +187,5 @@ module _ (now : ℕ) (old mid new : At) (w v end : WriterSeen) (bytes : List ℕ
         let up : total_length v.cuts ≤ total_length (cuts_of (state_at new) w.put) =
         subst (λ q. total_length v.cuts ≤ total_length (cuts_of (state_at new) q)) h.gathers.put rest.grown in
         omega (arith, up, rows_total);
+    told = λ tells. h.told (rest.told tells);
   }

@@ -12,6 +12,7 @@ use Rattle.cache_model.specs.Verdict.{cuts_of, is_open}
 use Rattle.cache_model.specs.Permit.{Exhausted, Faulted, Fragment, Intent, ManyFragments, Reason}
 use Rattle.cache_model.specs.Legal.{is_writing}
 use Rattle.cache_model.proofs.Found.{cuts_found}
+use Rattle.logged_disk.specs.Device.{TellsAll}
 use Rattle.call_laws.specs.Moments.{At}
 use Rattle.call_laws.specs.Progress.{Leaves, Progress, Stops, cleanups}
 use Rattle.call_laws.specs.Serves.{Serves}
@@ -151,8 +152,8 @@ module _ (now : ℕ) (old new : At) (w : WriterSeen) (bytes : List ℕ) (own : I
   counted _ gives = omega arith
 
   pub refused_ends : (why : Refusal) → Writes old new w bytes (Err why) → Serves now old new (write_asks s w bytes) (refused_at w.put (write_asks s w bytes) why)
-      → Adds (IsOfPut w.put) old new → Ends now old new w w bytes 0 (Some why)
-  refused_ends why gives serves adds =
+      → Adds (IsOfPut w.put) old new → (TellsAll new.device → TellsAll old.device) → Ends now old new w w bytes 0 (Some why)
+  refused_ends why gives serves adds told =
       let o : IsFoundOpen s w.put = open_row s w.put writing in
       let left : LeavesPut s t w.put why = leaves why gives in
       let rows : cuts_of t w.put ≡ w.cuts = left.cuts ∙ (cuts_found s w.put o.w o.found ∙ (own o.w o.found o.is_open).cuts_are) in
@@ -173,4 +174,5 @@ module _ (now : ℕ) (old new : At) (w : WriterSeen) (bytes : List ℕ) (own : I
         writing = left.writing;
         own = adds;
         grown = omega (arith, total);
+        told = told;
       }

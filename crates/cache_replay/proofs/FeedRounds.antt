@@ -16,15 +16,21 @@ use Rattle.cache_model.specs.Permit.{Permit, Intent, Overflow}
 use Rattle.cache_model.specs.Room.{MayDisplace, placed_record}
 use Rattle.cache_model.specs.Verdict.{cuts_of, is_open}
 use Rattle.cache_model.specs.Legal.{is_writing}
+use Rattle.cache_model.specs.Pair.{Documents}
+use Rattle.cache_model.specs.Vectors.{IsVectorAs}
 use Rattle.cache_model.proofs.Found.{cuts_found}
 use Rattle.cache_model.proofs.ByNumber.{find-changed}
 use Rattle.cache_model.proofs.Sound.{buffer_left, displaced_leave}
 use Rattle.cache_model.proofs.Steps.{after_all-append}
 use Rattle.model_laws.proofs.Told.{displaced_behind}
-use Rattle.call_laws.specs.Moments.{At, permit_of}
-use Rattle.call_laws.specs.Progress.{AllDone}
-use Rattle.call_laws.specs.Serves.{Serves}
+use Rattle.logged_disk.specs.Device.{TellsAll}
+use Rattle.call_laws.specs.Contents.{Untold}
+use Rattle.call_laws.specs.Moments.{At, Facts, permit_of}
+use Rattle.call_laws.specs.Progress.{AllDone, Progress}
+use Rattle.call_laws.specs.Serves.{Serves, ServesFrom}
 use Rattle.call_laws.proofs.Joined.{state_behind}
+use Rattle.call_laws.proofs.Kept.{untold_later}
+use Rattle.call_laws.proofs.Known.{serves_wider}
 use Rattle.cache_calls.specs.Actors.{IsAtHand, IsWriterOf, WriterSeen}
 use Rattle.cache_calls.specs.Adds.{Adds, IsOfFlush, IsOfPut}
 use Rattle.cache_calls.specs.Asked.{cuts_next, fed_asks, gathered_with, is_cut, is_overflow, next_payload, taken_of, write_asks}
@@ -147,6 +153,17 @@ module _ (old new : At) (w : WriterSeen) (payload : List ℕ) (c : CutsAs old ne
   cut_geometry : (state_at new).geometry ≡ (state_at old).geometry
   cut_geometry = ap (λ (x : State). x.geometry) cut_state ∙ (pushed_left.geometry ∙ room_left.geometry)
 
+-- ---- what is told later
+
+-- pairs of vectors, where the device did not tell its content up to this moment
+abbrev pub PairsAt : At → Documents
+PairsAt a = Untold a.device IsVectorAs
+
+-- one of an earlier moment is one of a later one
+pub serves_later : {now : ℕ} {a b : At} {asked : List Intent} {o : Progress} {before known : Facts} (last : At) → (TellsAll last.device → TellsAll b.device)
+    → ServesFrom (PairsAt b) now a b asked o before known → ServesFrom (PairsAt last) now a b asked o before known
+serves_later {b = b} last told f = serves_wider (PairsAt b) (PairsAt last) (untold_later IsVectorAs b.device last.device told) f
+
 -- ---- a write that took bytes
 
 pub record Wrote (now : ℕ) (old new : At) (w v : WriterSeen) (bytes : List ℕ) (n : ℕ) : Type 0 where
@@ -156,6 +173,7 @@ pub record Wrote (now : ℕ) (old new : At) (w v : WriterSeen) (bytes : List ℕ
   pub adds : Adds (IsOfPut w.put) old new
   pub gathers : HasTaken (state_at old).geometry w bytes n v
   pub next_own : IsWriterOf (state_at new) v
+  pub told : TellsAll new.device → TellsAll old.device
 
 -- where it stands then: what the put has cut is what the writer has
 pub record Stands (old new : At) (w v : WriterSeen) : Type 0 where

@@ -74,6 +74,7 @@ module _ (now : ℕ) (old new : At) (w v : WriterSeen) (bytes : List ℕ) (n : �
         writing = c.stands.writing;
         own = h.adds;
         grown = let same : total_length (cuts_of (state_at new) w.put) ≡ total_length v.cuts = ap total_length c.stands.cuts in omega (arith, same, rows_total);
+        told = h.told;
       }
 
   -- it is not gathered yet
@@ -107,6 +108,7 @@ module _ (now : ℕ) (old new : At) (w v : WriterSeen) (bytes : List ℕ) (n : �
         writing = c.stands.writing;
         own = h.adds;
         grown = let same : total_length (cuts_of (state_at new) w.put) ≡ total_length w.cuts = ap total_length (c.stands.cuts ∙ c.rows) in omega (arith, same);
+        told = h.told;
       }
     where
       zero_more : (k : ℕ) → k + 0 ≡ k

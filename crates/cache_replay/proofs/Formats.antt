@@ -148,7 +148,7 @@ module _ {S W R : Type 0} {c : CallsGhosts S W R} where
 
   -- one that began a session, behind that of the session before
   pub format_begun : (name : List ℕ) (geometry : Geometry) (old new : Session S W R c) (part : Part S W R c) (device : Device) (before given after : List BayCall)
-      → Begins c.at c.holds geometry device part.cache
+      → Begins c.at c.holds c.stands geometry device part.cache
       → IsAtRest (at_in part) → length part.page.items ≡ 512 * budget_of geometry → new.part ≡ Some part → ((n : ℕ) → slots_in new n ≡ None) → names_in new ≡ names_in old
       → new.now ≡ old.now
       → IsNewDevice geometry.content before device → given ≡ Gave name geometry.content ∷ before → GivesBack (return_in old) given after

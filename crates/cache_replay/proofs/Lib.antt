@@ -18,6 +18,8 @@ mod Formats
 mod Frames
 mod Free
 mod GivingBack
+mod KeptPuts
+mod Lookups
 mod NextLine
 mod OnPart
 mod OnSession
@@ -26,6 +28,7 @@ mod Openings
 pub mod Order
 mod OtherNext
 mod Outlines
+mod OwnContents
 mod Owned
 mod Plain
 mod PlainTurns
@@ -33,8 +36,13 @@ mod PutEnds
 mod PutLine
 mod PutOpens
 mod PutWhole
+mod PutsGrown
 mod ReaderLines
 mod ReadsOn
+mod SameGeometry
+mod Stood
+mod ToldFrom
+mod ToldWriters
 pub mod Unharming
 mod Unsynced
 mod Whole

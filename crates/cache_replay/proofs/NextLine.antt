@@ -1,5 +1,5 @@
 -- A reader reads on.
-use Rattle.std.proofs.Common.{◌≡◌, ℕ, ◌≤◌, List, [], ◌∷◌, ◌++◌, length, take, refl, sym, ◌∙◌, ap, subst, inl, inr, arith, Result, Ok, Err}
+use Rattle.std.proofs.Common.{◌≡◌, ℕ, ◌≤◌, List, [], ◌∷◌, ◌++◌, length, take, refl, sym, ◌∙◌, ap, subst, inl, inr, ◌⊎◌, arith, Result, Ok, Err}
 use Rattle.std.specs.Prelude.{Option, Some, None, IsErrAnd, min, option_and_then}
 use Rattle.std.proofs.lemmas.List.{length-take}
 use Rattle.device_log.specs.Calls.{Call}
@@ -12,19 +12,24 @@ use Rattle.cache_model.specs.Verdict.{next_piece, next_row}
 use Rattle.cache_model.specs.Permit.{Permit, ReadOn, to_do}
 use Rattle.cache_model.specs.Given.{IsDocumentOf}
 use Rattle.cache_model.specs.Legal.{answer_record, live_next, nothing}
-use Rattle.cache_model.specs.Pair.{IsPairOf}
+use Rattle.cache_model.specs.Pair.{Documents, IsPairOf}
 use Rattle.cache_model.specs.ToRead.{IsToRead, to_read}
 use Rattle.cache_model.specs.Vectors.{IsVectorAs}
+use Rattle.logged_disk.specs.Device.{State as Device, TellsAll}
+use Rattle.call_laws.specs.Contents.{Contents, Untold}
 use Rattle.call_laws.specs.Moments.{At, NothingKnown, permit_of}
 use Rattle.call_laws.specs.Happens.{Happens}
 use Rattle.call_laws.specs.Progress.{AllDone, in_full}
 use Rattle.call_laws.specs.Serves.{ServesFrom}
 use Rattle.call_laws.specs.Whole.{IsWholeStep}
+use Rattle.call_laws.proofs.Kept.{tells_or_not}
+use Rattle.cache_calls.specs.declared.calls.Calls.{Ghosts as CallsGhosts}
 use Rattle.cache_calls.specs.declared.calls.NextPiece.{NextPiece}
 use Rattle.cache_calls.specs.declared.calls.NextPiece.TheVariants as piece
 use Rattle.cache_calls.specs.Actors.{IsOpenReader, IsReaderOf, ReaderSeen, as_row, row_by}
 use Rattle.cache_calls.specs.Keeping.{IsAtRest, IsPlain, StaysUnharmed, plain_setting, state_at}
-use Rattle.cache_calls.specs.Readers.{HasRead, IsGiven, IsGivenAs, IsToldTo, cause_records, listed_length, next_trouble, noted, read_adds}
+use Rattle.cache_calls.specs.Standing.{GivesAsTold}
+use Rattle.cache_calls.specs.Readers.{HasRead, IsFragment, IsGiven, IsGivenAs, IsToldTo, cause_records, listed_length, next_trouble, noted, read_adds}
 use Rattle.cache_calls.proofs.Keeping.{plain_has_steps}
 use Rattle.script_lang.specs.declared.step.Step.TheVariants as step
 use Rattle.script_lang.specs.declared.answer.StepAnswer.{StepAnswer}
@@ -40,7 +45,9 @@ use Rattle.cache_replay.specs.declared.stop.Stop.{Stop}
 use Rattle.cache_replay.specs.declared.stop.Stop.TheVariants.{Memory}
 use Rattle.cache_replay.specs.Moves.{ShowsIn}
 use Rattle.cache_replay.specs.ReaderLines.{IsReadBy, IsWithin, NextEnds, ReadsOnLine, next_answer}
+use Rattle.cache_replay.specs.Standing.{OwnStands, own_contents}
 use Rattle.cache_replay.proofs.Frames.{same_added}
+use Rattle.cache_replay.proofs.OwnContents.{given_is_own, tells_own}
 use Rattle.cache_replay.proofs.Whole.{moves_line, serves_whole, shows_line}
 
 -- ---- what the reader was told
@@ -97,8 +104,21 @@ reads_next : (s : State) (r : ReaderSeen) (entry : TableRow) (row : Row) → IsR
 reads_next s r entry row own cut live =
     ap (option_and_then (live_next s)) own.found ∙ (ap (option_and_then (λ (e : TableRow). live_row_of s (next_piece (as_row r)))) cut ∙ live)
 
-module _ (a b : At) (r later : ReaderSeen) (plain : a.setting ≡ plain_setting) (first : 1 ≤ r.next) (run : Run) (name : List ℕ) (by : IsReadBy run name (state_at a) r)
-    (keeps : IsReaderOf (state_at b) later) (w : IsWholeStep IsVectorAs run.now [] a b (ReadOn r.reader ∷ []) None NothingKnown) where
+-- a pair on a device that did not tell its content
+untold_pair : (IsPlaced : Documents) (last : Device) (p : Permit) (s : State) (row : Row) → (TellsAll last → ⊥) → IsPairOf IsPlaced p s row → IsPairOf (Untold last IsPlaced) p s row
+untold_pair IsPlaced last p s row none h =
+    record { document = h.document; bytes = h.bytes; live = h.live; placed = (h.placed, none); given = h.given; collide = h.collide }
+
+module _ {S W R : Type 0} (c : CallsGhosts S W R) (old new : S) (r later : ReaderSeen) (plain : (c.at old).setting ≡ plain_setting) (first : 1 ≤ r.next)
+    (run : Run) (name : List ℕ) (by : IsReadBy run name (state_at (c.at old)) r) (stands : OwnStands run.streams (state_at (c.at old)) (c.stands old))
+    (keeps : IsReaderOf (state_at (c.at new)) later)
+    (w : IsWholeStep (Untold (c.at new).device IsVectorAs) run.now [] (c.at old) (c.at new) (ReadOn r.reader ∷ []) None NothingKnown) where
+  abbrev a : At
+  a = c.at old
+
+  abbrev b : At
+  b = c.at new
+
   asked_is : asks.asked run (state_at a) (step.Next name) ≡ ReadOn r.reader ∷ []
   asked_is = ap (λ (o : Option ℕ). asks.if_has o (λ reader. ReadOn reader ∷ [])) by.held
 
@@ -119,43 +139,62 @@ module _ (a b : At) (r later : ReaderSeen) (plain : a.setting ≡ plain_setting)
         | inr pair ↦ inr pair
       ]
 
-  shows_other : (row : Row) → to_read (state_at a) (ReadOn r.reader) ≡ Some row → IsPairOf (IsPlacedAs run.streams) permit (state_at a) row
+  shows_other : (row : Row) → to_read (state_at a) (ReadOn r.reader) ≡ Some row → (TellsAll b.device → ⊥) → IsPairOf (IsPlacedAs run.streams) permit (state_at a) row
       → ShowsIn run (step.Next name) a b
-  shows_other row reads pair =
+  shows_other row reads none pair =
       shows_line run (step.Next name) a b run.now plain refl (ReadOn r.reader ∷ []) w.calls w.added asked_is w.happens.past (record {
         before = [];
         rest = w.added;
         left = to_do (ReadOn r.reader ∷ []);
         is = refl;
         grows = nothing;
-        pair = record { row = row; read = IsToRead.asked_for reads; pair = pair };
+        pair = record { row = row; read = IsToRead.asked_for reads; pair = untold_pair (IsPlacedAs run.streams) b.device permit (state_at a) row none pair };
       })
 
+  -- what is read is the put's: on a device that tells its content it is what is told of it
+  is_own : (index size : ℕ) (into : List ℕ) → IsFragment permit (state_at a) r index size into → GivesAsTold c.at c.stands old new r (Ok (piece.Piece index size)) into
+      → (take size into ≡ piece_of (state_at a).geometry.fragment (run.streams r.put).bytes r.next) ⊎ ShowsIn run (step.Next name) a b
+  is_own index size into h exact = elim (tells_or_not b.device) [
+    | inl tells ↦
+        let own : Contents = own_contents (state_at a).geometry.fragment run.streams in
+        inl (given_is_own (state_at a) run.streams r (state_at a).geometry.fragment index size into h.entry h.row by.own first h.cut h.live
+        (exact tells own (stands own (tells_own run.streams (state_at a)))))
+    | inr none ↦ elim (read_is_own permit (state_at a) run.streams (row_by by.reader.actor r) h.row size into by.own first h.live h.document) [
+      | inl is ↦ inl is
+      | inr other ↦ inr (shows_other h.row (reads_next (state_at a) r h.entry h.row by.reader h.cut h.live) none other)
+    ]
+  ]
+
   ends_with : (given : NextPiece) (into : List ℕ) → w.added ≡ read_adds (state_at a) r given → IsGivenAs permit (state_at a) r given into
-      → NextEnds run name a b later (next_answer given into)
-  ends_with (piece.Piece index size) into adds h =
-      elim (read_is_own permit (state_at a) run.streams (row_by by.reader.actor r) h.row size into by.own first h.live h.document) [
+      → GivesAsTold c.at c.stands old new r (Ok given) into → NextEnds run name a b later (next_answer given into)
+  ends_with (piece.Piece index size) into adds h exact =
+      elim (is_own index size into h exact) [
         | inl is ↦ moves_with (piece.Piece index size) (take size into) (answer.Piece index size (take size into)) adds
             (row_by by.reader.actor r, by.reader.found, is ∙ ap (piece_of (state_at a).geometry.fragment (run.streams r.put).bytes) (sym h.index_is))
             (ap (λ n. answer.Piece index n (take size into)) (sym (whole_payload permit (state_at a) h.row size into h.document)))
-        | inr other ↦ inr (shows_other h.row (reads_next (state_at a) r h.entry h.row by.reader h.cut h.live) other)
+        | inr shows ↦ inr shows
       ]
-  ends_with (piece.End size) into adds h = moves_with (piece.End size) [] (answer.End size) adds refl refl
-  ends_with (piece.NotYet cut) into adds h = moves_with (piece.NotYet cut) [] (answer.NotYet cut) adds refl refl
-  ends_with (piece.Broken why) into adds h = moves_with (piece.Broken why) [] (says.broken_said why) adds refl refl
+  ends_with (piece.End size) into adds h exact = moves_with (piece.End size) [] (answer.End size) adds refl refl
+  ends_with (piece.NotYet cut) into adds h exact = moves_with (piece.NotYet cut) [] (answer.NotYet cut) adds refl refl
+  ends_with (piece.Broken why) into adds h exact = moves_with (piece.Broken why) [] (says.broken_said why) adds refl refl
 
-pub next_ends : (a b : At) (r later : ReaderSeen) (given : NextPiece) (into : List ℕ) → a.setting ≡ plain_setting → IsPlain a.setting → IsAtRest b → 1 ≤ r.next
-    → ((now : ℕ) → ServesFrom IsVectorAs now a b (ReadOn r.reader ∷ []) AllDone (IsToldTo r) NothingKnown)
-    → HasRead a b r given into → (IsReaderOf (state_at a) r → IsReaderOf (state_at b) later)
-    → (run : Run) (name : List ℕ) → IsReadBy run name (state_at a) r → NextEnds run name a b later (next_answer given into)
-next_ends a b r later given into setting plain rest first serves read keeps run name by =
-    let w : IsWholeStep IsVectorAs run.now [] a b (ReadOn r.reader ∷ []) None NothingKnown =
-    serves_whole None in_full setting rest.quiet (by.told, by.reader) (serves run.now) in
-    ends_with a b r later setting first run name by (keeps by.reader) w given into
-    (same_added a.kept b.kept w.added (read_adds (state_at a) r given) w.happens.adds read.adds) (given_in run.now a b r given into w.calls plain w.happens.past read.given)
+module _ {S W R : Type 0} (c : CallsGhosts S W R) where
+  pub next_ends : (old new : S) (r later : ReaderSeen) (given : NextPiece) (into : List ℕ) → (c.at old).setting ≡ plain_setting → IsPlain (c.at old).setting → IsAtRest (c.at new)
+      → 1 ≤ r.next → ((now : ℕ) → ServesFrom (Untold (c.at new).device IsVectorAs) now (c.at old) (c.at new) (ReadOn r.reader ∷ []) AllDone (IsToldTo r) NothingKnown)
+      → HasRead (c.at old) (c.at new) r given into → GivesAsTold c.at c.stands old new r (Ok given) into → (IsReaderOf (state_at (c.at old)) r → IsReaderOf (state_at (c.at new)) later)
+      → (run : Run) (name : List ℕ) → IsReadBy run name (state_at (c.at old)) r → OwnStands run.streams (state_at (c.at old)) (c.stands old)
+      → NextEnds run name (c.at old) (c.at new) later (next_answer given into)
+  next_ends old new r later given into setting plain rest first serves read exact keeps run name by stands =
+      let a : At = c.at old in
+      let w : IsWholeStep (Untold (c.at new).device IsVectorAs) run.now [] a (c.at new) (ReadOn r.reader ∷ []) None NothingKnown =
+      serves_whole None in_full setting rest.quiet (by.told, by.reader) (serves run.now) in
+      ends_with c old new r later setting first run name by stands (keeps by.reader) w given into
+      (same_added a.kept (c.at new).kept w.added (read_adds (state_at a) r given) w.happens.adds read.adds) (given_in run.now a (c.at new) r given into w.calls plain w.happens.past read.given)
+      exact
 
--- where memory was wanting it is answered nothing
-pub reads_wanting : (a b : At) (r later : ReaderSeen) (result : Result StepAnswer Stop) → IsErrAnd result (λ why. why ≡ Memory) → IsOpenReader (state_at b) later
-    → later.reader ≡ r.reader → ((streams : ℕ → Stream) → AreOwn (state_at a) streams → IsReaderOf (state_at a) r → StaysUnharmed a b) → ReadsOnLine a b r later result
-reads_wanting a b r later (Ok said) wanting reader same unharmed = absurd wanting
-reads_wanting a b r later (Err why) wanting reader same unharmed = record { reader = reader; same = same; ends = tt; unharmed = unharmed; counts = tt }
+  -- where memory was wanting it is answered nothing
+  pub reads_wanting : (old new : S) (r later : ReaderSeen) (result : Result StepAnswer Stop) → IsErrAnd result (λ why. why ≡ Memory) → IsOpenReader (state_at (c.at new)) later
+      → later.reader ≡ r.reader → ((streams : ℕ → Stream) → AreOwn (state_at (c.at old)) streams → IsReaderOf (state_at (c.at old)) r → StaysUnharmed (c.at old) (c.at new))
+      → ReadsOnLine c old new r later result
+  reads_wanting old new r later (Ok said) wanting reader same unharmed = absurd wanting
+  reads_wanting old new r later (Err why) wanting reader same unharmed = record { reader = reader; same = same; ends = tt; unharmed = unharmed; counts = tt }

@@ -21,7 +21,8 @@ use Rattle.cache_replay.specs.declared.stop.Stop.{Stop}
 use Rattle.cache_replay.specs.declared.stop.Stop.TheVariants.{Memory}
 use Rattle.cache_replay.specs.Session.{AreLater, IsActive, IsAt, IsSession, at_in, past_of, return_of, slots_in, state_in}
 use Rattle.cache_replay.specs.Moves.{ShowsIn}
-use Rattle.cache_replay.specs.Plays.{CallsAt, IsUnharmedAt, PartEnds, PartMoves, Plays, PlaysAt, PlaysPart, StepEnds, StepMoves, StepPair}
+use Rattle.cache_replay.specs.Plays.{CallsAt, IsUnharmedAt, PartEnds, PartMoves, Plays, PlaysAt, PlaysPart, StandsAt}
+use Rattle.cache_replay.specs.Plays.{StepEnds, StepMoves, StepPair}
 use Rattle.cache_replay.specs.OneLine.{AnswersActor, AnswersLine}
 use Rattle.run_promise.specs.Needs.{NeedsSession}
 use Rattle.cache_replay.specs.Stop.{IsSessionStop}
@@ -46,7 +47,11 @@ module _ {S W R : Type 0} {c : CallsGhosts S W R} where
   active session part is h = subst (λ p. IsAt p (slots_in session)) is h
 
   pub part_plays : (run : Run) (session : Session S W R c) (part : Part S W R c) → session.part ≡ Some part → Plays run session → PlaysPart run part session.actors
-  part_plays run session part is plays = record { names = plays.names; at = subst (λ p. PlaysAt run p (slots_in session)) is plays.at }
+  part_plays run session part is plays = record {
+    names = plays.names;
+    at = subst (λ p. PlaysAt run p (slots_in session)) is plays.at;
+    stands = subst (λ p. StandsAt run p) is plays.stands;
+  }
 
   part_unharmed : (session : Session S W R c) (part : Part S W R c) → session.part ≡ Some part → IsUnharmedAt session.part → IsUnharmed (at_in part)
   part_unharmed session part is h = subst (λ p. IsUnharmedAt p) is h
@@ -80,6 +85,7 @@ module _ {S W R : Type 0} {c : CallsGhosts S W R} where
                 now = plays.now;
                 at = m.plays.at;
                 unharmed = stays (part_unharmed session before was plays.unharmed);
+                stands = m.plays.stands;
                 calls = m.moves.calls ∙ ap (λ older. turn.device.events ++ older) (part_calls run session before was plays.calls);
               }));
           says = subst (λ o. step_said run turn o step ≡ said) (sym state)
@@ -92,6 +98,7 @@ module _ {S W R : Type 0} {c : CallsGhosts S W R} where
       turn = h.turn;
       shows = subst (λ o. StepShows run h.turn o step) (sym (part_plays run session before was plays).at.state) h.shows;
       calls = h.calls ∙ ap (λ older. h.turn.device.events ++ older) (part_calls run session before was plays.calls);
+      untold = h.untold;
     }
 
     pub part_ends : (run : Run) (step : Step) (said : StepAnswer) → NeedsSession step → Plays run session → StaysUnharmed (at_in before) (at_in after)

@@ -1,22 +1,15 @@
 -- An actor opens a reader.
-use Rattle.std.proofs.Common.{◌≡◌, ℕ, List, [], ◌∷◌, ◌++◌, length, refl, sym, ◌∙◌, ap, subst, true, false, inl, inr, Ok}
+use Rattle.std.proofs.Common.{◌≡◌, ℕ, List, [], ◌∷◌, length, refl, sym, ◌∙◌, ap, subst, true, false, inl, inr, Ok}
 use Rattle.std.specs.Prelude.{Option, Some, None, IfSome, ◌==◌, find, if◌then◌else◌, is_some, option_and_then, option_map, unwrap_or}
 use Rattle.tape_base.specs.declared.actors.Actor.{Actor}
 use Rattle.tape_base.specs.declared.keys.Key.{Key}
 use Rattle.fragment_table.specs.Table.{TableRow, total_length}
 use Rattle.alternate_vector.specs.Field.{Field}
 use Rattle.actor_table.specs.Table.{Seen, number_of, with_actor}
-use Rattle.cache_model.specs.declared.cause.Cause.{Cause}
-use Rattle.cache_model.specs.declared.cause.Cause.TheVariants as cause
-use Rattle.cache_model.specs.declared.answer.ReadAnswer.{ReadAnswer}
-use Rattle.cache_model.specs.declared.answer.ReadAnswer.TheVariants as read
-use Rattle.cache_model.specs.declared.record.Rec.{Rec}
-use Rattle.cache_model.specs.declared.record.Rec.TheVariants as rec
-use Rattle.cache_model.specs.State.{ReaderRow, Row, State, after_all, reader_of}
+use Rattle.cache_model.specs.State.{ReaderRow, State, after_all, reader_of}
 use Rattle.cache_model.specs.Permit.{Look}
 use Rattle.cache_model.specs.Vectors.{IsVectorAs}
-use Rattle.cache_model.specs.Verdict.{live_vector_of}
-use Rattle.cache_model.proofs.Steps.{after_all-append}
+use Rattle.call_laws.specs.Contents.{AnyContents, Untold}
 use Rattle.call_laws.specs.Moments.{IsToldAt}
 use Rattle.call_laws.specs.Progress.{AllDone, in_full}
 use Rattle.call_laws.specs.Serves.{ServesFrom}
@@ -28,7 +21,8 @@ use Rattle.cache_calls.specs.declared.calls.Opened.TheVariants as opened
 use Rattle.cache_calls.specs.Actors.{IsOpenReader, IsReaderOf, ReaderSeen}
 use Rattle.cache_calls.specs.Adds.{Adds, IsOfReader}
 use Rattle.cache_calls.specs.Keeping.{IsAtRest, Keeps}
-use Rattle.cache_calls.specs.Readers.{HasLooked, IfReader, TellsReader, answer_in, cause_records, length_in, open_adds, vector_trouble}
+use Rattle.cache_calls.specs.Readers.{HasLooked, IfReader, TellsReader, answer_in, length_in, open_adds}
+use Rattle.cache_calls.specs.Standing.{StaysStanding}
 use Rattle.script_lang.specs.declared.step.Step.TheVariants as step
 use Rattle.script_lang.specs.declared.answer.StepAnswer.{StepAnswer}
 use Rattle.script_lang.specs.declared.answer.StepAnswer.TheVariants as answer
@@ -44,44 +38,15 @@ use Rattle.cache_replay.specs.Moves.{MovesOrShows}
 use Rattle.cache_replay.specs.OneLine.{AnswersActor}
 use Rattle.cache_replay.specs.Plays.{IsHeldAs, PartEnds, PlaysPart}
 use Rattle.cache_replay.specs.ReaderLines.{as_held, opened_answer, reader_opened}
-use Rattle.cache_replay.specs.Session.{HoldingSeen, IsActive, ReaderHeld, WriterHeld, at_in, slots_of, state_in}
+use Rattle.cache_replay.specs.Session.{HoldingSeen, IsActive, IsPart, ReaderHeld, WriterHeld, at_in, slots_of, state_in}
 use Rattle.cache_replay.proofs.ActorLines.{names_within, still_line}
 use Rattle.cache_replay.proofs.Counts.{missed_tells}
 use Rattle.cache_replay.proofs.Frames.{Changed, part_behind, reader_leaves, same_added}
 use Rattle.cache_replay.proofs.Free.{no_next_reader, others_read_older}
+use Rattle.cache_replay.proofs.Lookups.{miss_reads, open_finds}
 use Rattle.cache_replay.proofs.ReaderLines.{Turns, as_run, holds_none, none_some, reader_ends, turns_active}
-use Rattle.cache_replay.proofs.Whole.{moves_line, serves_whole, shows_line, shows_placed}
-
--- ---- what a lookup is answered among its records
-
-cause_finds : (row : Row) (why : Cause) (last : List Rec) → lookup_in (cause_records row why ++ last) ≡ lookup_in last
-cause_finds row (cause.DeviceFault count) last = refl
-cause_finds row (cause.Damaged place kept other) last = refl
-cause_finds row _ last = refl
-
-trouble_finds : (o : Option Row) (a : ReadAnswer) (last : List Rec) → lookup_in (vector_trouble o a ++ last) ≡ lookup_in last
-trouble_finds None a last = refl
-trouble_finds (Some row) (read.Hit put) last = refl
-trouble_finds (Some row) (read.Follow put) last = refl
-trouble_finds (Some row) (read.Miss why) last = cause_finds row why last
-
-pub open_finds : (s : State) (who : Actor) (key : Key) (request : List Field) (a : ReadAnswer) → lookup_in (open_adds s who key request a) ≡ Some a
-open_finds s who key request a = trouble_finds (live_vector_of s key) a (rec.ReadOpened s.next_reader who key request a ∷ [])
-
--- where there is a miss no reader opens
-cause_reads : (s : State) (row : Row) (why : Cause) → (after_all s (cause_records row why)).readers ≡ s.readers
-cause_reads s row (cause.DeviceFault count) = refl
-cause_reads s row (cause.Damaged place kept other) = refl
-cause_reads s row _ = refl
-
-trouble_reads : (s : State) (o : Option Row) (why : Cause) → (after_all s (vector_trouble o (read.Miss why))).readers ≡ s.readers
-trouble_reads s None why = refl
-trouble_reads s (Some row) why = cause_reads s row why
-
-miss_reads : (s : State) (who : Actor) (key : Key) (request : List Field) (why : Cause) → (after_all s (open_adds s who key request (read.Miss why))).readers ≡ s.readers
-miss_reads s who key request why =
-    ap (λ (t : State). t.readers) (after_all-append s (vector_trouble (live_vector_of s key) (read.Miss why)) (rec.ReadOpened s.next_reader who key request (read.Miss why) ∷ []))
-    ∙ trouble_reads s (live_vector_of s key) why
+use Rattle.cache_replay.proofs.Stood.{IsLawful}
+use Rattle.cache_replay.proofs.Whole.{moves_line, serves_whole, shows_line, shows_piece}
 
 -- ---- what opened
 
@@ -145,13 +110,13 @@ some_held run s n (Some (ReaderHeld r)) some own = (Reads r.reader, own.0)
 -- ---- the line
 
 module _ {S W R : Type 0} {c : CallsGhosts S W R} where
-  module _ (old new : Part S W R c) (before after : Seen (Holding W R)) (name : List ℕ) (n : ℕ) (who : Actor) (key : Key) (request : List Field) (given : Opened R)
+  module _ (laws : IsLawful c) (old new : Part S W R c) (before after : Seen (Holding W R)) (name : List ℕ) (n : ℕ) (who : Actor) (key : Key) (request : List Field) (given : Opened R)
       (number : n ≡ number_of before.names name) (who_is : who.0 ≡ n) (names : after.names ≡ with_actor before.names name) (free : slots_of c before n ≡ None)
       (changed : Changed (slots_of c before) (slots_of c after) n (as_held (seen_opened c.reading given)))
       (active : IsActive old (slots_of c before)) (keeps : Keeps c.at c.holds old.cache new.cache) (rest : IsAtRest (at_in new))
-      (page : length new.page.items ≡ length old.page.items)
+      (stays : StaysStanding c.stands AnyContents old.cache new.cache) (page : length new.page.items ≡ length old.page.items)
       (looked : HasLooked c.reading (at_in old) (at_in new) who key request given) (own : Adds (IsOfReader (state_in old).next_reader) (at_in old) (at_in new))
-      (serves : (now : ℕ) → ServesFrom IsVectorAs now (at_in old) (at_in new) (Look who.0 key request ∷ []) AllDone IsToldAt
+      (serves : (now : ℕ) → ServesFrom (Untold (at_in new).device IsVectorAs) now (at_in old) (at_in new) (Look who.0 key request ∷ []) AllDone IsToldAt
       (λ calls t. IfReader (λ r. IsReaderOf t (c.reading r)) given)) where
     turns : Turns (state_in old).next_reader (state_in old) (state_in new) (slots_of c before) (slots_of c after) n (seen_opened c.reading given)
     turns = record {
@@ -160,6 +125,9 @@ module _ {S W R : Type 0} {c : CallsGhosts S W R} where
       others = others_read_older (at_in old) active.part_is.rest (slots_of c before) active.held n;
       number = has_number c.reading (state_in old).next_reader given looked.tells;
     }
+
+    part : IsPart new
+    part = part_behind old new active.part_is keeps.goes_on rest page None (Some (state_in old).next_reader) turns.leaves
 
     behind : state_in new ≡ after_all (state_in old) (open_adds (state_in old) who key request (answer_in given))
     behind = state_behind (at_in old).kept (at_in new).kept (open_adds (state_in old) who key request (answer_in given)) looked.adds
@@ -173,7 +141,7 @@ module _ {S W R : Type 0} {c : CallsGhosts S W R} where
           ap (λ (o : Option running.Holding). asks.if_free o (Look (number_of run.actors name) key request ∷ [])) nobody
           ∙ ap (λ m. Look m key request ∷ []) (ap (λ all. number_of all name) plays.names ∙ (sym number ∙ sym who_is))
 
-      moves : (w : IsWholeStep IsVectorAs run.now [] (at_in old) (at_in new) (Look who.0 key request ∷ []) None (λ calls t. IfReader (λ r. IsReaderOf t (c.reading r)) given))
+      moves : (w : IsWholeStep (Untold (at_in new).device IsVectorAs) run.now [] (at_in old) (at_in new) (Look who.0 key request ∷ []) None (λ calls t. IfReader (λ r. IsReaderOf t (c.reading r)) given))
           → IfReader (λ r. IsReaderOf (state_in new) (c.reading r)) given
           → MovesOrShows run (step.OpenRead name key request) (at_in old) (at_in new) (opened_answer given)
       moves w table =
@@ -185,15 +153,15 @@ module _ {S W R : Type 0} {c : CallsGhosts S W R} where
           ∙ open_finds (state_in old) who key request (answer_in given))
           ∙ opened_says c.reading (state_in new) (state_in old).next_reader given looked.tells table))
 
-      ends_with : (w : IsWholeStep IsVectorAs run.now [] (at_in old) (at_in new) (Look who.0 key request ∷ []) None (λ calls t. IfReader (λ r. IsReaderOf t (c.reading r)) given))
+      ends_with : (w : IsWholeStep (Untold (at_in new).device IsVectorAs) run.now [] (at_in old) (at_in new) (Look who.0 key request ∷ []) None (λ calls t. IfReader (λ r. IsReaderOf t (c.reading r)) given))
           → PartEnds run (step.OpenRead name key request) old new after (opened_answer given)
       ends_with w = elim w.ends [
         | inr pair ↦ inr (shows_line run (step.OpenRead name key request) (at_in old) (at_in new) run.now active.part_is.plain refl (Look who.0 key request ∷ []) w.calls w.added
-            asked_is w.happens.past (shows_placed run.streams _ (state_in old) (Look who.0 key request ∷ []) w.added pair))
+            asked_is w.happens.past (shows_piece run.streams (at_in new).device _ (state_in old) (Look who.0 key request ∷ []) w.added pair))
         | inl v ↦ elim (moves w v.1) [
           | inr pair ↦ inr pair
           | inl m ↦
-              reader_ends run (step.OpenRead name key request) name refl old new before after n number names active plays (state_in old).next_reader
+              reader_ends laws run (step.OpenRead name key request) name refl old new before after n number names active part stays plays (state_in old).next_reader
               (seen_opened c.reading given) turns (λ turn. refl)
               (ap (λ (o : Option running.Holding). or_else o (reader_at (state_in new) (state_in old).next_reader)) nobody
               ∙ opened_has c.reading (state_in old) (state_in new) who key request given behind (no_next_reader (at_in old) active.part_is.rest) looked.tells v.1)
@@ -206,8 +174,7 @@ module _ {S W R : Type 0} {c : CallsGhosts S W R} where
 
     pub open_line : (now : ℕ) (said : StepAnswer) → said ≡ opened_answer given → AnswersActor now (step.OpenRead name key request) old new before after (Ok said)
     open_line now said is = subst (λ x. AnswersActor now (step.OpenRead name key request) old new before after (Ok x)) (sym is) (record {
-      active = turns_active old new (slots_of c before) (slots_of c after) n (state_in old).next_reader (seen_opened c.reading given) active
-          (part_behind old new active.part_is keeps.goes_on rest page None (Some (state_in old).next_reader) turns.leaves) turns
+      active = turns_active old new (slots_of c before) (slots_of c after) n (state_in old).next_reader (seen_opened c.reading given) active part turns
           (if_opened c.reading (IsOpenReader (state_in new)) given looked.reader);
       goes = keeps.goes_on;
       ends = λ run moment plays. ends run plays;

@@ -7,14 +7,16 @@ use Rattle.cache_model.specs.State.{State}
 use Rattle.cache_model.specs.Permit.{Intent, Permit}
 use Rattle.call_laws.specs.Moments.{At, Encloses}
 use Rattle.call_laws.proofs.Joined.{encloses_first, state_behind}
+use Rattle.cache_calls.specs.declared.calls.Calls.{Ghosts as CallsGhosts}
 use Rattle.cache_calls.specs.Actors.{IsReaderOf, ReaderSeen, row_by}
 use Rattle.cache_calls.specs.Keeping.{StaysUnharmed, state_at}
 use Rattle.cache_calls.specs.Readers.{IsOtherNext}
-use Rattle.script_run.specs.Run.{Stream}
+use Rattle.script_run.specs.Run.{Run, Stream}
 use Rattle.script_run.specs.Own.{AreOwn}
 use Rattle.script_run.proofs.Fragments.{own_is_kept}
 use Rattle.script_run.proofs.Others.{none_is_unlike}
-use Rattle.cache_replay.specs.Getting.{HasCalls, IsUnderway, StaysSound}
+use Rattle.cache_replay.specs.Getting.{HasCalls, IsUnderway, ShowsBy, StaysSound}
+use Rattle.cache_replay.proofs.Whole.{later_shows}
 
 -- ---- a reader that reads on
 
@@ -43,45 +45,57 @@ pub has_first : (now : ℕ) (first mid new : At) (p : Permit) → IsAfter mid.de
     → HasCalls now first new p → HasCalls now first mid p
 has_first now first mid new p goes calls past has = record { calls = calls; past = past; step = first_step now first mid new p goes calls past has }
 
--- nothing was done
-pub sound_still : (first a : At) (asks : List Intent) → StaysSound first a a asks
-sound_still first a asks = λ now run p known has. inl (λ unharmed. unharmed)
+module _ {S W R : Type 0} (c : CallsGhosts S W R) where
+  -- nothing was done
+  pub sound_still : (origin a : S) (asks : List Intent) → StaysSound c origin a a asks
+  sound_still origin a asks = λ now run p known stands has. inl (λ unharmed. unharmed)
 
--- what is done keeps it so
-pub sound_kept : (first old new : At) (asks : List Intent) → StaysUnharmed old new → StaysSound first old new asks
-sound_kept first old new asks stays = λ now run p known has. inl stays
+  -- what is done keeps it so
+  pub sound_kept : (origin old new : S) (asks : List Intent) → StaysUnharmed (c.at old) (c.at new) → StaysSound c origin old new asks
+  sound_kept origin old new asks stays = λ now run p known stands has. inl stays
 
--- what stays unharmed by the first, where it does behind that
-pub sound_before : (first old mid new : At) (asks : List Intent) → StaysUnharmed old mid → StaysSound first mid new asks → StaysSound first old new asks
-sound_before first old mid new asks stays sound = λ now run p known has. elim (sound now run p known has) [
-  | inl kept ↦ inl (λ unharmed. kept (stays unharmed))
-  | inr shows ↦ inr shows
-]
+  -- what stays unharmed by the first, where it does behind that
+  pub sound_before : (origin old mid new : S) (asks : List Intent) → StaysUnharmed (c.at old) (c.at mid) → StaysSound c origin mid new asks → StaysSound c origin old new asks
+  sound_before origin old mid new asks stays sound = λ now run p known stands has. elim (sound now run p known stands has) [
+    | inl kept ↦ inl (λ unharmed. kept (stays unharmed))
+    | inr shows ↦ inr shows
+  ]
 
--- behind it a call that reads on some way into a whole read
-pub way_sound : (first old mid new : At) (asks : List Intent) (r : ReaderSeen) (body : List ℕ) → IsAfter mid.device new.device
-    → ((streams : ℕ → Stream) → AreOwn (state_at mid) streams → IsReaderOf (state_at mid) r → StaysUnharmed mid new)
-    → IsUnderway first mid asks r body → StaysSound first old mid asks → StaysSound first old new asks
-way_sound first old mid new asks r body goes stays under sound = λ now run p known has.
-    let call = under now run in
-    elim (call.does p [] (first_step now first mid new p goes call.calls call.happens.past has) known) [
-      | inr pair ↦ inr (record { added = call.added; shows = pair })
-      | inl way ↦ elim (sound now run p known (has_first now first mid new p goes call.calls call.happens.past has)) [
-        | inr shows ↦ inr shows
-        | inl kept ↦
-            let there = state_behind first.kept mid.kept call.added call.happens.adds in
-            inl (λ unharmed. stays run.streams (subst (λ u. AreOwn u run.streams) (sym there) way.known.own) (subst (λ u. IsReaderOf u r) (sym there) way.reader) (kept unharmed))
+  -- a pair on a device that did not tell its content up to a moment is one up to a later one
+  shows_later : (mid new : S) (run : Run) (p : Permit) (s : State) (asks : List Intent) → IsAfter (c.at mid).device (c.at new).device
+      → ShowsBy run (c.at mid).device p s asks → ShowsBy run (c.at new).device p s asks
+  shows_later mid new run p s asks goes shows = record {
+    added = shows.added;
+    shows = later_shows run.streams (c.at mid).device (c.at new).device goes p s asks shows.added shows.shows;
+  }
+
+  -- behind it a call that reads on some way into a whole read
+  pub way_sound : (origin old mid new : S) (asks : List Intent) (r : ReaderSeen) (body : List ℕ) → IsAfter (c.at mid).device (c.at new).device
+      → ((streams : ℕ → Stream) → AreOwn (state_at (c.at mid)) streams → IsReaderOf (state_at (c.at mid)) r → StaysUnharmed (c.at mid) (c.at new))
+      → IsUnderway c origin mid asks r body → StaysSound c origin old mid asks → StaysSound c origin old new asks
+  way_sound origin old mid new asks r body goes stays under sound = λ now run p known stands has.
+      let first : At = c.at origin in
+      let call = under.comes now run in
+      elim (call.does p [] (first_step now first (c.at mid) (c.at new) p goes call.calls call.happens.past has) known stands) [
+        | inr pair ↦ inr (shows_later mid new run p (state_at first) asks goes (record { added = call.added; shows = pair }))
+        | inl way ↦ elim (sound now run p known stands (has_first now first (c.at mid) (c.at new) p goes call.calls call.happens.past has)) [
+          | inr shows ↦ inr (shows_later mid new run p (state_at first) asks goes shows)
+          | inl kept ↦
+              let there = state_behind first.kept (c.at mid).kept call.added call.happens.adds in
+              inl (λ unharmed. stays run.streams (subst (λ u. AreOwn u run.streams) (sym there) way.known.own) (subst (λ u. IsReaderOf u r) (sym there) way.reader) (kept unharmed))
+        ]
       ]
-    ]
 
--- and where the second closes the reader of a whole read
-pub sound_closed : (first old mid new : At) (asks : List Intent) (r : ReaderSeen) (body : List ℕ) → IsAfter old.device mid.device → IsAfter mid.device new.device
-    → IsUnderway first old asks r body → StaysSound first old mid asks → StaysUnharmed mid new → StaysSound first old new asks
-sound_closed first old mid new asks r body goes more under sound stays = λ now run p known has.
-    let call = under now run in
-    let past : mid.device.past ≡ (goes.made ++ call.calls) ++ first.device.past =
-    goes.past ∙ (ap (λ xs. goes.made ++ xs) call.happens.past ∙ sym (append_assoc goes.made call.calls first.device.past)) in
-    elim (sound now run p known (has_first now first mid new p more (goes.made ++ call.calls) past has)) [
-      | inl kept ↦ inl (λ unharmed. stays (kept unharmed))
-      | inr shows ↦ inr shows
-    ]
+  -- and where the second closes the reader of a whole read
+  pub sound_closed : (origin old mid new : S) (asks : List Intent) (r : ReaderSeen) (body : List ℕ) → IsAfter (c.at old).device (c.at mid).device
+      → IsAfter (c.at mid).device (c.at new).device
+      → IsUnderway c origin old asks r body → StaysSound c origin old mid asks → StaysUnharmed (c.at mid) (c.at new) → StaysSound c origin old new asks
+  sound_closed origin old mid new asks r body goes more under sound stays = λ now run p known stands has.
+      let first : At = c.at origin in
+      let call = under.comes now run in
+      let past : (c.at mid).device.past ≡ (goes.made ++ call.calls) ++ first.device.past =
+      goes.past ∙ (ap (λ xs. goes.made ++ xs) call.happens.past ∙ sym (append_assoc goes.made call.calls first.device.past)) in
+      elim (sound now run p known stands (has_first now first (c.at mid) (c.at new) p more (goes.made ++ call.calls) past has)) [
+        | inl kept ↦ inl (λ unharmed. stays (kept unharmed))
+        | inr shows ↦ inr (shows_later mid new run p (state_at first) asks more shows)
+      ]

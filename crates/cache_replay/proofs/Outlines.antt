@@ -1,5 +1,5 @@
 -- What a line makes of an outline.
-use Rattle.std.proofs.Common.{◌≡◌, ℕ, List, [], ◌∷◌, ◌++◌, refl, sym, ◌∙◌, ap, subst, arith, Result, Ok, Err}
+use Rattle.std.proofs.Common.{◌≡◌, ℕ, true, List, [], ◌∷◌, ◌++◌, refl, sym, ◌∙◌, ap, subst, arith, Result, Ok, Err}
 use Rattle.std.specs.Prelude.{Option, Some, None, IfOk, IfErr, IsSome, map, option_map}
 use Rattle.std.proofs.lemmas.List.{append-nil, append_assoc}
 use Rattle.device_log.specs.Calls.{Call}
@@ -22,11 +22,12 @@ use Rattle.cache_replay.specs.declared.session.Session.{Session}
 use Rattle.cache_replay.specs.declared.session.Part.{Part}
 use Rattle.cache_replay.specs.declared.stop.Stop.{Stop}
 use Rattle.cache_replay.specs.declared.stop.Stop.TheVariants.{BayFault, Memory, NoCache}
-use Rattle.run_promise.specs.Outline.{IsAnswerOf, Outline, called, outline_in, begun, begun_by, count_in, format_answer, joined, outline_after, raised, told_of}
+use Rattle.run_promise.specs.Outline.{IsAnswerOf, Outline, begun, begun_by, called, count_in, doubted, format_answer, joined}
+use Rattle.run_promise.specs.Outline.{outline_after, outline_in, raised, told_of}
 use Rattle.cache_replay.specs.Session.{AreLater, TellsCount, return_of}
 use Rattle.run_promise.specs.Needs.{AttachesAs, NeedsSession}
 use Rattle.cache_replay.specs.Stop.{IsSessionStop}
-use Rattle.cache_replay.specs.Plays.{CallsAt, IsLeft, IsOutlined, Outlines, stays, tried}
+use Rattle.cache_replay.specs.Plays.{CallsAt, IsLeft, IsOutlined, IsUntoldAt, Outlines, stays, tried}
 use Rattle.script_run.specs.Ledger.{AreReached, Deals, GoesOnFrom, Ledger}
 use Rattle.cache_replay.proofs.Unharming.{reached_loosely}
 
@@ -85,8 +86,12 @@ no_session : (session : Option Harm) (count : ℕ) → IsSome session → sessio
 no_session None count some none = cc
 no_session (Some harm) count some none = cc
 
+-- what is told of a device, and doubted
+abbrev doubt : Harm → Harm
+doubt harm = record harm { damaged = true }
+
 some_still : (state : Option State) (calls others : List Call) → IsSome (option_map (λ s. loosened (harm_in calls s)) state)
-    → IsSome (option_map (λ s. loosened (harm_in others s)) state)
+    → IsSome (option_map doubt (option_map (λ s. loosened (harm_in others s)) state))
 some_still None calls others h = h
 some_still (Some s) calls others h = refl
 
@@ -155,22 +160,34 @@ module _ {S W R : Type 0} {c : CallsGhosts S W R} where
       joined_outlines o s new said ledger needs (has_session o.session old.part new.part said later tells h)
       (joins o.session (count_in said) old.part new.part said refl later tells h)
 
-  -- where the calls of a device are those of another run, they are told of it
+  -- where the calls of a device are those of another run, they are told of it, and where it did not tell its content that is doubted
   recalled : (state : Option State) (calls : List Call) (later : Run) (count : ℕ) (part : Option (Part S W R c)) → CallsAt later part
-      → AreReached (told_of (option_map (raised count) (option_map (λ s. loosened (harm_in calls s)) state))) (Returns part)
-      → AreReached (told_of (option_map (raised count) (option_map (λ s. loosened (harm_in later.calls s)) state))) (Returns part)
-  recalled None calls later count part are h = h
-  recalled (Some s) calls later count None are h = absurd h
-  recalled (Some s) calls later count (Some part) are h = (record { made = record { later = []; is = are }; all = λ no. cc; counted = h.0.counted; unharmed = h.0.unharmed }, tt)
+      → IsUntoldAt part → AreReached (told_of (option_map (raised count) (option_map (λ s. loosened (harm_in calls s)) state))) (Returns part)
+      → AreReached (told_of (option_map (raised count) (option_map doubt (option_map (λ s. loosened (harm_in later.calls s)) state))))
+      (Returns part)
+  recalled None calls later count part are untold h = h
+  recalled (Some s) calls later count None are untold h = absurd h
+  recalled (Some s) calls later count (Some part) are untold h = (
+    record {
+      made = record { later = []; is = are };
+      all = λ no. cc;
+      counted = h.0.counted;
+      unharmed = λ tells. absurd (untold tells);
+    },
+    tt,
+  )
 
-  -- a line on a session that showed a pair: the calls of its turn are told of the device as well
+  -- a line on a session that showed a pair: the calls of its turn are told of the device as well, and all that is told of it is
+  -- doubted
   pub shown_outlines : (run : Run) (turn : Turn) (s : Step) (old new : Session S W R c) (said : StepAnswer) (ledger : Ledger) → NeedsSession s
       → AreLater (Returns old.part) (Returns new.part) → TellsCount new.part said
-      → CallsAt (called run turn) new.part → IsOutlined (outline_in run) old → Outlines (outline_in (called run turn)) s new said ledger ledger
-  shown_outlines run turn s old new said ledger needs later tells calls h =
-      joined_outlines (outline_in (called run turn)) s new said ledger needs
+      → CallsAt (called run turn) new.part → IsUntoldAt new.part → IsOutlined (outline_in run) old
+      → Outlines (doubted (outline_in (called run turn))) s new said ledger ledger
+  shown_outlines run turn s old new said ledger needs later tells calls untold h =
+      joined_outlines (doubted (outline_in (called run turn))) s new said ledger needs
       (some_still run.state run.calls (called run turn).calls (has_session (outline_in run).session old.part new.part said later tells h))
-      (recalled run.state run.calls (called run turn) (count_in said) new.part calls (joins (outline_in run).session (count_in said) old.part new.part said refl later tells h))
+      (recalled run.state run.calls (called run turn) (count_in said) new.part calls untold
+      (joins (outline_in run).session (count_in said) old.part new.part said refl later tells h))
 
   pub all_outlines : (result : Result StepAnswer Stop) (s : Step) (old new : Session S W R c) (ledger : Ledger) → NeedsSession s → AreLater (Returns old.part) (Returns new.part)
       → IfOk result (TellsCount new.part)

@@ -11,6 +11,7 @@ use Rattle.cache_model.specs.Kept.{state_of}
 use Rattle.cache_model.specs.Permit.{Exhausted, Faulted, Flush, Reason, Remove}
 use Rattle.cache_model.specs.Vectors.{AreTold}
 use Rattle.cache_model.specs.Verdict.{cause_of_miss}
+use Rattle.call_laws.specs.Contents.{AnyContents}
 use Rattle.call_laws.specs.Moments.{At, NothingKnown}
 use Rattle.call_laws.specs.Progress.{AllDone, EndsWith, Progress, Stops}
 use Rattle.call_laws.specs.Progress.EndsWith.{in_full, refused as stopped}
@@ -24,18 +25,21 @@ use Rattle.cache_calls.specs.Adds.{AddsAll, AddsSoundly, IsAsItWas, IsOfFlush, I
 use Rattle.cache_calls.specs.Asked.{progress_at}
 use Rattle.cache_calls.specs.Keeping.{IsAtRest, Keeps, state_at}
 use Rattle.cache_calls.specs.Plain.{FlushesAs, Tells}
+use Rattle.cache_calls.specs.Standing.{StaysStanding}
 use Rattle.script_lang.specs.declared.step.Step.{Step}
 use Rattle.script_lang.specs.declared.step.Step.TheVariants as step
 use Rattle.script_lang.specs.declared.answer.StepAnswer.{StepAnswer}
 use Rattle.script_lang.specs.declared.answer.StepAnswer.TheVariants as answer
 use Rattle.script_run.specs.Run.{Run}
 use Rattle.script_run.specs.Answers.{remove_said}
+use Rattle.script_run.specs.Own.{AreOwn}
 use Rattle.cache_replay.specs.declared.session.Part.{Part}
 use Rattle.cache_replay.specs.declared.stop.Stop.{Stop}
 use Rattle.cache_replay.specs.declared.stop.Stop.TheVariants.{Memory}
 use Rattle.cache_replay.specs.Session.{IsPart, LeavesBut, TellsCount, at_in, state_in}
 use Rattle.cache_replay.specs.Moves.{MovesOrShows}
 use Rattle.cache_replay.specs.OneLine.{AnswersPlainly}
+use Rattle.cache_replay.specs.Standing.{OwnStands}
 use Rattle.run_promise.specs.Outline.{count_of}
 use Rattle.cache_replay.specs.Replies.{flush_refused}
 use Rattle.cache_replay.proofs.Counts.{miss_counts}
@@ -48,23 +52,25 @@ module _ {S W R : Type 0} {c : CallsGhosts S W R} where
   -- a line that is one call
   pub one_call : (now : ℕ) (step : Step) (old new : Part S W R c) (result : Result StepAnswer Stop) → IsPart old → Keeps c.at c.holds old.cache new.cache
       → IsAtRest (at_in new) → LeavesBut None None (state_in old) (state_in new) → length new.page.items ≡ length old.page.items
+      → StaysStanding c.stands AnyContents old.cache new.cache
       → IfOk result (λ said. (run : Run) → run.now ≡ now → AreTold (state_in old) → MovesOrShows run step (at_in old) (at_in new) said)
       → IfOk result (TellsCount (Some new)) → IfErr result (λ why. why ≡ Memory)
       → AnswersPlainly now step None None old new result
-  one_call now step old new result part keeps rest leaves page ends counts stop = record {
+  one_call now step old new result part keeps rest leaves page stands ends counts stop = record {
     part = part_behind old new part keeps.goes_on rest page None None leaves;
     goes = keeps.goes_on;
     leaves = leaves;
+    stands = λ contents told before. stands contents tt before;
     ends = whoever result ends;
-    unharmed = λ run moment told own. inl keeps.unharmed;
+    unharmed = λ run moment told own before. inl keeps.unharmed;
     counts = counts;
     stop = stop;
   }
     where
       whoever : (given : Result StepAnswer Stop) → IfOk given (λ said. (run : Run) → run.now ≡ now → AreTold (state_in old) → MovesOrShows run step (at_in old) (at_in new) said)
-          → IfOk given (λ said. (run : Run) → run.now ≡ now → AreTold (state_in old) → Rattle.script_run.specs.Own.AreOwn (state_in old) run.streams
-          → MovesOrShows run step (at_in old) (at_in new) said)
-      whoever (Ok said) h = λ run moment told own. h run moment told
+          → IfOk given (λ said. (run : Run) → run.now ≡ now → AreTold (state_in old) → AreOwn (state_in old) run.streams
+          → OwnStands run.streams (state_in old) (c.stands old.cache) → MovesOrShows run step (at_in old) (at_in new) said)
+      whoever (Ok said) h = λ run moment told own before. h run moment told
       whoever (Err why) h = tt
 
   -- ---- removals
@@ -80,31 +86,33 @@ module _ {S W R : Type 0} {c : CallsGhosts S W R} where
 
   -- an object was removed
   pub removed : (now : ℕ) (old new : Part S W R c) (key : Key) (put : ℕ) → IsPart old → Keeps c.at c.holds old.cache new.cache → IsAtRest (at_in new)
-      → length new.page.items ≡ length old.page.items
+      → length new.page.items ≡ length old.page.items → StaysStanding c.stands AnyContents old.cache new.cache
       → ServesTold now (at_in old) (at_in new) (Remove key ∷ []) AllDone → AddsAll (rec.Removed put key ∷ []) (at_in old) (at_in new)
       → AnswersPlainly now (step.Remove key) None None old new (Ok (answer.Removed put))
-  removed now old new key put part keeps rest page serves adds =
+  removed now old new key put part keeps rest page stands serves adds =
       one_call now (step.Remove key) old new (Ok (answer.Removed put)) part keeps rest
-      (any_leaves (at_in old) (at_in new) (λ q. record { added = rec.Removed put key ∷ []; adds = adds; own = (tt, tt) })) page
+      (any_leaves (at_in old) (at_in new) (λ q. record { added = rec.Removed put key ∷ []; adds = adds; own = (tt, tt) })) page stands
       (removes now old new key (rec.Removed put key ∷ []) (answer.Removed put) part rest serves adds refl) (omega arith) tt
 
   -- there was none
   pub absent : (now : ℕ) (old new : Part S W R c) (key : Key) (why : Cause) → IsPart old → Keeps c.at c.holds old.cache new.cache → IsAtRest (at_in new)
-      → length new.page.items ≡ length old.page.items
+      → length new.page.items ≡ length old.page.items → StaysStanding c.stands AnyContents old.cache new.cache
       → ServesTold now (at_in old) (at_in new) (Remove key ∷ []) AllDone → IsAsItWas (at_in old) (at_in new) → why ≡ cause_of_miss (state_in old) key
       → AnswersPlainly now (step.Remove key) None None old new (Ok (answer.Absent why))
-  absent now old new key why part keeps rest page serves same is =
+  absent now old new key why part keeps rest page stands serves same is =
       one_call now (step.Remove key) old new (Ok (answer.Absent why)) part keeps rest
-      (leaves_all None None (state_in old) (state_in new) (ap state_of same)) page
+      (leaves_all None None (state_in old) (state_in new) (ap state_of same)) page stands
       (removes now old new key [] (answer.Absent why) part rest serves (same ∙ nothing_more (at_in old).kept) (ap answer.Absent (sym is)))
       (omega (arith, ap count_of is ∙ miss_counts (state_in old) key part.losses)) tt
 
   -- memory was wanting
   pub unremoved : (now : ℕ) (old new : Part S W R c) (key : Key) → IsPart old → Keeps c.at c.holds old.cache new.cache → IsAtRest (at_in new)
-      → length new.page.items ≡ length old.page.items → IsAsItWas (at_in old) (at_in new)
+      → length new.page.items ≡ length old.page.items → StaysStanding c.stands AnyContents old.cache new.cache
+      → IsAsItWas (at_in old) (at_in new)
       → AnswersPlainly now (step.Remove key) None None old new (Err Memory)
-  unremoved now old new key part keeps rest page same =
-      one_call now (step.Remove key) old new (Err Memory) part keeps rest (leaves_all None None (state_in old) (state_in new) (ap state_of same)) page tt tt refl
+  unremoved now old new key part keeps rest page stands same =
+      one_call now (step.Remove key) old new (Err Memory) part keeps rest
+      (leaves_all None None (state_in old) (state_in new) (ap state_of same)) page stands tt tt refl
 
 -- ---- flushes
 
@@ -164,9 +172,10 @@ module _ {S W R : Type 0} {c : CallsGhosts S W R} (now : ℕ) (old new : Part S 
 
   pub flushes : (result : Result Flushed Refusal) (said : Result StepAnswer Stop) → said ≡ flush_answer result
       → Keeps c.at c.holds old.cache new.cache → length new.page.items ≡ length old.page.items
+      → StaysStanding c.stands AnyContents old.cache new.cache
       → ServesTold now (at_in old) (at_in new) (Flush ∷ []) (progress_at 0 (Flush ∷ []) result) → FlushesAs (at_in old) (at_in new) result
       → AddsSoundly IsOfFlush (at_in old) (at_in new) → AnswersPlainly now step.Flush None None old new said
-  flushes result said is keeps page serves gives adds =
+  flushes result said is keeps page stands serves gives adds =
       subst (AnswersPlainly now step.Flush None None old new) (sym is)
-      (one_call now step.Flush old new (flush_answer result) part keeps rest (flush_leaves (at_in old) (at_in new) adds) page
+      (one_call now step.Flush old new (flush_answer result) part keeps rest (flush_leaves (at_in old) (at_in new) adds) page stands
       (flush_ends result serves gives) (flush_counts result gives) (flush_stops result))

@@ -10,7 +10,7 @@ use Rattle.cache_model.specs.Kept.{state_of}
 use Rattle.cache_model.specs.Permit.{Exhausted, Faulted, Intent, Lost, ManyFragments, Permit, Reason, TooLarge, to_do}
 use Rattle.cache_model.specs.Legal.{MayGrow, is_writing}
 use Rattle.cache_model.specs.Pair.{Documents}
-use Rattle.cache_model.specs.Vectors.{IsVectorAs}
+use Rattle.logged_disk.specs.Device.{TellsAll}
 use Rattle.call_laws.specs.Moments.{At, Facts, IsToldAt, OfState}
 use Rattle.call_laws.specs.Progress.{AllDone, Progress, Spends, Stops, cleanups}
 use Rattle.call_laws.specs.Serves.{Serves, ServesFrom}
@@ -36,6 +36,7 @@ use Rattle.cache_replay.specs.Session.{IsOpenWriter}
 use Rattle.cache_replay.proofs.Closings.{asks_ending, cause_at, closing_ended, complete_said, same_asks}
 use Rattle.cache_replay.proofs.Counts.{at_most, loss_counts}
 use Rattle.cache_replay.proofs.Endings.{IsEnded}
+use Rattle.cache_replay.proofs.FeedRounds.{PairsAt, serves_later}
 use Rattle.cache_replay.proofs.WriterSteps.{key_at}
 
 -- nothing that closing asks is a clean-up
@@ -68,7 +69,7 @@ lost_said t w index why is end = ap (λ c. answer.Refused (refused.Lost index c)
 -- ---- all is fed, and the writer closed
 
 module _ (now : ℕ) (old mid new : At) (w v : WriterSeen) (body : List ℕ) (fresh : IsFresh w) (number : v.put ≡ w.put)
-    (cut : IsCutUp (state_at old).geometry.fragment w body v) (own : IsOpenWriter (state_at mid) v) where
+    (cut : IsCutUp (state_at old).geometry.fragment w body v) (own : IsOpenWriter (state_at mid) v) (told : TellsAll new.device → TellsAll mid.device) where
   abbrev f : ℕ
   f = (state_at old).geometry.fragment
 
@@ -92,25 +93,25 @@ module _ (now : ℕ) (old mid new : At) (w v : WriterSeen) (body : List ℕ) (fr
       ∙ (ap (λ n. close_intents w.put n v.gathered) rows_are ∙ ap (close_intents w.put (whole_fragments f body)) rest_is))
 
   -- what is known behind the close
-  tells_closed : (result : Result Receipt Refusal) → (o : Progress) → ServesFrom IsVectorAs now mid new (ending_asks v) o IsToldAt (IsFilledAs v.put result)
+  tells_closed : (result : Result Receipt Refusal) → (o : Progress) → ServesFrom (PairsAt new) now mid new (ending_asks v) o IsToldAt (IsFilledAs v.put result)
       → Serves now old mid (feed_intents f w.put 0 body) AllDone → o ≡ progress_with (reason_of v.put result)
-      → ServesFrom IsVectorAs now old new (body_intents f w.put body) (progress_with (reason_of w.put result)) IsToldAt (IsFilledAs w.put result)
+      → ServesFrom (PairsAt new) now old new (body_intents f w.put body) (progress_with (reason_of w.put result)) IsToldAt (IsFilledAs w.put result)
   tells_closed result o serves feeds is =
-      subst (λ q. ServesFrom IsVectorAs now old new (body_intents f w.put body) (progress_with (reason_of q result)) IsToldAt (IsFilledAs q result)) number
-      (subst (λ x. ServesFrom IsVectorAs now old new (body_intents f w.put body) x IsToldAt (IsFilledAs v.put result)) is
-      (serves_then feeds (subst (λ (is : List Intent). ServesFrom IsVectorAs now mid new is o IsToldAt (IsFilledAs v.put result)) closes_are serves)))
+      subst (λ q. ServesFrom (PairsAt new) now old new (body_intents f w.put body) (progress_with (reason_of q result)) IsToldAt (IsFilledAs q result)) number
+      (subst (λ x. ServesFrom (PairsAt new) now old new (body_intents f w.put body) x IsToldAt (IsFilledAs v.put result)) is
+      (serves_then (serves_later new told feeds) (subst (λ (is : List Intent). ServesFrom (PairsAt new) now mid new is o IsToldAt (IsFilledAs v.put result)) closes_are serves)))
 
   module _ (feeds : Serves now old mid (feed_intents f w.put 0 body) AllDone) where
     -- refused for what only the answer tells
     refuses : {known : Facts} (why : Refusal) (reason : Reason) → reason_of v.put (Err why) ≡ Some reason
         → ((t : State) → Says t v.put (Err why) × IsOver t v.put (Err why))
-        → ServesFrom IsVectorAs now mid new (ending_asks v) (Stops reason) IsToldAt known
-        → ServesFrom IsVectorAs now old new (body_intents f w.put body) (progress_with (reason_of w.put (Err why))) IsToldAt (IsFilledAs w.put (Err why))
+        → ServesFrom (PairsAt new) now mid new (ending_asks v) (Stops reason) IsToldAt known
+        → ServesFrom (PairsAt new) now old new (body_intents f w.put body) (progress_with (reason_of w.put (Err why))) IsToldAt (IsFilledAs w.put (Err why))
     refuses why reason is says serves =
         tells_closed (Err why) (Stops reason) (serves_known (IsFilledAs v.put (Err why)) (λ past k. says (state_of new.kept)) serves) feeds (sym (ap progress_with is))
 
     by_answer : {known : Facts} (result : Result Receipt Refusal) → Closes mid new v result
-        → ServesFrom IsVectorAs now mid new (ending_asks v) (progress_at v.put (ending_asks v) result) IsToldAt known → FillsWhere now old new w body result
+        → ServesFrom (PairsAt new) now mid new (ending_asks v) (progress_at v.put (ending_asks v) result) IsToldAt known → FillsWhere now old new w body result
     by_answer (Ok receipt) gives serves =
         tells_closed (Ok receipt) AllDone
         (serves_tells (λ t. Says t v.put (Ok receipt) × IsOver t v.put (Ok receipt)) (λ p added spends.
@@ -122,8 +123,8 @@ module _ (now : ℕ) (old mid new : At) (w v : WriterSeen) (body : List ℕ) (fr
       where
         lost_closes : {known : Facts} (index : ℕ) (why : Cause)
             → why ≡ cause_of_piece (state_at new) (fragment_piece v.key v.put index)
-            → ServesFrom IsVectorAs now mid new (ending_asks v) (Stops (Lost v.put index)) IsToldAt known
-            → ServesFrom IsVectorAs now mid new (ending_asks v) (Stops (Lost v.put index)) IsToldAt (IsFilledAs v.put (Err (refusal.Lost index why)))
+            → ServesFrom (PairsAt new) now mid new (ending_asks v) (Stops (Lost v.put index)) IsToldAt known
+            → ServesFrom (PairsAt new) now mid new (ending_asks v) (Stops (Lost v.put index)) IsToldAt (IsFilledAs v.put (Err (refusal.Lost index why)))
         lost_closes index why is serves =
             serves_known (IsFilledAs v.put (Err (refusal.Lost index why))) (λ past (end : IsEnded (Some (Lost v.put index)) (state_at new) v.put (rows_at_close v) (Some v.key)).
             (lost_said (state_at new) v index why is end, end.0))
@@ -138,14 +139,14 @@ module _ (now : ℕ) (old mid new : At) (w v : WriterSeen) (body : List ℕ) (fr
     by_answer (Err refusal.Sealed) gives serves = absurd gives.1
 
   pub closes_fill : {known : Facts} (result : Result Receipt Refusal) → FeedsAsAsked now old mid w body None → Closes mid new v result
-      → ServesFrom IsVectorAs now mid new (close_asks (state_at mid) v) (progress_at v.put (close_asks (state_at mid) v) result) IsToldAt known
+      → ServesFrom (PairsAt new) now mid new (close_asks (state_at mid) v) (progress_at v.put (close_asks (state_at mid) v) result) IsToldAt known
       → FillsWhere now old new w body result
   closes_fill {known} result fed gives serves =
       by_answer
       (subst (λ (is : List Intent). Serves now old mid is AllDone) (ap (λ (rows : List TableRow). feed_intents f w.put (length rows) (w.gathered ++ body)) fresh.cuts
       ∙ ap (λ xs. feed_intents f w.put 0 (xs ++ body)) fresh.gathered) fed.serves)
       result gives
-      (subst (λ (is : List Intent). ServesFrom IsVectorAs now mid new is (progress_at v.put is result) IsToldAt known) (asks_ending (state_at mid) v own.writing) serves)
+      (subst (λ (is : List Intent). ServesFrom (PairsAt new) now mid new is (progress_at v.put is result) IsToldAt known) (asks_ending (state_at mid) v own.writing) serves)
 
 -- what a refusal has wherever that holds, it has where this does
 pub err_when : {X E M N : Type 0} (P : E → Type 0) (result : Result X E) → (N → M) → IfErr result (λ why. M → P why) → IfErr result (λ why. N → P why)
@@ -168,7 +169,7 @@ module _ (now : ℕ) (old new : At) (w : WriterSeen) (body : List ℕ) (fresh : 
 
   stops : (why : Refusal) (reason : Reason) → FeedsAsAsked now old new w body (Some why) → feed_progress w.put (Some why) ≡ Stops reason
       → ((t : State) → Says t w.put (Err why) × IsOver t w.put (Err why))
-      → ServesFrom IsVectorAs now old new (body_intents g w.put body) (Stops reason) IsToldAt (IsFilledAs w.put (Err why))
+      → ServesFrom (PairsAt new) now old new (body_intents g w.put body) (Stops reason) IsToldAt (IsFilledAs w.put (Err why))
   stops why reason fed is says =
       serves_known (IsFilledAs w.put (Err why)) (λ past k. says (state_of new.kept))
       (serves_short (close_intents w.put (whole_fragments g body) (rest_behind g body)) (record { short = refl })

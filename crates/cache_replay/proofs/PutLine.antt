@@ -5,6 +5,7 @@ use Rattle.tape_base.specs.declared.keys.Key.{Key}
 use Rattle.alternate_vector.specs.Field.{Field}
 use Rattle.cache_model.specs.Permit.{Reason}
 use Rattle.cache_model.specs.Vectors.{AreTold, IsVectorAs}
+use Rattle.call_laws.specs.Contents.{TellsVectors, Untold}
 use Rattle.call_laws.specs.Moments.{IsToldAt}
 use Rattle.call_laws.specs.Progress
 use Rattle.call_laws.specs.Progress.{EndsWith}
@@ -14,6 +15,7 @@ use Rattle.cache_calls.specs.declared.calls.Receipt.{Receipt}
 use Rattle.cache_calls.specs.declared.calls.Refusal.{Refusal}
 use Rattle.cache_calls.specs.declared.calls.Refusal.TheVariants as refusal
 use Rattle.cache_calls.specs.Keeping.{IsAtRest, Keeps}
+use Rattle.cache_calls.specs.Standing.{StaysStanding}
 use Rattle.script_lang.specs.declared.answer.StepAnswer.{StepAnswer}
 use Rattle.script_lang.specs.declared.step.Step.{Step}
 use Rattle.script_lang.specs.declared.step.Step.TheVariants as step
@@ -23,6 +25,7 @@ use Rattle.cache_replay.specs.declared.session.Part.{Part}
 use Rattle.cache_replay.specs.declared.stop.Stop.TheVariants.{Memory}
 use Rattle.cache_replay.specs.Moves.{MovesOrShows}
 use Rattle.cache_replay.specs.OneLine.{AnswersPlainly}
+use Rattle.cache_replay.specs.Standing.{IsToldPlainly, TellsPut}
 use Rattle.run_promise.specs.Outline.{count_in}
 use Rattle.cache_replay.specs.Replies.{closed_answer, count_of_refusal, receipt_answer}
 use Rattle.cache_replay.specs.Putting.{IsSaidAs, PutsWhere, TellsOfPut, progress_with, reason_of}
@@ -58,7 +61,7 @@ module _ {S W R : Type 0} {c : CallsGhosts S W R} (now : ℕ) (old new : Part S 
 
   -- what it was asked has come there, and this is told
   moves : (result : Result Receipt Refusal)
-      → ServesFrom IsVectorAs now (at_in old) (at_in new) (put_intents (state_in old) key body request response)
+      → ServesFrom (Untold (at_in new).device IsVectorAs) now (at_in old) (at_in new) (put_intents (state_in old) key body request response)
       (progress_with (reason_of put result)) IsToldAt (IsSaidAs put result)
       → (run : Run) → run.now ≡ now → AreTold (state_in old) → MovesOrShows run line (at_in old) (at_in new) (receipt_answer result)
   moves result serves run moment told =
@@ -80,7 +83,12 @@ module _ {S W R : Type 0} {c : CallsGhosts S W R} (now : ℕ) (old new : Part S 
   puts (Err refusal.NoSuchWriter) serves = absurd serves
 
   module _ (given : Result Receipt Refusal) (page : length new.page.items ≡ length old.page.items) (keeps : Keeps c.at c.holds old.cache new.cache)
-      (tells : TellsOfPut (at_in old) (at_in new) put given) where
+      (tells : TellsOfPut (at_in old) (at_in new) put given)
+      (stands : StaysStanding c.stands (λ contents. TellsVectors contents × TellsPut (state_in new) put body contents)
+      old.cache new.cache) where
+    told_so : StaysStanding c.stands (IsToldPlainly (state_in new) (Some put) line) old.cache new.cache
+    told_so contents told before = stands contents (told.vectors, told.cut) before
+
     -- it is answered
     pub put_said : (said : StepAnswer) → closed_answer given ≡ Some said → PutsWhere now (at_in old) (at_in new) key body request response given
         → AnswersPlainly now line (Some put) None old new (Ok said)
@@ -90,9 +98,11 @@ module _ {S W R : Type 0} {c : CallsGhosts S W R} (now : ℕ) (old new : Part S 
           part = part_behind old new part keeps.goes_on rest page (Some put) None leaves;
           goes = keeps.goes_on;
           leaves = leaves;
-          ends = λ run moment told own. subst (λ o. IfSome o (λ x. (r : Run) → r.now ≡ now → AreTold (state_in old) → MovesOrShows r line (at_in old) (at_in new) x)) is
+          stands = told_so;
+          ends = λ run moment told own before.
+              subst (λ o. IfSome o (λ x. (r : Run) → r.now ≡ now → AreTold (state_in old) → MovesOrShows r line (at_in old) (at_in new) x)) is
               (puts given serves) run moment told;
-          unharmed = λ run moment told own. inl keeps.unharmed;
+          unharmed = λ run moment told own before. inl keeps.unharmed;
           counts = subst (λ o. IfSome o (λ x. count_in x ≤ (at_in new).device.faults)) is
               (receipt_counts given (at_in new).device.faults (err_now (λ why. count_of_refusal why ≤ (at_in new).device.faults) given part.losses tells.counts));
           stop = tt;
@@ -106,8 +116,9 @@ module _ {S W R : Type 0} {c : CallsGhosts S W R} (now : ℕ) (old new : Part S 
           part = part_behind old new part keeps.goes_on rest page (Some put) None leaves;
           goes = keeps.goes_on;
           leaves = leaves;
+          stands = told_so;
           ends = tt;
-          unharmed = λ run moment told own. inl keeps.unharmed;
+          unharmed = λ run moment told own before. inl keeps.unharmed;
           counts = tt;
           stop = refl;
         }

@@ -9,11 +9,12 @@ use Rattle.cache_model.specs.Kept.{state_of}
 use Rattle.cache_model.specs.Permit.{Done, Exhausted, GiveUp, Intent, ManyWriters, Reason, Write, is_cleanup}
 use Rattle.cache_model.specs.Legal.{DoesGiveUp, IsQuiet, is_writing}
 use Rattle.cache_model.specs.Tape.{IsSound}
-use Rattle.cache_model.specs.Vectors.{IsVectorAs}
+use Rattle.logged_disk.specs.Device.{TellsAll}
 use Rattle.model_laws.proofs.ToldGroups.{told_group}
 use Rattle.call_laws.specs.Moments.{At, IsToldAt, NothingKnown}
 use Rattle.call_laws.specs.Progress.{AllDone, Stops, cleanups}
 use Rattle.call_laws.specs.Serves.{ServesFrom, ServesTold}
+use Rattle.call_laws.specs.Whole.{LeavesListed}
 use Rattle.call_laws.proofs.Groups.{serves_none}
 use Rattle.call_laws.proofs.Joined.{state_behind}
 use Rattle.call_laws.proofs.Kept.{told_serves}
@@ -32,7 +33,9 @@ use Rattle.cache_replay.specs.Replies.{count_of_refusal}
 use Rattle.cache_replay.specs.Putting.{BodyEndsWhere, IsFresh, IsSaidAs, PutsWhere, Says, ending_intents, progress_with, reason_of}
 use Rattle.cache_replay.specs.Session.{IsOpenWriter}
 use Rattle.cache_replay.proofs.FeedRefused.{feed_cleans_none}
+use Rattle.cache_replay.proofs.FeedRounds.{PairsAt, serves_later}
 use Rattle.cache_replay.proofs.Free.{next_is_free}
+use Rattle.cache_replay.proofs.KeptPuts.{leave_puts}
 use Rattle.cache_replay.proofs.Openings.{nothing_cut, writes_it}
 use Rattle.cache_replay.proofs.PutEnds.{closing_cleans_none}
 use Rattle.cache_replay.proofs.PutWhole.{unless_as}
@@ -57,18 +60,19 @@ module _ (old mid : At) (who : Actor) (key : Key) (request response : List Field
   is_fresh =
       record { cuts = nothing_cut s who key request response 0 w begun.put (subst (λ x. IsWriterOf x w) there begun.writer); gathered = begun.empty; unsealed = begun.unsealed }
 
-  pub puts_opened : (now : ℕ) (new : At) (body : List ℕ) → IsSound s → who.0 ≡ 0 → ServesTold now old mid (Write who.0 key request response 0 ∷ []) AllDone
+  pub puts_opened : (now : ℕ) (new : At) (body : List ℕ) → IsSound s → LeavesListed mid.device (state_at mid) → (TellsAll new.device → TellsAll mid.device)
+      → who.0 ≡ 0 → ServesTold now old mid (Write who.0 key request response 0 ∷ []) AllDone
       → (result : Result Receipt Refusal) → BodyEndsWhere now mid new w.put body result → PutsWhere now old new key body request response result
-  puts_opened now new body sound nobody opens result ends =
+  puts_opened now new body sound listed told nobody opens result ends =
       let same : ending_intents (state_at mid) w.put body ≡ ending_intents s s.next_put body =
       ap (λ (x : State). ending_intents x w.put body) there ∙ ap (λ n. ending_intents s n body) begun.put in
       unless_as result
-      (λ (f : ServesFrom IsVectorAs now mid new (ending_intents (state_at mid) w.put body) (progress_with (reason_of w.put result)) IsToldAt (IsSaidAs w.put result)).
-      subst (λ n. ServesFrom IsVectorAs now old new (Write n key request response 0 ∷ ending_intents s s.next_put body)
+      (λ (f : ServesFrom (PairsAt new) now mid new (ending_intents (state_at mid) w.put body) (progress_with (reason_of w.put result)) IsToldAt (IsSaidAs w.put result)).
+      subst (λ n. ServesFrom (PairsAt new) now old new (Write n key request response 0 ∷ ending_intents s s.next_put body)
       (progress_with (reason_of s.next_put result)) IsToldAt (IsSaidAs s.next_put result)) nobody
-      (serves_first (told_serves told_group sound opens)
-      (subst (λ q. ServesFrom IsVectorAs now mid new (ending_intents s s.next_put body) (progress_with (reason_of q result)) IsToldAt (IsSaidAs q result)) begun.put
-      (subst (λ (is : List Intent). ServesFrom IsVectorAs now mid new is (progress_with (reason_of w.put result)) IsToldAt (IsSaidAs w.put result)) same f)))) ends
+      (serves_first (serves_later new told (told_serves told_group leave_puts sound listed opens))
+      (subst (λ q. ServesFrom (PairsAt new) now mid new (ending_intents s s.next_put body) (progress_with (reason_of q result)) IsToldAt (IsSaidAs q result)) begun.put
+      (subst (λ (is : List Intent). ServesFrom (PairsAt new) now mid new is (progress_with (reason_of w.put result)) IsToldAt (IsSaidAs w.put result)) same f)))) ends
 
 -- ---- it is not opened
 
@@ -89,13 +93,13 @@ module _ (now : ℕ) (old new : At) (rest : IsAtRest old) (quiet : IsQuiet (stat
 
   stops : (why : Refusal) (reason : Reason) → ((t : State) → Says t put (Err why))
       → ServesTold now old new (Write who.0 key request response 0 ∷ []) (Stops reason)
-      → ServesFrom IsVectorAs now old new (put_intents (state_at old) key body request response) (Stops reason) IsToldAt (IsSaidAs put (Err why))
+      → ServesFrom (PairsAt new) now old new (put_intents (state_at old) key body request response) (Stops reason) IsToldAt (IsSaidAs put (Err why))
   stops why reason says serves =
       let none : is_writing (state_at new) put ≡ false = ap (λ k. is_writing (state_of k) put) same ∙ next_is_free old rest in
       let ending : List Intent = ending_intents (state_at old) put body in
-      subst (λ n. ServesFrom IsVectorAs now old new (Write n key request response 0 ∷ ending) (Stops reason) IsToldAt (IsSaidAs put (Err why))) nobody
+      subst (λ n. ServesFrom (PairsAt new) now old new (Write n key request response 0 ∷ ending) (Stops reason) IsToldAt (IsSaidAs put (Err why))) nobody
       (serves_fails ending serves
-      (subst (λ (is : List Intent). ServesFrom IsVectorAs now new new is AllDone NothingKnown (IsSaidAs put (Err why))) (sym (ending_cleaned (state_at old) put body))
+      (subst (λ (is : List Intent). ServesFrom (PairsAt new) now new new is AllDone NothingKnown (IsSaidAs put (Err why))) (sym (ending_cleaned (state_at old) put body))
       (serves_known (IsSaidAs put (Err why)) (λ past k. says (state_at new))
       (serves_none (GiveUp put) Done (record { kept = refl; past = refl; setting = refl }) (λ p. DoesGiveUp.over quiet none refl)))))
 

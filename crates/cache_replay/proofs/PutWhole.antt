@@ -6,11 +6,13 @@ use Rattle.cache_model.specs.Kept.{state_of}
 use Rattle.cache_model.specs.Permit.{Done, GiveUp, Intent, Reason}
 use Rattle.cache_model.specs.Legal.{DoesGiveUp, IsQuiet, is_writing}
 use Rattle.cache_model.specs.Tape.{IsSound}
-use Rattle.cache_model.specs.Vectors.{IsVectorAs}
+use Rattle.cache_model.specs.Pair.{Documents}
+use Rattle.logged_disk.specs.Device.{TellsAll}
 use Rattle.model_laws.proofs.ToldGroups.{told_group}
 use Rattle.call_laws.specs.Moments.{At, Facts, IsToldAt, OfState}
 use Rattle.call_laws.specs.Progress.{AllDone}
 use Rattle.call_laws.specs.Serves.{ServesFrom, ServesTold}
+use Rattle.call_laws.specs.Whole.{LeavesListed}
 use Rattle.call_laws.proofs.Accounts.{none_written}
 use Rattle.call_laws.proofs.Grown.{one_spends}
 use Rattle.call_laws.proofs.Joined.{call_still}
@@ -27,7 +29,9 @@ use Rattle.cache_calls.specs.Keeping.{state_at}
 use Rattle.cache_calls.specs.Writers.{GivesUp}
 use Rattle.cache_replay.specs.Replies.{count_of_refusal}
 use Rattle.cache_replay.specs.Putting.{BodyEndsWhere, FillsWhere, IsFilledAs, IsOver, IsSaidAs, Says, TellsOfPut, UnlessMemory, progress_with, reason_of, unless_memory}
+use Rattle.cache_replay.proofs.FeedRounds.{PairsAt, serves_later}
 use Rattle.cache_replay.proofs.Frames.{adds_then}
+use Rattle.cache_replay.proofs.KeptPuts.{leave_puts}
 
 -- what holds unless memory was wanting, as something else
 pub unless_as : {A B : Type 0} (result : Result Receipt Refusal) → (A → B) → UnlessMemory result A → UnlessMemory result B
@@ -43,15 +47,15 @@ unless_as (Err (refusal.DeviceFault count)) from h = from h
 unless_as (Err (refusal.Exhausted number)) from h = from h
 
 -- a clean-up behind all that was asked, done or refused
-pub serves_ending : {now : ℕ} {a b c : At} {asked : List Intent} {before between known : Facts} (why : Option Reason) (put : ℕ)
-    → ServesFrom IsVectorAs now a b asked (progress_with why) before between → ServesFrom IsVectorAs now b c (GiveUp put ∷ []) AllDone between known
-    → ServesFrom IsVectorAs now a c (asked ++ GiveUp put ∷ []) (progress_with why) before known
+pub serves_ending : {P : Documents} {now : ℕ} {a b c : At} {asked : List Intent} {before between known : Facts} (why : Option Reason) (put : ℕ)
+    → ServesFrom P now a b asked (progress_with why) before between → ServesFrom P now b c (GiveUp put ∷ []) AllDone between known
+    → ServesFrom P now a c (asked ++ GiveUp put ∷ []) (progress_with why) before known
 serves_ending None put f l = serves_then f l
 serves_ending (Some why) put f l = serves_fails (GiveUp put ∷ []) f l
 
 -- a put that is over, by what is known, is not given up
 over_serves : (now : ℕ) (a : At) (put : ℕ) (known : State → Type 0) → IsQuiet (state_at a)
-    → ServesFrom IsVectorAs now a a (GiveUp put ∷ []) AllDone (OfState (λ t. known t × (is_writing t put ≡ false))) (OfState known)
+    → ServesFrom (PairsAt a) now a a (GiveUp put ∷ []) AllDone (OfState (λ t. known t × (is_writing t put ≡ false))) (OfState known)
 over_serves now a put known quiet = call_still (record { kept = refl; past = refl; setting = refl }) (λ p earlier step. record {
   from = λ k. inl (record {
     spends = one_spends p (state_at a) (GiveUp put) [] Done (DoesGiveUp.over quiet k.1 refl);
@@ -80,14 +84,15 @@ says_still s t put refusal.Sealed writing says over = cc
 says_still s t put refusal.NoSuchWriter writing says over = cc
 says_still s t put (refusal.Memory e) writing says over = cc
 
-module _ (now : ℕ) (old mid new : At) (w v : WriterSeen) (body : List ℕ) (sound : IsSound (state_at old)) (number : v.put ≡ w.put) where
+module _ (now : ℕ) (old mid new : At) (w v : WriterSeen) (body : List ℕ) (sound : IsSound (state_at old)) (listed : LeavesListed mid.device (state_at mid))
+    (told : TellsAll new.device → TellsAll mid.device) (number : v.put ≡ w.put) where
   -- the clean-up is done, and what was told of the put is told behind it
   ends_with : (why : Refusal) → FillsWhere now old mid w body (Err why)
       → (Says (state_at mid) w.put (Err why) → IsOver (state_at mid) w.put (Err why) → Says (state_at new) w.put (Err why))
       → ServesTold now mid new (GiveUp w.put ∷ []) AllDone → BodyEndsWhere now old new w.put body (Err why)
   ends_with why fills says gives =
-      unless_as (Err why) (λ (f : ServesFrom IsVectorAs now old mid _ (progress_with (reason_of w.put (Err why))) IsToldAt (IsFilledAs w.put (Err why))).
-      serves_ending (reason_of w.put (Err why)) w.put (serves_told told_group sound f)
+      unless_as (Err why) (λ (f : ServesFrom (PairsAt mid) now old mid _ (progress_with (reason_of w.put (Err why))) IsToldAt (IsFilledAs w.put (Err why))).
+      serves_ending (reason_of w.put (Err why)) w.put (serves_later new told (serves_told told_group leave_puts sound listed f))
       (serves_known (IsSaidAs w.put (Err why)) (λ past k. k.1)
       (serves_carries (IsFilledAs w.put (Err why)) (IsSaidAs w.put (Err why)) (λ past made calls k. says k.0 k.1) gives))) fills
 

@@ -5,8 +5,10 @@ use Rattle.std.proofs.lemmas.Bool.{eqb-false}
 use Rattle.actor_table.specs.Table.{Seen, number_of, with_actor}
 use Rattle.cache_model.specs.State.{State, reader_of}
 use Rattle.cache_model.specs.Legal.{is_writing}
+use Rattle.call_laws.specs.Contents.{AnyContents}
 use Rattle.cache_calls.specs.declared.calls.Calls.{Ghosts as CallsGhosts}
 use Rattle.cache_calls.specs.Actors.{IsOpenReader, IsReaderOf, ReaderSeen}
+use Rattle.cache_calls.specs.Standing.{StaysStanding}
 use Rattle.script_lang.specs.declared.step.Step.{Step}
 use Rattle.script_lang.specs.declared.answer.StepAnswer.{StepAnswer}
 use Rattle.script_run.specs.Run.{Run, Reads, Writes, Stream, actor_of, held_by, reader_by, reader_in, with_value, Holding as Held}
@@ -16,11 +18,14 @@ use Rattle.cache_replay.specs.declared.session.Holding.{Holding}
 use Rattle.cache_replay.specs.declared.session.Part.{Part}
 use Rattle.cache_replay.specs.Moves.{Moves}
 use Rattle.cache_replay.specs.Plays.{IsHeldAs, PartEnds, PlaysPart}
+use Rattle.cache_replay.specs.Standing.{OwnStands}
 use Rattle.cache_replay.specs.ReaderLines.{as_held, reader_held, without_reader}
 use Rattle.cache_replay.specs.Session.{AreApart, Differ, HoldingSeen, IsActive, IsHeld, IsPart, LeavesBut, ReaderHeld, WriterHeld, at_in, slots_of, state_in}
 use Rattle.cache_replay.proofs.ActorLines.{changed_from, held_is, names_are, with_here, with_other, with_same}
 use Rattle.cache_replay.proofs.Frames.{Changed, IsElse, IsMine, OthersElse, all_apart, all_held, all_held_as, some_is}
 use Rattle.cache_replay.proofs.OnSession.{stands_behind}
+use Rattle.cache_replay.proofs.PutsGrown.{grows_same}
+use Rattle.cache_replay.proofs.Stood.{IsLawful, stands_on}
 
 -- ---- the actors behind a line
 
@@ -69,9 +74,9 @@ module _ {S W R : Type 0} {c : CallsGhosts S W R} where
     apart = all_apart None (Some reader) slots later n (as_held has) turns.changed turns.others (mine_held reader has turns.number) active.apart;
   }
 
-  module _ (run : Run) (step : Step) (name : List ℕ) (actor : actor_of step ≡ Some name) (old new : Part S W R c) (before after : Seen (Holding W R)) (n : ℕ)
+  module _ (laws : IsLawful c) (run : Run) (step : Step) (name : List ℕ) (actor : actor_of step ≡ Some name) (old new : Part S W R c) (before after : Seen (Holding W R)) (n : ℕ)
       (number : n ≡ number_of before.names name) (names : after.names ≡ with_actor before.names name) (active : IsActive old (slots_of c before))
-      (plays : PlaysPart run old before) (reader : ℕ) (has : Option ReaderSeen)
+      (part : IsPart new) (stays : StaysStanding c.stands AnyContents old.cache new.cache) (plays : PlaysPart run old before) (reader : ℕ) (has : Option ReaderSeen)
       (turns : Turns reader (state_in old) (state_in new) (slots_of c before) (slots_of c after) n has)
       (same : (turn : Turn) → streams_behind run (state_in old) (state_in new) turn step ≡ run.streams)
       (holds : holds_behind run (state_in old) (state_in new) step name ≡ as_run has) (mine : IfSome has (IsReaderOf (state_in new))) where
@@ -88,15 +93,23 @@ module _ {S W R : Type 0} {c : CallsGhosts S W R} where
         turns.changed turns.others plays.at.held
         (has_as later (state_in new) n has (ap (λ (f : ℕ → Option Held). f n) held ∙ (with_here run.held (number_of run.actors name) n _ there ∙ holds)) mine)
 
+    -- what its writers took stands behind it: it places nothing
+    stands_behind_it : (said : StepAnswer) (m : Moves run step (at_in old) (at_in new) said)
+        → OwnStands (in_session run (state_in old) (state_in new) m.turn step).streams (state_in new) (c.stands new.cache)
+    stands_behind_it said m =
+        stands_on run step old new said m (same m.turn)
+        (λ q. grows_same (state_in old) (state_in new) q (λ w found. turns.leaves.puts q (none_some q)) turns.leaves.geometry) stays plays.stands
+
     -- a line that did what it must
     pub reader_ends : (said : StepAnswer) → Moves run step (at_in old) (at_in new) said → PartEnds run step old new after said
-    reader_ends said m = elim (stands_behind run step old new said m (slots_of c before) active plays.at) [
+    reader_ends said m = elim (stands_behind laws run step old new said m (slots_of c before) active part.holds plays.at (stands_behind_it said m)) [
       | inr pair ↦ inr pair
       | inl stands ↦ inl (record {
         moves = m;
         plays = record {
           names = names_are run (state_in old) (state_in new) m.turn step name before.names after.names actor plays.names names;
           at = record { state = refl; told = stands.told; own = stands.own; held = held_then m.turn };
+          stands = stands_behind_it said m;
         };
       })
     ]

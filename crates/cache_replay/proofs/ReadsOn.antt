@@ -3,11 +3,13 @@ use Rattle.std.proofs.Common.{◌≡◌, ℕ, ◌*◌, List, [], length, sym, �
 use Rattle.tape_base.specs.declared.geometries.Geometry.{Geometry}
 use Rattle.tape_base.specs.Geometry.{budget_of}
 use Rattle.cache_model.specs.declared.record.Rec.{Rec}
+use Rattle.call_laws.specs.Contents.{AnyContents}
 use Rattle.call_laws.specs.Moments.{At}
 use Rattle.call_laws.proofs.Joined.{nothing_more}
 use Rattle.cache_calls.specs.declared.calls.Calls.{Ghosts as CallsGhosts}
 use Rattle.cache_calls.specs.Adds.{Adds, IsOfReader}
 use Rattle.cache_calls.specs.Keeping.{Keeps, state_at}
+use Rattle.cache_calls.specs.Standing.{StaysStanding}
 use Rattle.cache_calls.proofs.Keeping.{goes_still, goes_then}
 use Rattle.cache_calls.proofs.Others.{reads_leave_others}
 use Rattle.script_run.specs.Losses.{NoLossIsAFault}
@@ -22,17 +24,19 @@ losses_read n a b own none = losses_kept a b own.added own.adds none
 
 module _ {S W R : Type 0} {c : CallsGhosts S W R} where
   pub leaves_still : (n : ℕ) (a : S) → c.holds a → LeavesReader c a a n
-  leaves_still n a holds = record { goes = goes_still a holds; own = own_still (IsOfReader n) (c.at a) }
+  leaves_still n a holds = record { goes = goes_still a holds; stands = λ contents any stood. stood; own = own_still (IsOfReader n) (c.at a) }
 
   -- the number of the second is that of the first
   pub leaves_more : (n m : ℕ) (x y z : S) → m ≡ n → LeavesReader c x y n → LeavesReader c y z m → LeavesReader c x z n
   leaves_more n m x y z same first next = record {
     goes = goes_then first.goes next.goes;
+    stands = λ contents any stood. next.stands contents any (first.stands contents any stood);
     own = adds_then (IsOfReader n) (c.at x) (c.at y) (c.at z) first.own (subst (λ k. Adds (IsOfReader k) (c.at y) (c.at z)) same next.own);
   }
 
-  pub closed_leaves : (n : ℕ) (a b : S) → Keeps c.at c.holds a b → Adds (IsOfReader n) (c.at a) (c.at b) → LeavesReader c a b n
-  closed_leaves n a b keeps own = record { goes = keeps.goes_on; own = own }
+  pub closed_leaves : (n : ℕ) (a b : S) → Keeps c.at c.holds a b → StaysStanding c.stands AnyContents a b → Adds (IsOfReader n) (c.at a) (c.at b)
+      → LeavesReader c a b n
+  closed_leaves n a b keeps stands own = record { goes = keeps.goes_on; stands = stands; own = own }
 
   pub still_ready : (n : ℕ) (a b : S) (page more : List ℕ) → LeavesReader c a b n → length more ≡ length page → IsReady c a page → IsReady c b more
   still_ready n a b page more leaves same ready = record {

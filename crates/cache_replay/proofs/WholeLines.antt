@@ -9,10 +9,11 @@ use Rattle.tape_base.specs.Geometry.{budget_of}
 use Rattle.alternate_vector.specs.Field.{Field}
 use Rattle.cache_model.specs.State.{after_all}
 use Rattle.cache_model.specs.Legal.{IsQuiet}
-use Rattle.cache_model.specs.Permit.{Setting}
+use Rattle.cache_model.specs.Permit.{Intent, Setting}
 use Rattle.cache_model.specs.Vectors.{AreTold}
 use Rattle.call_laws.specs.Moments.{At, permit_of}
 use Rattle.call_laws.proofs.Joined.{state_behind}
+use Rattle.cache_calls.specs.declared.calls.Calls.{Ghosts as CallsGhosts}
 use Rattle.cache_calls.specs.Adds.{Adds, IsOfReader}
 use Rattle.cache_calls.specs.Keeping.{IsAtRest, StaysUnharmed, plain_setting, state_at}
 use Rattle.cache_calls.proofs.Keeping.{plain_has_steps}
@@ -24,23 +25,29 @@ use Rattle.script_run.specs.Asked.{get_intents}
 use Rattle.script_run.specs.Own.{AreOwn}
 use Rattle.cache_replay.specs.Getting.{IsAnswered, StaysSound}
 use Rattle.cache_replay.specs.Moves.{MovesOrShows, ShowsIn}
+use Rattle.cache_replay.specs.Standing.{OwnStands}
 use Rattle.cache_replay.proofs.Whole.{shows_line, turn_by}
 
 clash : {X : Type 0} → false ≡ true → X
 clash e = cc
 
-module _ (run : Run) (now : ℕ) (a b : At) (key : Key) (request : List Field) (plain : a.setting ≡ plain_setting) (moment : run.now ≡ now) (rest : IsAtRest a)
-    (told : AreTold (state_at a)) (own : AreOwn (state_at a) run.streams) where
+module _ {S W R : Type 0} (c : CallsGhosts S W R) (run : Run) (now : ℕ) (a b : S) (key : Key) (request : List Field) (plain : (c.at a).setting ≡ plain_setting)
+    (moment : run.now ≡ now) (rest : IsAtRest (c.at a)) (told : AreTold (state_at (c.at a))) (own : AreOwn (state_at (c.at a)) run.streams)
+    (standing : OwnStands run.streams (state_at (c.at a)) (c.stands a)) where
+  abbrev asks : List Intent
+  asks = get_intents (state_at (c.at a)) key request
+
   -- it answers with all that it was asked, or such a pair is shown
-  pub line_gets : (given : List ℕ) (said : StepAnswer) → IsQuiet (state_at b) → IsAnswered a b (get_intents (state_at a) key request) [] given said
-      → MovesOrShows run (step.Get key request) a b said
+  pub line_gets : (given : List ℕ) (said : StepAnswer) → IsQuiet (state_at (c.at b)) → IsAnswered c a b asks [] given said
+      → MovesOrShows run (step.Get key request) (c.at a) (c.at b) said
   line_gets given said quiet answered =
       let call = answered now run in
-      let there : state_at b ≡ after_all (state_at a) call.added = state_behind a.kept b.kept call.added call.happens.adds in
-      elim (call.does (permit_of now a.setting [] call.calls) [] (plain_has_steps a.setting rest.plain now [] call.calls) (record { told = told; own = own })) [
-        | inr pair ↦ inr (shows_line run (step.Get key request) a b now plain moment (get_intents (state_at a) key request) call.calls call.added refl call.happens.past pair)
+      let there : state_at (c.at b) ≡ after_all (state_at (c.at a)) call.added = state_behind (c.at a).kept (c.at b).kept call.added call.happens.adds in
+      elim (call.does (permit_of now (c.at a).setting [] call.calls) [] (plain_has_steps (c.at a).setting rest.plain now [] call.calls)
+      (record { told = told; own = own }) standing) [
+        | inr pair ↦ inr (shows_line run (step.Get key request) (c.at a) (c.at b) now plain moment asks call.calls call.added refl call.happens.past pair)
         | inl way ↦ inl (record {
-          turn = turn_by run (step.Get key request) a b now plain moment call.added None call.calls given;
+          turn = turn_by run (step.Get key request) (c.at a) (c.at b) now plain moment call.added None call.calls given;
           takes = record {
             packs = ap (λ (setting : Setting). setting.packed) plain;
             unsynced = ap (λ (setting : Setting). setting.syncs) plain;
@@ -62,12 +69,13 @@ module _ (run : Run) (now : ℕ) (a b : At) (key : Key) (request : List Field) (
       ]
 
   -- and it harms nothing, or such a pair is shown
-  pub line_stays : IsAfter a.device b.device → StaysSound a a b (get_intents (state_at a) key request) → StaysUnharmed a b ⊎ ShowsIn run (step.Get key request) a b
+  pub line_stays : IsAfter (c.at a).device (c.at b).device → StaysSound c a a b asks
+      → StaysUnharmed (c.at a) (c.at b) ⊎ ShowsIn run (step.Get key request) (c.at a) (c.at b)
   line_stays goes sound =
-      elim (sound now run (permit_of now a.setting [] goes.made) (record { told = told; own = own })
-      (record { calls = goes.made; past = goes.past; step = plain_has_steps a.setting rest.plain now [] goes.made })) [
+      elim (sound now run (permit_of now (c.at a).setting [] goes.made) (record { told = told; own = own }) standing
+      (record { calls = goes.made; past = goes.past; step = plain_has_steps (c.at a).setting rest.plain now [] goes.made })) [
         | inl kept ↦ inl kept
-        | inr shows ↦ inr (shows_line run (step.Get key request) a b now plain moment (get_intents (state_at a) key request) goes.made shows.added refl goes.past shows.shows)
+        | inr shows ↦ inr (shows_line run (step.Get key request) (c.at a) (c.at b) now plain moment asks goes.made shows.added refl goes.past shows.shows)
       ]
 
 -- ---- the page

@@ -6,6 +6,7 @@ use Rattle.std.specs.declared.alloc.AllocError.{AllocError}
 use Rattle.std.proofs.Math.Nat.{add-mul}
 use Rattle.std.proofs.Math.Seq.{take-add}
 use Rattle.device_log.specs.Calls.{Call}
+use Rattle.logged_disk.specs.Device.{IsAfter, State as Device, TellsAll}
 use Rattle.tape_base.specs.declared.geometries.Geometry.{Geometry}
 use Rattle.fragment_table.specs.Table.{TableRow}
 use Rattle.cache_model.specs.declared.cause.Cause.{Cause}
@@ -23,29 +24,33 @@ use Rattle.cache_model.specs.Permit.{Done, End, Intent, Permit, ReadAll, ReadOn,
 use Rattle.cache_model.specs.Legal
 use Rattle.cache_model.specs.Legal.{Advances, Does, IsQuiet, IsReading, MayGrow, MayReadOn, answer_record, has_hit, is_given, live_next, more, nothing}
 use Rattle.cache_model.specs.Pair.{Documents, IsPair, IsPairNext, ShowsPair}
-use Rattle.cache_model.specs.Tape.{IsSound}
 use Rattle.cache_model.specs.ToRead
 use Rattle.cache_model.specs.ToRead.{to_read, IsToRead}
 use Rattle.cache_model.specs.Vectors.{AreTold, IsVectorAs}
 use Rattle.cache_model.proofs.Found.{none_is, no_truth, same_some}
 use Rattle.cache_model.proofs.Steps.{after_all-append, alone, grows_by, grows_on, seen}
+use Rattle.cache_model.proofs.Aside.{AllAside, reading_on_aside}
 use Rattle.model_laws.proofs.Answered.{end_is_whole}
-use Rattle.model_laws.proofs.Pairs.{also_pair}
-use Rattle.model_laws.proofs.ToldGroups.{told_group}
+use Rattle.model_laws.proofs.Pairs.{also_pair, also_pair_of}
+use Rattle.model_laws.proofs.Told.{told_aside}
+use Rattle.call_laws.specs.Contents.{AnyContents, Contents, Untold}
 use Rattle.call_laws.specs.Moments.{At, NothingKnown, permit_of}
 use Rattle.call_laws.specs.Progress.{AllDone}
 use Rattle.call_laws.specs.Serves.{InStep, IsCall, ServesFrom, Upshots}
 use Rattle.call_laws.proofs.Grown.{shown_first}
 use Rattle.call_laws.proofs.Joined.{call_as, call_then, state_behind}
+use Rattle.call_laws.proofs.Kept.{tells_or_not}
+use Rattle.cache_calls.specs.declared.calls.Calls.{Ghosts as CallsGhosts}
 use Rattle.cache_calls.specs.declared.calls.NextPiece.{NextPiece}
 use Rattle.cache_calls.specs.declared.calls.NextPiece.TheVariants as piece
 use Rattle.cache_calls.specs.Actors.{IsReaderOf, ReaderSeen, as_row, row_by}
 use Rattle.cache_calls.specs.Adds.{Adds, IsOfReader}
 use Rattle.cache_calls.specs.Keeping.{IsAtRest, IsPlain, state_at}
 use Rattle.cache_calls.specs.Readers.{GoesOn, GoesOnReading, HasRead, IsFragment, IsGivenAs, IsToldTo, ReaderGoesOn, listed_length, next_trouble, noted, read_adds}
+use Rattle.cache_calls.specs.Standing.{GivesAsTold, GivesPayload, StaysStanding}
 use Rattle.cache_calls.proofs.Keeping.{plain_has_steps}
 use Rattle.cache_calls.proofs.Others.{reads_leave_others}
-use Rattle.script_run.specs.Run.{Run}
+use Rattle.script_run.specs.Run.{Run, Stream}
 use Rattle.script_run.specs.Turn.{is_told, later, lookup_in, told_in}
 use Rattle.script_run.specs.Answers.{broken_said}
 use Rattle.script_run.specs.Own.{AreOwn, IsPlacedAs, piece_of}
@@ -55,7 +60,11 @@ use Rattle.script_lang.specs.declared.answer.StepAnswer.{StepAnswer}
 use Rattle.script_lang.specs.declared.answer.StepAnswer.TheVariants as answer
 use Rattle.cache_replay.proofs.Frames.{same_added}
 use Rattle.cache_replay.proofs.NextLine.{later_none}
+use Rattle.cache_replay.proofs.OwnContents.{given_is_own, tells_own}
+use Rattle.cache_replay.proofs.SameGeometry.{grown_same}
+use Rattle.cache_replay.proofs.Whole.{later_shows}
 use Rattle.cache_replay.specs.Getting.{Answers, Comes, IsAnswered, IsHit, IsKnownTo, IsUnderway, Knowing, Underway, rows_left}
+use Rattle.cache_replay.specs.Standing.{OwnStands, own_contents}
 
 -- ---- what was answered among records
 
@@ -63,11 +72,11 @@ later_later : (a b c : Option Rec) → later a (later b c) ≡ later (later a b)
 later_later a b None = refl
 later_later a b (Some r) = refl
 
-pub told_append : (a b : List Rec) → told_in (a ++ b) ≡ later (told_in a) (told_in b)
+told_append : (a b : List Rec) → told_in (a ++ b) ≡ later (told_in a) (told_in b)
 told_append [] b = sym (later_none (told_in b))
 told_append (r ∷ a) b = ap (later (is_told r)) (told_append a b) ∙ later_later (is_told r) (told_in a) (told_in b)
 
-abbrev pub first_of : Option ReadAnswer → Option ReadAnswer → Option ReadAnswer
+abbrev first_of : Option ReadAnswer → Option ReadAnswer → Option ReadAnswer
 first_of (Some x) o = Some x
 first_of None o = o
 
@@ -75,7 +84,7 @@ first_none : (o : Option ReadAnswer) → first_of o None ≡ o
 first_none None = refl
 first_none (Some x) = refl
 
-pub lookup_append : (a b : List Rec) → lookup_in (a ++ b) ≡ first_of (lookup_in a) (lookup_in b)
+lookup_append : (a b : List Rec) → lookup_in (a ++ b) ≡ first_of (lookup_in a) (lookup_in b)
 lookup_append [] b = refl
 lookup_append (rec.ReadOpened reader actor key request answer ∷ a) b = refl
 lookup_append (rec.Formatted geometry ∷ a) b = lookup_append a b
@@ -209,17 +218,19 @@ all_reads s n hit = ap (λ (b : Bool). if b then to_read s (ReadOn n) else None)
 -- ---- one call behind another
 
 -- what comes of both, where no pair is shown in the first
-pub knows_then : {now : ℕ} {run : Run} {asks : List Intent} {first a b : At} {one last all : Upshots}
-    → ((p : Permit) (earlier calls more : List Call) (added others : List Rec)
+pub knows_then : {now : ℕ} {run : Run} {asks : List Intent} {stands : Contents → Type 0} {first a b : At} {one last all : Upshots} → IsAfter a.device b.device
+    → ((p : Permit) (earlier calls more : List Call) (added others : List Rec) → OwnStands run.streams (state_of first.kept) stands
     → one (record { step = p; earlier = earlier; calls = calls; state = state_of first.kept; added = added })
     → last (record { step = p; earlier = calls ++ earlier; calls = more; state = after_all (state_of first.kept) added; added = others })
     → all (record { step = p; earlier = earlier; calls = more ++ calls; state = state_of first.kept; added = added ++ others })
-    ⊎ ShowsPair (IsPlacedAs run.streams) p (state_of first.kept) asks (added ++ others))
-    → IsCall now first a (Knowing run asks one) → IsCall now a b last → IsCall now first b (Knowing run asks all)
-knows_then {run = run} {asks = asks} {first = first} law f l = call_then (λ p earlier calls more added others tells known next. λ is. elim (known is) [
-  | inr pair ↦ inr (shown_first (IsPlacedAs run.streams) p (state_of first.kept) (to_do asks) added others pair)
-  | inl way ↦ law p earlier calls more added others way next
-]) f l
+    ⊎ ShowsPair (Untold b.device (IsPlacedAs run.streams)) p (state_of first.kept) asks (added ++ others))
+    → IsCall now first a (Knowing stands a.device run asks one) → IsCall now a b last → IsCall now first b (Knowing stands b.device run asks all)
+knows_then {run = run} {asks = asks} {first = first} {a = a} {b = b} goes law f l = call_then (λ p earlier calls more added others tells known next. λ is standing.
+    elim (known is standing) [
+      | inr pair ↦ inr (later_shows run.streams a.device b.device goes p (state_of first.kept) asks (added ++ others)
+          (shown_first (Untold a.device (IsPlacedAs run.streams)) p (state_of first.kept) (to_do asks) added others pair))
+      | inl way ↦ law p earlier calls more added others standing way next
+    ]) f l
 
 -- what is asked alone, and is done by one group
 abbrev pub IsDoneAtOnce : Intent → Type 0
@@ -254,8 +265,10 @@ grown p s t a b w i rest e is grows d =
     grows_on grows (subst (λ u. MayGrow p u (to_do (i ∷ rest)) b (work_after i rest None e)) (sym is) (grows_by p t (to_do (i ∷ rest)) _ b (e, d, refl)))
 
 -- a pair of a vector is one of a piece
-pub placed_pair : (run : Run) (p : Permit) (s : State) (i : Intent) → IsPair IsVectorAs p s i → IsPair (IsPlacedAs run.streams) p s i
-placed_pair run p s i pair = also_pair IsVectorAs (IsPlacedAs run.streams) (λ s row document is. inl is) p s i pair
+pub placed_pair : (streams : ℕ → Stream) (last : Device) (p : Permit) (s : State) (i : Intent) → IsPair (Untold last IsVectorAs) p s i
+    → IsPair (Untold last (IsPlacedAs streams)) p s i
+placed_pair streams last p s i pair =
+    also_pair (Untold last IsVectorAs) (Untold last (IsPlacedAs streams)) (λ s row document is. (inl is.0, is.1)) p s i pair
 
 -- what is read for a reader that reads on
 on_reads : (p : Permit) (s : State) (n : ℕ) (row : Row) → IsToRead p s (ReadOn n) row → to_read s (ReadOn n) ≡ Some row
@@ -269,19 +282,21 @@ record Closing (n : ℕ) (c : InStep) : Type 0 where
   does : Does c.step c.state (StopReading n) c.added Done
   is : c.added ≡ rec.ReadClosed n ∷ []
 
-pub closes_hit : {first a b : At} {asks : List Intent} {given : List ℕ} {said : StepAnswer} {served : ℕ → Upshots} (n : ℕ) (row : ReaderRow)
-    → IsQuiet (state_at a) → reader_of (state_at a) n ≡ Some row → b.kept ≡ with_records a.kept (rec.ReadClosed n ∷ [])
-    → ((now : ℕ) → IsCall now a b (served now)) → IsAnswered first a asks (StopReading n ∷ []) given said → IsAnswered first b asks [] given said
-closes_hit {first} {a} {b} {asks} {given} {said} n row quiet found adds serves answered = λ now run.
-    let closing : IsCall now a b (Closing n) = call_as (λ p earlier calls added step happens h.
-    let is : added ≡ rec.ReadClosed n ∷ [] = same_added a.kept b.kept added (rec.ReadClosed n ∷ []) happens.adds adds in
+pub closes_hit : {S W R : Type 0} (c : CallsGhosts S W R) {first a b : S} {asks : List Intent} {given : List ℕ} {said : StepAnswer} {served : ℕ → Upshots}
+    (n : ℕ) (row : ReaderRow)
+    → IsQuiet (state_at (c.at a)) → reader_of (state_at (c.at a)) n ≡ Some row → (c.at b).kept ≡ with_records (c.at a).kept (rec.ReadClosed n ∷ [])
+    → IsAfter (c.at a).device (c.at b).device → ((now : ℕ) → IsCall now (c.at a) (c.at b) (served now))
+    → IsAnswered c first a asks (StopReading n ∷ []) given said → IsAnswered c first b asks [] given said
+closes_hit c {first = first} {a = a} {b = b} {asks = asks} n row quiet found adds goes serves answered = λ now run.
+    let closing : IsCall now (c.at a) (c.at b) (Closing n) = call_as (λ p earlier calls added step happens h.
+    let is : added ≡ rec.ReadClosed n ∷ [] = same_added (c.at a).kept (c.at b).kept added (rec.ReadClosed n ∷ []) happens.adds adds in
     record { does = Legal.DoesStopReading.closes row quiet found is; is = is }) (serves now) in
-    knows_then (λ p earlier calls more added others way last.
+    knows_then goes (λ p earlier calls more added others standing way last.
     let told : told_in (added ++ others) ≡ told_in added = ap (λ recs. told_in (added ++ recs)) last.is ∙ told_append added (rec.ReadClosed n ∷ []) in
     let found : lookup_in (added ++ others) ≡ lookup_in added =
     ap (λ recs. lookup_in (added ++ recs)) last.is ∙ lookup_stays added (rec.ReadClosed n ∷ []) refl in
     inl (record {
-      grows = grown p (state_of first.kept) (after_all (state_of first.kept) added) added others (to_do asks) (StopReading n) [] Done refl way.grows last.does;
+      grows = grown p (state_at (c.at first)) (after_all (state_at (c.at first)) added) added others (to_do asks) (StopReading n) [] Done refl way.grows last.does;
       body = rw (told, found) way.body;
       says = rw (told, found) way.says;
     })) (answered now run) closing
@@ -291,15 +306,21 @@ closes_hit {first} {a} {b} {asks} {given} {said} n row quiet found adds serves a
 reads_done : (n : ℕ) → IsDoneAtOnce (ReadOn n)
 reads_done n p s added e (Legal.DoesReadOn.reads_on a m) = refl
 
+-- vectors list their alternates behind it, as before
+reads_tell : (p : Permit) (s : State) (n : ℕ) (added : List Rec) → Does p s (ReadOn n) added Done → AreTold s → AreTold (after_all s added)
+reads_tell p s n added (Legal.DoesReadOn.reads_on a m) told = told_aside s added (subst AllAside (sym m.is) (reading_on_aside p s n a added m)) told
+
 -- it is one of this state, by these records, which may come there, or a pair is shown; a fragment that it gives is that of the records
-record ReadsIn (s : State) (r : ReaderSeen) (a : NextPiece) (into : List ℕ) (c : InStep) : Type 0 where
+record ReadsIn (last : Device) (s : State) (r : ReaderSeen) (a : NextPiece) (into : List ℕ) (c : InStep) : Type 0 where
   state : c.state ≡ s
   is : c.added ≡ read_adds s r a
-  does : AreTold s → IsReaderOf s r → Does c.step s (ReadOn r.reader) (read_adds s r a) Done ⊎ IsPair IsVectorAs c.step s (ReadOn r.reader)
+  does : AreTold s → IsReaderOf s r
+      → Does c.step s (ReadOn r.reader) (read_adds s r a) Done ⊎ IsPair (Untold last IsVectorAs) c.step s (ReadOn r.reader)
   given : IsGivenAs c.step s r a into
 
 reads_in : {now : ℕ} {a b : At} {r : ReaderSeen} {next : NextPiece} {into : List ℕ} → HasRead a b r next into
-    → ServesFrom IsVectorAs now a b (ReadOn r.reader ∷ []) AllDone (IsToldTo r) NothingKnown → IsCall now a b (ReadsIn (state_at a) r next into)
+    → ServesFrom (Untold b.device IsVectorAs) now a b (ReadOn r.reader ∷ []) AllDone (IsToldTo r) NothingKnown
+    → IsCall now a b (ReadsIn b.device (state_at a) r next into)
 reads_in {now} {a} {b} {r} {next} {into} reads serves = call_as (λ p earlier calls added step happens h.
     let is : added ≡ read_adds (state_at a) r next = same_added a.kept b.kept added (read_adds (state_at a) r next) happens.adds reads.adds in
     record {
@@ -307,14 +328,15 @@ reads_in {now} {a} {b} {r} {next} {into} reads serves = call_as (λ p earlier ca
       is = is;
       does = λ told own. elim (h.from (told, own)) [
         | inl v ↦ inl (subst (λ recs. Does p (state_at a) (ReadOn r.reader) recs Done) is (one_done (ReadOn r.reader) (reads_done r.reader) p (state_at a) added v.spends))
-        | inr pair ↦ inr (one_pair IsVectorAs (ReadOn r.reader) (reads_done r.reader) p (state_at a) added pair)
+        | inr pair ↦ inr (one_pair (Untold b.device IsVectorAs) (ReadOn r.reader) (reads_done r.reader) p (state_at a) added pair)
       ];
       given = reads.given now p earlier calls happens.past step;
     }) serves
 
 -- ---- the step
 
-module _ (p : Permit) (earlier calls : List Call) (run : Run) (asks : List Intent) (s0 s t : State) (added : List Rec) (r : ReaderSeen) (body : List ℕ)
+module _ (p : Permit) (earlier calls : List Call) (run : Run) (last : Device) (asks : List Intent) (s0 s t : State) (added : List Rec) (r : ReaderSeen)
+    (body : List ℕ)
     (at : after_all s0 added ≡ s) (way : Underway asks r body run (record { step = p; earlier = earlier; calls = calls; state = s0; added = added }))
     (hit : is_some r.table ≡ true) (some : 1 ≤ r.next) where
   told_there : AreTold s
@@ -332,10 +354,18 @@ module _ (p : Permit) (earlier calls : List Call) (run : Run) (asks : List Inten
   abbrev ReadsAs : NextPiece → Type 0
   ReadsAs a = Does p s (ReadOn r.reader) (adds_of a) Done
 
+  -- bodies are cut as they were where the read began
+  geometry_there : s.geometry ≡ s0.geometry
+  geometry_there = ap (λ (u : State). u.geometry) (sym at) ∙ grown_same way.grows
+
+  -- pairs are of pieces, on a device that did not tell its content
+  abbrev Placed : Documents
+  Placed = Untold last (IsPlacedAs run.streams)
+
   -- a pair of what is read next
-  shows_read : (a : NextPiece) → IsPair (IsPlacedAs run.streams) p s (ReadOn r.reader) → ShowsPair (IsPlacedAs run.streams) p s0 asks (added ++ adds_of a)
+  shows_read : (a : NextPiece) → IsPair Placed p s (ReadOn r.reader) → ShowsPair Placed p s0 asks (added ++ adds_of a)
   shows_read a pair =
-      let all : IsPair (IsPlacedAs run.streams) p s (ReadAll r.reader) = record {
+      let all : IsPair Placed p s (ReadAll r.reader) = record {
         row = pair.row;
         read = IsToRead.asked_for (all_reads s r.reader (hit_is s r reader_there hit) ∙ on_reads p s r.reader pair.row pair.read);
         pair = pair.pair;
@@ -346,7 +376,7 @@ module _ (p : Permit) (earlier calls : List Call) (run : Run) (asks : List Inten
         left = to_do (ReadAll r.reader ∷ StopReading r.reader ∷ []);
         is = refl;
         grows = way.grows;
-        pair = subst (λ u. IsPair (IsPlacedAs run.streams) p u (ReadAll r.reader)) (sym at) all;
+        pair = subst (λ u. IsPair Placed p u (ReadAll r.reader)) (sym at) all;
       }
 
   group_of : (a : NextPiece) → ReadsAs a → Does p s (ReadAll r.reader) (adds_of a) (cond (is_given (noted (listed_length s r) a)) Stays Done)
@@ -406,39 +436,48 @@ module _ (p : Permit) (earlier calls : List Call) (run : Run) (asks : List Inten
       absurd (never_waits p s m.r m.before (next.Waited cut) cut (ap (λ (x : ReaderRow). is_some x.table) (row_is (piece.NotYet cut) m) ∙ hit) refl m.right)
 
   -- what is known behind a piece
-  known_behind : (a : NextPiece) → t ≡ after_all s (adds_of a) → IsSound s → ReadsAs a → IsKnownTo run t ⊎ ShowsPair (IsPlacedAs run.streams) p s0 asks (added ++ adds_of a)
-  known_behind a is sound d = elim (told_group p s (ReadOn r.reader) (adds_of a) Done sound told_there d) [
-    | inr pair ↦ inr (shows_read a (placed_pair run p s (ReadOn r.reader) pair))
-    | inl told ↦ inl (record {
-      told = subst AreTold (sym is) told;
-      own = subst (λ u. AreOwn u run.streams) (sym is) (reads_own p s run.streams (ReadOn r.reader) (adds_of a) Done refl own_there d);
+  known_behind : (a : NextPiece) → t ≡ after_all s (adds_of a) → ReadsAs a → IsKnownTo run t
+  known_behind a is d = record {
+    told = subst AreTold (sym is) (reads_tell p s r.reader (adds_of a) d told_there);
+    own = subst (λ u. AreOwn u run.streams) (sym is) (reads_own p s run.streams (ReadOn r.reader) (adds_of a) Done refl own_there d);
+  }
+
+  -- a fragment is given as that is told, where the device told its content
+  abbrev GivesOwn : (index size : ℕ) (into : List ℕ) → Type 0
+  GivesOwn index size into =
+      GivesPayload (own_contents s0.geometry.fragment run.streams) (live_next s (as_row r)) (Ok (piece.Piece index size)) into ⊎ (TellsAll last → ⊥)
+
+  -- so it is that part of what the put's writer took, or such a pair is shown
+  is_own : (index size : ℕ) (into : List ℕ) → IsFragment p s r index size into → GivesOwn index size into
+      → (take size into ≡ piece_of s.geometry.fragment (run.streams r.put).bytes r.next) ⊎ IsPair Placed p s (ReadOn r.reader)
+  is_own index size into f (inl gives) = inl (subst (λ (g : Geometry). take size into ≡ piece_of g.fragment (run.streams r.put).bytes r.next) (sym geometry_there)
+      (given_is_own s run.streams r s0.geometry.fragment index size into f.entry f.row own_there some f.cut f.live gives))
+  is_own index size into f (inr untold) = elim (read_is_own p s run.streams (as_row r) f.row size into own_there some f.live f.document) [
+    | inl same ↦ inl same
+    | inr pair ↦ inr (record {
+      row = f.row;
+      read = IsToRead.asked_for (next_reads s r.reader (row_by reader_there.actor r) f.entry f.row reader_there.found f.cut f.live);
+      pair = also_pair_of (IsPlacedAs run.streams) Placed (λ u row document is. (is, untold)) p s f.row pair;
     })
   ]
 
-  piece_way : (index size : ℕ) (into : List ℕ) (r2 : ReaderSeen) → t ≡ after_all s (adds_of (piece.Piece index size)) → t.geometry ≡ s.geometry → IsSound s
-      → GoesOn r (piece.Piece index size) r2 → IsReaderOf t r2 → IsFragment p s r index size into → ReadsAs (piece.Piece index size)
+  piece_way : (index size : ℕ) (into : List ℕ) (r2 : ReaderSeen) → t ≡ after_all s (adds_of (piece.Piece index size)) → t.geometry ≡ s.geometry
+      → GoesOn r (piece.Piece index size) r2 → IsReaderOf t r2 → IsFragment p s r index size into → GivesOwn index size into → ReadsAs (piece.Piece index size)
       → Underway asks r2 (body ++ take size into) run (record { step = p; earlier = earlier; calls = calls; state = s0; added = added ++ adds_of (piece.Piece index size) })
-      ⊎ ShowsPair (IsPlacedAs run.streams) p s0 asks (added ++ adds_of (piece.Piece index size))
-  piece_way index size into r2 is geometry sound goes own f d =
+      ⊎ ShowsPair Placed p s0 asks (added ++ adds_of (piece.Piece index size))
+  piece_way index size into r2 is geometry goes own f gives d =
       let a : NextPiece = piece.Piece index size in
       let there : t ≡ after_all s0 (added ++ adds_of a) = is ∙ (ap (λ u. after_all u (adds_of a)) (sym at) ∙ sym (after_all-append s0 added (adds_of a))) in
-      elim (known_behind a is sound d) [
-        | inr pair ↦ inr pair
-        | inl known ↦ elim (read_is_own p s run.streams (as_row r) f.row size into own_there some f.live f.document) [
-          | inr pair ↦ inr (shows_read a (record {
-            row = f.row;
-            read = IsToRead.asked_for (next_reads s r.reader (row_by reader_there.actor r) f.entry f.row reader_there.found f.cut f.live);
-            pair = pair;
-          }))
-          | inl same ↦ inl (record {
-            grows = subst (λ n. MayGrow p s0 (to_do asks) (added ++ adds_of a) (to_do (ReadAll n ∷ StopReading n ∷ []))) (sym goes.reader)
-                (grown p s0 s added (adds_of a) (to_do asks) (ReadAll r.reader) (StopReading r.reader ∷ []) Stays at way.grows (group_of a d));
-            known = subst (IsKnownTo run) there known;
-            reader = subst (λ u. IsReaderOf u r2) there own;
-            hit = hit_behind a ∙ ap (λ n. Some (read.Hit n)) (sym goes.put);
-            front = subst (λ (u : State). body ++ take size into ≡ take ((r2.next - 1) * u.geometry.fragment) (run.streams r2.put).bytes) there (front_behind same);
-          })
-        ]
+      elim (is_own index size into f gives) [
+        | inr pair ↦ inr (shows_read a pair)
+        | inl same ↦ inl (record {
+          grows = subst (λ n. MayGrow p s0 (to_do asks) (added ++ adds_of a) (to_do (ReadAll n ∷ StopReading n ∷ []))) (sym goes.reader)
+              (grown p s0 s added (adds_of a) (to_do asks) (ReadAll r.reader) (StopReading r.reader ∷ []) Stays at way.grows (group_of a d));
+          known = subst (IsKnownTo run) there (known_behind a is d);
+          reader = subst (λ u. IsReaderOf u r2) there own;
+          hit = hit_behind a ∙ ap (λ n. Some (read.Hit n)) (sym goes.put);
+          front = subst (λ (u : State). body ++ take size into ≡ take ((r2.next - 1) * u.geometry.fragment) (run.streams r2.put).bytes) there (front_behind same);
+        })
       ]
     where
       front_behind : take size into ≡ piece_of s.geometry.fragment (run.streams r.put).bytes r.next
@@ -455,52 +494,70 @@ module _ (p : Permit) (earlier calls : List Call) (run : Run) (asks : List Inten
 
 -- a reader was read on, at any moment
 abbrev pub ServedOn : (a b : At) → ReaderSeen → Type 0
-ServedOn a b r = (now : ℕ) → ServesFrom IsVectorAs now a b (ReadOn r.reader ∷ []) AllDone (IsToldTo r) NothingKnown
+ServedOn a b r = (now : ℕ) → ServesFrom (Untold b.device IsVectorAs) now a b (ReadOn r.reader ∷ []) AllDone (IsToldTo r) NothingKnown
 
-module _ {first a b : At} {asks : List Intent} {r : ReaderSeen} {body into : List ℕ} (rest : IsAtRest a) (hit : is_some r.table ≡ true) (some : 1 ≤ r.next)
-    (under : IsUnderway first a asks r body) where
+module _ {S W R : Type 0} {c : CallsGhosts S W R} {first a b : S} {asks : List Intent} {r : ReaderSeen} {body into : List ℕ} (rest : IsAtRest (c.at a))
+    (hit : is_some r.table ≡ true) (some : 1 ≤ r.next) (goes_on : IsAfter (c.at a).device (c.at b).device) (under : IsUnderway c first a asks r body) where
   -- what comes of it, where what was read comes to that
-  read_then : (all : Run → Upshots) (next : NextPiece) → HasRead a b r next into → ServedOn a b r
-      → ((run : Run) (p : Permit) (earlier calls more : List Call) (added : List Rec) (at : after_all (state_at first) added ≡ state_at a)
-      → Underway asks r body run (record { step = p; earlier = earlier; calls = calls; state = state_at first; added = added })
-      → IsGivenAs p (state_at a) r next into → Does p (state_at a) (ReadOn r.reader) (read_adds (state_at a) r next) Done
-      → all run (record { step = p; earlier = earlier; calls = more ++ calls; state = state_at first; added = added ++ read_adds (state_at a) r next })
-      ⊎ ShowsPair (IsPlacedAs run.streams) p (state_at first) asks (added ++ read_adds (state_at a) r next))
-      → Comes first b asks all
-  read_then all next reads serves law now run = knows_then (λ p earlier calls more added others way last.
-      subst (λ recs. all run (record { step = p; earlier = earlier; calls = more ++ calls; state = state_at first; added = added ++ recs })
-      ⊎ ShowsPair (IsPlacedAs run.streams) p (state_at first) asks (added ++ recs)) (sym last.is)
-      (elim (last.does (told_there p earlier calls run asks (state_at first) (state_at a) (state_at b) added r body last.state way hit some)
-      (reader_there p earlier calls run asks (state_at first) (state_at a) (state_at b) added r body last.state way hit some)) [
-        | inl d ↦ law run p earlier calls more added last.state way last.given d
-        | inr pair ↦ inr (shows_read p earlier calls run asks (state_at first) (state_at a) (state_at b) added r body last.state way hit some next
-            (placed_pair run p (state_at a) (ReadOn r.reader) pair))
-      ])) (under now run) (reads_in reads (serves now))
+  read_then : (all : Run → Upshots) (next : NextPiece) → HasRead (c.at a) (c.at b) r next into → ServedOn (c.at a) (c.at b) r
+      → ((run : Run) (p : Permit) (earlier calls more : List Call) (added : List Rec) (at : after_all (state_at (c.at first)) added ≡ state_at (c.at a))
+      → OwnStands run.streams (state_at (c.at first)) (c.stands first)
+      → Underway asks r body run (record { step = p; earlier = earlier; calls = calls; state = state_at (c.at first); added = added })
+      → IsGivenAs p (state_at (c.at a)) r next into → Does p (state_at (c.at a)) (ReadOn r.reader) (read_adds (state_at (c.at a)) r next) Done
+      → all run (record { step = p; earlier = earlier; calls = more ++ calls; state = state_at (c.at first); added = added ++ read_adds (state_at (c.at a)) r next })
+      ⊎ ShowsPair (Untold (c.at b).device (IsPlacedAs run.streams)) p (state_at (c.at first)) asks (added ++ read_adds (state_at (c.at a)) r next))
+      → Comes c first b asks all
+  read_then all next reads serves law now run = knows_then goes_on (λ p earlier calls more added others standing way last.
+      subst (λ recs. all run (record { step = p; earlier = earlier; calls = more ++ calls; state = state_at (c.at first); added = added ++ recs })
+      ⊎ ShowsPair (Untold (c.at b).device (IsPlacedAs run.streams)) p (state_at (c.at first)) asks (added ++ recs)) (sym last.is)
+      (elim (last.does (told_there p earlier calls run (c.at b).device asks (state_at (c.at first)) (state_at (c.at a)) (state_at (c.at b)) added r body
+      last.state way hit some) (reader_there p earlier calls run (c.at b).device asks (state_at (c.at first)) (state_at (c.at a)) (state_at (c.at b)) added r body
+      last.state way hit some)) [
+        | inl d ↦ law run p earlier calls more added last.state standing way last.given d
+        | inr pair ↦ inr (shows_read p earlier calls run (c.at b).device asks (state_at (c.at first)) (state_at (c.at a)) (state_at (c.at b)) added r body
+            last.state way hit some next (placed_pair run.streams (c.at b).device p (state_at (c.at a)) (ReadOn r.reader) pair))
+      ])) (under.comes now run) (reads_in reads (serves now))
 
-  pub piece_comes : (index size : ℕ) (r2 : ReaderSeen) → HasRead a b r (piece.Piece index size) into → ServedOn a b r
-      → Adds (IsOfReader r.reader) a b → GoesOn r (piece.Piece index size) r2 → (IsReaderOf (state_at a) r → IsReaderOf (state_at b) r2)
-      → IsUnderway first b asks r2 (body ++ take size into)
-  piece_comes index size r2 reads serves own goes keeps = read_then _ (piece.Piece index size) reads serves (λ run p earlier calls more added at way given d.
-      piece_way p earlier (more ++ calls) run asks (state_at first) (state_at a) (state_at b) added r body at
-      (record { grows = way.grows; known = way.known; reader = way.reader; hit = way.hit; front = way.front }) hit some index size into r2
-      (state_behind a.kept b.kept (read_adds (state_at a) r (piece.Piece index size)) reads.adds) (reads_leave_others r.reader a b own).geometry rest.sound goes
-      (keeps (subst (λ u. IsReaderOf u r) at way.reader)) given d)
+  pub piece_comes : (index size : ℕ) (r2 : ReaderSeen) → HasRead (c.at a) (c.at b) r (piece.Piece index size) into → ServedOn (c.at a) (c.at b) r
+      → Adds (IsOfReader r.reader) (c.at a) (c.at b) → GoesOn r (piece.Piece index size) r2
+      → (IsReaderOf (state_at (c.at a)) r → IsReaderOf (state_at (c.at b)) r2)
+      → GivesAsTold c.at c.stands a b r (Ok (piece.Piece index size)) into → StaysStanding c.stands AnyContents a b
+      → IsUnderway c first b asks r2 (body ++ take size into)
+  piece_comes index size r2 reads serves own goes keeps exact stands = record {
+    comes = read_then _ (piece.Piece index size) reads serves (λ run p earlier calls more added at standing way given d.
+        piece_way p earlier (more ++ calls) run (c.at b).device asks (state_at (c.at first)) (state_at (c.at a)) (state_at (c.at b)) added r body at
+        (record { grows = way.grows; known = way.known; reader = way.reader; hit = way.hit; front = way.front }) hit some index size into r2
+        (state_behind (c.at a).kept (c.at b).kept (read_adds (state_at (c.at a)) r (piece.Piece index size)) reads.adds)
+        (reads_leave_others r.reader (c.at a) (c.at b) own).geometry goes (keeps (subst (λ u. IsReaderOf u r) at way.reader)) given (gives run standing) d);
+    stands = λ contents any stood. stands contents any (under.stands contents any stood);
+  }
+    where
+      -- what writers took stands since the read began, so that a device that told its content gives that
+      gives : (run : Run) → OwnStands run.streams (state_at (c.at first)) (c.stands first)
+          → GivesPayload (own_contents (state_at (c.at first)).geometry.fragment run.streams) (live_next (state_at (c.at a)) (as_row r))
+          (Ok (piece.Piece index size)) into ⊎ (TellsAll (c.at b).device → ⊥)
+      gives run standing = elim (tells_or_not (c.at b).device) [
+        | inl tells ↦
+            let contents : Contents = own_contents (state_at (c.at first)).geometry.fragment run.streams in
+            inl (exact tells contents (under.stands contents tt (standing contents (tells_own run.streams (state_at (c.at first))))))
+        | inr untold ↦ inr untold
+      ]
 
-  pub end_comes : (size : ℕ) → HasRead a b r (piece.End size) into → ServedOn a b r
-      → IsAnswered first b asks (StopReading r.reader ∷ []) body (answer.Got r.put size body)
-  end_comes size reads serves = read_then _ (piece.End size) reads serves (λ run p earlier calls more added at way given d.
-      inl (end_way p earlier (more ++ calls) run asks (state_at first) (state_at a) (state_at b) added r body at
+  pub end_comes : (size : ℕ) → HasRead (c.at a) (c.at b) r (piece.End size) into → ServedOn (c.at a) (c.at b) r
+      → IsAnswered c first b asks (StopReading r.reader ∷ []) body (answer.Got r.put size body)
+  end_comes size reads serves = read_then _ (piece.End size) reads serves (λ run p earlier calls more added at standing way given d.
+      inl (end_way p earlier (more ++ calls) run (c.at b).device asks (state_at (c.at first)) (state_at (c.at a)) (state_at (c.at b)) added r body at
       (record { grows = way.grows; known = way.known; reader = way.reader; hit = way.hit; front = way.front }) hit some size rest.quiet d))
 
-  pub broken_comes : (why : Cause) → HasRead a b r (piece.Broken why) into → ServedOn a b r
-      → IsAnswered first b asks (StopReading r.reader ∷ []) [] (broken_said why)
-  broken_comes why reads serves = read_then _ (piece.Broken why) reads serves (λ run p earlier calls more added at way given d.
-      inl (broken_way p earlier (more ++ calls) run asks (state_at first) (state_at a) (state_at b) added r body at
+  pub broken_comes : (why : Cause) → HasRead (c.at a) (c.at b) r (piece.Broken why) into → ServedOn (c.at a) (c.at b) r
+      → IsAnswered c first b asks (StopReading r.reader ∷ []) [] (broken_said why)
+  broken_comes why reads serves = read_then _ (piece.Broken why) reads serves (λ run p earlier calls more added at standing way given d.
+      inl (broken_way p earlier (more ++ calls) run (c.at b).device asks (state_at (c.at first)) (state_at (c.at a)) (state_at (c.at b)) added r body at
       (record { grows = way.grows; known = way.known; reader = way.reader; hit = way.hit; front = way.front }) hit some why d))
 
-  pub waits_comes : (all : Run → Upshots) (cut : ℕ) → HasRead a b r (piece.NotYet cut) into → ServedOn a b r → Comes first b asks all
-  waits_comes all cut reads serves = read_then all (piece.NotYet cut) reads serves (λ run p earlier calls more added at way given d.
-      waits_way p earlier calls run asks (state_at first) (state_at a) (state_at b) added r body at way hit some cut d)
+  pub waits_comes : (all : Run → Upshots) (cut : ℕ) → HasRead (c.at a) (c.at b) r (piece.NotYet cut) into → ServedOn (c.at a) (c.at b) r → Comes c first b asks all
+  waits_comes all cut reads serves = read_then all (piece.NotYet cut) reads serves (λ run p earlier calls more added at standing way given d.
+      waits_way p earlier calls run (c.at b).device asks (state_at (c.at first)) (state_at (c.at a)) (state_at (c.at b)) added r body at way hit some cut d)
 
 -- ---- the end
 
@@ -540,10 +597,10 @@ module _ {a b : At} {r : ReaderSeen} {index size : ℕ} {into : List ℕ} (reads
       omega (arith, cut, next, rows, some)
 
 -- the same answer of the reader and under other names
-pub answered_as : {first new : At} {asks : List Intent} {given : List ℕ} (n m : ℕ) (said other : StepAnswer) → n ≡ m → said ≡ other
-    → IsAnswered first new asks (StopReading n ∷ []) given said → IsAnswered first new asks (StopReading m ∷ []) given other
-answered_as {first} {new} {asks} {given} n m said other same is h =
-    subst (λ x. IsAnswered first new asks (StopReading m ∷ []) given x) is (subst (λ i. IsAnswered first new asks (StopReading i ∷ []) given said) same h)
+pub answered_as : {S W R : Type 0} (c : CallsGhosts S W R) {first new : S} {asks : List Intent} {given : List ℕ} (n m : ℕ) (said other : StepAnswer) → n ≡ m
+    → said ≡ other → IsAnswered c first new asks (StopReading n ∷ []) given said → IsAnswered c first new asks (StopReading m ∷ []) given other
+answered_as c {first = first} {new = new} {asks = asks} {given = given} n m said other same is h =
+    subst (λ x. IsAnswered c first new asks (StopReading m ∷ []) given x) is (subst (λ i. IsAnswered c first new asks (StopReading i ∷ []) given said) same h)
 
 -- ---- the reader behind it
 

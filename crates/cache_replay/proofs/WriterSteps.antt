@@ -1,5 +1,5 @@
 -- What a line asks of a writer, and what it leaves of it.
-use Rattle.std.proofs.Common.{◌≡◌, ℕ, List, [], ◌∷◌, ◌++◌, drop, refl, sym, ◌∙◌, ap, subst, Bool, true, false, inl, inr}
+use Rattle.std.proofs.Common.{◌≡◌, ℕ, List, [], ◌∷◌, ◌++◌, length, drop, refl, sym, ◌∙◌, ap, subst, Bool, true, false, inl, inr}
 use Rattle.std.specs.Prelude.{Option, Some, None, IfSome, if◌then◌else◌, option_and_then, option_map, unwrap_or}
 use Rattle.tape_base.specs.declared.keys.Key.{Key}
 use Rattle.fragment_table.specs.Table.{TableRow, total_length}
@@ -8,6 +8,7 @@ use Rattle.cache_model.specs.Verdict.{cuts_of}
 use Rattle.cache_model.specs.Permit.{GiveUp, Intent, Reason}
 use Rattle.cache_model.specs.Legal.{IsQuiet, IsStep, is_writing}
 use Rattle.cache_model.specs.Vectors.{IsVectorAs}
+use Rattle.call_laws.specs.Contents.{Untold}
 use Rattle.call_laws.specs.Moments.{At, Facts, permit_of}
 use Rattle.call_laws.specs.Progress.{AllDone, EndsWith}
 use Rattle.call_laws.specs.Progress as progress
@@ -21,17 +22,18 @@ use Rattle.script_lang.specs.declared.answer.StepAnswer.TheVariants as answer
 use Rattle.script_run.specs.Answers as says
 use Rattle.script_run.specs.Answers.{session_said}
 use Rattle.script_run.specs.Asked as asks
-use Rattle.script_run.specs.Asked.{asked}
+use Rattle.script_run.specs.Asked.{asked, feed_intents}
 use Rattle.script_run.specs.Behind.{holds_behind, still_open, streams_behind}
 use Rattle.script_run.specs.Run.{Run, Writes, gathered_of, put_in, writer_of}
 use Rattle.script_run.specs.Takes.{GivesOwn, streams_with}
 use Rattle.script_run.specs.Turn.{Turn}
 use Rattle.script_run.proofs.Ended.{IsFoundOpen, open_row}
+use Rattle.cache_replay.specs.Feeding.{feed_asks}
 use Rattle.cache_replay.specs.Plays.{IsStreamOf}
 use Rattle.cache_replay.specs.Session.{IsOpenWriter}
 use Rattle.cache_replay.specs.WriterLines.{Closes, Feeds, GivesUp, IsLeft, IsPlayed, Opens, WriterDoes, WriterEnds, WriterLine, step_of, writes_in}
 use Rattle.cache_replay.proofs.Owned.{writer_is_ended}
-use Rattle.cache_replay.proofs.Whole.{serves_whole, shows_line, shows_placed, takes_line, turn_by}
+use Rattle.cache_replay.proofs.Whole.{serves_whole, shows_line, shows_piece, takes_line, turn_by}
 
 -- ---- the put of an actor
 
@@ -52,6 +54,16 @@ pub gathered_at : (run : Run) (name : List ℕ) (s : State) (w : WriterSeen) →
 gathered_at run name s w played own =
     ap (λ (rows : List TableRow). drop (total_length rows) (run.streams w.put).bytes) (cuts_at s w own) ∙ sym played.stream.gathered
 
+-- a writer that is not sealed is asked for the whole fragments among what it has gathered with these bytes
+pub feeding_asks : (run : Run) (name : List ℕ) (s : State) (w : WriterSeen) (body : List ℕ) → IsPlayed run name s w → IsOpenWriter s w
+    → asked run s (step_of (Feeds body) name) ≡ (if (run.streams w.put).sealed then [] else feed_asks s w body)
+feeding_asks run name s w body played own =
+    ap (λ o. asks.if_has o (asks.feeding run s body)) (has_put run name s w played)
+    ∙ (ap (λ (rows : List TableRow). if (run.streams w.put).sealed then [] else feed_intents s.geometry.fragment w.put (length rows) (gathered_of run s w.put ++ body))
+    (cuts_at s w own)
+    ∙ ap (λ (bytes : List ℕ). if (run.streams w.put).sealed then [] else feed_intents s.geometry.fragment w.put (length w.cuts) (bytes ++ body))
+    (gathered_at run name s w played own))
+
 -- ---- a line whose calls are a step
 
 -- what the run has behind it
@@ -69,7 +81,7 @@ given_none (Opens key pin request response) run s name turn h = h
 module _ (run : Run) (name : List ℕ) (a b : At) (now : ℕ) (plain : a.setting ≡ plain_setting) (moment : run.now ≡ now) (line : WriterLine) where
   pub writer_ends : {known : Facts} (is : List Intent) (why : Option Reason) (left : Option WriterSeen) (said : StepAnswer)
       → asked run (state_at a) (step_of line name) ≡ is
-      → (w : IsWholeStep IsVectorAs now [] a b is why known)
+      → (w : IsWholeStep (Untold b.device IsVectorAs) now [] a b is why known)
       → (IsStep (permit_of now a.setting [] w.calls) (state_at a) is w.added why → state_at b ≡ after_all (state_at a) w.added
       → known (w.calls ++ []) (state_at b)
       → IsBehind run name a b line (turn_by run (step_of line name) a b now plain moment w.added why w.calls []) left said)
@@ -79,7 +91,7 @@ module _ (run : Run) (name : List ℕ) (a b : At) (now : ℕ) (plain : a.setting
       let turn : Turn = turn_by run (step_of line name) a b now plain moment w.added why w.calls [] in
       elim w.ends [
         | inr pair ↦ inr (shows_line run (step_of line name) a b now plain moment is w.calls w.added same w.happens.past
-            (shows_placed (streams_with run (state_at a) (step_of line name)) p (state_at a) is w.added pair))
+            (shows_piece (streams_with run (state_at a) (step_of line name)) b.device p (state_at a) is w.added pair))
         | inl v ↦
             let behind : IsBehind run name a b line turn left said = then_ v.0 (state_behind a.kept b.kept w.added w.happens.adds) v.1 in
             inl (record {

@@ -6,17 +6,21 @@ use Rattle.device_log.specs.Calls.{Call}
 use Rattle.alternate_vector.specs.Field.{Field}
 use Rattle.cache_model.specs.declared.answer.ReadAnswer.TheVariants as read
 use Rattle.cache_model.specs.declared.record.Rec.{Rec}
+use Rattle.logged_disk.specs.Device.{State as Device}
 use Rattle.cache_model.specs.State.{State, after_all}
 use Rattle.cache_model.specs.Permit.{Intent, Permit, ReadAll, StopReading, to_do}
 use Rattle.cache_model.specs.Legal.{MayGrow}
 use Rattle.cache_model.specs.Pair.{ShowsPair}
 use Rattle.cache_model.specs.Vectors.{AreTold}
+use Rattle.call_laws.specs.Contents.{AnyContents, Contents, Untold}
 use Rattle.call_laws.specs.Moments.{At, Encloses}
 use Rattle.call_laws.specs.Serves.{InStep, IsCall, Upshots}
 use Rattle.cache_calls.specs.declared.calls.NextPiece.{NextPiece}
 use Rattle.cache_calls.specs.declared.calls.NextPiece.TheVariants as piece
+use Rattle.cache_calls.specs.declared.calls.Calls.{Ghosts as CallsGhosts}
 use Rattle.cache_calls.specs.Actors.{IsOpenReader, IsReaderOf, ReaderSeen}
 use Rattle.cache_calls.specs.Keeping.{StaysUnharmed, state_at}
+use Rattle.cache_calls.specs.Standing.{StaysStanding}
 use Rattle.script_lang.specs.declared.answer.StepAnswer.{StepAnswer}
 use Rattle.script_lang.specs.declared.answer.StepAnswer.TheVariants as answer
 use Rattle.script_run.specs.Run.{Run, Stream}
@@ -26,6 +30,7 @@ use Rattle.script_run.specs.Turn.{lookup_in, told_in}
 use Rattle.script_run.specs.Answers.{broken_said, get_said, miss_said}
 use Rattle.script_run.specs.Own.{AreOwn, IsPlacedAs}
 use Rattle.script_run.specs.Takes.{IsBody}
+use Rattle.cache_replay.specs.Standing.{OwnStands}
 use Rattle.cache_replay.specs.declared.getting.Got.{Got}
 use Rattle.cache_replay.specs.declared.getting.Got.TheVariants as got
 use Rattle.run_promise.specs.Outline.{count_in, count_of}
@@ -56,14 +61,11 @@ pub record IsKnownTo (run : Run) (s : State) : Type 0 where
   pub told : AreTold s
   pub own : AreOwn s run.streams
 
--- what comes of a call in a step where that is known before it, or two documents of one SHA-256 are shown in it
-abbrev pub Knowing : Run → List Intent → Upshots → Upshots
-Knowing run asks comes = λ (c : InStep).
-    IsKnownTo run c.state → comes c ⊎ ShowsPair (IsPlacedAs run.streams) c.step c.state asks c.added
-
--- the same at any moment beside any run, from one moment of a cache to another
-abbrev pub Comes : (old new : At) → List Intent → (Run → Upshots) → Type 0
-Comes old new asks comes = (now : ℕ) (run : Run) → IsCall now old new (Knowing run asks (comes run))
+-- what comes of a call in a step where that is known before it, and what is told of the pieces stands; or two documents of one SHA-256
+-- are shown in it, on a device that did not tell its content up to a moment
+abbrev pub Knowing : (stands : Contents → Type 0) (last : Device) → Run → List Intent → Upshots → Upshots
+Knowing stands last run asks comes = λ (k : InStep). IsKnownTo run k.state → OwnStands run.streams k.state stands
+    → comes k ⊎ ShowsPair (Untold last (IsPlacedAs run.streams)) k.step k.state asks k.added
 
 -- the step of a permit begins with the calls between two moments
 pub record HasCalls (now : ℕ) (old new : At) (p : Permit) : Type 0 where
@@ -72,71 +74,31 @@ pub record HasCalls (now : ℕ) (old new : At) (p : Permit) : Type 0 where
   pub step : Encloses now old.setting p [] calls
 
 -- some records show such a pair in a step
-pub record ShowsBy (run : Run) (p : Permit) (s : State) (asks : List Intent) : Type 0 where
+pub record ShowsBy (run : Run) (last : Device) (p : Permit) (s : State) (asks : List Intent) : Type 0 where
   pub added : List Rec
-  pub shows : ShowsPair (IsPlacedAs run.streams) p s asks added
-
--- what was asked from the first of three moments on leaves the cache unharmed between the other two, where that is known
--- there; or a pair is shown in each step that begins with the calls up to the last
-abbrev pub StaysSound : (first old new : At) → List Intent → Type 0
-StaysSound first old new asks = (now : ℕ) (run : Run) (p : Permit) → IsKnownTo run (state_at first) → HasCalls now first new p
-    → StaysUnharmed old new ⊎ ShowsBy run p (state_at first) asks
+  pub shows : ShowsPair (Untold last (IsPlacedAs run.streams)) p s asks added
 
 -- ---- a whole read
 
 -- by these records as much was done as leaves this, with this answer and these bytes: those that the put's writer took
-pub record Answers (asks left : List Intent) (given : List ℕ) (said : StepAnswer) (run : Run) (c : InStep) : Type 0 where
-  pub grows : MayGrow c.step c.state (to_do asks) c.added (to_do left)
-  pub body : IsBody run given (told_in c.added) (lookup_in c.added)
-  pub says : get_said given (told_in c.added) (lookup_in c.added) ≡ said
-
--- so it is from the moment on at which it was asked
-abbrev pub IsAnswered : (first new : At) → (asks left : List Intent) → List ℕ → StepAnswer → Type 0
-IsAnswered first new asks left given said = Comes first new asks (Answers asks left given said)
+pub record Answers (asks left : List Intent) (given : List ℕ) (said : StepAnswer) (run : Run) (k : InStep) : Type 0 where
+  pub grows : MayGrow k.step k.state (to_do asks) k.added (to_do left)
+  pub body : IsBody run given (told_in k.added) (lookup_in k.added)
+  pub says : get_said given (told_in k.added) (lookup_in k.added) ≡ said
 
 -- something was hit, the reader has the fragments of the records, and this is the front of what the put's writer took
-pub record Underway (asks : List Intent) (r : ReaderSeen) (body : List ℕ) (run : Run) (c : InStep) : Type 0 where
-  pub grows : MayGrow c.step c.state (to_do asks) c.added (to_do (ReadAll r.reader ∷ StopReading r.reader ∷ []))
-  pub known : IsKnownTo run (after_all c.state c.added)
-  pub reader : IsReaderOf (after_all c.state c.added) r
-  pub hit : lookup_in c.added ≡ Some (read.Hit r.put)
-  pub front : body ≡ take ((r.next - 1) * (after_all c.state c.added).geometry.fragment) (run.streams r.put).bytes
-
-abbrev pub IsUnderway : (first new : At) → List Intent → ReaderSeen → List ℕ → Type 0
-IsUnderway first new asks r body = Comes first new asks (Underway asks r body)
+pub record Underway (asks : List Intent) (r : ReaderSeen) (body : List ℕ) (run : Run) (k : InStep) : Type 0 where
+  pub grows : MayGrow k.step k.state (to_do asks) k.added (to_do (ReadAll r.reader ∷ StopReading r.reader ∷ []))
+  pub known : IsKnownTo run (after_all k.state k.added)
+  pub reader : IsReaderOf (after_all k.state k.added) r
+  pub hit : lookup_in k.added ≡ Some (read.Hit r.put)
+  pub front : body ≡ take ((r.next - 1) * (after_all k.state k.added).geometry.fragment) (run.streams r.put).bytes
 
 -- a reader of this put that hit something and is open
 pub record IsHit (s : State) (r : ReaderSeen) (put : ℕ) : Type 0 where
   pub reader : IsOpenReader s r
   pub hit : is_some r.table ≡ true
   pub put_is : put ≡ r.put
-
--- what reading a hit to its end came to, whatever was asked before it: an answer, and that nothing is harmed meanwhile
-pub record ReadsWhole (old new : At) (r : ReaderSeen) (left : List Intent) (result : Result Got AllocError) : Type 0 where
-  pub answers : IfOk result (λ got. (first : At) (asks : List Intent)
-      → IsUnderway first old asks r [] → IsAnswered first new asks left (given_in got) (got_answer got))
-  pub unharmed : (first : At) (asks : List Intent) → IsUnderway first old asks r [] → StaysSound first old new asks
-  pub counts : IfOk result (λ got. NoLossIsAFault (state_at old) → count_in (got_answer got) ≤ new.device.faults)
-
--- a reader of a hit is closed: what was left to be done of a read is done
-abbrev pub ClosesHit : (old new : At) → ℕ → Type 0
-ClosesHit old new reader = (first : At) (asks : List Intent) (given : List ℕ) (said : StepAnswer)
-    → IsAnswered first old asks (StopReading reader ∷ []) given said → IsAnswered first new asks [] given said
-
--- what a whole read came to
-pub record Gets (old new : At) (key : Key) (request : List Field) (result : Result Got AllocError) : Type 0 where
-  pub answers : IfOk result (λ got. IsAnswered old new (get_intents (state_at old) key request) [] (given_in got) (got_answer got))
-  pub unharmed : StaysSound old old new (get_intents (state_at old) key request)
-  pub counts : IfOk result (λ got. NoLossIsAFault (state_at old) → count_in (got_answer got) ≤ new.device.faults)
-
--- ---- one fragment after the other
-
--- what comes of the next one, by what the reader was told; none that hit something waits
-abbrev pub ComesOf : (first new : At) → List Intent → ℕ → ReaderSeen → List ℕ → NextPiece → Type 0
-ComesOf first new asks put r body (piece.Piece index size) = IsUnderway first new asks r body
-ComesOf first new asks put r body (piece.End size) = IsAnswered first new asks (StopReading r.reader ∷ []) body (answer.Got put size body)
-ComesOf first new asks put r body (piece.NotYet cut) = IsAnswered first new asks (StopReading r.reader ∷ []) [] (answer.Follow put)
-ComesOf first new asks put r body (piece.Broken why) = IsAnswered first new asks (StopReading r.reader ∷ []) [] (broken_said why)
 
 -- how many fragments of what it hit it was not given yet
 abbrev pub rows_left : ReaderSeen → ℕ
@@ -147,13 +109,63 @@ abbrev pub IsNearer : ReaderSeen → NextPiece → ReaderSeen → Type 0
 IsNearer old (piece.Piece index size) new = rows_left new < rows_left old
 IsNearer old _ new = Unit {0}
 
--- what reading the next fragment came to: what comes of the read, the reader of the same hit, and that nothing is harmed where
--- the fragment belongs to what its writer took
-pub record ReadsMore (old new : At) (r later : ReaderSeen) (body more : List ℕ) (result : Result NextPiece AllocError) : Type 0 where
-  pub comes : IfOk result (λ next. (first : At) (asks : List Intent)
-      → IsUnderway first old asks r body → ComesOf first new asks r.put later more next)
-  pub hit : IsHit (state_at new) later r.put
-  pub same : later.reader ≡ r.reader
-  pub nearer : IfOk result (λ next. IsNearer r next later)
-  pub unharmed : (streams : ℕ → Stream) → AreOwn (state_at old) streams → IsReaderOf (state_at old) r → StaysUnharmed old new
-  pub counts : IfOk result (λ next. NoLossIsAFault (state_at old) → count_in_piece next ≤ new.device.faults)
+module _ {S W R : Type 0} (c : CallsGhosts S W R) where
+  -- what comes of a cache from the moment on at which it was asked, beside any run
+  abbrev pub Comes : (origin new : S) → List Intent → (Run → Upshots) → Type 0
+  Comes origin new asks comes = (now : ℕ) (run : Run)
+      → IsCall now (c.at origin) (c.at new) (Knowing (c.stands origin) (c.at new).device run asks (comes run))
+
+  -- what was asked from the first of three moments on leaves the cache unharmed between the other two, where that is known
+  -- there; or a pair is shown in each step that begins with the calls up to the last
+  abbrev pub StaysSound : (origin old new : S) → List Intent → Type 0
+  StaysSound origin old new asks = (now : ℕ) (run : Run) (p : Permit) → IsKnownTo run (state_at (c.at origin))
+      → OwnStands run.streams (state_at (c.at origin)) (c.stands origin) → HasCalls now (c.at origin) (c.at new) p
+      → StaysUnharmed (c.at old) (c.at new) ⊎ ShowsBy run (c.at new).device p (state_at (c.at origin)) asks
+
+  -- it was answered so, with these bytes
+  abbrev pub IsAnswered : (origin new : S) → (asks left : List Intent) → List ℕ → StepAnswer → Type 0
+  IsAnswered origin new asks left given said = Comes origin new asks (Answers asks left given said)
+
+  -- it was read so far, and what stood stands
+  pub record IsUnderway (origin new : S) (asks : List Intent) (r : ReaderSeen) (body : List ℕ) : Type 0 where
+    pub comes : Comes origin new asks (Underway asks r body)
+    pub stands : StaysStanding c.stands AnyContents origin new
+
+  -- what reading a hit to its end came to, whatever was asked before it: an answer, and that nothing is harmed meanwhile
+  pub record ReadsWhole (old new : S) (r : ReaderSeen) (left : List Intent) (result : Result Got AllocError) : Type 0 where
+    pub answers : IfOk result (λ got. (origin : S) (asks : List Intent)
+        → IsUnderway origin old asks r [] → IsAnswered origin new asks left (given_in got) (got_answer got))
+    pub unharmed : (origin : S) (asks : List Intent) → IsUnderway origin old asks r [] → StaysSound origin old new asks
+    pub counts : IfOk result (λ got. NoLossIsAFault (state_at (c.at old)) → count_in (got_answer got) ≤ (c.at new).device.faults)
+
+  -- a reader of a hit is closed: what was left to be done of a read is done
+  abbrev pub ClosesHit : (old new : S) → ℕ → Type 0
+  ClosesHit old new reader = (origin : S) (asks : List Intent) (given : List ℕ) (said : StepAnswer)
+      → IsAnswered origin old asks (StopReading reader ∷ []) given said → IsAnswered origin new asks [] given said
+
+  -- what a whole read came to
+  pub record Gets (old new : S) (key : Key) (request : List Field) (result : Result Got AllocError) : Type 0 where
+    pub answers : IfOk result (λ got. IsAnswered old new (get_intents (state_at (c.at old)) key request) [] (given_in got) (got_answer got))
+    pub unharmed : StaysSound old old new (get_intents (state_at (c.at old)) key request)
+    pub counts : IfOk result (λ got. NoLossIsAFault (state_at (c.at old)) → count_in (got_answer got) ≤ (c.at new).device.faults)
+
+  -- ---- one fragment after the other
+
+  -- what comes of the next one, by what the reader was told; none that hit something waits
+  abbrev pub ComesOf : (origin new : S) → List Intent → ℕ → ReaderSeen → List ℕ → NextPiece → Type 0
+  ComesOf origin new asks put r body (piece.Piece index size) = IsUnderway origin new asks r body
+  ComesOf origin new asks put r body (piece.End size) = IsAnswered origin new asks (StopReading r.reader ∷ []) body (answer.Got put size body)
+  ComesOf origin new asks put r body (piece.NotYet cut) = IsAnswered origin new asks (StopReading r.reader ∷ []) [] (answer.Follow put)
+  ComesOf origin new asks put r body (piece.Broken why) = IsAnswered origin new asks (StopReading r.reader ∷ []) [] (broken_said why)
+
+  -- what reading the next fragment came to: what comes of the read, the reader of the same hit, and that nothing is harmed where
+  -- the fragment belongs to what its writer took
+  pub record ReadsMore (old new : S) (r later : ReaderSeen) (body more : List ℕ) (result : Result NextPiece AllocError) : Type 0 where
+    pub comes : IfOk result (λ next. (origin : S) (asks : List Intent)
+        → IsUnderway origin old asks r body → ComesOf origin new asks r.put later more next)
+    pub hit : IsHit (state_at (c.at new)) later r.put
+    pub same : later.reader ≡ r.reader
+    pub nearer : IfOk result (λ next. IsNearer r next later)
+    pub unharmed : (streams : ℕ → Stream) → AreOwn (state_at (c.at old)) streams → IsReaderOf (state_at (c.at old)) r
+        → StaysUnharmed (c.at old) (c.at new)
+    pub counts : IfOk result (λ next. NoLossIsAFault (state_at (c.at old)) → count_in_piece next ≤ (c.at new).device.faults)

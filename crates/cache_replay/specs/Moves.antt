@@ -1,5 +1,6 @@
 -- What a line does to a cache, from one moment of it to another, beside a run.
 use Rattle.std.specs.Prelude.{◌≡◌, ◌⊎◌, ◌++◌}
+use Rattle.logged_disk.specs.Device.{TellsAll}
 use Rattle.cache_model.specs.State.{after_all}
 use Rattle.call_laws.specs.Moments.{At}
 use Rattle.cache_calls.specs.Keeping.{state_at}
@@ -18,11 +19,12 @@ pub record Moves (run : Run) (step : Step) (old new : At) (said : StepAnswer) : 
   pub state : state_at new ≡ after_all (state_at old) turn.added
   pub says : session_said run (state_at old) (state_at new) turn step ≡ said
 
--- it shows two documents of one SHA-256, by those calls
+-- it shows two documents of one SHA-256, by those calls, on a device that did not tell its content
 pub record ShowsIn (run : Run) (step : Step) (old new : At) : Type 0 where
   pub turn : Turn
   pub calls : new.device.past ≡ turn.device.events ++ old.device.past
   pub shows : SessionShows run (state_at old) turn step
+  pub untold : TellsAll new.device → ⊥
 
 -- the one or the other
 abbrev pub MovesOrShows : Run → Step → (old new : At) → StepAnswer → Type 0

@@ -3,6 +3,7 @@ use Rattle.std.specs.Prelude.{ℕ, ◌≡◌, ◌⊎◌, ◌+◌, ◌≤◌, len
 use Rattle.cache_model.specs.Vectors.{AreTold}
 use Rattle.cache_calls.specs.declared.calls.Calls.{Ghosts as CallsGhosts}
 use Rattle.cache_calls.specs.Keeping.{Goes, StaysUnharmed}
+use Rattle.cache_calls.specs.Standing.{StaysStanding}
 use Rattle.actor_table.specs.Table.{Seen}
 use Rattle.script_lang.specs.declared.step.Step.{Step}
 use Rattle.script_lang.specs.declared.answer.StepAnswer.{StepAnswer}
@@ -16,6 +17,7 @@ use Rattle.cache_replay.specs.declared.stop.Stop.TheVariants.{Memory}
 use Rattle.cache_replay.specs.Session.{AreLater, IsActive, IsPart, IsSession, LeavesBut, TellsCount, at_in, devices_of, names_in, return_in, slots_of, state_in}
 use Rattle.cache_replay.specs.Moves.{MovesOrShows, ShowsIn}
 use Rattle.cache_replay.specs.Plays.{PartEnds, Plays, PlaysPart, StepEnds}
+use Rattle.cache_replay.specs.Standing.{IsToldPlainly, OwnStands}
 use Rattle.cache_replay.specs.Stop.{IsSessionStop}
 
 module _ {S W R : Type 0} {c : CallsGhosts S W R} where
@@ -44,9 +46,12 @@ module _ {S W R : Type 0} {c : CallsGhosts S W R} where
     pub part : IsPart new
     pub goes : Goes c.at c.holds old.cache new.cache
     pub leaves : LeavesBut put reader (state_in old) (state_in new)
+    pub stands : StaysStanding c.stands (IsToldPlainly (state_in new) put step) old.cache new.cache
     pub ends : IfOk result (λ said. (run : Run) → run.now ≡ now → AreTold (state_in old) → AreOwn (state_in old) run.streams
+        → OwnStands run.streams (state_in old) (c.stands old.cache)
         → MovesOrShows run step (at_in old) (at_in new) said)
     pub unharmed : (run : Run) → run.now ≡ now → AreTold (state_in old) → AreOwn (state_in old) run.streams
+        → OwnStands run.streams (state_in old) (c.stands old.cache)
         → StaysUnharmed (at_in old) (at_in new) ⊎ ShowsIn run step (at_in old) (at_in new)
     pub counts : IfOk result (TellsCount (Some new))
     pub stop : IfErr result (λ why. why ≡ Memory)

@@ -1,6 +1,7 @@
 -- What a session is for the run that it serves, and what a line makes of it.
 use Rattle.std.specs.Prelude.{ℕ, ◌≡◌, ◌≤◌, ◌⊎◌, List, [], ◌∷◌, ◌++◌, length, drop, map, Option, Some, None}
 use Rattle.fragment_table.specs.Table.{total_length}
+use Rattle.logged_disk.specs.Device.{TellsAll}
 use Rattle.cache_model.specs.State.{State}
 use Rattle.cache_model.specs.Vectors.{AreTold}
 use Rattle.cache_calls.specs.declared.calls.Calls.{Ghosts as CallsGhosts}
@@ -23,7 +24,8 @@ use Rattle.cache_replay.specs.declared.stop.Stop.{Stop}
 use Rattle.cache_replay.specs.declared.stop.Stop.TheVariants.{Memory}
 use Rattle.cache_replay.specs.Session.{HoldingSeen, IsSession, ReaderHeld, WriterHeld, at_in, names_in, past_of, return_in, slots_in, slots_of, state_in}
 use Rattle.cache_replay.specs.Moves.{Moves, ShowsIn}
-use Rattle.run_promise.specs.Outline.{IsAnswered, Outline, called, outline_after, outline_in, told_of}
+use Rattle.cache_replay.specs.Standing.{OwnStands}
+use Rattle.run_promise.specs.Outline.{IsAnswered, Outline, called, doubted, outline_after, outline_in, told_of}
 use Rattle.run_promise.specs.Needs.{AttachesAs, NeedsSession}
 
 -- ---- a session beside a run
@@ -68,6 +70,16 @@ module _ {S W R : Type 0} {c : CallsGhosts S W R} where
   CallsAt run None = Unit {0}
   CallsAt run (Some part) = past_of part ≡ run.calls
 
+  -- what is told of its pieces, by what writers took, stands
+  abbrev pub StandsAt : Run → Option (Part S W R c) → Type 0
+  StandsAt run None = Unit {0}
+  StandsAt run (Some part) = OwnStands run.streams (state_in part) (c.stands part.cache)
+
+  -- its device did not tell its content
+  abbrev pub IsUntoldAt : Option (Part S W R c) → Type 0
+  IsUntoldAt None = Unit {0}
+  IsUntoldAt (Some part) = TellsAll (at_in part).device → ⊥
+
   -- a session as the run has it, as long as no two documents of one SHA-256 were shown
   pub record Plays (run : Run) (session : Session S W R c) : Type 0 where
     pub names : run.actors ≡ names_in session
@@ -75,6 +87,7 @@ module _ {S W R : Type 0} {c : CallsGhosts S W R} where
     pub at : PlaysAt run session.part (slots_in session)
     -- of a device that tells its content no piece was told as damaged
     pub unharmed : IsUnharmedAt session.part
+    pub stands : StandsAt run session.part
     -- all calls of its device are those of the lines since its attach
     pub calls : CallsAt run session.part
 
@@ -91,11 +104,13 @@ module _ {S W R : Type 0} {c : CallsGhosts S W R} where
     pub plays : Plays (after_step run turn step) new
     pub says : step_answer run turn step ≡ said
 
-  -- a step shows two documents of one SHA-256 in its turn, whose calls the session's device made, behind those of the run
+  -- a step shows two documents of one SHA-256 in its turn, whose calls the session's device made, behind those of the run; that
+  -- device did not tell its content
   pub record StepPair (run : Run) (step : Step) (new : Session S W R c) : Type 0 where
     pub turn : Turn
     pub shows : StepShows run turn run.state step
     pub calls : CallsAt (called run turn) new.part
+    pub untold : IsUntoldAt new.part
 
   -- it did what it must, or shows such a pair
   abbrev pub StepEnds : Run → Step → Session S W R c → StepAnswer → Type 0
@@ -113,6 +128,7 @@ module _ {S W R : Type 0} {c : CallsGhosts S W R} where
   pub record PlaysPart (run : Run) (part : Part S W R c) (actors : Seen (Holding W R)) : Type 0 where
     pub names : run.actors ≡ actors.names
     pub at : PlaysIn run (state_in part) (slots_of c actors)
+    pub stands : OwnStands run.streams (state_in part) (c.stands part.cache)
 
   -- a line on a part did what it must, this is its answer, and the part and the actors are what the run behind it says
   pub record PartMoves (run : Run) (step : Step) (old new : Part S W R c) (actors : Seen (Holding W R)) (said : StepAnswer) : Type 0 where
@@ -167,11 +183,11 @@ module _ {S W R : Type 0} {c : CallsGhosts S W R} where
 
 module _ {S W R : Type 0} {c : CallsGhosts S W R} where
   -- A step shows two documents of one SHA-256, and from there on the outline goes on by the answer, which has the calls of that
-  -- turn: the session's device made them.
+  -- turn: the session's device made them. What is told of that device is doubted: it did not tell its content.
   pub record DeviceShows (run : Run) (step : Step) (new : Session S W R c) (said : StepAnswer) (before now : Ledger) : Type 0 where
     pub turn : Turn
     pub shows : StepShows run turn run.state step
-    pub outlines : Outlines (outline_in (called run turn)) step new said before now
+    pub outlines : Outlines (doubted (outline_in (called run turn))) step new said before now
 
   -- it did what it must, or shows such a pair
   abbrev pub DeviceEnds : Run → Step → Session S W R c → StepAnswer → (before now : Ledger) → Type 0

@@ -6,6 +6,7 @@ use Rattle.cache_model.specs.State.{State}
 use Rattle.cache_model.specs.Permit.{Exhausted, Faulted, GiveUp, Intent, Lost, ManyFragments, ManyWriters, Reason, TooLarge}
 use Rattle.cache_model.specs.Legal.{is_writing}
 use Rattle.cache_model.specs.Vectors.{IsVectorAs}
+use Rattle.call_laws.specs.Contents.{Untold}
 use Rattle.call_laws.specs.Moments.{At, Facts, IsToldAt, OfState}
 use Rattle.call_laws.specs.Progress.{AllDone, Progress, Stops}
 use Rattle.call_laws.specs.Serves.{ServesFrom}
@@ -70,7 +71,7 @@ IsFilledAs put result = OfState (λ t. Says t put result × IsOver t put result)
 -- a body is fed and closed as far as that comes, with this answer
 abbrev pub FillsWhere : (now : ℕ) (old new : At) → WriterSeen → List ℕ → Result Receipt Refusal → Type 0
 FillsWhere now old new w body result = UnlessMemory result
-    (ServesFrom IsVectorAs now old new (body_intents (state_at old).geometry.fragment w.put body) (progress_with (reason_of w.put result))
+    (ServesFrom (Untold new.device IsVectorAs) now old new (body_intents (state_at old).geometry.fragment w.put body) (progress_with (reason_of w.put result))
     IsToldAt (IsFilledAs w.put result))
 
 -- ---- a body that is put, with the put given up where it is still open
@@ -86,7 +87,7 @@ IsSaidAs put result = OfState (λ t. Says t put result)
 -- all that was done or refused, with this answer
 abbrev pub BodyEndsWhere : (now : ℕ) (old new : At) → ℕ → List ℕ → Result Receipt Refusal → Type 0
 BodyEndsWhere now old new put body result = UnlessMemory result
-    (ServesFrom IsVectorAs now old new (ending_intents (state_at old) put body) (progress_with (reason_of put result))
+    (ServesFrom (Untold new.device IsVectorAs) now old new (ending_intents (state_at old) put body) (progress_with (reason_of put result))
     IsToldAt (IsSaidAs put result))
 
 -- why a body was refused, unless memory was wanting to give its put up
@@ -99,7 +100,7 @@ unless_memory end why = why
 -- all that was asked was done or refused, with this answer
 abbrev pub PutsWhere : (now : ℕ) (old new : At) → Key → List ℕ → (request response : List Field) → Result Receipt Refusal → Type 0
 PutsWhere now old new key body request response result = UnlessMemory result
-    (ServesFrom IsVectorAs now old new (put_intents (state_at old) key body request response)
+    (ServesFrom (Untold new.device IsVectorAs) now old new (put_intents (state_at old) key body request response)
     (progress_with (reason_of (state_at old).next_put result)) IsToldAt (IsSaidAs (state_at old).next_put result))
 
 -- whose records there are, and that no answer tells a count to which the device has not come

@@ -3,6 +3,7 @@ use Rattle.std.specs.Prelude.{ℕ, ◌≡◌, ◌⊎◌, ◌*◌, ◌≤◌, Lis
 use Rattle.tape_base.specs.Geometry.{budget_of}
 use Rattle.cache_model.specs.State.{State}
 use Rattle.cache_model.specs.Vectors.{AreTold}
+use Rattle.call_laws.specs.Contents.{AnyContents}
 use Rattle.call_laws.specs.Moments.{At}
 use Rattle.cache_calls.specs.declared.calls.Calls.{Ghosts as CallsGhosts}
 use Rattle.cache_calls.specs.declared.calls.NextPiece.{NextPiece}
@@ -12,6 +13,7 @@ use Rattle.cache_calls.specs.declared.calls.Opened.TheVariants as opened
 use Rattle.cache_calls.specs.Actors.{IsOpenReader, IsReaderOf, ReaderSeen}
 use Rattle.cache_calls.specs.Adds.{Adds, IsOfReader}
 use Rattle.cache_calls.specs.Keeping.{Goes, StaysUnharmed, state_at}
+use Rattle.cache_calls.specs.Standing.{StaysStanding}
 use Rattle.script_lang.specs.declared.answer.StepAnswer.{StepAnswer}
 use Rattle.script_lang.specs.declared.answer.StepAnswer.TheVariants as answer
 use Rattle.script_lang.specs.declared.step.Step.TheVariants as step
@@ -21,6 +23,7 @@ use Rattle.script_run.specs.Losses.{NoLossIsAFault}
 use Rattle.script_run.specs.Own.{AreOwn}
 use Rattle.cache_replay.specs.declared.stop.Stop.{Stop}
 use Rattle.cache_replay.specs.Moves.{Moves, ShowsIn}
+use Rattle.cache_replay.specs.Standing.{OwnStands}
 use Rattle.run_promise.specs.Outline.{count_in}
 use Rattle.cache_replay.specs.Session.{HoldingSeen, ReaderHeld, WriterHeld}
 
@@ -79,6 +82,7 @@ module _ {S W R : Type 0} (c : CallsGhosts S W R) where
   -- what was read left a cache that goes on, and its records are of this reader alone
   pub record LeavesReader (old new : S) (number : ℕ) : Type 0 where
     pub goes : Goes c.at c.holds old new
+    pub stands : StaysStanding c.stands AnyContents old new
     pub own : Adds (IsOfReader number) (c.at old) (c.at new)
 
 -- it is the reader that the run says that the actor has, and what stands belongs to what writers took
@@ -97,10 +101,12 @@ pub record NextMoves (run : Run) (name : List ℕ) (old new : At) (later : Reade
 abbrev pub NextEnds : Run → List ℕ → (old new : At) → ReaderSeen → StepAnswer → Type 0
 NextEnds run name old new later said = NextMoves run name old new later said ⊎ ShowsIn run (step.Next name) old new
 
--- what a line made of a reader that is open
-pub record ReadsOnLine (old new : At) (r later : ReaderSeen) (result : Result StepAnswer Stop) : Type 0 where
-  pub reader : IsOpenReader (state_at new) later
-  pub same : later.reader ≡ r.reader
-  pub ends : IfOk result (λ said. (run : Run) (name : List ℕ) → IsReadBy run name (state_at old) r → NextEnds run name old new later said)
-  pub unharmed : (streams : ℕ → Stream) → AreOwn (state_at old) streams → IsReaderOf (state_at old) r → StaysUnharmed old new
-  pub counts : IfOk result (λ said. NoLossIsAFault (state_at old) → count_in said ≤ new.device.faults)
+module _ {S W R : Type 0} (c : CallsGhosts S W R) where
+  -- what a line made of a reader that is open
+  pub record ReadsOnLine (old new : S) (r later : ReaderSeen) (result : Result StepAnswer Stop) : Type 0 where
+    pub reader : IsOpenReader (state_at (c.at new)) later
+    pub same : later.reader ≡ r.reader
+    pub ends : IfOk result (λ said. (run : Run) (name : List ℕ) → IsReadBy run name (state_at (c.at old)) r
+        → OwnStands run.streams (state_at (c.at old)) (c.stands old) → NextEnds run name (c.at old) (c.at new) later said)
+    pub unharmed : (streams : ℕ → Stream) → AreOwn (state_at (c.at old)) streams → IsReaderOf (state_at (c.at old)) r → StaysUnharmed (c.at old) (c.at new)
+    pub counts : IfOk result (λ said. NoLossIsAFault (state_at (c.at old)) → count_in said ≤ (c.at new).device.faults)

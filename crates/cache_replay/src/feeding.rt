@@ -1,7 +1,9 @@
 // Writers are fed: bytes are given until all are taken or the writer is refused.
 ghost use Rattle.cache_calls.specs.Keeping.{Keeps, state_at};
+ghost use Rattle.cache_calls.specs.Standing.{StaysStanding};
 ghost use Rattle.cache_replay.specs.Feeding.{FeedsWhere, HasFed};
 ghost use Rattle.cache_replay.specs.Session.{IsOpenWriter};
+ghost use Rattle.cache_replay.specs.Standing.{IsToldFrom};
 
 use cache_calls::{Calls, Refusal};
 
@@ -21,6 +23,8 @@ pub(crate) fn feed<S: Calls>(cache: &mut S, writer: &mut S::Writer, bytes: &[u8]
         bytes.now result.refused }
     ensures fed { HasFed (S.at cache.old) (S.at cache.new) (S.written writer.old) bytes.now
         result.taken result.refused (S.written writer.new) }
+    ensures stands { StaysStanding S.stands (IsToldFrom (state_at (S.at cache.new))
+        (S.written writer.old) bytes.now) cache.old cache.new }
 {
     let mut taken = 0;
     'feed: loop {

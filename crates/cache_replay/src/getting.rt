@@ -1,9 +1,11 @@
 // Whole bodies are read.
 ghost use Rattle.std.specs.Prelude.{◌≡◌, None, Some, [], ◌∷◌, length, IfOk, OnOk};
 ghost use Rattle.cache_model.specs.Permit.{StopReading};
+ghost use Rattle.call_laws.specs.Contents.{AnyContents};
 ghost use Rattle.cache_calls.specs.Actors.{IsOpenReader};
 ghost use Rattle.cache_calls.specs.Adds.{Adds, IsOfReader};
 ghost use Rattle.cache_calls.specs.Keeping.{Keeps, state_at};
+ghost use Rattle.cache_calls.specs.Standing.{StaysStanding};
 ghost use Rattle.script_lang.specs.declared.step.Step.TheVariants as step;
 ghost use Rattle.cache_replay.specs.OneLine.{AnswersLine, AnswersPlainly};
 ghost use Rattle.cache_replay.specs.ReaderLines.{IsReady, LeavesReader};
@@ -46,7 +48,7 @@ pub(crate) fn get<S: Calls>(
     requires ready { IsReady S.Calls cache.old page.old }
     ensures leaves { LeavesReader S.Calls cache.old cache.new
         (state_at (S.at cache.old)).next_reader }
-    ensures gets { Gets (S.at cache.old) (S.at cache.new) key request result }
+    ensures gets { Gets S.Calls cache.old cache.new key request result }
     ensures page { length page.new ≡ length page.old }
 {
     match cache.open_read(Actor(0), key, request)? {
@@ -75,7 +77,7 @@ fn read_whole<S: Calls>(
     requires ready { IsReady S.Calls cache.old page.old }
     requires hit { IsHit (state_at (S.at cache.old)) (S.reading reader) put }
     ensures leaves { LeavesReader S.Calls cache.old cache.new (S.reading reader).reader }
-    ensures reads { ReadsWhole (S.at cache.old) (S.at cache.new) (S.reading reader) [] result }
+    ensures reads { ReadsWhole S.Calls cache.old cache.new (S.reading reader) [] result }
     ensures page { length page.new ≡ length page.old }
 {
     let mut reader = reader;
@@ -100,7 +102,7 @@ fn read_to_end<S: Calls>(
     requires ready { IsReady S.Calls cache.old page.old }
     requires hit { IsHit (state_at (S.at cache.old)) (S.reading reader.old) put }
     ensures leaves { LeavesReader S.Calls cache.old cache.new (S.reading reader.old).reader }
-    ensures reads { ReadsWhole (S.at cache.old) (S.at cache.new) (S.reading reader.old)
+    ensures reads { ReadsWhole S.Calls cache.old cache.new (S.reading reader.old)
         (StopReading (S.reading reader.old).reader ∷ []) result }
     ensures reader { IsOpenReader (state_at (S.at cache.new)) (S.reading reader.new) }
     ensures number { (S.reading reader.new).reader ≡ (S.reading reader.old).reader }
@@ -127,7 +129,7 @@ fn read_more<S: Calls>(
     requires ready { IsReady S.Calls cache.old page.old }
     requires hit { let r = S.reading reader.old in IsHit (state_at (S.at cache.old)) r r.put }
     ensures leaves { LeavesReader S.Calls cache.old cache.new (S.reading reader.old).reader }
-    ensures reads { ReadsMore (S.at cache.old) (S.at cache.new) (S.reading reader.old)
+    ensures reads { ReadsMore S.Calls cache.old cache.new (S.reading reader.old)
         (S.reading reader.new) body.old.items body.new.items result }
     ensures page { length page.new ≡ length page.old }
 {
@@ -149,8 +151,9 @@ fn close<S: Calls>(cache: &mut S, reader: S::Reader) -> Result<(), AllocError>
     ensures keeps { Keeps S.at S.holds cache.old cache.new }
     ensures own { Adds (IsOfReader (S.reading reader).reader)
         (S.at cache.old) (S.at cache.new) }
-    ensures closes { OnOk result (ClosesHit (S.at cache.old) (S.at cache.new)
+    ensures closes { OnOk result (ClosesHit S.Calls cache.old cache.new
         (S.reading reader).reader) }
+    ensures stands { StaysStanding S.stands AnyContents cache.old cache.new }
 {
     match cache.close_read(reader) {
         Ok(()) => Ok(()),

@@ -1,9 +1,12 @@
 // Whole bodies are put.
 ghost use Rattle.std.specs.Prelude.{◌≡◌};
 ghost use Rattle.cache_calls.specs.Actors.{IsWriterOf};
+ghost use Rattle.call_laws.specs.Contents.{TellsVectors};
 ghost use Rattle.cache_calls.specs.Keeping.{Keeps, state_at};
+ghost use Rattle.cache_calls.specs.Standing.{StaysStanding};
 ghost use Rattle.cache_replay.specs.Putting.{BodyEndsWhere, FillsWhere, IsFresh, PutsWhere, TellsOfPut, unless_memory};
 ghost use Rattle.cache_replay.specs.Session.{IsOpenWriter};
+ghost use Rattle.cache_replay.specs.Standing.{TellsPut};
 
 use crate::feeding::feed;
 use alternate_vector::Fields;
@@ -25,6 +28,9 @@ pub(crate) fn put<S: Calls>(
         result }
     ensures tells { let put = (state_at (S.at cache.old)).next_put in
         TellsOfPut (S.at cache.old) (S.at cache.new) put result }
+    ensures stands { StaysStanding S.stands (λ contents. TellsVectors contents
+        × TellsPut (state_at (S.at cache.new)) (state_at (S.at cache.old)).next_put body.now contents)
+        cache.old cache.new }
 {
     match cache.open_write(Actor(0), key, request, response, 0) {
         Ok(mut writer) => put_open(cache, &mut writer, body, now),
@@ -47,6 +53,9 @@ fn put_open<S: Calls>(
         body.now result }
     ensures tells { TellsOfPut (S.at cache.old) (S.at cache.new) (S.written writer.old).put
         result }
+    ensures stands { StaysStanding S.stands (λ contents. TellsVectors contents
+        × TellsPut (state_at (S.at cache.new)) (S.written writer.old).put body.now contents)
+        cache.old cache.new }
 {
     match fill(cache, writer, body, now) {
         Ok(receipt) => Ok(receipt),
@@ -84,6 +93,9 @@ fn fill<S: Calls>(
         body.now result }
     ensures tells { TellsOfPut (S.at cache.old) (S.at cache.new) (S.written writer.old).put
         result }
+    ensures stands { StaysStanding S.stands (λ contents. TellsVectors contents
+        × TellsPut (state_at (S.at cache.new)) (S.written writer.old).put body.now contents)
+        cache.old cache.new }
 {
     match feed(cache, writer, body, now).refused {
         None => cache.close_write(writer, now),

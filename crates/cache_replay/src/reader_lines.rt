@@ -145,7 +145,7 @@ fn read_on<S: Calls>(
     requires plain { (S.at cache.old).setting ≡ plain_setting }
     requires reader { IsOpenReader (state_at (S.at cache.old)) (S.reading reader.old) }
     ensures leaves { LeavesReader S.Calls cache.old cache.new (S.reading reader.old).reader }
-    ensures reads { ReadsOnLine (S.at cache.old) (S.at cache.new) (S.reading reader.old)
+    ensures reads { ReadsOnLine S.Calls cache.old cache.new (S.reading reader.old)
         (S.reading reader.new) result }
     ensures page { length page.new ≡ length page.old }
     ensures stop { IfErr result (λ why. why ≡ stop.Memory) }

@@ -1,13 +1,16 @@
 // Lines on the writers of actors: they open, take bytes, close and are given up.
 ghost use Rattle.std.specs.Prelude.{ℕ, ◌≡◌, ◌==◌, ◌-◌, ◌^◌, ◌<◌, ◌≤◌, Some, None, length, if◌then◌else◌, option_map, IfOk, IfErr};
 ghost use Rattle.cache_model.specs.Legal.{is_writing};
+ghost use Rattle.call_laws.specs.Contents.{AnyContents};
 ghost use Rattle.cache_calls.specs.Keeping.{plain_setting, state_at};
+ghost use Rattle.cache_calls.specs.Standing.{IsToldClosed, StaysStanding};
 ghost use Rattle.script_lang.specs.declared.step.Step.TheVariants as step;
 ghost use Rattle.script_run.specs.Answers.{busy, idle};
 ghost use Rattle.cache_replay.specs.OneLine.{AnswersActor, AnswersLine};
 ghost use Rattle.cache_replay.specs.Replies.{fed_answer};
 ghost use Rattle.cache_replay.specs.Session.{IsActive, IsOpenWriter, IsSession, names_in, slots_of};
 ghost use Rattle.cache_replay.specs.declared.stop.Stop.TheVariants as stop;
+ghost use Rattle.cache_replay.specs.Standing.{IsToldFrom};
 ghost use Rattle.cache_replay.specs.WriterLines.{Closes, Feeds, GivesUp, LeavesWriter, OpenDoes, Opens, TakesWriter, WriterDoes, held_in};
 
 use crate::answers::{answer_unless_memory, closed_answer};
@@ -191,6 +194,7 @@ fn begin<S: Calls>(
     requires plain { (S.at cache.old).setting ≡ plain_setting }
     ensures leaves { let put = (state_at (S.at cache.old)).next_put in
         LeavesWriter S.Calls cache.old cache.new put result.left result.answer }
+    ensures stands { StaysStanding S.stands AnyContents cache.old cache.new }
     ensures does { OpenDoes (S.at cache.old) (S.at cache.new) actor.0
         (Opens key pin request response) (option_map S.written result.left) result.answer }
 {
@@ -264,6 +268,8 @@ fn give_bytes<S: Calls>(
     requires writer { IsOpenWriter (state_at (S.at cache.old)) (S.written writer) }
     ensures leaves { LeavesWriter S.Calls cache.old cache.new (S.written writer).put
         result.left result.answer }
+    ensures stands { StaysStanding S.stands (IsToldFrom (state_at (S.at cache.new))
+        (S.written writer) body.now) cache.old cache.new }
     ensures does { WriterDoes now (S.at cache.old) (S.at cache.new) (Feeds body.now)
         (S.written writer) (option_map S.written result.left) result.answer }
 {
@@ -331,6 +337,8 @@ fn finish<S: Calls>(cache: &mut S, mut writer: S::Writer, now: u64) -> Outcome<S
     requires writer { IsOpenWriter (state_at (S.at cache.old)) (S.written writer) }
     ensures leaves { LeavesWriter S.Calls cache.old cache.new (S.written writer).put
         result.left result.answer }
+    ensures stands { StaysStanding S.stands (IsToldClosed (state_at (S.at cache.new))
+        (S.written writer)) cache.old cache.new }
     ensures does { WriterDoes now (S.at cache.old) (S.at cache.new) Closes
         (S.written writer) (option_map S.written result.left) result.answer }
 {
@@ -389,6 +397,7 @@ fn give_up<S: Calls>(cache: &mut S, mut writer: S::Writer) -> Outcome<S::Writer>
     requires writer { IsOpenWriter (state_at (S.at cache.old)) (S.written writer) }
     ensures leaves { LeavesWriter S.Calls cache.old cache.new (S.written writer).put
         result.left result.answer }
+    ensures stands { StaysStanding S.stands AnyContents cache.old cache.new }
     ensures does { (now : ℕ) → WriterDoes now (S.at cache.old) (S.at cache.new) GivesUp
         (S.written writer) (option_map S.written result.left) result.answer }
 {

@@ -16,7 +16,7 @@ use Rattle.script_run.specs.Behind.{after_line, after_step}
 use Rattle.script_run.specs.Takes.{LineShows, LineTakes, run_after}
 use Rattle.cache_calls.specs.declared.calls.Calls.{Ghosts as CallsGhosts}
 use Rattle.cache_replay.specs.declared.session.Session.{Session}
-use Rattle.run_promise.specs.Outline.{Outline, blank, called, outline_after, outline_in}
+use Rattle.run_promise.specs.Outline.{Outline, blank, called, doubted, outline_after, outline_in}
 use Rattle.run_promise.specs.Lines.{AreAnswered, answers_of, outline_of, outline_read, reading_answer, text_of, texts_of}
 use Rattle.cache_replay.specs.Plays.{DeviceEnds, IsOutlined, Outlines}
 use Rattle.script_run.specs.Ledger.{ComeBack, Ledger, Deals}
@@ -106,7 +106,7 @@ along_with lines answers From To Behind Behind' settle behind s = record {
   says = s.says;
   turn = s.turn;
   shows = s.shows;
-  outline = answered_with (outline_in (called (run_after fresh s.before s.earlier) s.turn)) (s.bytes ∷ s.after) s.rest From To Behind Behind' settle behind s.outline;
+  outline = answered_with (doubted (outline_in (called (run_after fresh s.before s.earlier) s.turn))) (s.bytes ∷ s.after) s.rest From To Behind Behind' settle behind s.outline;
 }
 
 -- the story, where what is told of its text, its devices and its outline gives something else
@@ -155,12 +155,12 @@ along_more lines answers bytes said From To Behind Behind' follows s = record {
   says = ap (λ l. l ++ said ∷ []) s.says ∙ append_assoc (answers_of fresh s.before s.earlier) s.rest (said ∷ []);
   turn = s.turn;
   shows = s.shows;
-  outline = answered_more (outline_in (called (run_after fresh s.before s.earlier) s.turn)) (s.bytes ∷ s.after) s.rest bytes said To Behind' s.outline.each (follows _ s.outline.devices s.outline.behind);
+  outline = answered_more (doubted (outline_in (called (run_after fresh s.before s.earlier) s.turn))) (s.bytes ∷ s.after) s.rest bytes said To Behind' s.outline.each (follows _ s.outline.devices s.outline.behind);
 }
 
 -- or the last one shows one
 shown_last : (lines : List (List ℕ)) (answers : List (Option StepAnswer)) (From To : Told → Type 0) (Known : Run → Type 0) (Behind : Outline → Type 0) (bytes : List ℕ) (said : Option StepAnswer) (r : Recorded lines answers From Known) (turn : Turn)
-    → LineShows (run_after fresh lines r.turns) turn bytes → AnsweredFrom (outline_in (called (run_after fresh lines r.turns) turn)) (bytes ∷ []) (said ∷ []) To Behind → ShownAlong (lines ++ bytes ∷ []) (answers ++ said ∷ []) To Behind
+    → LineShows (run_after fresh lines r.turns) turn bytes → AnsweredFrom (doubted (outline_in (called (run_after fresh lines r.turns) turn))) (bytes ∷ []) (said ∷ []) To Behind → ShownAlong (lines ++ bytes ∷ []) (answers ++ said ∷ []) To Behind
 shown_last lines answers From To Known Behind bytes said r turn shows outline = record {
   before = lines;
   bytes = bytes;
@@ -196,10 +196,10 @@ module _ (first now : List SourceRead) (taken_first taken : List SinkWrite) (led
           known = subst Known (sym after) behind;
         }
 
-    -- it does, or it shows a pair, and the outline with the calls of that turn goes on
+    -- it does, or it shows a pair, and the outline with the calls of that turn goes on, its device doubted
     abbrev EndsRecords : Type 0
     EndsRecords = (r : Recorded story.lines story.answers Dealt Plays)
-        → Recorded (story.lines ++ bytes ∷ []) (story.answers ++ said ∷ []) Devices Known ⊎ ((turn : Turn) × LineShows (run_after fresh story.lines r.turns) turn bytes × AnsweredFrom (outline_in (called (run_after fresh story.lines r.turns) turn)) (bytes ∷ []) (said ∷ []) Devices Behind)
+        → Recorded (story.lines ++ bytes ∷ []) (story.answers ++ said ∷ []) Devices Known ⊎ ((turn : Turn) × LineShows (run_after fresh story.lines r.turns) turn bytes × AnsweredFrom (doubted (outline_in (called (run_after fresh story.lines r.turns) turn))) (bytes ∷ []) (said ∷ []) Devices Behind)
 
     pub line_more : ((o : Outline) → Dealt (told_by o) → Outlined o → AnsweredFrom o (bytes ∷ []) (said ∷ []) Devices Behind) → ((out : List ℕ) → Took taken_first taken out → Text out (out ++ text_of said))
         → EndsRecords → Story first now unread' given' Text Devices Behind Known
@@ -262,5 +262,5 @@ module _ (first now : List SourceRead) (taken_first taken : List SinkWrite) (led
                 inl (recorded_more (Some said) Text Devices Behind Known r m.moves.turn (rw asks m.moves.takes) (rw asks (ap Some (sym m.moves.says)))
                 (rw asks (settle_run (after_step run m.moves.turn step) m.moves.plays (deals_all run.ended m.harms run.names m.names _ _ m.ended m.named r.devices m.deals)))
                 (rw asks (knows (after_step run m.moves.turn step) m.moves.plays)))
-            | inr shows ↦ inr (shows.turn, rw asks shows.shows, step_follows Devices Behind (outline_in (called run shows.turn)) shows.outlines settle behind r.devices)
+            | inr shows ↦ inr (shows.turn, rw asks shows.shows, step_follows Devices Behind (doubted (outline_in (called run shows.turn))) shows.outlines settle behind r.devices)
           ])

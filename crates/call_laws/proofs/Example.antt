@@ -8,11 +8,15 @@ use Rattle.cache_model.specs.Legal.{IsQuiet}
 use Rattle.cache_model.specs.Vectors.{AreTold, IsVectorAs}
 use Rattle.call_laws.specs.Moments.{NothingKnown, At, Facts, IsToldAt}
 use Rattle.call_laws.specs.Progress.{AllDone, FallsShort, IfDone, Leaves, Progress, Stops, in_full}
-use Rattle.call_laws.specs.Serves.{Serves, ServesFrom, ServesTold}
+use Rattle.call_laws.specs.Serves.{ServesFrom}
 use Rattle.call_laws.specs.Whole.{IsWholeStep, WritesFirst}
 use Rattle.call_laws.proofs.Known.{serves_known}
 use Rattle.call_laws.proofs.Served.{serves_fails, serves_first, serves_on, serves_refused}
 use Rattle.call_laws.proofs.Whole.{serves_step}
+
+-- what was asked came there, from vectors that list their alternates, or a pair is shown of one of them
+abbrev ServesAs : (now : ℕ) → (old new : At) → List Intent → Progress → Type 0
+ServesAs now old new asked o = ServesFrom IsVectorAs now old new asked o IsToldAt NothingKnown
 
 module _ (now put rest fragments : ℕ) (a b c d : At) (Weighed : Facts) where
   -- what a close is asked
@@ -30,19 +34,19 @@ module _ (now put rest fragments : ℕ) (a b c d : At) (Weighed : Facts) where
   Commits o = ServesFrom IsVectorAs now c d (Commit put ∷ []) o NothingKnown NothingKnown
 
   -- all is done
-  done : Weighs AllDone → Finishes AllDone → Commits AllDone → ServesTold now a d closes AllDone
+  done : Weighs AllDone → Finishes AllDone → Commits AllDone → ServesAs now a d closes AllDone
   done weighs finishes commits = serves_first weighs (serves_first finishes commits)
 
   -- the last call comes anywhere
-  last : (o : Progress) → Weighs AllDone → Finishes AllDone → Commits o → ServesTold now a d closes o
+  last : (o : Progress) → Weighs AllDone → Finishes AllDone → Commits o → ServesAs now a d closes o
   last o weighs finishes commits = serves_first weighs (serves_first finishes commits)
 
   -- the second one falls short
-  lost : (o : Progress) → FallsShort o → Weighs AllDone → Finishes o → ServesTold now a c closes o
+  lost : (o : Progress) → FallsShort o → Weighs AllDone → Finishes o → ServesAs now a c closes o
   lost o short weighs finishes = serves_first weighs (serves_refused finishes short refl)
 
   -- the first one does
-  stopped : (o : Progress) → FallsShort o → Weighs o → ServesTold now a b closes o
+  stopped : (o : Progress) → FallsShort o → Weighs o → ServesAs now a b closes o
   stopped o short weighs = serves_known NothingKnown (λ past k. tt) (serves_refused weighs short refl)
 
   -- finishing is two calls, of which the first makes room
@@ -51,11 +55,11 @@ module _ (now put rest fragments : ℕ) (a b c d : At) (Weighed : Facts) where
   roomed rooms places = serves_on rooms places
 
   -- a close that was refused is given up
-  given_up : (why : Reason) → ServesTold now a b closes (Stops why) → ServesFrom IsVectorAs now b c (GiveUp put ∷ []) AllDone NothingKnown NothingKnown
-      → ServesTold now a c (Weigh put rest ∷ Finish put fragments ∷ Commit put ∷ GiveUp put ∷ []) (Stops why)
+  given_up : (why : Reason) → ServesAs now a b closes (Stops why) → ServesFrom IsVectorAs now b c (GiveUp put ∷ []) AllDone NothingKnown NothingKnown
+      → ServesAs now a c (Weigh put rest ∷ Finish put fragments ∷ Commit put ∷ GiveUp put ∷ []) (Stops why)
   given_up why closing gives = serves_fails (GiveUp put ∷ []) closing gives
 
   -- a close that is a step of its own, of a stripe that syncs or not
   whole : (past : List Call) → (a.setting.syncs ≡ true → HasCopies a.setting.area) → AreTold (state_of a.kept) → IsQuiet (state_of d.kept)
-      → WritesFirst now past a d → Serves now a d closes AllDone → IsWholeStep IsVectorAs now past a d closes None IsToldAt
+      → WritesFirst now past a d → ServesFrom IsVectorAs now a d closes AllDone IsToldAt IsToldAt → IsWholeStep IsVectorAs now past a d closes None IsToldAt
   whole past copies known quiet firsts serves = serves_step None past in_full copies quiet firsts known serves

@@ -1,24 +1,27 @@
 -- What each group of records keeps is kept by a call.
-use Rattle.std.proofs.Common.{ℕ, List, [], ◌∷◌, ◌++◌, refl, sym, subst, inl, inr, ◌⊎◌}
-use Rattle.std.specs.Prelude.{Option}
+use Rattle.std.proofs.Common.{◌≡◌, ℕ, Bool, true, false, List, [], ◌∷◌, ◌++◌, refl, sym, subst, inl, inr, ◌⊎◌}
+use Rattle.std.proofs.lemmas.Bool.{le-leb, leb-true}
+use Rattle.std.specs.Prelude.{Option, nat_le}
 use Rattle.device_log.specs.Calls.{Call}
 use Rattle.cache_model.specs.declared.record.Rec.{Rec}
-use Rattle.cache_model.specs.State.{State, after_all}
+use Rattle.logged_disk.specs.Device.{State as Device, TellsAll, has_flip}
+use Rattle.cache_model.specs.State.{Row, State, after_all}
 use Rattle.cache_model.specs.Kept.{state_of}
 use Rattle.cache_model.specs.Permit.{Intent, Permit, Reason, Work}
 use Rattle.cache_model.specs.Legal.{Advances, MayGrow, nothing, more}
 use Rattle.cache_model.specs.Tape.{IsSound}
 use Rattle.cache_model.specs.Pair.{Documents, IsPairNext, ShowsFrom}
-use Rattle.cache_model.specs.Vectors.{AreTold, IsVectorAs}
+use Rattle.cache_model.specs.Vectors.{ArePuts, AreTold, AreVectors, IsVectorAs}
 use Rattle.cache_model.proofs.Onward.{later_group}
 use Rattle.cache_model.proofs.Steps.{after_all-append, grows_by}
+use Rattle.call_laws.specs.Contents.{Untold}
 use Rattle.call_laws.specs.Moments.{At, Both, Facts, IsToldAt, OfState}
 use Rattle.call_laws.specs.Progress.{Progress}
 use Rattle.call_laws.specs.Serves.{Serves, ServesFrom}
-use Rattle.call_laws.specs.Whole.{GroupsKeep, GroupsLeaveTold}
+use Rattle.call_laws.specs.Whole.{GroupsKeep, GroupsLeavePuts, GroupsLeaveTold, LeavesListed}
 use Rattle.call_laws.proofs.Grown.{shown_later, spends_begins}
-use Rattle.call_laws.proofs.Joined.{call_as}
-use Rattle.call_laws.proofs.Known.{serves_known}
+use Rattle.call_laws.proofs.Joined.{call_as, state_behind}
+use Rattle.call_laws.proofs.Known.{next_of_wider, serves_known, serves_wider}
 
 module _ (P : Documents) (IsSo : State → Type 0) (keep : GroupsKeep P IsSo) where
   advanced : (p : Permit) (s : State) (is : List Intent) (why : Option Reason) (added : List Rec) (after : Work) → Advances p s is why added after
@@ -63,13 +66,103 @@ told_keep tell p s i added e k does = elim (tell p s i added e k.0 k.1 does) [
   | inr pair ↦ inr pair
 ]
 
+-- a device tells its content, or it does not
+pub tells_or_not : (d : Device) → TellsAll d ⊎ (TellsAll d → ⊥)
+tells_or_not d = decide (nat_le 1 d.trust) (has_flip d.past) refl refl where
+  decide : (trusted flipped : Bool) → nat_le 1 d.trust ≡ trusted → has_flip d.past ≡ flipped → TellsAll d ⊎ (TellsAll d → ⊥)
+  decide true false t u = inl (record { trusted = leb-true 1 d.trust t; unturned = u })
+  decide true true t u = inr (λ h. cc (h.unturned, u))
+  decide false flipped t u = inr (λ h. cc (le-leb 1 d.trust h.trusted, t))
+
+-- a pair of vectors is one of some, whatever the device told
+untold_wider : (last : Device) (s : State) (row : Row) (document : List ℕ) → Untold last IsVectorAs s row document → IsVectorAs s row document
+untold_wider last s row document h = h.0
+
+-- one on a device that did not tell its content is one of these
+untold_of : (last : Device) → (TellsAll last → ⊥) → (s : State) (row : Row) (document : List ℕ) → IsVectorAs s row document → Untold last IsVectorAs s row document
+untold_of last n s row document h = (h, n)
+
+-- no pair is one of no documents
+abbrev NoDocuments : Documents
+NoDocuments s row document = ⊥
+
+puts_keep : GroupsLeavePuts → GroupsKeep NoDocuments ArePuts
+puts_keep leave p s i added e puts does = inl (leave p s i added e puts does)
+
+no_pair : (p : Permit) (s : State) (is : List Intent) → IsPairNext NoDocuments p s is → ⊥
+no_pair p s [] h = h
+no_pair p s (i ∷ is) h = h.pair.placed
+
+-- where a device tells its content, and leaves vectors that list their alternates, these are so behind a call
+serves_surely : {now : ℕ} {a b : At} {P : Documents} {asked : List Intent} {o : Progress} {known : Facts} → GroupsLeavePuts → AreVectors (state_of b.kept)
+    → (state_of b.kept).displaced ≡ [] → ServesFrom P now a b asked o IsToldAt known → ServesFrom P now a b asked o IsToldAt (Both IsToldAt known)
+serves_surely {a = a} {b = b} {asked = asked} {o = o} leave vectors none f = call_as (λ p earlier calls added step happens h. record {
+  from = λ k. elim (h.from k) [
+    | inr pair ↦ inr pair
+    | inl v ↦ elim (grown_keeps NoDocuments ArePuts (puts_keep leave) (spends_begins p (state_of a.kept) asked added o v.spends).1 k.puts) [
+      | inr shown ↦ absurd (no_pair p _ shown.left.intents shown.pair)
+      | inl puts ↦ (
+          let there = state_behind a.kept b.kept added happens.adds in
+          inl (record {
+            spends = v.spends;
+            behind = (record { vectors = subst AreVectors there vectors; puts = puts; displaced = subst (λ t. t.displaced ≡ []) there none }, v.behind);
+            buffers = v.buffers;
+          })
+          )
+    ]
+  ];
+}) f
+
 -- a call that needs vectors that list their alternates leaves them so
-pub serves_told : {now : ℕ} {a b : At} {asked : List Intent} {o : Progress} {known : Facts} → GroupsLeaveTold → IsSound (state_of a.kept)
-    → ServesFrom IsVectorAs now a b asked o IsToldAt known → ServesFrom IsVectorAs now a b asked o IsToldAt (Both IsToldAt known)
-serves_told {known = known} tell sound f =
-    serves_known (Both IsToldAt known) (λ past k. (k.0.1, k.1)) (serves_keeps IsVectorAs StandsTold (told_keep tell) (λ past told. (sound, told)) f)
+pub serves_told : {now : ℕ} {a b : At} {last : Device} {asked : List Intent} {o : Progress} {known : Facts} → GroupsLeaveTold → GroupsLeavePuts
+    → IsSound (state_of a.kept) → LeavesListed last (state_of b.kept) → ServesFrom (Untold last IsVectorAs) now a b asked o IsToldAt known
+    → ServesFrom (Untold last IsVectorAs) now a b asked o IsToldAt (Both IsToldAt known)
+serves_told {last = last} {known = known} tell leave sound listed f = elim (tells_or_not last) [
+  | inl tells ↦ serves_surely leave (listed.vectors tells) listed.none f
+  | inr n ↦ serves_wider IsVectorAs (Untold last IsVectorAs) (untold_of last n)
+      (serves_known (Both IsToldAt known) (λ past k. (k.0.1, k.1))
+      (serves_keeps IsVectorAs StandsTold (told_keep tell) (λ past told. (sound, told)) (serves_wider (Untold last IsVectorAs) IsVectorAs (untold_wider last) f)))
+]
 
 -- so it serves
-pub told_serves : {now : ℕ} {a b : At} {asked : List Intent} {o : Progress} {known : Facts} → GroupsLeaveTold → IsSound (state_of a.kept)
-    → ServesFrom IsVectorAs now a b asked o IsToldAt known → Serves now a b asked o
-told_serves tell sound f = serves_known IsToldAt (λ past k. k.0) (serves_told tell sound f)
+pub told_serves : {now : ℕ} {a b : At} {asked : List Intent} {o : Progress} {known : Facts} → GroupsLeaveTold → GroupsLeavePuts → IsSound (state_of a.kept)
+    → LeavesListed b.device (state_of b.kept) → ServesFrom (Untold b.device IsVectorAs) now a b asked o IsToldAt known → Serves now a b asked o
+told_serves tell leave sound listed f = serves_known IsToldAt (λ past k. k.0) (serves_told tell leave sound listed f)
+
+-- ---- pairs on devices that did not tell their content
+
+-- a device that told its content up to a later moment told it up to this one: so a pair on this one is one on the later one
+pub untold_later : (IsPlaced : Documents) (one other : Device) → (TellsAll other → TellsAll one) → (s : State) (row : Row) (document : List ℕ)
+    → Untold one IsPlaced s row document → Untold other IsPlaced s row document
+untold_later IsPlaced one other before s row document h = (h.0, λ tells. h.1 (before tells))
+
+next_untold : (IsPlaced : Documents) (last : Device) (p : Permit) (s : State) (is : List Intent) → IsPairNext (Untold last IsPlaced) p s is → TellsAll last → ⊥
+next_untold IsPlaced last p s [] h = absurd h
+next_untold IsPlaced last p s (i ∷ is) h = h.pair.placed.1
+
+-- a pair on a device that did not tell its content is a pair, and the device did not
+pub shows_untold : (IsPlaced : Documents) (last : Device) (p : Permit) (s : State) (w : Work) (added : List Rec) → ShowsFrom (Untold last IsPlaced) p s w added
+    → ShowsFrom IsPlaced p s w added × (TellsAll last → ⊥)
+shows_untold IsPlaced last p s w added h = (
+  record {
+    before = h.before;
+    rest = h.rest;
+    left = h.left;
+    is = h.is;
+    grows = h.grows;
+    pair = next_of_wider (Untold last IsPlaced) IsPlaced (λ t row document x. x.0) p _ h.left.intents h.pair;
+  },
+  next_untold IsPlaced last p _ h.left.intents h.pair,
+)
+
+-- and on such a device each pair is one
+pub shows_on_untold : (IsPlaced : Documents) (last : Device) → (TellsAll last → ⊥) → (p : Permit) (s : State) (w : Work) (added : List Rec)
+    → ShowsFrom IsPlaced p s w added → ShowsFrom (Untold last IsPlaced) p s w added
+shows_on_untold IsPlaced last n p s w added h = record {
+  before = h.before;
+  rest = h.rest;
+  left = h.left;
+  is = h.is;
+  grows = h.grows;
+  pair = next_of_wider IsPlaced (Untold last IsPlaced) (λ t row document x. (x, n)) p _ h.left.intents h.pair;
+}

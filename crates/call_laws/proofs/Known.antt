@@ -58,7 +58,7 @@ module _ (P Q : Documents) (wider : (s : State) (row : Row) (document : List ℕ
   pair_of_wider p s row h =
       record { document = h.document; bytes = h.bytes; live = h.live; placed = wider s row h.document h.placed; given = h.given; collide = h.collide }
 
-  next_of_wider : (p : Permit) (s : State) (is : List Intent) → IsPairNext P p s is → IsPairNext Q p s is
+  pub next_of_wider : (p : Permit) (s : State) (is : List Intent) → IsPairNext P p s is → IsPairNext Q p s is
   next_of_wider p s [] h = absurd h
   next_of_wider p s (i ∷ is) h = record { row = h.row; read = h.read; pair = pair_of_wider p s h.row h.pair }
 

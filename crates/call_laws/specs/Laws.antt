@@ -9,11 +9,13 @@ use Rattle.cache_model.specs.Legal.{Does, IsQuiet, MayGrow}
 use Rattle.cache_model.specs.Tape.{IsSound}
 use Rattle.cache_model.specs.Pair.{Documents, IsPair}
 use Rattle.cache_model.specs.Vectors.{IsVectorAs}
+use Rattle.logged_disk.specs.Device.{State as Device}
+use Rattle.call_laws.specs.Contents.{Untold}
 use Rattle.call_laws.specs.Moments.{NothingKnown, At, Both, Encloses, Facts, IsStillAt, IsToldAt, OfState, so_far}
 use Rattle.call_laws.specs.Progress.{AllDone, EndsWith, FallsShort, Leaves, Progress, Stops, Wants, cleanups, left_with, progress_of, progress_of_group}
 use Rattle.call_laws.specs.Happens.{Happens, TellsSyncs}
 use Rattle.call_laws.specs.Serves.{Acts, Groups, IsCall, Serves, ServesFrom, Upshots}
-use Rattle.call_laws.specs.Whole.{GroupsKeep, GroupsLeaveTold, IsWholeStep, WritesFirst}
+use Rattle.call_laws.specs.Whole.{GroupsKeep, GroupsLeavePuts, GroupsLeaveTold, IsWholeStep, LeavesListed, WritesFirst}
 
 -- ---- one call
 
@@ -173,15 +175,19 @@ ServesKeeps IsPlaced before known IsSo = (now : ℕ) (a b : At) (asked : List In
     → ((past : List Call) → before past (state_of a.kept) → IsSo (state_of a.kept))
     → ServesFrom IsPlaced now a b asked o before known → ServesFrom IsPlaced now a b asked o before (Both (OfState IsSo) known)
 
--- so a call that starts from vectors that list their alternates, on a sound tape, leaves them so
+-- So a call that starts from vectors that list their alternates, on a sound tape, leaves them so, where a device that tells its
+-- content up to a moment leaves them so: on any other device a pair may be shown.
 abbrev pub ServesWhereTold : (known : Facts) → Type 0
-ServesWhereTold known = (now : ℕ) (a b : At) (asked : List Intent) (o : Progress) → GroupsLeaveTold → IsSound (state_of a.kept)
-    → ServesFrom IsVectorAs now a b asked o IsToldAt known → ServesFrom IsVectorAs now a b asked o IsToldAt (Both IsToldAt known)
+ServesWhereTold known = (now : ℕ) (a b : At) (last : Device) (asked : List Intent) (o : Progress) → GroupsLeaveTold → GroupsLeavePuts
+    → IsSound (state_of a.kept) → LeavesListed last (state_of b.kept)
+    → ServesFrom (Untold last IsVectorAs) now a b asked o IsToldAt known
+    → ServesFrom (Untold last IsVectorAs) now a b asked o IsToldAt (Both IsToldAt known)
 
 -- and serves
 abbrev pub ToldServes : (known : Facts) → Type 0
-ToldServes known = (now : ℕ) (a b : At) (asked : List Intent) (o : Progress) → GroupsLeaveTold → IsSound (state_of a.kept)
-    → ServesFrom IsVectorAs now a b asked o IsToldAt known → Serves now a b asked o
+ToldServes known = (now : ℕ) (a b : At) (asked : List Intent) (o : Progress) → GroupsLeaveTold → GroupsLeavePuts → IsSound (state_of a.kept)
+    → LeavesListed b.device (state_of b.kept)
+    → ServesFrom (Untold b.device IsVectorAs) now a b asked o IsToldAt known → Serves now a b asked o
 
 -- ---- steps
 

@@ -10,6 +10,7 @@ use Rattle.cache_model.specs.Pair.{Documents, ShowsPair}
 use Rattle.cache_model.specs.Vectors.{IsVectorAs}
 use Rattle.call_laws.specs.Moments.{NothingKnown, At, Encloses, Facts, IsToldAt, so_far}
 use Rattle.call_laws.specs.Progress.{IfLeaving, MayWrite, Progress, Spends, UnlessWanting}
+use Rattle.call_laws.specs.Contents.{Untold}
 use Rattle.call_laws.specs.Happens.{AreOfBuffersBehind, Happens, are_asked_refusals}
 
 -- a call as it stands in a step: the calls that the device made in the step before it, those that it made in the call itself,
@@ -78,10 +79,11 @@ pub record Brings (IsPlaced : Documents) (asked : List Intent) (o : Progress) (b
 abbrev pub ServesFrom : Documents → (now : ℕ) → (old new : At) → List Intent → Progress → (before known : Facts) → Type 0
 ServesFrom IsPlaced now old new asked o before known = IsCall now old new (Brings IsPlaced asked o before known)
 
--- the same where each vector lists its alternates, before and behind
+-- the same where each vector lists its alternates, before and behind; a pair is one of vectors, on a device that did not tell its
+-- content
 abbrev pub Serves : (now : ℕ) → (old new : At) → List Intent → Progress → Type 0
-Serves now old new asked o = ServesFrom IsVectorAs now old new asked o IsToldAt IsToldAt
+Serves now old new asked o = ServesFrom (Untold new.device IsVectorAs) now old new asked o IsToldAt IsToldAt
 
 -- the same where nothing is said of what is known behind
 abbrev pub ServesTold : (now : ℕ) → (old new : At) → List Intent → Progress → Type 0
-ServesTold now old new asked o = ServesFrom IsVectorAs now old new asked o IsToldAt NothingKnown
+ServesTold now old new asked o = ServesFrom (Untold new.device IsVectorAs) now old new asked o IsToldAt NothingKnown

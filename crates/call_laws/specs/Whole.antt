@@ -1,6 +1,7 @@
 -- What calls keep because each group of records keeps it, and a call that is a step of its own.
-use Rattle.std.specs.Prelude.{ℕ, ◌≡◌, ◌⊎◌, true, List, ◌++◌, Option}
+use Rattle.std.specs.Prelude.{ℕ, ◌≡◌, ◌⊎◌, true, List, [], ◌++◌, Option}
 use Rattle.device_log.specs.Calls.{Call}
+use Rattle.logged_disk.specs.Device.{State as Device, TellsAll}
 use Rattle.cache_model.specs.declared.record.Rec.{Rec}
 use Rattle.cache_model.specs.State.{State, after_all}
 use Rattle.cache_model.specs.Kept.{state_of}
@@ -8,7 +9,7 @@ use Rattle.cache_model.specs.Permit.{End, Intent, IsSetBy, Permit, Reason}
 use Rattle.cache_model.specs.Legal.{Does, IsStep}
 use Rattle.cache_model.specs.Tape.{IsSound}
 use Rattle.cache_model.specs.Pair.{Documents, IsPair, ShowsPair}
-use Rattle.cache_model.specs.Vectors.{AreTold, IsVectorAs}
+use Rattle.cache_model.specs.Vectors.{ArePuts, AreTold, AreVectors, IsVectorAs}
 use Rattle.call_laws.specs.Moments.{At, Facts, permit_of}
 use Rattle.call_laws.specs.Happens.{AreWrittenFirst, Happens}
 
@@ -22,6 +23,15 @@ GroupsKeep IsPlaced IsSo = (p : Permit) (s : State) (i : Intent) (added : List R
 abbrev pub GroupsLeaveTold : Type 0
 GroupsLeaveTold = (p : Permit) (s : State) (i : Intent) (added : List Rec) (e : End)
     → IsSound s → AreTold s → Does p s i added e → AreTold (after_all s added) ⊎ IsPair IsVectorAs p s i
+
+-- each group of records leaves puts of which each may be kept
+abbrev pub GroupsLeavePuts : Type 0
+GroupsLeavePuts = (p : Permit) (s : State) (i : Intent) (added : List Rec) (e : End) → ArePuts s → Does p s i added e → ArePuts (after_all s added)
+
+-- on a device that tells its content up to a moment each vector lists its alternates, and no insert goes on
+pub record LeavesListed (last : Device) (s : State) : Type 0 where
+  pub vectors : TellsAll last → AreVectors s
+  pub none : s.displaced ≡ []
 
 -- of a stripe that syncs, in the step that has the calls between two moments alone, no buffer is written that was written
 -- before in it: a fact of where the buffers stand, which no call of the step can tell by itself

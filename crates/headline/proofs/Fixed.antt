@@ -8,7 +8,7 @@ use Rattle.device_log.specs.Streams.{SourceRead, taken_by}
 use Rattle.edge_io.specs.Text.{spelled, text_read}
 use Rattle.edge_io.specs.Lines.{AreLines, lines_of}
 use Rattle.edge_io.specs.Laws.{SpelledAreLines}
-use Rattle.logged_disk.specs.Device.{State as Device}
+use Rattle.logged_disk.specs.Device.{State as Device, TellsAll}
 use Rattle.cache_model.specs.declared.record.Rec.{Rec}
 use Rattle.cache_model.specs.Permit.{IsAmong}
 use Rattle.model_laws.specs.RoomLaws.{TellNoDisplacement, is_displacement}
@@ -23,8 +23,9 @@ use Rattle.run_promise.specs.declared.status.Status.TheVariants as status
 use Rattle.run_promise.specs.Story.{IsReadThrough, Recorded, ShownAlong, Taken, all_in}
 use Rattle.run_promise.specs.Top.{EachBack}
 use Rattle.headline.specs.Account.{ComeBackFrom, IsConcluded, Logs, OrShown}
-use Rattle.headline.specs.Fixed.{AreSteady, GiveSame, HasDisplaced, IsSteady, OneDisplaced, ShowPair, ShowsPairAmong, TakeSame}
+use Rattle.headline.specs.Fixed.{AreSteady, GiveSame, HasDisplaced, IsSteady, OneDisplaced, ShowPair, TakeSame}
 use Rattle.headline.proofs.Devices.{come_back}
+use Rattle.headline.proofs.Honest.{no_line_shows}
 use Rattle.headline.proofs.Outlines.{shown_made}
 
 -- ---- steady devices
@@ -34,6 +35,10 @@ none_harmed [] ds r s = All-nil IsHarmless
 none_harmed (h ∷ hs) [] r s = absurd r
 none_harmed (h ∷ hs) (d ∷ ds) r s =
     All-cons IsHarmless h hs (record { faultless = omega (arith, r.0.counted, s.0.unfaulted); undamaged = r.0.unharmed s.0.tells }) (none_harmed hs ds r.1 s.1)
+
+all_tell : (ds : List Device) → AllByRecursion IsSteady ds → AllByRecursion TellsAll ds
+all_tell [] s = tt
+all_tell (d ∷ ds) s = (s.0.tells, all_tell ds s.1)
 
 -- ---- displacements
 
@@ -107,18 +112,11 @@ module _ (l : Logs) (c : IsConcluded l status.Done) where
       subst (λ (rs : List SourceRead). Taken (text_read rs) Lines []) (reads_are reads since)
       (subst (λ (held : List ℕ). Taken (text_read c.story.reads) Lines held) c.story.outline.behind.none c.story.taken)
 
-  shows : Pairs → ShowsPairAmong l Lines
-  shows p = record {
-    before = p.before;
-    bytes = p.bytes;
-    later = p.after;
-    lines_are = p.is;
-    earlier = p.earlier;
-    legal = p.legal;
-    turn = p.turn;
-    shows = p.shows;
-    made = shown_made l Lines c.story.answers _ _ (λ t each. come_back l (all_in t) each.back) p;
-  }
+  -- its devices tell their content, so that no line shows a pair
+  none_shown : AreSteady l → Pairs → ⊥
+  none_shown steady p =
+      no_line_shows l (λ ds returned. all_tell ds (steady ds returned)) (run_after fresh p.before p.earlier) p.bytes p.turn p.shows
+      (shown_made l Lines c.story.answers _ _ (λ t each. come_back l (all_in t) each.back) p)
 
   -- the calls of its turns are in the logs of its devices
   made : (r : Records) → ComeBackFrom l (harms_of (run_after fresh Lines r.turns))
@@ -171,7 +169,7 @@ module _ (fixed : OutputIsFixed) (texts : TextsAreOutput) (spells : SpelledAreLi
         | inr other ↦ inr (record {
           lines = lines;
           taken = taken_all l c same.reads same.since;
-          shows = inr (record {
+          shows = record {
             one = r.turns;
             other = q.turns;
             legal = r.legal;
@@ -179,7 +177,7 @@ module _ (fixed : OutputIsFixed) (texts : TextsAreOutput) (spells : SpelledAreLi
             shows = other;
             made = made l c r;
             made_too = subst (λ (xs : List (List ℕ)). ComeBackFrom m (harms_of (run_after fresh xs q.turns))) (sym lines_same) (made m d q);
-          });
+          };
         })
       ]
 
@@ -194,12 +192,8 @@ module _ (fixed : OutputIsFixed) (texts : TextsAreOutput) (spells : SpelledAreLi
 
   either : AreSteady l → AreSteady m → Records l c ⊎ Pairs l c → Records m d ⊎ Pairs m d → Outcome
   either steady steady_too (inl r) (inl q) = both_told steady steady_too r q
-  either steady steady_too (inr p) q = inr (record { lines = Lines l c; taken = taken_all l c same.reads same.since; shows = inl (inl (shows l c p)) })
-  either steady steady_too (inl r) (inr p) = inr (record {
-    lines = Lines l c;
-    taken = taken_all l c same.reads same.since;
-    shows = inl (inr (subst (λ (xs : List (List ℕ)). ShowsPairAmong m xs) (sym lines_same) (shows m d p)));
-  })
+  either steady steady_too (inr p) q = absurd (none_shown l c steady p)
+  either steady steady_too (inl r) (inr p) = absurd (none_shown m d steady_too p)
 
   pub source_fixes_sink : AreSteady l → AreSteady m → Outcome
   source_fixes_sink steady steady_too = either steady steady_too c.story.records d.story.records

@@ -1,4 +1,5 @@
 mod Devices
+mod Honest
 mod Outlines
 mod Places
 mod Along

@@ -1,6 +1,6 @@
 -- What the answers of lines tell of devices.
 use Rattle.std.proofs.Common.{◌≡◌, ℕ, ◌+◌, List, [], ◌∷◌, ◌++◌, length, refl, ◌∙◌, arith, length-append}
-use Rattle.std.specs.Prelude.{Bool, Option, Some, None, option_map, if◌then◌else◌, is_none}
+use Rattle.std.specs.Prelude.{Bool, Option, Some, None, map, option_map, if◌then◌else◌, is_none}
 use Rattle.device_log.specs.Calls.{Call}
 use Rattle.tape_base.specs.declared.geometries.BadGeometry.{BadGeometry}
 use Rattle.tape_base.specs.Limits.{first_refusal}
@@ -15,10 +15,11 @@ use Rattle.script_run.specs.Run.{Harm, Run, fresh, loosened, no_harm}
 use Rattle.script_run.specs.Turn.{Turn}
 use Rattle.script_run.specs.Behind.{harm_in, harm_of, harms_of}
 use Rattle.script_run.specs.Takes.{run_after}
-use Rattle.run_promise.specs.Outline.{Outline, all_told, begun, begun_by, called, count_in, joined, outline_in, raised, told_of}
+use Rattle.run_promise.specs.Outline.{Outline, all_told, begun, begun_by, called, count_in, doubted, joined, outline_in, raised, told_of}
 use Rattle.run_promise.specs.Lines.{AreAnswered, IsReadAs, outline_of, outline_read}
 use Rattle.run_promise.specs.Story.{ShownAlong, Told, all_in}
-use Rattle.headline.specs.Account.{ComeBackFrom, Logs, begun_in, sessions_begun}
+use Rattle.headline.specs.Account.{ComeBackFrom, Logs, begun_in, doubted_harms, sessions_begun}
+use Rattle.headline.proofs.Honest.{doubt}
 use Rattle.headline.proofs.Devices.{AreWithin, IsWithin, all_within_self, all_within_trans, come_within, goes_on_none, within_behind, within_front}
 
 -- ---- more is told behind each line
@@ -56,33 +57,39 @@ outline_within o (bytes ∷ lines) (said ∷ answers) =
     let next : Outline = outline_read o (reading_of bytes) said in
     all_within_trans (all_told o) (all_told next) (all_told (outline_of next lines answers)) (read_within o (reading_of bytes) said) (outline_within next lines answers)
 
--- what the records of a run tell is told in its outline, and where the device made more calls
-state_within : (calls : List Call) (state : Option State) → AreWithin (harm_of calls state) (told_of (option_map (λ s. loosened (harm_in calls s)) state))
-state_within calls None = tt
-state_within calls (Some s) = (record { faults = omega arith; damage = λ e. e; calls = goes_on_none calls }, tt)
+-- what is doubted was told of a run whose device made more calls, and of its outline
+doubted_told : (calls : List Call) (state : Option State)
+    → AreWithin (map doubt (harm_of calls state)) (told_of (option_map doubt (option_map (λ s. loosened (harm_in calls s)) state)))
+doubted_told calls None = tt
+doubted_told calls (Some s) = (record { faults = omega arith; damage = λ e. e; calls = goes_on_none calls }, tt)
 
-calls_within : (calls made : List Call) (state : Option State) → AreWithin (harm_of calls state) (harm_of (made ++ calls) state)
-calls_within calls made None = tt
-calls_within calls made (Some s) = (record { faults = omega arith; damage = λ e. e; calls = record { later = made; is = refl } }, tt)
+doubted_calls : (calls made : List Call) (state : Option State) → AreWithin (harm_of calls state) (map doubt (harm_of (made ++ calls) state))
+doubted_calls calls made None = tt
+doubted_calls calls made (Some s) = (record { faults = omega arith; damage = λ e. refl; calls = record { later = made; is = refl } }, tt)
 
-called_within : (run : Run) (turn : Turn) → AreWithin (harms_of run) (harms_of (called run turn))
-called_within run turn = within_behind run.ended (harm_of run.calls run.state) (harm_of (turn.device.events ++ run.calls) run.state) (calls_within run.calls turn.device.events run.state)
+called_within : (run : Run) (turn : Turn) → AreWithin (harms_of run) (doubted_harms (called run turn))
+called_within run turn =
+    within_behind run.ended (harm_of run.calls run.state) (map doubt (harm_of (turn.device.events ++ run.calls) run.state))
+    (doubted_calls run.calls turn.device.events run.state)
 
-outlined_within : (run : Run) → AreWithin (harms_of run) (all_told (outline_in run))
-outlined_within run = within_behind run.ended (harm_of run.calls run.state) (told_of (outline_in run).session) (state_within run.calls run.state)
+doubted_within : (run : Run) → AreWithin (doubted_harms run) (all_told (doubted (outline_in run)))
+doubted_within run =
+    within_behind run.ended (map doubt (harm_of run.calls run.state)) (told_of (doubted (outline_in run)).session) (doubted_told run.calls run.state)
 
--- what the records told before a pair was shown, and the calls of the turn that shows it, are told in the end
+-- what the records told before a pair was shown, and the calls of the turn that shows it, are told in the end; of its device
+-- what is told is doubted
 pub shown_made : (l : Logs) (lines : List (List ℕ)) (answers : List (Option StepAnswer)) (Devices : Told → Type 0) (Behind : Outline → Type 0) → ((t : Told) → Devices t → ComeBackFrom l (all_in t))
-    → (p : ShownAlong lines answers Devices Behind) → ComeBackFrom l (harms_of (called (run_after fresh p.before p.earlier) p.turn))
+    → (p : ShownAlong lines answers Devices Behind) → ComeBackFrom l (doubted_harms (called (run_after fresh p.before p.earlier) p.turn))
 shown_made l lines answers Devices Behind back p =
     let run : Run = called (run_after fresh p.before p.earlier) p.turn in
-    let last : Outline = outline_of (outline_in run) (p.bytes ∷ p.after) p.rest in
-    come_within l (harms_of run) (all_told last)
-    (all_within_trans (harms_of run) (all_told (outline_in run)) (all_told last) (outlined_within run) (outline_within (outline_in run) (p.bytes ∷ p.after) p.rest))
+    let first : Outline = doubted (outline_in run) in
+    let last : Outline = outline_of first (p.bytes ∷ p.after) p.rest in
+    come_within l (doubted_harms run) (all_told last)
+    (all_within_trans (doubted_harms run) (all_told first) (all_told last) (doubted_within run) (outline_within first (p.bytes ∷ p.after) p.rest))
     (back _ p.outline.devices)
 
-pub shown_before : (l : Logs) (run : Run) (turn : Turn) → ComeBackFrom l (harms_of (called run turn)) → ComeBackFrom l (harms_of run)
-shown_before l run turn come = come_within l (harms_of run) (harms_of (called run turn)) (called_within run turn) come
+pub shown_before : (l : Logs) (run : Run) (turn : Turn) → ComeBackFrom l (doubted_harms (called run turn)) → ComeBackFrom l (harms_of run)
+shown_before l run turn come = come_within l (harms_of run) (doubted_harms (called run turn)) (called_within run turn) come
 
 -- ---- how many sessions were begun
 

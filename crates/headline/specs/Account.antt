@@ -1,10 +1,11 @@
 -- What a run that was begun tells: its lines, the answer of each, which of them a legal history has, and the devices that
 -- came back. The laws of this crate speak of accounts. What `cache_main` concludes gives one of what the sink took
 -- (`RunsAreTold`).
-use Rattle.std.specs.Prelude.{◌≡◌, ℕ, ◌+◌, ◌⊎◌, if◌then◌else◌, List, [], ◌∷◌, ◌++◌, length, Option, Some, ⊤}
+use Rattle.std.specs.Prelude.{◌≡◌, ℕ, ◌+◌, ◌⊎◌, if◌then◌else◌, List, [], ◌∷◌, ◌++◌, length, map, true, Option, Some, ⊤}
+use Rattle.std.specs.List.{AllByRecursion}
 use Rattle.device_log.specs.Streams.{SourceRead, SinkWrite}
 use Rattle.edge_io.specs.Text.{text_read}
-use Rattle.logged_disk.specs.Device.{State as Device}
+use Rattle.logged_disk.specs.Device.{State as Device, TellsAll}
 use Rattle.script_lang.specs.declared.step.Step.{Step}
 use Rattle.script_lang.specs.declared.line.LineAnswer.{LineAnswer}
 use Rattle.script_lang.specs.declared.line.LineAnswer.TheVariants as line
@@ -12,7 +13,7 @@ use Rattle.script_lang.specs.declared.answer.StepAnswer.{StepAnswer}
 use Rattle.script_lang.specs.Grammar.{reading_of}
 use Rattle.script_run.specs.Run.{Harm, Run, fresh, loosened}
 use Rattle.script_run.specs.Turn.{Turn}
-use Rattle.script_run.specs.Behind.{harms_of}
+use Rattle.script_run.specs.Behind.{harm_of, harms_of}
 use Rattle.script_run.specs.Takes.{IsRun, LineShows, run_after}
 use Rattle.script_run.specs.Ledger.{IsReached, Ledger}
 use Rattle.reader_laws.specs.Along.{begins_session}
@@ -60,6 +61,14 @@ pub record ComeBackFrom (l : Logs) (harms : List Harm) : Type 0 where
   pub returned : l.now.returned ≡ l.before.returned ++ devices
   pub told : AreBack harms devices
 
+-- what was told of devices, of which that of the session is doubted: it did not tell its content to the end
+abbrev pub doubted_harms : Run → List Harm
+doubted_harms run = run.ended ++ map (λ (harm : Harm). record harm { damaged = true }) (harm_of run.calls run.state)
+
+-- each device that came back since told its content to the end
+abbrev pub AllTell : Logs → Type 0
+AllTell l = (devices : List Device) → l.now.returned ≡ l.before.returned ++ devices → AllByRecursion TellsAll devices
+
 -- how many sessions a line begins: a format whose numbers are accepted begins one
 abbrev pub begun_in : LineAnswer → ℕ
 begun_in (line.Step step) = if begins_session step then 1 else 0
@@ -81,10 +90,10 @@ pub record IsDeviceBehind (l : Logs) (lines : List (List ℕ)) (device : Device)
 -- ---- accounts
 
 -- the first of these lines shows a pair, in the run that the lines before them left; the calls of the turn that shows it are
--- in the log of the session's device
+-- in the log of the session's device, which did not tell its content to the end
 abbrev pub ShowsNext : Logs → Run → List (List ℕ) → Type 0
 ShowsNext l run [] = ⊥
-ShowsNext l run (bytes ∷ lines) = (turn : Turn) × LineShows run turn bytes × ComeBackFrom l (harms_of (called run turn))
+ShowsNext l run (bytes ∷ lines) = (turn : Turn) × LineShows run turn bytes × ComeBackFrom l (doubted_harms (called run turn))
 
 -- what a run tells
 pub record Account (l : Logs) : Type 0 where
@@ -111,6 +120,10 @@ pub record Account (l : Logs) : Type 0 where
   -- what the answers of all lines, and the records of these, tell of the devices that came back
   pub answered : ComeBackFrom l (all_told (outline_of blank lines answers))
   pub recorded : ComeBackFrom l (harms_of (run_after fresh told turns))
+
+-- where each device told its content to the end no line shows a pair: the legal history has all of them
+abbrev pub HonestRunsAreWhole : Type 0
+HonestRunsAreWhole = (l : Logs) → AllTell l → (a : Account l) → a.left ≡ []
 
 -- a line behind these asked for this step and was answered so
 pub record IsAnsweredBehind (lines : List (List ℕ)) (answers : List (Option StepAnswer)) (before : List (List ℕ))

@@ -1,5 +1,5 @@
 -- Determinism: what the source gave fixes what the sink took, where nothing was displaced.
-use Rattle.std.specs.Prelude.{◌≡◌, ℕ, List, [], ◌∷◌, ◌++◌, ◌⊎◌, true}
+use Rattle.std.specs.Prelude.{◌≡◌, ℕ, List, [], ◌++◌, ◌⊎◌, true}
 use Rattle.std.specs.List.{AllByRecursion}
 use Rattle.device_log.specs.Streams.{SourceRead, taken_by}
 use Rattle.edge_io.specs.Text.{text_read}
@@ -10,9 +10,8 @@ use Rattle.model_laws.specs.RoomLaws.{is_displacement}
 use Rattle.script_run.specs.Run.{fresh}
 use Rattle.script_run.specs.Turn.{Turn}
 use Rattle.script_run.specs.Behind.{harms_of}
-use Rattle.script_run.specs.Takes.{IsRun, LineShows, output_of, run_after}
+use Rattle.script_run.specs.Takes.{IsRun, output_of, run_after}
 use Rattle.script_laws.specs.Agreeing.{ShowsOtherAlong}
-use Rattle.run_promise.specs.Outline.{called}
 use Rattle.run_promise.specs.declared.status.Status.TheVariants as status
 use Rattle.run_promise.specs.Story.{Taken}
 use Rattle.headline.specs.Account.{ComeBackFrom, IsConcluded, Logs, OrShown}
@@ -59,19 +58,6 @@ pub record OneDisplaced (l m : Logs) (same : GiveSame l m) : Type 0 where
   pub taken : Taken (text_read same.reads) lines []
   pub displaces : HasDisplaced l lines ⊎ HasDisplaced m lines
 
--- one of these lines shows a pair, in a legal run of those before it; the log of a device of the run has the calls of the
--- turn that shows it, behind those of the earlier lines of its session
-pub record ShowsPairAmong (l : Logs) (lines : List (List ℕ)) : Type 0 where
-  pub before : List (List ℕ)
-  pub bytes : List ℕ
-  pub later : List (List ℕ)
-  pub lines_are : lines ≡ before ++ bytes ∷ later
-  pub earlier : List Turn
-  pub legal : IsRun fresh before earlier
-  pub turn : Turn
-  pub shows : LineShows (run_after fresh before earlier) turn bytes
-  pub made : ComeBackFrom l (harms_of (called (run_after fresh before earlier) turn))
-
 -- two legal runs of these lines come to a piece for which their devices gave two documents of one SHA-256; the logs of the
 -- devices of either run have the calls of its turns
 pub record ShowsOtherAmong (l m : Logs) (lines : List (List ℕ)) : Type 0 where
@@ -83,11 +69,11 @@ pub record ShowsOtherAmong (l m : Logs) (lines : List (List ℕ)) : Type 0 where
   pub made : ComeBackFrom l (harms_of (run_after fresh lines one))
   pub made_too : ComeBackFrom m (harms_of (run_after fresh lines other))
 
--- the lines of the text that both sources gave do the one in either run, or the other in both
+-- the lines of the text that both sources gave do so
 pub record ShowPair (l m : Logs) (same : GiveSame l m) : Type 0 where
   pub lines : List (List ℕ)
   pub taken : Taken (text_read same.reads) lines []
-  pub shows : (ShowsPairAmong l lines ⊎ ShowsPairAmong m lines) ⊎ ShowsOtherAmong l m lines
+  pub shows : ShowsOtherAmong l m lines
 
 -- two runs that were read to their end, over sources that gave the same and devices that were steady, wrote the same, or one
 -- of them displaced a piece

@@ -1,4 +1,5 @@
 // The sentences of the headline. These functions do nothing when they run.
+ghost use Rattle.headline.specs.Account.{HonestRunsAreWhole};
 ghost use Rattle.headline.specs.Reads.{FollowWasPut, GotIsWhole, HitIsWhole};
 ghost use Rattle.headline.specs.Readers.{EndIsRead};
 ghost use Rattle.headline.specs.Breaks.{BreakWasAborted, BreakWasPassed, GetWasPassed};
@@ -25,6 +26,12 @@ use script_laws::{
 /// as the status says. The other laws speak of every account.
 pub fn runs_are_told()
     ensures { RunsAreTold }
+{}
+
+/// Where each device told its content to the end, the legal history of an account has all lines of the run: no line shows
+/// two documents of one SHA-256.
+pub fn honest_runs_are_whole()
+    ensures { HonestRunsAreWhole }
 {}
 
 /// Each line answered `got` gave all that the writer of one put took, which an earlier line opened under the

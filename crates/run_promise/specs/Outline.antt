@@ -1,6 +1,6 @@
 -- What the answers of a run tell of its devices, whatever its records are worth: whether a session stands, which
 -- devices were given back, and up to which count their faults were told.
-use Rattle.std.specs.Prelude.{ℕ, ◌≡◌, max, false, List, [], ◌∷◌, ◌++◌, IsSome, Option, Some, None, option_map, ⊤}
+use Rattle.std.specs.Prelude.{ℕ, ◌≡◌, max, false, true, List, [], ◌∷◌, ◌++◌, IsSome, Option, Some, None, option_map, ⊤}
 use Rattle.tape_base.specs.declared.geometries.BadGeometry.{BadGeometry}
 use Rattle.tape_base.specs.Limits.{first_refusal}
 use Rattle.cache_model.specs.declared.cause.Cause.{Cause}
@@ -54,6 +54,10 @@ blank = record { session = None; ended = []; names = [] }
 -- what a run tells of its devices, of which that of the session may make more calls then
 abbrev pub outline_in : Run → Outline
 outline_in run = record { session = option_map (λ s. loosened (harm_in run.calls s)) run.state; ended = run.ended; names = run.names }
+
+-- what an outline tells of the session's device is doubted: where that told its content to the end, it is not so
+abbrev pub doubted : Outline → Outline
+doubted o = record { session = option_map (λ (harm : Harm). record harm { damaged = true }) o.session; ended = o.ended; names = o.names }
 
 -- a run of which behind a turn only this is known: that the session's device made the calls of that turn
 abbrev pub called : Run → Turn → Run

@@ -19,7 +19,7 @@ use Rattle.script_run.specs.Run.{Harm, Run, fresh, loosened, no_harm}
 use Rattle.script_run.specs.Turn.{Turn}
 use Rattle.script_run.specs.Behind.{harm_of}
 use Rattle.script_run.specs.Takes.{IsRun, run_after, LineShows}
-use Rattle.run_promise.specs.Outline.{Outline, blank, called, outline_in, told_of}
+use Rattle.run_promise.specs.Outline.{Outline, blank, called, doubted, outline_in, told_of}
 use Rattle.run_promise.specs.Lines.{AreAnswered, answers_of, outline_of, texts_before, texts_of}
 use Rattle.script_run.specs.Ledger.{Ledger, Deals}
 use Rattle.device_bay.specs.Calls.{Refusal}
@@ -74,7 +74,8 @@ pub record AnsweredFrom (o : Outline) (lines : List (List ℕ)) (answers : List 
 -- Or so it was up to some line, which shows two documents of one SHA-256: that as which a piece was placed that the line
 -- reads, and other bytes. Both are bytes, and the piece is live, so that numbers above 255, a line without a session, and
 -- equal strings show nothing. What the records told of devices up to that line stands, with the calls of the turn that shows the
--- pair, which the session's device made, and with what the answers tell from that line on.
+-- pair, which the session's device made, and with what the answers tell from that line on. That device did not tell its content to
+-- the end: what is told of it is doubted.
 pub record ShownAlong (lines : List (List ℕ)) (answers : List (Option StepAnswer)) (Devices : Told → Type 0) (Behind : Outline → Type 0) : Type 0 where
   pub before : List (List ℕ)
   pub bytes : List ℕ
@@ -86,7 +87,7 @@ pub record ShownAlong (lines : List (List ℕ)) (answers : List (Option StepAnsw
   pub says : answers ≡ answers_of fresh before earlier ++ rest
   pub turn : Turn
   pub shows : LineShows (run_after fresh before earlier) turn bytes
-  pub outline : AnsweredFrom (outline_in (called (run_after fresh before earlier) turn)) (bytes ∷ after) rest Devices Behind
+  pub outline : AnsweredFrom (doubted (outline_in (called (run_after fresh before earlier) turn))) (bytes ∷ after) rest Devices Behind
 
 -- Lines were taken from what the source gave since the first of these logs, and these bytes are in no line. Each step
 -- among them was answered, and this is what the text of their answers (of all but the last, and of all), what was told of

@@ -12,6 +12,7 @@ use Rattle.cache_model.specs.Permit.{Commit, Exhausted, Faulted, Finish, Intent,
 use Rattle.cache_model.specs.ToRead.{to_read}
 use Rattle.cache_model.specs.Vectors.{IsVectorAs}
 use Rattle.cache_model.specs.Verdict.{cuts_of, live_vector_of}
+use Rattle.call_laws.specs.Contents.{Contents, Untold}
 use Rattle.call_laws.specs.Moments.{At, IsToldAt}
 use Rattle.call_laws.specs.Progress.{AllDone, Leaves, Progress, Spends, Stops}
 use Rattle.call_laws.specs.Serves.{ServesFrom}
@@ -34,6 +35,7 @@ use Rattle.cache_calls.specs.declared.calls.Refusal as refused
 use Rattle.cache_calls.specs.declared.calls.Refusal.TheVariants as said
 use Rattle.cache_calls.specs.Adds.{Adds, IsOfPut}
 use Rattle.cache_calls.specs.Asked.{close_asks, ending_asks, progress_at, rest_asks, rest_rows, rows_at_close}
+use Rattle.cache_calls.specs.Standing.{IsToldClosed}
 use Rattle.cache_calls.specs.Writers.{Closes, IsComplete, NumberAtClose, SealsWhere, StopsAtLimit, WriterCloses, bytes_next, size_at_close}
 use Rattle.stripe_calls.specs.Answers.{answer_as, receipt_as}
 use Rattle.stripe_calls.specs.Seen.{at_by, written_as}
@@ -91,12 +93,13 @@ weighs s w row rest found key vector live =
 
 module _ (packed : Bool) (k l : Kept) (d e : Device) (now : ℕ) (w : Writer) (accounted : IsAccounted d.past e.past k l) where
   abbrev Served : List Intent → Progress → Result Receipt Refusal → Type 0
-  Served asked o result = ServesFrom IsVectorAs now (at_by packed k d) (at_by packed l e) asked o IsToldAt (NumberAtClose (written_as w) (answer_as receipt_as result))
+  Served asked o result =
+      ServesFrom (Untold e IsVectorAs) now (at_by packed k d) (at_by packed l e) asked o IsToldAt (NumberAtClose (written_as w) (answer_as receipt_as result))
 
   -- what is asked of an open put comes there, in each step that covers the call; or a pair is shown
   comes : (o : Progress) (result : Result Receipt Refusal) → writers.IsWriterOf (state_of k) w → is_writing (state_of k) w.put ≡ true
       → ((p : Permit) (added : List Rec) → closes.Spent p (state_of k) w result added → Spends p (state_of k) (closing.close_intents w) added o)
-      → ClosesAsAsked packed now d.past e.past k l w result → Served (ending_asks (written_as w)) o result
+      → ClosesAsAsked packed now d.past e k l w result → Served (ending_asks (written_as w)) o result
   comes o result own writing law h =
       let row = open_put (put_of (state_of k) w.put) writing in
       subst (λ is. Served is o result) (asks_are w)
@@ -126,7 +129,7 @@ module _ (packed : Bool) (k l : Kept) (d e : Device) (now : ℕ) (w : Writer) (a
       subst (λ left. Served own_asks (Leaves left) result) first (opened (Leaves (closing.close_intents w)) result writing h)
 
   pub close_serves : (result : Result Receipt Refusal) → writers.IsWriterOf (state_of k) w → is_writing (state_of k) w.put ≡ true
-      → ClosesWhere (state_of k) (state_of l) w result → ClosesAsAsked packed now d.past e.past k l w result
+      → ClosesWhere (state_of k) (state_of l) w result → ClosesAsAsked packed now d.past e k l w result
       → Served own_asks (progress_at w.put own_asks (answer_as receipt_as result)) result
   close_serves (Ok given) own writing is h =
       opened AllDone (Ok given) writing (comes AllDone (Ok given) own writing (λ p added. spends_done p (state_of k) (closing.close_intents w) added) h)
@@ -218,3 +221,9 @@ writer_closes t old new result own seals rested = record {
 pub writer_stays : (t : State) (w : Writer) → writers.IsWriterOf t w
     → WriterCloses (written_as w) (Err said.NoSuchWriter) t (written_as w)
 writer_stays t w own = record { seals = tt; rested = inl (record { put = refl; gathered = refl; cuts = refl }); writer = writer_as t w own }
+
+-- ---- what is told of the rest
+
+-- a caller tells it of the writer that it sees
+pub told_closed : (t : State) (w : Writer) (contents : Contents) → IsToldClosed t (written_as w) contents → closes.IsToldClosed t w contents
+told_closed t w contents h = record { rest = h.rest; vectors = h.vectors }

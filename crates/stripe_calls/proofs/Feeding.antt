@@ -10,6 +10,7 @@ use Rattle.cache_model.specs.State.{State, after_all, most_fragments}
 use Rattle.cache_model.specs.Kept.{Kept, state_of, with_records}
 use Rattle.cache_model.specs.Permit.{Exhausted, Fails, Faulted, Intent, ManyFragments, Overflow, Reason}
 use Rattle.cache_model.specs.Room.{placed_record}
+use Rattle.call_laws.specs.Contents.{Contents}
 use Rattle.call_laws.specs.Moments.{IsToldAt}
 use Rattle.call_laws.specs.Progress.{AllDone, Leaves, Progress, Stops}
 use Rattle.call_laws.specs.Serves.{ServesTold}
@@ -32,6 +33,7 @@ use Rattle.stripe_write.proofs.Cutting.{next_no_vector}
 use Rattle.stripe_write.proofs.Spending.{nothing_more}
 use Rattle.cache_calls.specs.Adds.{AddsSoundly, IsOfPut}
 use Rattle.cache_calls.specs.Asked.{cuts_next, fed_asks, progress_at, write_asks}
+use Rattle.cache_calls.specs.Standing.{IsToldWritten}
 use Rattle.cache_calls.specs.Writers.{CutsAs, IsCutting, LiveBefore, StopsAs, WriterGoesOn, Writes, fragment_records}
 use Rattle.stripe_calls.specs.Answers.{answer_as, same_as}
 use Rattle.stripe_calls.specs.Seen.{at_by, written_as}
@@ -225,3 +227,11 @@ write_goes s t old new bytes (Ok n) own gathers same = record {
   writer = writer_as t new own;
 }
 write_goes s t old new bytes (Err why) own gathers same = record { goes = same_writer old new same; writer = writer_as t new own }
+
+-- ---- what is told of a cut
+
+-- a caller tells it of the writer that it sees
+pub told_written : (s : State) (w : Writer) (bytes : List ℕ) (result : Result ℕ Refusal) (contents : Contents)
+    → IsToldWritten s (written_as w) bytes (answer_as same_as result) contents → writes.IsToldWritten s w bytes result contents
+told_written s w bytes (Ok n) contents h = h
+told_written s w bytes (Err why) contents h = tt

@@ -15,6 +15,7 @@ use Rattle.cache_model.specs.State.{Row, State}
 use Rattle.cache_model.specs.Kept.{Kept, state_of, with_records}
 use Rattle.cache_model.specs.Permit.{Done, Intent, Look, StopReading}
 use Rattle.cache_model.specs.Verdict.{live_vector_of}
+use Rattle.call_laws.specs.Contents.{Untold}
 use Rattle.call_laws.specs.Moments.{IsToldAt}
 use Rattle.call_laws.specs.Progress.{AllDone}
 use Rattle.call_laws.specs.Serves.{ServesFrom, ServesTold}
@@ -91,7 +92,7 @@ module _ (packed : Bool) (k l : Kept) (d e : Device) (who : Actor) (key : Key) (
   Found result = IfOk result (Opens (state_of k) (state_of l) d e who key request)
 
   pub look_serves : (now : ℕ) → IsAccounted d.past e.past k l → (result : Result Opened AllocError) → Added result → Found result → OnErr result (l ≡ k)
-      → ServesFrom IsVectorAs now (at_by packed k d) (at_by packed l e) asked (unless_wanting asked (given_as opened_as result)) IsToldAt
+      → ServesFrom (Untold e IsVectorAs) now (at_by packed k d) (at_by packed l e) asked (unless_wanting asked (given_as opened_as result)) IsToldAt
       (HasItsTable reading_as (given_as opened_as result))
   look_serves now accounted (Ok given) adds h same =
       let added : List Rec = lookups.open_adds (state_of k) who key request (answer_in given) in

@@ -3,19 +3,22 @@ use Rattle.std.proofs.Common.{◌≡◌, ℕ, Bool, List, [], ◌∷◌, ◌++�
 use Rattle.std.specs.Prelude.{IfOk, OnErr, Option, Some, None, option_map}
 use Rattle.std.specs.declared.alloc.AllocError.{AllocError}
 use Rattle.fragment_table.specs.Table.{Table}
-use Rattle.logged_disk.specs.Device.{State as Device}
+use Rattle.logged_disk.specs.Device.{State as Device, TellsAll}
+use Rattle.cyclone.specs.Cyclone.{Seen}
 use Rattle.cache_model.specs.declared.record.Rec.{Rec}
 use Rattle.cache_model.specs.State.{Row, State}
 use Rattle.cache_model.specs.Kept.{Kept, state_of, with_records}
 use Rattle.cache_model.specs.Legal.{answer_record, live_next}
 use Rattle.cache_model.specs.Permit.{Done, Intent, Permit, ReadOn}
 use Rattle.cache_model.specs.Vectors.{IsVectorAs}
+use Rattle.call_laws.specs.Contents.{Contents, Untold}
 use Rattle.call_laws.specs.Moments.{NothingKnown}
 use Rattle.call_laws.specs.Progress.{AllDone}
 use Rattle.call_laws.specs.Serves.{ServesFrom}
 use Rattle.call_laws.proofs.Grown.{one_spends}
 use Rattle.stripe_core.specs.Between.{IsBetween}
 use Rattle.stripe_core.specs.Faults.{IsAccounted}
+use Rattle.stripe_core.specs.Standing.{AreStanding}
 use Rattle.stripe_read.specs.declared.reader.Reader.{Reader}
 use Rattle.stripe_read.specs.declared.reading.NextPiece.{NextPiece}
 use Rattle.stripe_read.specs.declared.reading.NextPiece.TheVariants as piece
@@ -25,6 +28,7 @@ use Rattle.stripe_read.specs.Readers as readers
 use Rattle.cache_calls.specs.Asked.{unless_wanting}
 use Rattle.cache_calls.specs.Keeping.{StaysUnharmed}
 use Rattle.cache_calls.specs.Readers.{IsCountedBreak, IsFragment, IsGiven, IsGivenAs, IsOtherNext, IsToldTo, ReaderGoesOn, ReadsNext, next_behind, next_trouble, noted, read_adds}
+use Rattle.cache_calls.specs.Standing.{GivesPayload}
 use Rattle.stripe_calls.specs.Answers.{given_as, piece_as}
 use Rattle.stripe_calls.specs.Seen.{at_by, reading_as}
 use Rattle.stripe_calls.proofs.Serving.{all_left, covers_in, serves_by}
@@ -79,9 +83,28 @@ counted_as faults s r (piece.End size) h = tt
 counted_as faults s r (piece.NotYet cut) h = tt
 counted_as faults s r (piece.Broken why) h = elim h [ inl is ↦ inl is | inr counted ↦ inr (counted_cause faults why counted) ]
 
+-- the payload that is told of the fragment
+exact_as : (contents : Contents) (o : Option Row) (given : NextPiece) (into : List ℕ) → nexts.GivesPayload contents o given into
+    → GivesPayload contents o (Ok (piece_as given)) into
+exact_as contents None given into h = tt
+exact_as contents (Some row) (piece.Piece index size) into h = h
+exact_as contents (Some row) (piece.End size) into h = tt
+exact_as contents (Some row) (piece.NotYet cut) into h = tt
+exact_as contents (Some row) (piece.Broken why) into h = tt
+
+none_given : (contents : Contents) (o : Option Row) (error : AllocError) (into : List ℕ) → GivesPayload contents o (Err error) into
+none_given contents None error into = tt
+none_given contents (Some row) error into = tt
+
 -- ---- the call
 
-module _ (packed : Bool) (k l : Kept) (d e : Device) (r : Reader) where
+module _ (packed : Bool) (k l : Kept) (old new : Seen) (r : Reader) where
+  abbrev d : Device
+  d = old.device
+
+  abbrev e : Device
+  e = new.device
+
   abbrev asked : List Intent
   asked = ReadOn r.reader ∷ []
 
@@ -89,18 +112,19 @@ module _ (packed : Bool) (k l : Kept) (d e : Device) (r : Reader) where
   Added result = IfOk result (λ given. l ≡ with_records k (nexts.read_adds (state_of k) r given))
 
   abbrev Read : Result NextPiece AllocError → List ℕ → Type 0
-  Read result into = IfOk result (λ given. ReadsOn (state_of k) d e r given into)
+  Read result into = IfOk result (λ given. ReadsOn (state_of k) old new r given into)
 
   pub next_serves : (now : ℕ) (into : List ℕ) → IsAccounted d.past e.past k l → (result : Result NextPiece AllocError) → Added result → Read result into
       → OnErr result (l ≡ k)
-      → ServesFrom IsVectorAs now (at_by packed k d) (at_by packed l e) asked (unless_wanting asked (given_as piece_as result)) (IsToldTo (reading_as r)) NothingKnown
+      → ServesFrom (Untold e IsVectorAs) now (at_by packed k d) (at_by packed l e) asked (unless_wanting asked (given_as piece_as result))
+      (IsToldTo (reading_as r)) NothingKnown
   next_serves now into accounted (Ok given) adds h same =
       let added : List Rec = nexts.read_adds (state_of k) r given in
       serves_by accounted asked AllDone (IsToldTo (reading_as r)) added adds
       (λ p past packs moment step told. inl (one_spends p (state_of k) (ReadOn r.reader) added Done (h.does p step (table_is (state_of k) r told.1)), λ later. tt))
   next_serves now into accounted (Err error) adds h same = all_left accounted asked (IsToldTo (reading_as r)) same (λ later. tt)
 
-  is_given : (given : NextPiece) (into : List ℕ) → ReadsOn (state_of k) d e r given into → IsGiven (at_by packed k d) (at_by packed l e) (reading_as r) (piece_as given) into
+  is_given : (given : NextPiece) (into : List ℕ) → ReadsOn (state_of k) old new r given into → IsGiven (at_by packed k d) (at_by packed l e) (reading_as r) (piece_as given) into
   is_given given into h = λ now p earlier calls past step. given_so p (state_of k) r given into (h.gives p (covers_in d.past e.past past step))
 
   pub next_gives : (into : List ℕ) (result : Result NextPiece AllocError) → Added result → Read result into → OnErr result (l ≡ k)
@@ -112,6 +136,11 @@ module _ (packed : Bool) (k l : Kept) (d e : Device) (r : Reader) where
     read = are_seen packed k l d e h.seen;
   }
   next_gives into (Err error) adds h same = same
+
+  pub next_exact : (into : List ℕ) (result : Result NextPiece AllocError) → Read result into → TellsAll e → (contents : Contents)
+      → AreStanding contents (state_of k) old → GivesPayload contents (live_next (state_of k) (readers.as_row r)) (given_as piece_as result) into
+  next_exact into (Ok given) h tells contents stands = exact_as contents _ given into (h.contents tells contents stands)
+  next_exact into (Err error) h tells contents stands = none_given contents _ error into
 
   other_next : nexts.IsOtherNext (state_of k) r → IsOtherNext (state_of k) (reading_as r)
   other_next h = record { entry = h.entry; row = h.row; found = h.found; cut = h.cut; live = h.live; unlike = h.unlike }

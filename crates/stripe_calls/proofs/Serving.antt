@@ -13,9 +13,10 @@ use Rattle.cache_model.specs.Kept.{Kept, state_of, with_records}
 use Rattle.cache_model.specs.Permit.{Done, End, Fails, Intent, IsAmong, IsSetBy, Permit, Reason, Stays, to_do}
 use Rattle.cache_model.specs.Given.{effects_in, effects_told}
 use Rattle.cache_model.specs.Legal.{Does, MayGrow, nothing}
-use Rattle.cache_model.specs.Pair.{IsKeyPair, IsPair, ShowsPair}
+use Rattle.cache_model.specs.Pair.{Documents, IsKeyPair, IsPair, ShowsPair}
 use Rattle.cache_model.specs.ToRead.{asked_for, to_read}
 use Rattle.cache_model.specs.Vectors.{IsVectorAs}
+use Rattle.call_laws.specs.Contents.{Untold}
 use Rattle.call_laws.specs.Moments.{Encloses, Facts, NothingKnown, so_far}
 use Rattle.call_laws.specs.Progress.{AllDone, Leaves, Progress, Spends, Stops, progress_of, refused_work}
 use Rattle.call_laws.specs.Serves.{ServesFrom}
@@ -99,10 +100,10 @@ one_stays rest h = h rest None
 
 -- ---- a pair
 
-pub shows_asked : {p : Permit} {s : State} {key : Key} {i : Intent} (rest : List Intent) (added : List Rec)
+pub shows_asked : {P : Documents} {p : Permit} {s : State} {key : Key} {i : Intent} (rest : List Intent) (added : List Rec)
     → ((row : Row) → live_vector_of s key ≡ Some row → to_read s i ≡ Some row)
-    → IsKeyPair IsVectorAs p s key → ShowsPair IsVectorAs p s (i ∷ rest) added
-shows_asked {p} {s} {key} {i} rest added reads h = record {
+    → IsKeyPair P p s key → ShowsPair P p s (i ∷ rest) added
+shows_asked {P} {p} {s} {key} {i} rest added reads h = record {
   before = [];
   rest = added;
   left = to_do (i ∷ rest);
@@ -111,19 +112,21 @@ shows_asked {p} {s} {key} {i} rest added reads h = record {
   pair = read;
 }
   where
-    read : IsPair IsVectorAs p s i
+    read : IsPair P p s i
     read = record { row = h.row; read = asked_for (reads h.row h.vector); pair = h.pair }
 
 -- ---- calls
 
--- What a call brings in each step, where this is known before: what is asked there, and what is known behind; or a pair.
+-- What a call brings in each step, where this is known before: what is asked there, and what is known behind; or a pair, on a
+-- device that did not tell its content.
 abbrev pub Brings : (packed : Bool) (now : ℕ) (k l : Kept) (d e : Device) → List Intent → Progress → (before known : Facts) → List Rec → Type 0
 Brings packed now k l d e asked o before known added = (p : Permit) (past : List Call) → p.packed ≡ packed → p.now ≡ now → Covers p d.past e.past
-    → before past (state_of k) → (Spends p (state_of k) asked added o × ((later : List Call) → known later (state_of l))) ⊎ ShowsPair IsVectorAs p (state_of k) asked added
+    → before past (state_of k)
+    → (Spends p (state_of k) asked added o × ((later : List Call) → known later (state_of l))) ⊎ ShowsPair (Untold e IsVectorAs) p (state_of k) asked added
 
 module _ {packed : Bool} {k l : Kept} {d e : Device} (accounted : IsAccounted d.past e.past k l) where
   pub serves_by : {now : ℕ} {known : Facts} (asked : List Intent) (o : Progress) (before : Facts) (added : List Rec) → l ≡ with_records k added
-      → Brings packed now k l d e asked o before known added → ServesFrom IsVectorAs now (at_by packed k d) (at_by packed l e) asked o before known
+      → Brings packed now k l d e asked o before known added → ServesFrom (Untold e IsVectorAs) now (at_by packed k d) (at_by packed l e) asked o before known
   serves_by {now} {known} asked o before added adds law =
       let calls : List Call = accounted.faults.made in
       let same : added ≡ accounted.added = same_added k l added accounted.added adds accounted.adds in
@@ -147,12 +150,12 @@ module _ {packed : Bool} {k l : Kept} {d e : Device} (accounted : IsAccounted d.
   -- one group of records
   pub group_serves : {now : ℕ} (i : Intent) (end : End) (before : Facts) (added : List Rec) → l ≡ with_records k added
       → ((p : Permit) → p.packed ≡ packed → p.now ≡ now → Covers p d.past e.past → Does p (state_of k) i added end)
-      → ServesFrom IsVectorAs now (at_by packed k d) (at_by packed l e) (i ∷ []) (progress_of i end) before NothingKnown
+      → ServesFrom (Untold e IsVectorAs) now (at_by packed k d) (at_by packed l e) (i ∷ []) (progress_of i end) before NothingKnown
   group_serves i end before added adds law = serves_by (i ∷ []) (progress_of i end) before added adds
       (λ p past packs moment step told. inl (one_spends p (state_of k) i added end (law p packs moment step), λ later. tt))
 
   -- no record, and all is left
   pub all_left : {now : ℕ} {known : Facts} (asked : List Intent) (before : Facts) → l ≡ k → ((later : List Call) → known later (state_of l))
-      → ServesFrom IsVectorAs now (at_by packed k d) (at_by packed l e) asked (Leaves asked) before known
+      → ServesFrom (Untold e IsVectorAs) now (at_by packed k d) (at_by packed l e) asked (Leaves asked) before known
   all_left asked before same behind =
       serves_by asked (Leaves asked) before [] (adds_none k l same) (λ p past packs moment step told. inl (nothing, behind))

@@ -2,8 +2,9 @@
 use Rattle.logged_disk.specs.declared.device.Disk.{Ghosts as DiskGhosts}
 use Rattle.dir_table.specs.declared.directory.Directory.{Ghosts as DirectoryGhosts}
 use Rattle.cache_chronicle.specs.declared.chronicle.Chronicle.{Ghosts as ChronicleGhosts}
+use Rattle.call_laws.specs.Contents.{Contents}
 use Rattle.call_laws.specs.Moments.{At}
-use Rattle.stripe_core.specs.Between.{IsResting}
+use Rattle.stripe_core.specs.Between.{IsResting, StandIn}
 use Rattle.stripe_calls.specs.declared.cache.StripeCache.{StripeCache}
 use Rattle.stripe_calls.specs.Seen.{at_in}
 
@@ -15,3 +16,7 @@ module _ {D R C : Type 0} {d : DiskGhosts D} {r : DirectoryGhosts R} {c : Chroni
   -- what holds of it between calls
   abbrev pub IsCache : StripeCache D R C d r c → Type 0
   IsCache cache = IsResting cache.stripe
+
+  -- what is told of its pieces stands
+  abbrev pub StandsIn : StripeCache D R C d r c → Contents → Type 0
+  StandsIn cache contents = StandIn contents cache.stripe

@@ -18,9 +18,9 @@ use stripe_write::{Writer, abort_write, close_write, open_write, remove, write};
 use tape_base::{Actor, Geometry, Key};
 
 impl<D: Disk, R: Directory + Drop, C: Chronicle> Calls for StripeCache<D, R, C> {
-    ghost use Rattle.stripe_calls.specs.Cache.{IsCache, at_of};
+    ghost use Rattle.stripe_calls.specs.Cache.{IsCache, StandsIn, at_of};
     ghost use Rattle.stripe_calls.specs.Seen.{reading_as, written_as};
-    ghost use Rattle.stripe_calls.specs.Resting.{is_at_rest};
+    ghost use Rattle.stripe_calls.specs.Resting.{is_at_rest, is_recorded, vectors_listed, where_told};
 
     type Writer = Writer;
 
@@ -29,6 +29,8 @@ impl<D: Disk, R: Directory + Drop, C: Chronicle> Calls for StripeCache<D, R, C> 
     ghost at = { at_of };
 
     ghost holds = { IsCache };
+
+    ghost stands = { StandsIn };
 
     ghost written = { written_as };
 
@@ -99,6 +101,12 @@ impl<D: Disk, R: Directory + Drop, C: Chronicle> Calls for StripeCache<D, R, C> 
     }
 
     ghost at_rest = { is_at_rest };
+
+    ghost vectors_listed = { vectors_listed };
+
+    ghost recorded = { is_recorded };
+
+    ghost where_told = { where_told };
 }
 
 // Whether the put of a writer is open.

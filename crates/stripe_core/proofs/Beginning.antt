@@ -9,7 +9,7 @@ use Rattle.doc_header.specs.Reading.{document_digest}
 use Rattle.dir_table.specs.declared.rows.DirRow.{DirRow}
 use Rattle.dir_table.specs.declared.window.Window.{Window}
 use Rattle.dir_table.specs.Wrap.{rows_from}
-use Rattle.agg_buffer.specs.Buffer.{Buffer, filled_of}
+use Rattle.agg_buffer.specs.Buffer.{Buffer, bytes_at, filled_of}
 use Rattle.cyclone.specs.Cyclone.{Seen, IsTurning, BeginsNext, cursor_next as cursor_behind}
 use Rattle.cache_model.specs.declared.record.Rec.TheVariants as rec
 use Rattle.cache_model.specs.State.{State, Row, cursor_next, floor_next, floor_now, place_now, state_after}
@@ -18,18 +18,45 @@ use Rattle.cache_model.proofs.Laps.{next_above}
 use Rattle.cache_model.proofs.Sound.{later_began}
 use Rattle.stripe_core.specs.Records.{IsWrittenOut}
 use Rattle.stripe_core.proofs.Intact.{written_intact}
-use Rattle.stripe_core.specs.Held.{IsBufferedWhereNew, IsHeld, IsIntactWhereWritten, entry_of, times}
+use Rattle.stripe_core.specs.Held.{IsBuffered, IsBufferedWhereNew, IsHeld, IsIntactWhereWritten, entry_of, times}
 use Rattle.stripe_core.proofs.Entries.{kept, times-filter, times-permutation}
 use Rattle.stripe_core.proofs.Counts.{is_between, later_between}
 use Rattle.stripe_core.proofs.Holding.{AreCounted, counted, end_is, entered, floor_is, next_is, none_behind, unbounded}
 
 -- no piece stands at or behind the next buffer
-none_new : (b : Buffer) (low high : ℕ) (rows : List Row) → AreRising low rows high → high ≤ b.cursor → AllByRecursion (IsBufferedWhereNew b) rows
-none_new b low high [] r h = tt
-none_new b low high (row ∷ rows) r h =
+pub none_new : (P : Row → Type 0) (cursor low high : ℕ) (rows : List Row) → AreRising low rows high → high ≤ cursor
+    → AllByRecursion (λ row. cursor ≤ row.place → P row) rows
+none_new P cursor low high [] r h = tt
+none_new P cursor low high (row ∷ rows) r h =
     let ends : row.place + row.blocks ≤ high = r.2 in
     let some : 0 < row.blocks = r.1 in
-    (λ above. absurd (omega (arith, ends, some, h, above)), none_new b (row.place + 1) high rows r.3 h)
+    (λ above. absurd (omega (arith, ends, some, h, above)), none_new P cursor (row.place + 1) high rows r.3 h)
+
+-- on one side of a place or on the other
+pub either_side : (a b : ℕ) → ((a ≤ b) ⊎ (b < a))
+either_side a b = grind arith
+
+-- ---- what was written
+
+pub next_behind : (s : State) (c : Seen) → IsHeld s c → place_now s ≤ cursor_next s
+next_behind s c held = next_above s.geometry s.cursor s.filled held.sound.room held.sound.lap
+
+-- what holds of the bytes of a piece that was written before, or of one that this buffer wrote, holds of those that stand there
+pub was_intact : (P : List ℕ → Type 0) (s : State) (c : Seen) (row : Row) → IsHeld s c → IsWrittenOut c → 0 < row.blocks
+    → (floor_now s ≤ row.place → row.place < s.cursor → P (span (content_of c.device) (slot_of s.geometry row.place) row.blocks))
+    → IsBufferedWhereNew c.buffer row → (c.buffer.cursor ≤ row.place → P (bytes_at c.buffer row.place row.blocks))
+    → floor_next s ≤ row.place → P (span (content_of c.device) (slot_of s.geometry row.place) row.blocks)
+was_intact P s c row held out some written buffered new low = by (either_side s.cursor row.place)
+  where
+    by : ((s.cursor ≤ row.place) ⊎ (row.place < s.cursor)) → P (span (content_of c.device) (slot_of s.geometry row.place) row.blocks)
+    by (inl above) =
+        let from : c.buffer.cursor ≤ row.place = let same : c.buffer.cursor ≡ s.cursor = held.cursor in omega (arith, same, above) in
+        subst (λ g. P (span (content_of c.device) (slot_of g row.place) row.blocks)) held.geometry
+        (written_intact P c.geometry c.buffer (content_of c.device) row held.turning.few held.turning.lap out.whole out.written some
+        (buffered from).filled (new from))
+    by (inr below) = written (let behind = next_behind s c held in omega (arith, low, behind)) below
+
+-- ---- the next buffer
 
 module _ (s : State) (c new : Seen) (held : IsHeld s c) (out : IsWrittenOut c) (begins : BeginsNext c new) (turning : IsTurning new) where
   abbrev after : State
@@ -39,7 +66,7 @@ module _ (s : State) (c new : Seen) (held : IsHeld s c) (out : IsWrittenOut c) (
   cursor_is = next_is s c held
 
   behind : place_now s ≤ cursor_next s
-  behind = next_above s.geometry s.cursor s.filled held.sound.room held.sound.lap
+  behind = next_behind s c held
 
   new_cursor : new.buffer.cursor ≡ cursor_next s
   new_cursor = ap (λ (b : Buffer). b.cursor) begins.buffer ∙ cursor_is
@@ -77,18 +104,6 @@ module _ (s : State) (c new : Seen) (held : IsHeld s c) (out : IsWrittenOut c) (
   counts : AreCounted after new
   counts = record { each = count_at }
 
-  -- a piece that was written before, or that this buffer wrote, is intact
-  was_intact : (row : Row) → row.place + row.blocks ≤ place_now s → 0 < row.blocks → IsIntactWhereWritten s (content_of c.device) row → IsBufferedWhereNew c.buffer row
-      → floor_next s ≤ row.place → ((s.cursor ≤ row.place) ⊎ (row.place < s.cursor)) → document_digest (span (content_of c.device) (slot_of s.geometry row.place) row.blocks) ≡ row.digest
-  was_intact row ends some written buffered low (inl above) =
-      subst (λ g. document_digest (span (content_of c.device) (slot_of g row.place) row.blocks) ≡ row.digest) held.geometry
-      (written_intact c.geometry c.buffer (content_of c.device) row held.turning.few held.turning.lap out.whole out.written some
-      (buffered (let same : c.buffer.cursor ≡ s.cursor = held.cursor in omega (arith, same, above))))
-  was_intact row ends some written buffered low (inr below) = (written (omega (arith, low, behind)) below).digest
-
-  either_side : (a b : ℕ) → ((a ≤ b) ⊎ (b < a))
-  either_side a b = grind arith
-
   all_intact : (low : ℕ) (rows : List Row) → AreRising low rows (place_now s) → AllByRecursion (IsIntactWhereWritten s (content_of c.device)) rows
       → AllByRecursion (IsBufferedWhereNew c.buffer) rows → AllByRecursion (IsIntactWhereWritten after (content_of c.device)) rows
   all_intact low [] rising written buffered = tt
@@ -96,7 +111,8 @@ module _ (s : State) (c new : Seen) (held : IsHeld s c) (out : IsWrittenOut c) (
       let ends : row.place + row.blocks ≤ place_now s = rising.2 in (
         λ from below. record {
           ends = omega (arith, ends, behind);
-          digest = was_intact row ends rising.1 written.0 buffered.0 from (either_side s.cursor row.place);
+          digest = was_intact (λ bytes. document_digest bytes ≡ row.digest) s c row held out rising.1
+              (λ from below. (written.0 from below).digest) buffered.0 (λ new. (buffered.0 new).digest) from;
         },
         all_intact (row.place + 1) rows rising.3 written.1 buffered.1,
       )
@@ -109,7 +125,8 @@ module _ (s : State) (c new : Seen) (held : IsHeld s c) (out : IsWrittenOut c) (
     cursor = new_cursor;
     filled = new_filled;
     entered = entered after new counts;
-    buffered = none_new new.buffer s.geometry.content (place_now s) s.rows held.sound.rising (omega (arith, new_cursor, behind));
+    buffered = none_new (IsBuffered new.buffer) new.buffer.cursor s.geometry.content (place_now s) s.rows held.sound.rising
+        (omega (arith, new_cursor, behind));
     intact = subst (λ (d : Device). TellsAll d → AllByRecursion (IsIntactWhereWritten after (content_of d)) s.rows) (sym begins.device)
         (λ told. all_intact s.geometry.content s.rows held.sound.rising (held.intact told) held.buffered);
     laps = held.laps;

@@ -1,14 +1,18 @@
 -- What every call keeps, of no call and of one behind another.
 use Rattle.std.proofs.Common.{◌≡◌, ◌≤◌, refl, sym, ap, subst, arith}
-use Rattle.logged_disk.specs.Device.{State as Device}
+use Rattle.logged_disk.specs.Device.{State as Device, TellsAll}
 use Rattle.logged_disk.specs.declared.device.Disk.{Ghosts as DiskGhosts}
 use Rattle.logged_disk.proofs.GoingOn.{goes_further, stays_as}
 use Rattle.dir_table.specs.declared.directory.Directory.{Ghosts as DirectoryGhosts}
 use Rattle.cache_chronicle.specs.declared.chronicle.Chronicle.{Ghosts as ChronicleGhosts}
+use Rattle.cache_model.specs.State.{State}
 use Rattle.cache_model.specs.Kept.{state_of}
 use Rattle.cache_model.specs.Legal.{IsQuiet}
+use Rattle.call_laws.specs.Contents.{AnyContents, Contents}
 use Rattle.stripe_core.specs.declared.stripe.Stripe.{Stripe}
-use Rattle.stripe_core.specs.Between.{Between, Continues, IsResting, Proceeds, Rests}
+use Rattle.stripe_core.specs.Between.{Between, Continues, ContinuesWith, IsResting, Proceeds, Rests, RestsWith}
+use Rattle.cyclone.specs.Cyclone.{Seen}
+use Rattle.stripe_core.specs.Standing.{AreStanding}
 use Rattle.stripe_core.specs.Stripe.{IsStripe, kept_in, seen_in, state_in}
 use Rattle.stripe_core.proofs.Between.{accounted_none, accounted_then, between-trans, between_same}
 
@@ -17,6 +21,14 @@ pub no_less : (a b : Device) → b ≡ a → a.faults ≤ b.faults
 no_less a b same =
     let counts : b.faults ≡ a.faults = ap (λ (d : Device). d.faults) same in
     omega (arith, counts)
+
+-- what is told stands, where it does on a device that tells its content
+pub standing_where_told : (contents : Contents) (s : State) (c : Seen) → (TellsAll c.device → AreStanding contents s c) → AreStanding contents s c
+standing_where_told contents s c h = record {
+  buffered = λ tells. (h tells).buffered tells;
+  written = λ tells. (h tells).written tells;
+  recorded = λ tells. (h tells).recorded tells;
+}
 
 module _ {D R C : Type 0} {d : DiskGhosts D} {r : DirectoryGhosts R} {c : ChronicleGhosts C} where
   pub between_then : (s t u : Stripe D R C d r c) → Between s t → Between t u → Between s u
@@ -29,15 +41,41 @@ module _ {D R C : Type 0} {d : DiskGhosts D} {r : DirectoryGhosts R} {c : Chroni
   continues_same t stripe = record {
     stripe = stripe;
     between = between_same (seen_in t).device (seen_in t).device (kept_in t) (kept_in t) refl refl;
+    contents = λ contents told stands. stands;
     later = omega arith;
   }
 
-  pub continues_then : (s t u : Stripe D R C d r c) → Continues s t → Continues t u → Continues s u
-  continues_then s t u first next = record {
+  -- of calls that place something, where what is to be told of both is told
+  pub continues_with_then : (Told First Next : Contents → Type 0) (s t u : Stripe D R C d r c)
+      → ((contents : Contents) → TellsAll (seen_in u).device → Told contents → First contents × Next contents)
+      → ContinuesWith First s t → ContinuesWith Next t u → ContinuesWith Told s u
+  continues_with_then Told First Next s t u both first next = record {
     stripe = next.stripe;
     between = between_then s t u first.between next.between;
+    contents = λ contents told stands. standing_where_told contents (state_in u) (seen_in u) (λ tells.
+        let both_told = both contents tells told in
+        next.contents contents both_told.1 (first.contents contents both_told.0 stands));
     later = omega (arith, first.later, next.later);
   }
+
+  pub continues_then : (s t u : Stripe D R C d r c) → Continues s t → Continues t u → Continues s u
+  continues_then s t u first next = continues_with_then AnyContents AnyContents AnyContents s t u (λ contents tells told. (tt, tt)) first next
+
+  -- what places nothing may be told to place anything
+  pub continues_with : (Told : Contents → Type 0) (s t : Stripe D R C d r c) → Continues s t → ContinuesWith Told s t
+  continues_with Told s t continues = record {
+    stripe = continues.stripe;
+    between = continues.between;
+    contents = λ contents told stands. continues.contents contents tt stands;
+    later = continues.later;
+  }
+
+  -- what adds no record, and then what places something, of which the state is asked what to tell
+  pub continues_behind : (Placed : State → Contents → Type 0) (s t u : Stripe D R C d r c) → Continues s t → kept_in t ≡ kept_in s → ContinuesWith (Placed (state_in t)) t u
+      → ContinuesWith (Placed (state_in s)) s u
+  continues_behind Placed s t u first same next =
+      continues_with_then (Placed (state_in s)) AnyContents (Placed (state_in t)) s t u
+      (λ contents tells told. (tt, subst (λ k. Placed (state_of k) contents) (sym same) told)) first next
 
   -- ---- from rest to rest
 
@@ -45,25 +83,46 @@ module _ {D R C : Type 0} {d : DiskGhosts D} {r : DirectoryGhosts R} {c : Chroni
   rests_same t resting = record {
     resting = resting;
     between = between_same (seen_in t).device (seen_in t).device (kept_in t) (kept_in t) refl refl;
+    contents = λ contents told stands. stands;
     later = omega arith;
   }
 
-  pub rests_then : (s t u : Stripe D R C d r c) → Rests s t → Rests t u → Rests s u
-  rests_then s t u first next = record {
+  pub rests_with_then : (Told First Next : Contents → Type 0) (s t u : Stripe D R C d r c)
+      → ((contents : Contents) → TellsAll (seen_in u).device → Told contents → First contents × Next contents)
+      → RestsWith First s t → RestsWith Next t u → RestsWith Told s u
+  rests_with_then Told First Next s t u both first next = record {
     resting = next.resting;
     between = between_then s t u first.between next.between;
+    contents = λ contents told stands. standing_where_told contents (state_in u) (seen_in u) (λ tells.
+        let both_told = both contents tells told in
+        next.contents contents both_told.1 (first.contents contents both_told.0 stands));
     later = omega (arith, first.later, next.later);
   }
 
-  pub rests_continues : (s t : Stripe D R C d r c) → Rests s t → Continues s t
-  rests_continues s t rests = record { stripe = rests.resting.stripe; between = rests.between; later = rests.later }
+  pub rests_then : (s t u : Stripe D R C d r c) → Rests s t → Rests t u → Rests s u
+  rests_then s t u first next = rests_with_then AnyContents AnyContents AnyContents s t u (λ contents tells told. (tt, tt)) first next
 
-  pub continues_rests : (s t : Stripe D R C d r c) → Continues s t → IsQuiet (state_in t) → Rests s t
-  continues_rests s t continues quiet = record {
+  pub rests_with : (Told : Contents → Type 0) (s t : Stripe D R C d r c) → Rests s t → RestsWith Told s t
+  rests_with Told s t rests = record {
+    resting = rests.resting;
+    between = rests.between;
+    contents = λ contents told stands. rests.contents contents tt stands;
+    later = rests.later;
+  }
+
+  pub rests_continues : (s t : Stripe D R C d r c) → Rests s t → Continues s t
+  rests_continues s t rests = record { stripe = rests.resting.stripe; between = rests.between; contents = rests.contents; later = rests.later }
+
+  pub continues_with_rests : (Told : Contents → Type 0) (s t : Stripe D R C d r c) → ContinuesWith Told s t → IsQuiet (state_in t) → RestsWith Told s t
+  continues_with_rests Told s t continues quiet = record {
     resting = record { stripe = continues.stripe; quiet = quiet };
     between = continues.between;
+    contents = continues.contents;
     later = continues.later;
   }
+
+  pub continues_rests : (s t : Stripe D R C d r c) → Continues s t → IsQuiet (state_in t) → Rests s t
+  continues_rests s t continues quiet = continues_with_rests AnyContents s t continues quiet
 
   -- behind a call that adds no record the stripe is still at rest
   pub still_resting : (s t : Stripe D R C d r c) → IsStripe t → kept_in t ≡ kept_in s → IsResting s → IsResting t
@@ -73,6 +132,7 @@ module _ {D R C : Type 0} {d : DiskGhosts D} {r : DirectoryGhosts R} {c : Chroni
   continues_still s t continues same resting = record {
     resting = still_resting s t continues.stripe same resting;
     between = continues.between;
+    contents = continues.contents;
     later = continues.later;
   }
 
@@ -80,6 +140,7 @@ module _ {D R C : Type 0} {d : DiskGhosts D} {r : DirectoryGhosts R} {c : Chroni
   then_rests s t u first next = record {
     resting = next.resting;
     between = between_then s t u first.between next.between;
+    contents = λ contents told stands. next.contents contents tt (first.contents contents tt stands);
     later = omega (arith, first.later, next.later);
   }
 
@@ -92,6 +153,7 @@ module _ {D R C : Type 0} {d : DiskGhosts D} {r : DirectoryGhosts R} {c : Chroni
   proceeds_same t = record {
     goes = stays_as (seen_in t).device (seen_in t).device refl;
     accounted = accounted_none (seen_in t).device.past (seen_in t).device.past (kept_in t) (kept_in t) refl refl;
+    contents = λ contents told stands. stands;
     later = omega arith;
   }
 
@@ -101,11 +163,13 @@ module _ {D R C : Type 0} {d : DiskGhosts D} {r : DirectoryGhosts R} {c : Chroni
     accounted =
         accounted_then (seen_in s).device.past (seen_in t).device.past (seen_in u).device.past (kept_in s) (kept_in t) (kept_in u)
         first.accounted next.accounted;
+    contents = λ contents told stands. next.contents contents tt (first.contents contents tt stands);
     later = omega (arith, first.later, next.later);
   }
 
   pub continues_proceeds : (s t : Stripe D R C d r c) → Continues s t → Proceeds s t
-  continues_proceeds s t continues = record { goes = continues.between.goes; accounted = continues.between.accounted; later = continues.later }
+  continues_proceeds s t continues =
+      record { goes = continues.between.goes; accounted = continues.between.accounted; contents = continues.contents; later = continues.later }
 
   pub rests_proceeds : (s t : Stripe D R C d r c) → Rests s t → Proceeds s t
-  rests_proceeds s t rests = record { goes = rests.between.goes; accounted = rests.between.accounted; later = rests.later }
+  rests_proceeds s t rests = record { goes = rests.between.goes; accounted = rests.between.accounted; contents = rests.contents; later = rests.later }

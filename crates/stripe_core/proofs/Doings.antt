@@ -21,19 +21,24 @@ use Rattle.cache_model.specs.Kept.{Kept, state_of, with_records}
 use Rattle.cache_model.specs.Permit.{Commit, Done, Exhausted, Fails, GiveUp, ManyWriters, Permit, Remove, Write}
 use Rattle.cache_model.specs.Legal.{Does, DoesCommit, DoesGiveUp, DoesLook, DoesReadOn, DoesRemove, DoesStopReading, DoesWrite, IsQuiet, ReadTrouble, answer_record, most_writers, open_writers}
 use Rattle.cache_model.specs.Room.{limit}
+use Rattle.cache_model.specs.Tape.{IsSound}
 use Rattle.cache_model.proofs.Sound.{LeavesTape, later_leaves, leaves_one}
 use Rattle.cache_model.proofs.Lists.{own_piece}
 use Rattle.cache_model.proofs.Found.{cuts_found, number_of}
+use Rattle.call_laws.specs.Contents.{AnyContents, Contents}
 use Rattle.stripe_core.specs.declared.refusal.Refusal.{Refusal}
 use Rattle.stripe_core.specs.declared.refusal.Refusal.TheVariants as refusal
 use Rattle.stripe_core.specs.Acts.{EndsReadAsAsked, IsCommitting, IsGivingUp, IsRefusedPut, LooksAsAsked, MarksAsAsked, NotesAsAsked, OpensAsAsked, RefusesAsAsked, committed_record, opened_record}
 use Rattle.stripe_core.specs.Covers.{Uses}
 use Rattle.stripe_core.specs.Held.{IsHeld}
+use Rattle.stripe_core.specs.Records.{IsAlike}
+use Rattle.stripe_core.specs.Standing.{AreStanding}
 use Rattle.stripe_core.specs.Stripe.{IsSpared}
 use Rattle.stripe_core.proofs.Candidates.{live_is}
 use Rattle.stripe_core.proofs.Flushes.{state_of-with_records}
 use Rattle.stripe_core.proofs.Going.{alike_is_held}
 use Rattle.stripe_core.proofs.Sparing.{one_told, spent_calm}
+use Rattle.stripe_core.proofs.Standing.{standing_alike}
 
 -- ---- records that leave the pieces
 
@@ -45,20 +50,30 @@ pub record LeavesPieces (s t : State) : Type 0 where
   pub rows : t.rows ≡ s.rows
   pub fault : t.fault ≡ s.fault
 
+telling_alike : (s : State) (r : Rec) → LeavesTape r → LeavesPieces s (state_after s r) → IsSound s → IsAlike s (state_after s r)
+telling_alike s r tape leaves sound = record {
+  geometry = leaves.geometry;
+  cursor = leaves.cursor;
+  least = (leaves_one s r tape).least;
+  filled = leaves.filled;
+  rows = leaves.rows;
+  sound = (later_leaves s (r ∷ []) (tape, tt) sound).sound;
+}
+
 pub telling_is_held : (s : State) (c : Seen) (r : Rec) → LeavesTape r → LeavesPieces s (state_after s r) → IsHeld s c → IsHeld (state_after s r) c
 telling_is_held s c r tape leaves held =
-    alike_is_held s (state_after s r) c held (record {
-      geometry = leaves.geometry;
-      cursor = leaves.cursor;
-      least = (leaves_one s r tape).least;
-      filled = leaves.filled;
-      rows = leaves.rows;
-      sound = (later_leaves s (r ∷ []) (tape, tt) held.sound).sound;
-    }) (rw leaves.fault held.faults)
+    alike_is_held s (state_after s r) c held (telling_alike s r tape leaves held.sound) (rw leaves.fault held.faults)
 
 pub held_behind : (k new : Kept) (c : Seen) (r : Rec) → new ≡ with_records k (r ∷ []) → LeavesTape r → LeavesPieces (state_of k) (state_after (state_of k) r) → IsHeld (state_of k) c → IsHeld (state_of new) c
 held_behind k new c r is tape leaves held =
     subst (λ t. IsHeld t c) (sym (ap state_of is ∙ state_of-with_records k (r ∷ []))) (telling_is_held (state_of k) c r tape leaves held)
+
+-- and what is told of the pieces goes on to stand
+pub standing_behind : (k new : Kept) (c : Seen) (r : Rec) → new ≡ with_records k (r ∷ []) → LeavesTape r → LeavesPieces (state_of k) (state_after (state_of k) r) → IsHeld (state_of k) c
+    → (contents : Contents) → AnyContents contents → AreStanding contents (state_of k) c → AreStanding contents (state_of new) c
+standing_behind k new c r is tape leaves held contents told stands =
+    subst (λ t. AreStanding contents t c) (sym (ap state_of is ∙ state_of-with_records k (r ∷ [])))
+    (standing_alike contents (state_of k) (state_after (state_of k) r) c c (telling_alike (state_of k) r tape leaves held.sound) (record { same = refl; spare = omega arith }) stands)
 
 pub reader_behind : (k new : Kept) (r : Rec) → new ≡ with_records k (r ∷ []) → (state_of new).next_reader ≡ (state_after (state_of k) r).next_reader
 reader_behind k new r is = ap (λ (t : State). t.next_reader) (ap state_of is ∙ state_of-with_records k (r ∷ []))

@@ -103,6 +103,7 @@ looks_by now s before after end a sound due h = record {
   fates = h.fates;
   stand = h.stand;
   unharmed = h.unharmed;
+  exact = h.exact;
   goes = h.goes;
   faults = h.faults;
   counted = h.counted;

@@ -18,7 +18,8 @@ use Rattle.cyclone.specs.Cyclone.{Reads, Seen}
 use Rattle.cyclone.proofs.Calls.{reads_go_on, reads_same}
 use Rattle.cache_model.specs.declared.cause.Cause.{Cause}
 use Rattle.cache_model.specs.declared.cause.Cause.TheVariants as cause
-use Rattle.cache_model.specs.State.{State, Row, floor_now, live_row_of, row_in}
+use Rattle.cache_model.specs.declared.record.Rec.TheVariants as rec
+use Rattle.cache_model.specs.State.{State, Row, floor_now, live_row_of, row_in, state_after}
 use Rattle.cache_model.specs.Permit.{IsAmong, Permit}
 use Rattle.cache_model.specs.Given.{CountsRead, Denied, IsGiven, Trouble, block_at, effects_told}
 use Rattle.cache_model.proofs.Lists.{found_row, own_piece}
@@ -28,10 +29,13 @@ use Rattle.stripe_core.specs.Held.{IsBufferedWhereNew, IsHeld, IsIntactWhereWrit
 use Rattle.cache_model.specs.Damage.{TellNoDamage}
 use Rattle.stripe_core.specs.Covers.{AreSeen, Covers, IsSeenOn}
 use Rattle.stripe_core.specs.Faults.{HasEffects}
-use Rattle.stripe_core.specs.Find.{Finds, IsFoundAs, IsJudged, IsRecorded, TellsCount, cause_records, find_adds, found_records, judged_records}
+use Rattle.call_laws.specs.Contents.{Contents}
+use Rattle.stripe_core.specs.Standing.{AreStanding}
+use Rattle.stripe_core.specs.Find.{Finds, HasPayload, IsFoundAs, IsJudged, IsRecorded, TellsCount, cause_records, find_adds, found_records, judged_records}
 use Rattle.stripe_core.proofs.Between.{effects_none}
 use Rattle.stripe_core.proofs.Covering.{block_is, made_is}
 use Rattle.stripe_core.proofs.Candidates.{live_is}
+use Rattle.stripe_core.proofs.Payloads.{content_by, found_content}
 
 -- ---- records
 
@@ -161,7 +165,14 @@ module _ (s : State) (c new : Seen) (id : PieceId) (row : Row) (bytes into : Lis
   no_count (found.Found size) j = tt
   no_count (found.Missing why) j = subst (λ (y : Cause). TellsCount (Some row) new.device.faults (found.Missing y)) (sym j.0) tt
 
-  finds_by : (answer : Found) → ((s.cursor ≤ row.place) ⊎ (row.place < s.cursor)) → IsJudged row.place row.digest bytes answer into → Finds s c.device new.device id answer into
+  -- where the device tells its content, it is what is told of the piece
+  payload_by : (answer : Found) → ((s.cursor ≤ row.place) ⊎ (row.place < s.cursor)) → IsJudged row.place row.digest bytes answer into
+      → TellsAll new.device → (contents : Contents) → AreStanding contents s c → HasPayload contents (live_row_of s id) answer into
+  payload_by answer side j told contents stands =
+      subst (λ o. HasPayload contents o answer into) (sym live)
+      (found_content contents s.geometry row.place row bytes into answer (content_by s c new id row bytes held live read side told contents stands) j)
+
+  finds_by : (answer : Found) → ((s.cursor ≤ row.place) ⊎ (row.place < s.cursor)) → IsJudged row.place row.digest bytes answer into → Finds s c new id answer into
   finds_by answer (inl above) j =
       let still : new.device ≡ c.device = read.none (omega (arith, above, held.cursor)) in
       let past : new.device.past ≡ c.device.past = ap (λ (d : Device). d.past) still in
@@ -169,12 +180,14 @@ module _ (s : State) (c new : Seen) (id : PieceId) (row : Row) (bytes into : Lis
         seen = none_seen c.device new.device past;
         faults = subst (HasEffects c.device.past new.device.past) (sym (judged_quiet answer j)) (effects_none c.device.past new.device.past past);
         counted = subst (λ o. TellsCount o new.device.faults answer) (sym live) (no_count answer j);
+        contents = payload_by answer (inl above) j;
         answers = λ p covers. subst (λ o. IsFoundAs p s id o answer into) (sym live) (kept_by p answer above j);
       }
   finds_by answer (inr below) j = record {
     seen = all_shown below;
     faults = subst (HasEffects c.device.past new.device.past) (sym (judged_quiet answer j)) (effects_read c new row.place row.blocks bytes (from_device below) read);
     counted = subst (λ o. TellsCount o new.device.faults answer) (sym live) (no_count answer j);
+    contents = payload_by answer (inr below) j;
     answers = λ p covers. subst (λ o. IsFoundAs p s id o answer into) (sym live) (told_by p answer below covers j);
   }
 
@@ -195,13 +208,24 @@ either_side : (a b : ℕ) → ((a ≤ b) ⊎ (b < a))
 either_side a b = grind arith
 
 pub finds_read : (s : State) (c new : Seen) (id : PieceId) (place blocks : ℕ) (kept : Digest) (bytes into : List ℕ) (answer : Found) → IsHeld s c
-    → IsRecorded s id place blocks kept → Reads c new place blocks (Ok tt) bytes → IsJudged place kept bytes answer into → Finds s c.device new.device id answer into
+    → IsRecorded s id place blocks kept → Reads c new place blocks (Ok tt) bytes → IsJudged place kept bytes answer into → Finds s c new id answer into
 finds_read s c new id place blocks kept bytes into answer held r read j =
     let here : Reads c new r.row.place r.row.blocks (Ok tt) bytes =
     subst (λ n. Reads c new r.row.place n (Ok tt) bytes) (sym r.blocks_is) (subst (λ p. Reads c new p blocks (Ok tt) bytes) (sym r.place_is) read) in
     let judged : IsJudged r.row.place r.row.digest bytes answer into =
     subst (λ d. IsJudged r.row.place d bytes answer into) (sym r.digest_is) (subst (λ p. IsJudged p kept bytes answer into) (sym r.place_is) j) in
     finds_by s c new id r.row bytes into held r.live here answer (either_side s.cursor r.row.place) judged
+
+-- the same behind what the device did not do
+pub finds_in : (s : State) (c mid new : Seen) (id : PieceId) (answer : Found) (into : List ℕ) → new.device ≡ mid.device → Finds s c mid id answer into
+    → Finds s c new id answer into
+finds_in s c mid new id answer into same f = record {
+  seen = subst (AreSeen c.device) (sym same) f.seen;
+  faults = subst (λ (d : Device). HasEffects c.device.past d.past (effects_told (find_adds s id answer))) (sym same) f.faults;
+  counted = subst (λ (d : Device). TellsCount (live_row_of s id) d.faults answer) (sym same) f.counted;
+  contents = λ told. f.contents (subst TellsAll same told);
+  answers = λ p covers. f.answers p (subst (λ (d : Device). Covers p c.device.past d.past) same covers);
+}
 
 pub finds_no_damage : (s : State) (c new : Seen) (id : PieceId) (place blocks : ℕ) (kept : Digest) (bytes into : List ℕ) (answer : Found) → IsHeld s c
     → IsRecorded s id place blocks kept → Reads c new place blocks (Ok tt) bytes → IsJudged place kept bytes answer into → TellsAll new.device → TellNoDamage (find_adds s id answer)
@@ -213,6 +237,11 @@ finds_no_damage s c new id place blocks kept bytes into answer held r read j tol
     no_damage_by s c new id r.row bytes into held r.live here answer (either_side s.cursor r.row.place) judged told
 
 -- ---- a device that refused
+
+-- its fault is of no piece
+pub fault_stands : (contents : Contents) (s : State) (c : Seen) (count : ℕ) → AreStanding contents s c → AreStanding contents (state_after s (rec.Fault count)) c
+fault_stands contents s c count stands =
+    record { buffered = stands.buffered; written = stands.written; recorded = stands.recorded }
 
 abbrev failed : Failed → Result (Unit {0}) Failed
 failed e = Err e
@@ -226,7 +255,7 @@ module _ (s : State) (c new : Seen) (id : PieceId) (row : Row) (count : ℕ) (by
   beneath : row.place < c.buffer.cursor
   beneath = omega (arith, below, held.cursor)
 
-  fault_by : Finds s c.device new.device id (found.Missing (cause.DeviceFault count)) into
+  fault_by : Finds s c new id (found.Missing (cause.DeviceFault count)) into
   fault_by = record {
     seen = λ made past trusted.
         subst (AllByRecursion (IsSeenOn new.device)) (sym (made_is c.device.past new.device.past made
@@ -234,6 +263,7 @@ module _ (s : State) (c new : Seen) (id : PieceId) (row : Row) (count : ℕ) (by
     faults = subst (HasEffects c.device.past new.device.past) (sym (ap (λ o. effects_told (found_records o (found.Missing (cause.DeviceFault count)))) live))
         (effects_failed c new row.place row.blocks bytes e count beneath read is);
     counted = subst (λ o. TellsCount o new.device.faults (found.Missing (cause.DeviceFault count))) (sym live) is;
+    contents = λ told contents stands. subst (λ o. HasPayload contents o (found.Missing (cause.DeviceFault count)) into) (sym live) tt;
     answers = λ p covers.
         subst (λ o. IsFoundAs p s id o (found.Missing (cause.DeviceFault count)) into) (sym live)
         (Trouble.faulted count below (counts_read p s c new row bytes e count held.geometry beneath read is held.faults covers));
@@ -241,7 +271,7 @@ module _ (s : State) (c new : Seen) (id : PieceId) (row : Row) (count : ℕ) (by
 
 pub finds_fault : (s : State) (c new : Seen) (id : PieceId) (place blocks count : ℕ) (kept : Digest) (bytes into : List ℕ) (e : Failed) → IsHeld s c
     → IsRecorded s id place blocks kept → Reads c new place blocks (Err e) bytes → (c.buffer.cursor ≤ place → IsOk (failed e)) → count ≡ new.device.faults
-    → Finds s c.device new.device id (found.Missing (cause.DeviceFault count)) into
+    → Finds s c new id (found.Missing (cause.DeviceFault count)) into
 finds_fault s c new id place blocks count kept bytes into e held r read ok is =
     let below : place < s.cursor = written_by s c place e held ok (either_side s.cursor place) in
     let here : Reads c new r.row.place r.row.blocks (Err e) bytes =

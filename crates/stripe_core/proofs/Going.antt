@@ -181,14 +181,20 @@ alike_is_held s t c held alike faults = record {
   least = alike.least ∙ held.least;
 }
 
--- what was written out stays intact on a device that changes no more than where the buffer is written
+-- all that such a device changes is where the buffer is written
+pub spared_places : (s : State) (c : Seen) (device : Device) → IsHeld s c → SparesPieces c device
+    → SameBut (slot_of s.geometry s.cursor) s.filled (content_of c.device) (content_of device)
+spared_places s c device held spares =
+    let at : slot_of c.geometry c.buffer.cursor ≡ slot_of s.geometry s.cursor =
+    ap (λ g. slot_of g c.buffer.cursor) held.geometry ∙ ap (slot_of s.geometry) held.cursor in
+    subst (λ n. SameBut n s.filled (content_of c.device) (content_of device)) at
+    (subst (λ n. SameBut (slot_of c.geometry c.buffer.cursor) n (content_of c.device) (content_of device)) held.filled spares.others)
+
+-- what was written out stays intact there
 spared_intact : (s : State) (c : Seen) (device : Device) → IsHeld s c → SparesPieces c device → TellsAll device → AllByRecursion (IsIntactWhereWritten s (content_of device)) s.rows
 spared_intact s c device held spares told =
-    let at : slot_of c.geometry c.buffer.cursor ≡ slot_of s.geometry s.cursor = ap (λ g. slot_of g c.buffer.cursor) held.geometry ∙ ap (slot_of s.geometry) held.cursor in
-    let before : TellsAll c.device = told_before c.device device spares.goes told in
-    each_stays_intact s s.filled (content_of c.device) (content_of device) s.rows held.sound.room
-    (subst (λ n. SameBut n s.filled (content_of c.device) (content_of device)) at (subst (λ n. SameBut (slot_of c.geometry c.buffer.cursor) n (content_of c.device) (content_of device)) held.filled (spares.others)))
-    (held.intact before)
+    each_stays_intact s s.filled (content_of c.device) (content_of device) s.rows held.sound.room (spared_places s c device held spares)
+    (held.intact (told_before c.device device spares.goes told))
 
 pub device_may_change : (s : State) (c new : Seen) → IsHeld s c → SameTape c new → IsTurning new → SparesPieces c new.device → IsHeld s new
 device_may_change s c new held same turning spares = record {

@@ -7,10 +7,10 @@ use Rattle.tape_base.specs.Place.{floor_of, lap_end_of, slot_of}
 use Rattle.device_log.specs.Image.{Image, SameBut, span}
 use Rattle.device_log.proofs.Spans.{length-span, span_apart, span_more}
 use Rattle.doc_header.specs.Reading.{document_digest}
-use Rattle.agg_buffer.specs.Buffer.{Buffer, bytes_at, filled_of}
-use Rattle.cache_model.specs.State.{Row, State}
+use Rattle.agg_buffer.specs.Buffer.{Buffer, IsFilled, bytes_at, filled_of}
+use Rattle.cache_model.specs.State.{Row, State, floor_now}
 use Rattle.cache_model.proofs.Laps.{lap-is}
-use Rattle.stripe_core.specs.Held.{IsBuffered, IsIntact, IsIntactWhereWritten}
+use Rattle.stripe_core.specs.Held.{IsIntact, IsIntactWhereWritten}
 
 -- ---- places and slots
 
@@ -42,15 +42,21 @@ slot_behind g cursor place above low =
 
 -- ---- a write of the buffer
 
-pub stays_intact : (s : State) (filled : ℕ) (old new : Image) (row : Row) → filled ≤ s.geometry.agg → SameBut (slot_of s.geometry s.cursor) filled old new
+-- what stands where it may be read has the same bytes behind it
+pub span_stays : (s : State) (filled : ℕ) (old new : Image) (row : Row) → filled ≤ s.geometry.agg
+    → SameBut (slot_of s.geometry s.cursor) filled old new
+    → floor_now s ≤ row.place → row.place + row.blocks ≤ s.cursor
+    → span new (slot_of s.geometry row.place) row.blocks ≡ span old (slot_of s.geometry row.place) row.blocks
+span_stays s filled old new row few same low ends =
+    span_apart old new (slot_of s.geometry row.place) row.blocks (slot_of s.geometry s.cursor) filled same
+    (slots_apart s.geometry s.cursor filled row.place row.blocks (omega (arith, low)) ends few)
+
+stays_intact : (s : State) (filled : ℕ) (old new : Image) (row : Row) → filled ≤ s.geometry.agg
+    → SameBut (slot_of s.geometry s.cursor) filled old new
     → IsIntactWhereWritten s old row → IsIntactWhereWritten s new row
 stays_intact s filled old new row few same h = λ low below.
     let i : IsIntact s old row = h low below in
-    record {
-      ends = i.ends;
-      digest = ap document_digest (span_apart old new (slot_of s.geometry row.place) row.blocks (slot_of s.geometry s.cursor) filled same
-          (slots_apart s.geometry s.cursor filled row.place row.blocks (omega (arith, low)) i.ends few)) ∙ i.digest;
-    }
+    record { ends = i.ends; digest = ap document_digest (span_stays s filled old new row few same low i.ends) ∙ i.digest }
 
 pub each_stays_intact : (s : State) (filled : ℕ) (old new : Image) (rows : List Row) → filled ≤ s.geometry.agg → SameBut (slot_of s.geometry s.cursor) filled old new
     → AllByRecursion (IsIntactWhereWritten s old) rows → AllByRecursion (IsIntactWhereWritten s new) rows
@@ -78,22 +84,24 @@ span_within content at before blocks behind whole =
     ∙ (ap (λ l. take (length (span content (at + before) blocks)) (drop (length (span content at before)) l)) parts
     ∙ between (span content at before) (span content (at + before) blocks) (span content (at + before + blocks) behind)))
 
--- a piece of a buffer that was written stands on the device
-pub written_intact : (g : Geometry) (b : Buffer) (content : Image) (row : Row) → filled_of b ≤ g.agg → b.cursor + g.agg ≤ lap_end_of g b.cursor → ((j : ℕ) → length (content j) ≡ 512)
-    → span content (slot_of g b.cursor) (filled_of b) ≡ b.bytes → 0 < row.blocks → IsBuffered b row → document_digest (span content (slot_of g row.place) row.blocks) ≡ row.digest
-written_intact g b content row few lap whole written some h =
-    let from : b.cursor ≤ row.place = h.filled.from in
-    let within : row.place + row.blocks ≤ b.cursor + filled_of b = h.filled.within in
+-- what holds of the bytes of a piece of a buffer that was written holds of those that stand on the device
+pub written_intact : (P : List ℕ → Type 0) (g : Geometry) (b : Buffer) (content : Image) (row : Row) → filled_of b ≤ g.agg
+    → b.cursor + g.agg ≤ lap_end_of g b.cursor → ((j : ℕ) → length (content j) ≡ 512)
+    → span content (slot_of g b.cursor) (filled_of b) ≡ b.bytes → 0 < row.blocks → IsFilled b row.place row.blocks
+    → P (bytes_at b row.place row.blocks) → P (span content (slot_of g row.place) row.blocks)
+written_intact P g b content row few lap whole written some filled here =
+    let from : b.cursor ≤ row.place = filled.from in
+    let within : row.place + row.blocks ≤ b.cursor + filled_of b = filled.within in
     let before : ℕ = row.place - b.cursor in
     let behind : ℕ = b.cursor + filled_of b - (row.place + row.blocks) in
     let parts : before + (row.blocks + behind) ≡ filled_of b = omega (arith, from, within) in
     let slot : slot_of g row.place ≡ slot_of g b.cursor + before = slot_behind g b.cursor row.place from (omega (arith, within, some, few, lap)) in
-    let here : span content (slot_of g row.place) row.blocks ≡ bytes_at b row.place row.blocks =
+    let there : span content (slot_of g row.place) row.blocks ≡ bytes_at b row.place row.blocks =
     ap (λ n. span content n row.blocks) slot
     ∙ (sym (span_within content (slot_of g b.cursor) before row.blocks behind whole)
     ∙ (ap (λ n. take (512 * row.blocks) (drop (512 * before) (span content (slot_of g b.cursor) n))) parts
     ∙ ap (λ l. take (512 * row.blocks) (drop (512 * before) l)) written)) in
-    ap document_digest here ∙ h.digest
+    subst P (sym there) here
 
 -- ---- states that are alike
 

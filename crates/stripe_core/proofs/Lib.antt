@@ -16,6 +16,7 @@ mod Telling
 mod Told
 mod Readied
 mod LiveBehind
+mod ToldCopies
 mod Looked
 mod Copied
 mod Rooms
@@ -27,13 +28,18 @@ pub mod Displacing
 mod Groups
 mod Fronts
 mod Lives
+mod Standing
+pub mod VectorsListed
+mod StandingPlaced
 pub mod Fitting
 mod Moving
 mod Takings
+mod Payloads
 mod Findings
 mod Sparing
 mod Doings
 mod Naming
+mod NoneDisplaced
 mod Asked
 mod Making
 pub mod Between

@@ -11,7 +11,7 @@ use Rattle.agg_buffer.specs.Buffer.{Buffer, filled_of}
 use Rattle.tape_base.specs.Place.{slot_of}
 use Rattle.cyclone.specs.Cyclone.{SameTape, Seen, WritesBuffer}
 use Rattle.tape_base.specs.Geometry.{budget_of}
-use Rattle.logged_disk.specs.Device.{State as Device, IsAfter, IsAsked}
+use Rattle.logged_disk.specs.Device.{State as Device, IsAfter, IsAsked, TellsAll, seen as content_of}
 use Rattle.logged_disk.proofs.GoingOn.{goes_further, told_before}
 use Rattle.cyclone.proofs.Calls.{write_goes_on}
 use Rattle.cache_model.specs.declared.record.Rec.{Rec}
@@ -41,10 +41,12 @@ use Rattle.stripe_core.specs.declared.ahead.Ahead.{Ahead}
 use Rattle.stripe_core.specs.declared.refusal.Flushed.{Flushed}
 use Rattle.stripe_core.specs.declared.refusal.Stop.TheVariants as stop
 use Rattle.stripe_core.specs.Ahead.{LooksAhead}
-use Rattle.stripe_core.specs.Copying.{AreCopyable, AreTellable, begun_behind, copied_of, copies_among, done_records, told_of}
+use Rattle.stripe_core.specs.Copying.{AreCopyable, AreTellable, AreToldCopied, begun_behind, copied_of, copies_among, done_records, told_of}
 use Rattle.stripe_core.specs.Covers.{Covers, Uses}
 use Rattle.stripe_core.specs.Faults.{HasEffects, effects_among, effects_of}
 use Rattle.stripe_core.specs.Held.{IsBufferedWhereNew, IsHeld}
+use Rattle.call_laws.specs.Contents.{Contents}
+use Rattle.stripe_core.specs.Standing.{StandsOnDevice}
 use Rattle.stripe_core.specs.declared.ahead.Fate.{Fate}
 use Rattle.stripe_core.proofs.Between.{effects_then, told_append}
 use Rattle.stripe_core.proofs.Covering.{block_is, covers_first, own_covers, own_permit}
@@ -55,6 +57,7 @@ use Rattle.stripe_core.specs.Flush.{FlushesAsAsked, LiveBefore}
 use Rattle.stripe_core.proofs.Flushes.{state_of-with_records}
 use Rattle.stripe_core.proofs.LiveBehind.{flush_before, flush_kinds, stopped_before, stopped_kinds}
 use Rattle.stripe_core.proofs.Readied.{IsPassed, are_copyable, copied_is, copies_within, few_copies}
+use Rattle.stripe_core.proofs.ToldCopies.{are_told_copied, due_told}
 use Rattle.stripe_core.proofs.Told.{AllCame, none, more, all_came, are_tellable, few_told, last_fault, stopped_is, told_is}
 
 -- ---- the faults among the records
@@ -156,6 +159,15 @@ module _ (now : ℕ) (s : State) (before mid : Device) (a : Ahead) (sound : IsSo
       (subst (λ cs. AreCopyable packed begun 0 cs a.fates.items a.bytes.items) (sym looks.due)
       (are_copyable packed s fit permit s begun (budget_of s.geometry) 0 a.bytes.items all are looks.stand (omega (arith, sized))
       (apart-part (copies_part due_rows looks.outcomes) apart) ready passed (rw buffer.0 (omega (arith, sum))) (due_are_live s now sound) begun_lesser))
+
+  -- what is copied is what is told of the pieces, where they stand on a device that tells its content
+  pub told_copied : (contents : Contents) → TellsAll mid → AllByRecursion (StandsOnDevice contents s (content_of before)) s.rows
+      → AreToldCopied contents (begun_behind s (told_of true a.due.items a.fates.items)) 0 a.due.items a.fates.items a.bytes.items
+  told_copied contents tells stands =
+      subst (λ told. AreToldCopied contents (begun_behind s told) 0 a.due.items a.fates.items a.bytes.items) (sym told_front)
+      (subst (λ cs. AreToldCopied contents begun 0 cs a.fates.items a.bytes.items) (sym looks.due)
+      (are_told_copied contents s.geometry begun 0 a.bytes.items all looks.stand (apart-part (copies_part due_rows looks.outcomes) apart) ready buffer.0
+      (due_told contents s (content_of before) stands now looks.outcomes sound (looks.exact tells))))
 
   done_is : done_records s a.due.items a.fates.items a.bytes.items ≡ flush_records s due_rows looks.outcomes
   done_is =

@@ -83,6 +83,7 @@ notes_none s device row at old new few over notes same = record {
   taken = omega arith;
   count = tt;
   unharmed = λ told. (refl, tt);
+  exact = λ told. tt;
   faults = effects_none device.past device.past refl;
   is = λ p t covers beside. omega arith;
 }
@@ -138,6 +139,7 @@ notes_read s before after d row at note old new bytes is fits comes notes writte
       taken = omega (arith, comes.taken);
       count = comes.count;
       unharmed = comes.unharmed;
+      exact = comes.exact;
       faults = comes.faults;
       is = λ p t covers beside. comes.is p t (budget_of s.geometry - at) covers beside (omega arith);
     }

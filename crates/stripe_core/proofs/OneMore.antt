@@ -2,9 +2,13 @@
 use Rattle.std.proofs.Common.{◌≡◌, ℕ, ◌+◌, ◌-◌, ◌*◌, ◌≤◌, List, [], ◌∷◌, ◌++◌, refl, sym, ◌∙◌, ap, subst, arith, false, take, append_assoc}
 use Rattle.std.proofs.lemmas.List.{append-nil}
 use Rattle.std.specs.List.{AllByRecursion}
-use Rattle.logged_disk.specs.Device.{State as Device, IsAsked}
+use Rattle.logged_disk.specs.Device.{State as Device, IsAsked, SeenStays, seen as content_of}
 use Rattle.logged_disk.proofs.GoingOn.{goes_further, stays_put, told_before}
+use Rattle.tape_base.specs.declared.geometries.Geometry.{Geometry}
 use Rattle.tape_base.specs.Geometry.{budget_of}
+use Rattle.tape_base.specs.Place.{slot_of}
+use Rattle.device_log.specs.Image.{Image}
+use Rattle.device_log.proofs.Spans.{span_same}
 use Rattle.doc_header.proofs.Stands.{part_in_front}
 use Rattle.cache_model.specs.State.{State, Row, after_all}
 use Rattle.cache_model.specs.Permit.{Permit}
@@ -17,6 +21,7 @@ use Rattle.stripe_core.specs.declared.ahead.Ahead.{Ahead}
 use Rattle.stripe_core.specs.declared.ahead.Fate.{Fate}
 use Rattle.stripe_core.specs.Ahead.{AreFates, IsFate, StandFrom, StandsAt, taken_by, taken_by_all}
 use Rattle.stripe_core.specs.Looks.{Looked, LooksOn}
+use Rattle.stripe_core.specs.Standing.{AreAsSeen, IsAsSeen}
 use Rattle.stripe_core.specs.Faults.{CountsUpTo, HasEffects, effects_among, effects_of}
 use Rattle.stripe_core.proofs.Between.{effects_none, effects_then}
 use Rattle.stripe_core.proofs.Covering.{covers_first, covers_last}
@@ -63,6 +68,22 @@ taken_more [] [] row o h = omega arith
 taken_more [] (x ∷ outcomes) row o h = absurd h
 taken_more (r ∷ rows) [] row o h = absurd h
 taken_more (r ∷ rows) (x ∷ outcomes) row o h = omega (arith, taken_more rows outcomes row o h)
+
+-- ---- what is seen
+
+-- on an image that shows the same
+seen_before : (g : Geometry) (c d : Image) (row : Row) (o : Outcome) → ((j : ℕ) → d j ≡ c j) → IsAsSeen g d row o → IsAsSeen g c row o
+seen_before g c d row NoRoom same h = tt
+seen_before g c d row (Copied bytes) same h = h ∙ span_same d c (slot_of g row.place) row.blocks (λ j low high. same j)
+seen_before g c d row (Spoiled found) same h = tt
+seen_before g c d row (Refused count) same h = tt
+
+seen_more : (g : Geometry) (c : Image) (rows : List Row) (outcomes : List Outcome) (row : Row) (o : Outcome) → ArePaired rows outcomes → AreAsSeen g c rows outcomes → IsAsSeen g c row o
+    → AreAsSeen g c (rows ++ row ∷ []) (outcomes ++ o ∷ [])
+seen_more g c [] [] row o p h k = (k, tt)
+seen_more g c [] (x ∷ outcomes) row o p h k = absurd p
+seen_more g c (r ∷ rows) [] row o p h k = absurd p
+seen_more g c (r ∷ rows) (x ∷ outcomes) row o p h k = (h.0, seen_more g c rows outcomes row o p h.1 k)
 
 -- ---- the memory
 
@@ -135,6 +156,7 @@ looked_none s device a none low = record {
   stand = tt;
   taken = refl;
   unharmed = λ told. tt;
+  exact = λ told. tt;
   goes = stays_put device;
   faults = effects_none device.past device.past refl;
   counted = tt;
@@ -142,9 +164,9 @@ looked_none s device a none low = record {
   beside = record { geometry = refl; cursor = refl; fault = low };
 }
 
-pub looked_more : (s : State) (before mid after : Device) (rows : List Row) (row : Row) (at end : ℕ) (old new : Ahead) → IsAsked mid after
+pub looked_more : (s : State) (before mid after : Device) (rows : List Row) (row : Row) (at end : ℕ) (old new : Ahead) → IsAsked mid after → SeenStays before mid
     → Looked s before mid rows at old → LooksOn s mid after row at end old new → Looked s before after (rows ++ row ∷ []) end new
-looked_more s before mid after rows row at end old new asked h k =
+looked_more s before mid after rows row at end old new asked stays h k =
     let last : mid.faults ≤ after.faults = asked.later in
     let pair : ArePaired rows h.outcomes = paired rows h.outcomes old.fates.items h.fates in
     let t : State = after_all s (front_of rows h.outcomes) in
@@ -161,6 +183,8 @@ looked_more s before mid after rows row at end old new asked h k =
       unharmed = λ told.
           subst TellNoDamage (sym front)
           (all_append (λ r. tells_damage r ≡ false) (front_of rows h.outcomes) (records_of row k.outcome) (h.unharmed (told_before mid after asked.goes told)) (k.unharmed told));
+      exact = λ told. seen_more s.geometry (content_of before) rows h.outcomes row k.outcome pair (h.exact (told_before mid after asked.goes told))
+          (seen_before s.geometry (content_of before) (content_of mid) row k.outcome stays (k.exact told));
       goes = goes_further before mid after h.goes asked.goes;
       faults = subst (HasEffects before.past after.past) (sym (effects_more h.outcomes k.outcome)) (effects_then before.past mid.past after.past (effects_among h.outcomes) (effects_of k.outcome) h.faults k.faults);
       counted = all_append (CountsUpTo after.faults) h.outcomes (k.outcome ∷ []) (counted_later mid.faults after.faults h.outcomes last h.counted) (k.count, tt);

@@ -1,5 +1,5 @@
 -- A piece that was put and recorded is held, and what is recorded of it.
-use Rattle.std.proofs.Common.{◌≡◌, ℕ, ◌+◌, ◌≤◌, List, [], ◌∷◌, ◌++◌, refl, sym, ◌∙◌, ap, subst, arith, Bool, true, false, length}
+use Rattle.std.proofs.Common.{◌≡◌, ℕ, ◌+◌, ◌≤◌, ◌^◌, List, [], ◌∷◌, ◌++◌, refl, sym, ◌∙◌, ap, subst, arith, Bool, true, false, Some, None, length}
 use Rattle.std.specs.Prelude.{◌&&◌, if◌then◌else◌, MatchBool}
 use Rattle.std.proofs.lemmas.Bool.{leb-true}
 use Rattle.std.proofs.lemmas.List.{length-map}
@@ -20,18 +20,21 @@ use Rattle.dir_table.specs.Rows.{row_of_key}
 use Rattle.cyclone.specs.Cyclone.{IsPut, IsTurning, Seen}
 use Rattle.cache_model.specs.declared.record.Rec.{Rec}
 use Rattle.cache_model.specs.declared.record.Rec.TheVariants as rec
-use Rattle.cache_model.specs.State.{State, after_all, place_now, state_after}
+use Rattle.cache_model.specs.State.{State, after_all, list_of_put, place_now, state_after}
 use Rattle.cache_model.specs.Kept.{Kept, state_of, with_records}
 use Rattle.cache_model.specs.Room.{doc_at, has_room}
 use Rattle.cache_model.proofs.Sound.{later_leaves}
+use Rattle.call_laws.specs.Contents.{Contents}
 use Rattle.stripe_core.specs.Covers.{Uses}
 use Rattle.stripe_core.specs.Displaced.{IsPushedOut, displaced_of}
 use Rattle.stripe_core.specs.Held.{IsHeld}
 use Rattle.stripe_core.specs.Place.{IsNew, PutsIn, cut_record_of}
-use Rattle.stripe_core.specs.Records.{HasSlots, IsHeldBehind, IsPlaceable}
+use Rattle.stripe_core.specs.Records.{HasSlots, IsHeldBehind, IsPlaceable, placed_behind}
+use Rattle.stripe_core.specs.Standing.{AreStanding, IsToldPlaced}
 use Rattle.stripe_core.proofs.Flushes.{with_records-append}
 use Rattle.stripe_core.proofs.Going.{alike_is_held}
 use Rattle.stripe_core.proofs.Purging.{placed_is_held}
+use Rattle.stripe_core.proofs.StandingPlaced.{standing_placed, told_alike}
 use Rattle.stripe_core.proofs.Telling.{state_behind}
 
 -- ---- what a cut leaves
@@ -71,6 +74,25 @@ pushed_before false packed s put index length digest id displaced h = λ p same.
 placed_before : (vector : Bool) (s : State) (put index length : ℕ) (digest : Digest) → place_now (after_all s (cut_where vector put index length digest)) ≡ place_now s
 placed_before true s put index length digest = refl
 placed_before false s put index length digest = refl
+
+-- as the same document
+cut_doc : (vector : Bool) (s : State) (put index length : ℕ) (digest : Digest) (id : PieceId) (pin start : ℕ)
+    → doc_at (after_all s (cut_where vector put index length digest)) id pin start ≡ doc_at s id pin start
+cut_doc true s put index length digest id pin start = refl
+cut_doc false s put index length digest id pin start = refl
+
+-- and lists what it would have listed before: a fragment nothing
+cut_listed : (vector : Bool) (s : State) (put index length : ℕ) (digest : Digest)
+    → (if vector then Some (list_of_put (after_all s (cut_where vector put index length digest)) put) else None) ≡ (if vector then Some (list_of_put s put) else None)
+cut_listed true s put index length digest = refl
+cut_listed false s put index length digest = refl
+
+-- what is told of the pieces stands as before
+cut_stands : (contents : Contents) (vector : Bool) (s : State) (c : Seen) (put index length : ℕ) (digest : Digest) → AreStanding contents s c
+    → AreStanding contents (after_all s (cut_where vector put index length digest)) c
+cut_stands contents true s c put index length digest stands = stands
+cut_stands contents false s c put index length digest stands =
+    record { buffered = stands.buffered; written = stands.written; recorded = stands.recorded }
 
 -- ---- a piece that is put
 
@@ -137,17 +159,33 @@ module _ (purges : Bool) (k cut_of displaced_in last : Kept) (c new : Seen) (doc
       placed_is_held purges mid c new doc payload digest (cut_is_held vector s c doc.id.put doc.id.index (length payload) cut held)
       (cut_is_placeable vector s doc payload cut digest doc.id.put doc.id.index (length payload) placeable) put.put put.turning put.slots
 
-  pub put_is_held : IsHeld (state_of last) new
-  put_is_held =
+  -- the state behind all that is told
+  last_is : state_of last ≡ placed_behind mid new doc payload digest
+  last_is =
       let there : state_of last ≡ state_after (after_all (state_of cut_of) displaced) (placed_at doc.place) =
       state_behind displaced_in last (placed_at doc.place ∷ []) placed_as
       ∙ ap (λ t. state_after t (placed_at doc.place)) (state_behind cut_of displaced_in displaced displaced_as) in
       let place : doc.place ≡ place_now mid = ap (λ (d : Doc). d.place) at ∙ sym (placed_before vector s doc.id.put doc.id.index (length payload) cut) in
-      subst (λ t. IsHeld t new)
-      (sym (there
+      there
       ∙ (ap (λ t. state_after (after_all t (displaced_of t new.displaced)) (placed_at doc.place)) mid_is
-      ∙ ap (λ n. state_after (after_all mid (displaced_of mid new.displaced)) (placed_at n)) place)))
-      behind.held
+      ∙ ap (λ n. state_after (after_all mid (displaced_of mid new.displaced)) (placed_at n)) place)
+
+  pub put_is_held : IsHeld (state_of last) new
+  put_is_held = subst (λ t. IsHeld t new) (sym last_is) behind.held
+
+  -- what is told of the pieces goes on to stand, where it tells this of the one that is put
+  pub put_stands : (contents : Contents) → length payload ≤ 2 ^ 31 → IsToldPlaced new.device s doc.id doc.start payload contents
+      → AreStanding contents s c → AreStanding contents (state_of last) new
+  put_stands contents few said stands =
+      let cut_at : doc ≡ doc_at mid doc.id doc.pin doc.start = at ∙ sym (cut_doc vector s doc.id.put doc.id.index (length payload) cut doc.id doc.pin doc.start) in
+      let mid_said : IsToldPlaced new.device mid doc.id doc.start payload contents = λ tells.
+      told_alike contents s mid doc.id doc.start payload (sym (cut_listed vector s doc.id.put doc.id.index (length payload) cut))
+      (said tells) in
+      subst (λ t. AreStanding contents t new) (sym last_is)
+      (standing_placed contents purges mid c new doc payload digest (cut_is_held vector s c doc.id.put doc.id.index (length payload) cut held)
+      (cut_is_placeable vector s doc payload cut digest doc.id.put doc.id.index (length payload) placeable) cut_at few
+      put.document put.put put.turning mid_said
+      (cut_stands contents vector s c doc.id.put doc.id.index (length payload) cut stands))
 
   pub put_adds : PutsIn purges k last doc.id doc.pin doc.start payload
   put_adds = record {

@@ -1,7 +1,10 @@
 -- What comes of a piece that is looked at.
-use Rattle.std.proofs.Common.{◌≡◌, ℕ, ◌*◌, ◌<◌, List, refl, sym, ◌∙◌, subst, arith, inr, length, take, Result, Ok, Err}
+use Rattle.std.proofs.Common.{◌≡◌, ℕ, ◌*◌, ◌<◌, List, refl, sym, ◌∙◌, ap, subst, arith, inr, length, take, Result, Ok, Err}
 use Rattle.std.proofs.lemmas.List.{take_all}
 use Rattle.edge_io.specs.declared.source.Failed.{Failed}
+use Rattle.tape_base.specs.Place.{slot_of}
+use Rattle.device_log.specs.Image.{span}
+use Rattle.logged_disk.specs.Device.{seen as content_of}
 use Rattle.doc_header.specs.Reading.{document_digest}
 use Rattle.evacuator.specs.declared.choosing.Candidate.{Candidate}
 use Rattle.cyclone.specs.Cyclone.{IsStored, Reads, Seen}
@@ -45,6 +48,7 @@ module _ (s : State) (c new : Seen) (row : Row) (bytes : List ℕ) (held : IsHel
     taken = refl;
     count = tt;
     unharmed = λ told. tt;
+    exact = λ told. read.given beneath told.trusted ∙ ap (λ g. span (content_of c.device) (slot_of g row.place) row.blocks) held.geometry;
     faults = effects_read c new row.place row.blocks bytes beneath read;
     is = λ p t left covers beside few. (few, given_then p t read covers beside, j.0);
   }
@@ -55,6 +59,7 @@ module _ (s : State) (c new : Seen) (row : Row) (bytes : List ℕ) (held : IsHel
     taken = refl;
     count = tt;
     unharmed = λ told. absurd (j.2 (right_by s c new row.id row bytes bytes held may.live read (inr may.written) told));
+    exact = λ told. tt;
     faults = effects_read c new row.place row.blocks bytes beneath read;
     is = λ p t left covers beside few. (few, record { bytes = bytes; given = given_then p t read covers beside; digest = refl; differ = j.2 });
   }
@@ -71,6 +76,7 @@ module _ (s : State) (c new : Seen) (row : Row) (bytes : List ℕ) (held : IsHel
     taken = refl;
     count = omega (arith, is);
     unharmed = λ told. (refl, (refl, tt));
+    exact = λ told. tt;
     faults = effects_failed c new row.place row.blocks bytes e count beneath read is;
     is = λ p t left covers beside few. (
       few,

@@ -1,6 +1,7 @@
 -- Live pieces that go.
 use Rattle.std.proofs.Common.{◌≡◌, ℕ, List, [], ◌∷◌, refl, sym, ◌∙◌, ap, subst, Bool, true, false}
-use Rattle.std.specs.Prelude.{IsPermutation, Option, Some, None, option_and_then, option_map, ◌==◌}
+use Rattle.std.specs.Prelude.{IsPermutation, Option, Some, None, option_and_then, option_map, ◌==◌, if◌then◌else◌}
+use Rattle.std.specs.List.{AllByRecursion}
 use Rattle.std.specs.Bool.{OnTrue}
 use Rattle.std.proofs.lemmas.Bool.{eq-eqb, eqb-true}
 use Rattle.tape_base.specs.declared.keys.Key.{Key}
@@ -17,7 +18,7 @@ use Rattle.cache_model.proofs.Sound.{later_leaves}
 use Rattle.stripe_core.specs.Held.{IsHeld}
 use Rattle.stripe_core.specs.Pieces.{live_place_of}
 use Rattle.stripe_core.specs.Records.{IsWithout}
-use Rattle.stripe_core.proofs.Going.{alike_is_held, passed_is_held, taken_is_held}
+use Rattle.stripe_core.proofs.Going.{alike_is_held, all_left, passed_is_held, taken_is_held}
 use Rattle.stripe_core.proofs.Lives.{IsLiveAt, live_at, live_has_row}
 
 -- how an entry was taken out
@@ -37,13 +38,25 @@ entry_goes s c new id place found live held out =
     let there : has_row (row_of_piece c id place) c.rows ≡ true = subst (λ p. has_row (row_of_piece c id p) c.rows ≡ true) live.at (live_has_row s c id live.row held live.live) in
     subst (λ p. IsPermutation c.rows (row_of_piece c id p ∷ new.rows)) (sym live.at) (if_true found _ (out.found_is ∙ there) out.gone)
 
+-- one whose bytes are not its own leaves the records
+pub damaged_without : (s : State) (id : PieceId) (place : ℕ) (kept other : Digest) → IsSound s
+    → IsWithout s (state_after s (rec.Damaged id place kept other)) id
+damaged_without s id place kept other sound = record {
+  geometry = refl;
+  cursor = refl;
+  least = refl;
+  filled = refl;
+  rows = refl;
+  fault = refl;
+  sound = (later_leaves s (rec.Damaged id place kept other ∷ []) (tt, tt) sound).sound;
+}
+
 pub damaged_is_held : (s : State) (c new : Seen) (id : PieceId) (place : ℕ) (kept other : Digest) (found : Bool) → IsHeld s c → live_place_of s id ≡ Some place
     → IsTakenOut c new id place found → IsHeld (state_after s (rec.Damaged id place kept other)) new
 damaged_is_held s c new id place kept other found held h out =
     let live : IsLiveAt s id place = live_at s id place h in
-    let t : State = state_after s (rec.Damaged id place kept other) in
-    let sound : IsSound t = (later_leaves s (rec.Damaged id place kept other ∷ []) (tt, tt) held.sound).sound in
-    taken_is_held s t c new id live.row held live.live (record { geometry = refl; cursor = refl; least = refl; filled = refl; rows = refl; fault = refl; sound = sound })
+    taken_is_held s (state_after s (rec.Damaged id place kept other)) c new id live.row held live.live
+    (damaged_without s id place kept other held.sound)
     out.same (entry_goes s c new id place found live held out) out.turning
 
 -- ---- whatever state has the pieces without one
@@ -86,6 +99,17 @@ committed_without s put length key list id sound h other = record {
   fault = refl;
   sound = committed_sound s put length key list sound;
 }
+
+-- what holds of all pieces holds of those that are left
+pub all_committed : (P : Row → Type 0) (key : Key) (put : ℕ) (last : Option LastVector) (rows : List Row) → AllByRecursion P rows
+    → AllByRecursion P (without_earlier key put last rows)
+all_committed P key put None rows all = all
+all_committed P key put (Some (TakenOut old)) rows all = all
+all_committed P key put (Some (Complete old)) rows all = by (old == put)
+  where
+    by : (own : Bool) → AllByRecursion P (if own then rows else without (vector_piece key old) rows)
+    by true = all
+    by false = all_left P (vector_piece key old) rows all
 
 -- the pieces stay where the key had no vector before
 pub none_earlier : (s : State) (key : Key) (put : ℕ) → None ≡ vector_of s key → without_earlier key put (last_vector s key) s.rows ≡ s.rows

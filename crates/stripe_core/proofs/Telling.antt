@@ -8,8 +8,10 @@ use Rattle.cache_model.specs.declared.record.Rec.TheVariants as rec
 use Rattle.cache_model.specs.State.{State, after_all, state_after}
 use Rattle.cache_model.specs.Kept.{Kept, state_of, with_records}
 use Rattle.cache_model.proofs.Sound.{later_leaves}
+use Rattle.call_laws.specs.Contents.{Contents}
 use Rattle.stripe_core.specs.declared.ahead.Fate.{Fate}
 use Rattle.stripe_core.specs.Held.{IsHeld}
+use Rattle.stripe_core.specs.Standing.{AreStanding}
 use Rattle.stripe_core.specs.Copying.{AreTellable, told_by, told_of}
 use Rattle.stripe_core.proofs.Flushes.{state_of-with_records}
 use Rattle.stripe_core.proofs.Going.{alike_is_held}
@@ -27,6 +29,11 @@ state_behind k new recs is = ap state_of is ∙ state_of-with_records k recs
 pub held_behind : (k new : Kept) (recs : List Rec) (c : Seen) → new ≡ with_records k recs → IsHeld (after_all (state_of k) recs) c → IsHeld (state_of new) c
 held_behind k new recs c is held = subst (λ t. IsHeld t c) (sym (state_behind k new recs is)) held
 
+-- what stands behind them
+pub stands_behind : (contents : Contents) (k new : Kept) (recs : List Rec) (c : Seen) → new ≡ with_records k recs
+    → AreStanding contents (after_all (state_of k) recs) c → AreStanding contents (state_of new) c
+stands_behind contents k new recs c is stands = subst (λ t. AreStanding contents t c) (sym (state_behind k new recs is)) stands
+
 -- ---- one behind the other
 
 told_as_many : (done : Bool) (s : State) (faults : ℕ) (cs : List Candidate) (fs : List Fate) → AreTellable done s faults cs fs → length cs ≡ length fs
@@ -42,6 +49,7 @@ pub record HasTold (k new : Kept) (c seen : Seen) (room left : ℕ) (done : Bool
   pub rest : AreTellable done (state_of new) c.device.faults (drop i cs) (drop i fs)
   pub adds : with_records new (told_of done (drop i cs) (drop i fs)) ≡ with_records k (told_of done cs fs)
   pub same : SameButRows c seen
+  pub contents : (contents : Contents) → AreStanding contents (state_of k) c → AreStanding contents (state_of new) seen
   pub spends : room + length (told_of done (drop i cs) (drop i fs)) ≤ left + length (told_of done cs fs)
 
 pub nothing_told : (k : Kept) (c : Seen) (room : ℕ) (done : Bool) (cs : List Candidate) (fs : List Fate) → IsHeld (state_of k) c → AreTellable done (state_of k) c.device.faults cs fs
@@ -52,5 +60,6 @@ nothing_told k c room done cs fs held told = record {
   rest = told;
   adds = refl;
   same = record { same = refl; spare = omega arith };
+  contents = λ contents stands. stands;
   spends = omega arith;
 }

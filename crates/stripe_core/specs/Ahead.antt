@@ -3,7 +3,7 @@ use Rattle.std.specs.Prelude.{ℕ, ◌≡◌, ◌+◌, ◌*◌, ◌≤◌, ◌==
 use Rattle.std.specs.List.{AllByRecursion}
 use Rattle.tape_base.specs.declared.geometries.Geometry.{Geometry}
 use Rattle.tape_base.specs.Geometry.{budget_of}
-use Rattle.logged_disk.specs.Device.{State as Device, IsAfter, TellsAll}
+use Rattle.logged_disk.specs.Device.{State as Device, IsAfter, TellsAll, seen as content_of}
 use Rattle.cache_model.specs.State.{Row, State}
 use Rattle.cache_model.specs.Permit.{Permit}
 use Rattle.cache_model.specs.Due.{due_pieces}
@@ -15,6 +15,7 @@ use Rattle.stripe_core.specs.declared.ahead.Fate.TheVariants as fate
 use Rattle.stripe_core.specs.Faults.{CountsUpTo, HasEffects, effects_among}
 use Rattle.stripe_core.specs.Covers.{Covers}
 use Rattle.cache_model.specs.Damage.{TellNoDamage}
+use Rattle.stripe_core.specs.Standing.{AreAsSeen}
 
 -- there is memory for all that the next floor passes, and for half a buffer of documents
 pub record IsMadeFor (g : Geometry) (a : Ahead) : Type 0 where
@@ -68,6 +69,8 @@ pub record LooksAhead (now : ℕ) (s : State) (before after : Device) (a : Ahead
   pub stand : StandFrom 0 (due_pieces s now) outcomes a.bytes.items
   -- a device that tells its content shows each piece as it was placed
   pub unharmed : TellsAll after → TellNoDamage (front_of (due_pieces s now) outcomes)
+  -- and what is copied is what is seen there
+  pub exact : TellsAll after → AreAsSeen s.geometry (content_of before) (due_pieces s now) outcomes
   pub goes : IsAfter before after
   pub faults : HasEffects before.past after.past (effects_among outcomes)
   pub counted : AllByRecursion (CountsUpTo after.faults) outcomes

@@ -6,11 +6,13 @@ use Rattle.doc_header.specs.Reading.{document_digest}
 use Rattle.doc_header.specs.Moving.{moved_to}
 use Rattle.cache_model.specs.declared.record.Rec.{Rec}
 use Rattle.cache_model.specs.declared.record.Rec.TheVariants as rec
-use Rattle.cache_model.specs.State.{Row, State, after_all, cursor_next, floor_next, place_now, state_after}
+use Rattle.cache_model.specs.State.{Row, State, after_all, cursor_next, floor_next, place_now, row_of, state_after}
+use Rattle.call_laws.specs.Contents.{Contents}
 use Rattle.stripe_core.specs.declared.ahead.Fate.{Fate}
 use Rattle.stripe_core.specs.declared.ahead.Fate.TheVariants as fate
 use Rattle.stripe_core.specs.Pieces.{live_place_of}
 use Rattle.stripe_core.specs.Records.{IsMovable}
+use Rattle.stripe_core.specs.Standing.{HasContent}
 
 -- ---- what is told
 
@@ -92,6 +94,23 @@ AreCopyable packed s at (c ∷ cs) (f ∷ fs) memory =
     × IsCopyableWhereCopied packed s c f (bytes_for at c f memory)
     × AreCopyable packed (after_all s (copied_by s c f (bytes_for at c f memory))) (at + blocks_for c f) cs fs memory
 AreCopyable packed s at _ _ memory = ⊥
+
+-- the bytes are what is told of a piece
+abbrev pub IsToldRow : Contents → State → Candidate → List ℕ → Type 0
+IsToldRow contents s c bytes = (row : Row) → row_of s c.id ≡ Some row → HasContent contents s.geometry row bytes
+
+-- where it is copied
+abbrev pub IsToldCopied : Contents → State → Candidate → Fate → List ℕ → Type 0
+IsToldCopied contents s c (fate.Copied pinned) bytes = IsToldRow contents s c bytes
+IsToldCopied contents s c _ bytes = Unit {0}
+
+-- each behind those before it
+abbrev pub AreToldCopied : Contents → State → ℕ → List Candidate → List Fate → List ℕ → Type 0
+AreToldCopied contents s at [] fates memory = Unit {0}
+AreToldCopied contents s at (c ∷ cs) [] memory = Unit {0}
+AreToldCopied contents s at (c ∷ cs) (f ∷ fs) memory =
+    IsToldCopied contents s c f (bytes_for at c f memory)
+    × AreToldCopied contents (after_all s (copied_by s c f (bytes_for at c f memory))) (at + blocks_for c f) cs fs memory
 
 -- 1 where the piece is copied, and else 0
 abbrev pub copies_by : Fate → ℕ

@@ -2,8 +2,9 @@
 use Rattle.std.specs.Prelude.{ℕ, ◌≡◌, ◌≢◌, ◌*◌, ◌≤◌, List, [], ◌∷◌, length, take, Option, Some, None, IfSome}
 use Rattle.tape_base.specs.declared.pieces.PieceId.{PieceId}
 use Rattle.tape_base.specs.declared.digests.Digest.{Digest}
-use Rattle.logged_disk.specs.Device.{State as Device}
+use Rattle.logged_disk.specs.Device.{TellsAll}
 use Rattle.doc_header.specs.Reading.{document_digest, payload_of}
+use Rattle.cyclone.specs.Cyclone.{Seen}
 use Rattle.cache_model.specs.declared.cause.Cause.{Cause}
 use Rattle.cache_model.specs.declared.cause.Cause.TheVariants as cause
 use Rattle.cache_model.specs.declared.record.Rec.{Rec}
@@ -12,10 +13,12 @@ use Rattle.cache_model.specs.State.{Row, State, live_row_of}
 use Rattle.cache_model.specs.Verdict.{cause_of_piece, size_of}
 use Rattle.cache_model.specs.Permit.{Permit}
 use Rattle.cache_model.specs.Given.{IsDocumentOf, Trouble, effects_told}
+use Rattle.call_laws.specs.Contents.{Contents}
 use Rattle.stripe_core.specs.declared.refusal.Found.{Found}
 use Rattle.stripe_core.specs.declared.refusal.Found.TheVariants as found
 use Rattle.stripe_core.specs.Faults.{HasEffects}
 use Rattle.stripe_core.specs.Covers.{AreSeen, Covers}
+use Rattle.stripe_core.specs.Standing.{AreStanding}
 
 -- the record of what kept a live piece from being read
 abbrev pub cause_records : Row → Cause → List Rec
@@ -68,9 +71,16 @@ abbrev pub TellsCount : Option Row → ℕ → Found → Type 0
 TellsCount (Some row) faults (found.Missing (cause.DeviceFault count)) = count ≡ faults
 TellsCount _ faults _ = Unit {0}
 
--- what was found, in any step that covers the call; what was read is what is seen, and what was refused is recorded
-pub record Finds (s : State) (old new : Device) (id : PieceId) (answer : Found) (into : List ℕ) : Type 0 where
-  pub seen : AreSeen old new
-  pub faults : HasEffects old.past new.past (effects_told (find_adds s id answer))
-  pub counted : TellsCount (live_row_of s id) new.faults answer
-  pub answers : (p : Permit) → Covers p old.past new.past → IsFoundAs p s id (live_row_of s id) answer into
+-- what was found is the payload that is told of the piece, where that is live
+abbrev pub HasPayload : Contents → Option Row → Found → List ℕ → Type 0
+HasPayload contents (Some row) (found.Found size) into = IfSome (contents row.id row.alternates) (λ c. (size ≡ length c.payload) × (take size into ≡ c.payload))
+HasPayload contents _ answer into = Unit {0}
+
+-- what was found, in any step that covers the call; what was read is what is seen, what was refused is recorded, and where the
+-- device tells its content a payload is the one that is told
+pub record Finds (s : State) (old new : Seen) (id : PieceId) (answer : Found) (into : List ℕ) : Type 0 where
+  pub seen : AreSeen old.device new.device
+  pub faults : HasEffects old.device.past new.device.past (effects_told (find_adds s id answer))
+  pub counted : TellsCount (live_row_of s id) new.device.faults answer
+  pub contents : TellsAll new.device → (contents : Contents) → AreStanding contents s old → HasPayload contents (live_row_of s id) answer into
+  pub answers : (p : Permit) → Covers p old.device.past new.device.past → IsFoundAs p s id (live_row_of s id) answer into

@@ -1,4 +1,5 @@
 pub mod Held
+pub mod Standing
 pub mod Displaced
 pub mod Records
 pub mod Pieces

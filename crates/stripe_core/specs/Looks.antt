@@ -2,7 +2,7 @@
 use Rattle.std.specs.Prelude.{ℕ, ◌≡◌, ◌≢◌, ◌+◌, ◌-◌, ◌*◌, ◌≤◌, ◌==◌, Bool, false, not, if◌then◌else◌, List, [], ◌∷◌, ◌++◌, map, slice_index, slice_index_or, take, Some}
 use Rattle.std.specs.List.{AllByRecursion}
 use Rattle.tape_base.specs.Geometry.{budget_of}
-use Rattle.logged_disk.specs.Device.{State as Device, IsAfter, TellsAll}
+use Rattle.logged_disk.specs.Device.{State as Device, IsAfter, TellsAll, seen as content_of}
 use Rattle.doc_header.specs.Reading.{document_digest}
 use Rattle.evacuator.specs.declared.choosing.Candidate.{Candidate}
 use Rattle.evacuator.specs.Choice.{blocks_of_all}
@@ -18,6 +18,7 @@ use Rattle.stripe_core.specs.Ahead.{AreFates, IsFate, StandFrom, StandsAt, taken
 use Rattle.stripe_core.specs.Faults.{CountsUpTo, HasEffects, effects_among, effects_of}
 use Rattle.stripe_core.specs.Covers.{Covers}
 use Rattle.cache_model.specs.Damage.{TellNoDamage}
+use Rattle.stripe_core.specs.Standing.{AreAsSeen, IsAsSeen}
 
 -- the piece is live, and is not in the buffer any more
 pub record MayBeCopied (s : State) (row : Row) : Type 0 where
@@ -69,6 +70,7 @@ pub record Comes (s : State) (before after : Device) (row : Row) (f : Fate) (byt
   pub taken : taken_by row outcome ≡ row.blocks
   pub count : CountsUpTo after.faults outcome
   pub unharmed : TellsAll after → TellNoDamage (records_of row outcome)
+  pub exact : TellsAll after → IsAsSeen s.geometry (content_of before) row outcome
   pub faults : HasEffects before.past after.past (effects_of outcome)
   pub is : (p : Permit) (t : State) (left : ℕ) → Covers p before.past after.past → IsBeside s before t → row.blocks ≤ left
       → IsOutcome p t left row outcome
@@ -84,6 +86,7 @@ pub record LooksOn (s : State) (before after : Device) (row : Row) (at end : ℕ
   pub taken : end ≡ at + taken_by row outcome
   pub count : CountsUpTo after.faults outcome
   pub unharmed : TellsAll after → TellNoDamage (records_of row outcome)
+  pub exact : TellsAll after → IsAsSeen s.geometry (content_of before) row outcome
   pub faults : HasEffects before.past after.past (effects_of outcome)
   pub is : (p : Permit) (t : State) → Covers p before.past after.past → IsBeside s before t
       → IsOutcome p t (budget_of s.geometry - at) row outcome
@@ -95,6 +98,7 @@ pub record Looked (s : State) (before after : Device) (rows : List Row) (end : �
   pub stand : StandFrom 0 rows outcomes a.bytes.items
   pub taken : end ≡ taken_by_all rows outcomes
   pub unharmed : TellsAll after → TellNoDamage (front_of rows outcomes)
+  pub exact : TellsAll after → AreAsSeen s.geometry (content_of before) rows outcomes
   pub goes : IsAfter before after
   pub faults : HasEffects before.past after.past (effects_among outcomes)
   pub counted : AllByRecursion (CountsUpTo after.faults) outcomes

@@ -8,7 +8,9 @@ use Rattle.cyclone.specs.Cyclone.{Seen, seen}
 use Rattle.cache_model.specs.State.{State, Row, live_row_of}
 use Rattle.cache_model.specs.Kept.{Kept, state_of}
 use Rattle.cache_chronicle.specs.declared.chronicle.Chronicle.{Ghosts as ChronicleGhosts}
+use Rattle.call_laws.specs.Contents.{AnyContents, Contents}
 use Rattle.stripe_core.specs.Held.{IsHeld}
+use Rattle.stripe_core.specs.Standing.{AreStanding}
 use Rattle.stripe_core.specs.declared.pieces.Pieces.{Pieces}
 
 module _ {D R C : Type 0} {d : DiskGhosts D} {r : DirectoryGhosts R} {c : ChronicleGhosts C} where
@@ -27,6 +29,20 @@ module _ {D R C : Type 0} {d : DiskGhosts D} {r : DirectoryGhosts R} {c : Chroni
   -- what holds of the pieces between calls
   abbrev pub ArePieces : Pieces D R C d r c → Type 0
   ArePieces p = IsHeld (state_now p) (seen_of p)
+
+  -- what is told of the pieces stands
+  abbrev pub Stand : Contents → Pieces D R C d r c → Type 0
+  Stand contents p = AreStanding contents (state_now p) (seen_of p)
+
+  -- what a call of the pieces keeps: they are held, and what is told of them goes on to stand, where it tells this of what is
+  -- placed or copied
+  pub record GoOnWith (Told : Contents → Type 0) (old new : Pieces D R C d r c) : Type 0 where
+    pub held : ArePieces new
+    pub contents : (contents : Contents) → Told contents → Stand contents old → Stand contents new
+
+  -- of one that places and copies nothing
+  abbrev pub GoOn : (old new : Pieces D R C d r c) → Type 0
+  GoOn old new = GoOnWith AnyContents old new
 
 -- the place of a live piece
 abbrev pub live_place_of : State → PieceId → Option ℕ

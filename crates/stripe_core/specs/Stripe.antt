@@ -1,6 +1,6 @@
 -- What contracts see of a stripe: its pieces and its actors, in step with the records, and the memory
 -- that is made for calls to come.
-use Rattle.std.specs.Prelude.{ℕ, ◌≡◌, ◌*◌, ◌<◌, ◌≤◌, false, Result, Ok, Err}
+use Rattle.std.specs.Prelude.{ℕ, ◌≡◌, ◌*◌, ◌<◌, ◌≤◌, false, [], Result, Ok, Err}
 use Rattle.tape_base.specs.declared.pieces.PieceId.{PieceId}
 use Rattle.tape_base.specs.Piece.{is_vector}
 use Rattle.logged_disk.specs.Device.{IsAfter, SeenStays, State as Device}
@@ -18,7 +18,9 @@ use Rattle.stripe_core.specs.declared.refusal.Stop.{Stop}
 use Rattle.stripe_core.specs.declared.refusal.Stop.TheVariants as stop
 use Rattle.stripe_core.specs.declared.stripe.Stripe.{Stripe}
 use Rattle.std.specs.declared.alloc.Global.{Global}
+use Rattle.call_laws.specs.Contents.{contents_of_vectors}
 use Rattle.stripe_core.specs.Ahead.{IsMadeFor}
+use Rattle.stripe_core.specs.Standing.{AreStanding}
 use Rattle.stripe_core.specs.Named.{IsNamed}
 use Rattle.stripe_core.specs.Units.{entries_of_unit, records_of_unit}
 use Rattle.stripe_core.specs.Pieces.{ArePieces, kept_of, seen_of, state_now}
@@ -87,6 +89,10 @@ pub record IsStripe {D R C : Type 0} {d : DiskGhosts D} {r : DirectoryGhosts R} 
   pub readers : t.units ≤ reader_room_of t.actors
   -- there is memory for what a flush copies
   pub ahead : IsMadeFor (state_in t).geometry t.ahead
+  -- no insert goes on
+  pub none : (state_in t).displaced ≡ []
+  -- where the device tells its content each vector spells what it lists
+  pub vectors : AreStanding contents_of_vectors (state_in t) (seen_in t)
   -- each reader has a record
   pub numbered : (state_in t).next_reader < count_of (kept_in t)
 

@@ -25,7 +25,8 @@ use tape_base::{Actor, Digest, Key, LIMIT, MAX_WRITERS, PieceId};
 impl<D: Disk, R: Directory + Drop, C: Chronicle> Stripe<D, R, C> {
     ghost use Rattle.stripe_core.specs.Pieces.{live_place_of};
     ghost use Rattle.stripe_core.specs.Stripe.{IsStill, IsStripe, kept_in, seen_in, state_in, units_in};
-    ghost use Rattle.stripe_core.specs.Between.{Continues, IsResting};
+    ghost use Rattle.stripe_core.specs.Between.{Continues, IsResting, StayStanding};
+    ghost use Rattle.call_laws.specs.Contents.{AnyContents};
 
     /// Commits a put, whose vector is the piece that was placed last and lists these alternates.
     /// The key's vector before it goes.
@@ -90,6 +91,7 @@ impl<D: Disk, R: Directory + Drop, C: Chronicle> Stripe<D, R, C> {
         ensures adds { (place : ℕ) → live_place_of (state_in self.old) id ≡ Some place
             → kept_in self.new ≡ with_records (kept_in self.old)
             (rec.Damaged id place kept found ∷ []) }
+        ensures contents { StayStanding AnyContents self.old self.new }
         ensures does { MarksAsAsked (state_in self.old) id kept found }
         ensures still { (seen_in self.new).device ≡ (seen_in self.old).device }
         ensures unit { units_in self.new + 1 ≡ units_in self.old }

@@ -6,7 +6,8 @@ ghost use Rattle.cache_model.specs.Kept.{with_records};
 ghost use Rattle.cache_model.specs.State.{cursor_next, floor_next};
 ghost use Rattle.cache_model.specs.declared.record.Rec.TheVariants.{Began, Fault};
 ghost use Rattle.stripe_core.specs.Covers.{Uses};
-ghost use Rattle.stripe_core.specs.Copying.{AreCopyable, AreTellable, IsCopyable, IsCopyableWhereCopied, IsTellable, begun_behind, blocks_for, copied_by};
+ghost use Rattle.logged_disk.specs.Device.{TellsAll};
+ghost use Rattle.stripe_core.specs.Copying.{AreCopyable, AreTellable, AreToldCopied, IsCopyable, IsCopyableWhereCopied, IsTellable, IsToldCopied, IsToldRow, begun_behind, blocks_for, copied_by};
 ghost use Rattle.stripe_core.specs.Copying.{copied_of, copied_record, copies_among, copies_by, done_records, left_records, told_by, told_of};
 ghost use Rattle.stripe_core.specs.declared.refusal.Stop.TheVariants.{DeviceFault};
 
@@ -20,7 +21,7 @@ use logged_disk::Disk;
 use tape_base::BLOCK;
 
 impl<D: Disk, R: Directory + Drop, C: Chronicle> Pieces<D, R, C> {
-    ghost use Rattle.stripe_core.specs.Pieces.{ArePieces, kept_of, seen_of, state_now};
+    ghost use Rattle.stripe_core.specs.Pieces.{ArePieces, GoOn, GoOnWith, kept_of, seen_of, state_now};
 
     /// Behind a buffer that was written: tells what is not copied, begins the next buffer, and copies
     /// what was read into it.
@@ -36,7 +37,10 @@ impl<D: Disk, R: Directory + Drop, C: Chronicle> Pieces<D, R, C> {
             ahead.now.fates.items ahead.now.bytes.items }
         requires records { length (told_of true ahead.now.due.items ahead.now.fates.items) + 1 + copies_among ahead.now.fates.items ≤ C.room self.old.chronicle }
         requires entries { copies_among ahead.now.fates.items ≤ (seen_of self.old).spare }
-        ensures pieces { ArePieces self.new }
+        ensures pieces { GoOnWith (λ contents. TellsAll (seen_of self.old).device
+            → AreToldCopied contents (begun_behind (state_now self.old)
+            (told_of true ahead.now.due.items ahead.now.fates.items)) 0 ahead.now.due.items
+            ahead.now.fates.items ahead.now.bytes.items) self.old self.new }
         ensures adds { kept_of self.new ≡ with_records (kept_of self.old)
             (done_records (state_now self.old) ahead.now.due.items ahead.now.fates.items
             ahead.now.bytes.items) }
@@ -58,7 +62,7 @@ impl<D: Disk, R: Directory + Drop, C: Chronicle> Pieces<D, R, C> {
         requires below { next < 2 ^ 62 }
         requires written { HasBuffer (seen_of self.old) }
         requires record { 1 ≤ C.room self.old.chronicle }
-        ensures pieces { ArePieces self.new }
+        ensures pieces { GoOn self.old self.new }
         ensures adds { let s = state_now self.old in
             kept_of self.new ≡ with_records (kept_of self.old)
             (Began (cursor_next s) (floor_next s) ∷ []) }
@@ -76,7 +80,7 @@ impl<D: Disk, R: Directory + Drop, C: Chronicle> Pieces<D, R, C> {
         requires told { AreTellable false (state_now self.old)
             (seen_of self.old).device.faults ahead.now.due.items ahead.now.fates.items }
         requires records { length (told_of false ahead.now.due.items ahead.now.fates.items) + 1 ≤ C.room self.old.chronicle }
-        ensures pieces { ArePieces self.new }
+        ensures pieces { GoOn self.old self.new }
         ensures adds { kept_of self.new ≡ with_records (kept_of self.old)
             (told_of false ahead.now.due.items ahead.now.fates.items ++ Fault
             (seen_of self.old).device.faults ∷ []) }
@@ -99,7 +103,7 @@ impl<D: Disk, R: Directory + Drop, C: Chronicle> Pieces<D, R, C> {
         requires told { AreTellable done (state_now self.old)
             (seen_of self.old).device.faults ahead.now.due.items ahead.now.fates.items }
         requires records { length (told_of done ahead.now.due.items ahead.now.fates.items) ≤ C.room self.old.chronicle }
-        ensures pieces { ArePieces self.new }
+        ensures pieces { GoOn self.old self.new }
         ensures adds { kept_of self.new ≡ with_records (kept_of self.old)
             (told_of done ahead.now.due.items ahead.now.fates.items) }
         ensures rest { SameButRows (seen_of self.old) (seen_of self.new) }
@@ -115,7 +119,7 @@ impl<D: Disk, R: Directory + Drop, C: Chronicle> Pieces<D, R, C> {
         requires told { IsTellable (state_now self.old)
             (seen_of self.old).device.faults candidate fate }
         requires records { length (told_by done candidate fate) ≤ C.room self.old.chronicle }
-        ensures pieces { ArePieces self.new }
+        ensures pieces { GoOn self.old self.new }
         ensures adds { kept_of self.new ≡ with_records (kept_of self.old)
             (told_by done candidate fate) }
         ensures rest { SameButRows (seen_of self.old) (seen_of self.new) }
@@ -136,7 +140,7 @@ impl<D: Disk, R: Directory + Drop, C: Chronicle> Pieces<D, R, C> {
     fn leave(&mut self, candidate: Candidate, fault: bool, done: bool)
         requires pieces { ArePieces self.old }
         requires records { length (left_records done candidate fault) ≤ C.room self.old.chronicle }
-        ensures pieces { ArePieces self.new }
+        ensures pieces { GoOn self.old self.new }
         ensures adds { kept_of self.new ≡ with_records (kept_of self.old)
             (left_records done candidate fault) }
         ensures cyclone { self.new.cyclone ≡ self.old.cyclone }
@@ -154,7 +158,9 @@ impl<D: Disk, R: Directory + Drop, C: Chronicle> Pieces<D, R, C> {
             ahead.now.fates.items ahead.now.bytes.items }
         requires records { copies_among ahead.now.fates.items ≤ C.room self.old.chronicle }
         requires entries { copies_among ahead.now.fates.items ≤ (seen_of self.old).spare }
-        ensures pieces { ArePieces self.new }
+        ensures pieces { GoOnWith (λ contents. TellsAll (seen_of self.old).device
+            → AreToldCopied contents (state_now self.old) 0 ahead.now.due.items
+            ahead.now.fates.items ahead.now.bytes.items) self.old self.new }
         ensures adds { kept_of self.new ≡ with_records (kept_of self.old)
             (copied_of (state_now self.old) 0 ahead.now.due.items ahead.now.fates.items
             ahead.now.bytes.items) }
@@ -182,7 +188,9 @@ impl<D: Disk, R: Directory + Drop, C: Chronicle> Pieces<D, R, C> {
         requires copied { IsCopyableWhereCopied R.purges (state_now self.old) candidate fate bytes.now }
         requires records { copies_by fate ≤ C.room self.old.chronicle }
         requires entries { copies_by fate ≤ (seen_of self.old).spare }
-        ensures pieces { ArePieces self.new }
+        ensures pieces { GoOnWith (λ contents. TellsAll (seen_of self.old).device
+            → IsToldCopied contents (state_now self.old) candidate fate bytes.now)
+            self.old self.new }
         ensures adds { kept_of self.new ≡ with_records (kept_of self.old)
             (copied_by (state_now self.old) candidate fate bytes.now) }
         ensures still { (seen_of self.new).device ≡ (seen_of self.old).device }
@@ -202,7 +210,8 @@ impl<D: Disk, R: Directory + Drop, C: Chronicle> Pieces<D, R, C> {
         requires copied { IsCopyable R.purges (state_now self.old) candidate bytes.now }
         requires record { 1 ≤ C.room self.old.chronicle }
         requires entry { 1 ≤ (seen_of self.old).spare }
-        ensures pieces { ArePieces self.new }
+        ensures pieces { GoOnWith (λ contents. TellsAll (seen_of self.old).device
+            → IsToldRow contents (state_now self.old) candidate bytes.now) self.old self.new }
         ensures adds { kept_of self.new ≡ with_records (kept_of self.old)
             (copied_record (state_now self.old) candidate bytes.now ∷ []) }
         ensures still { (seen_of self.new).device ≡ (seen_of self.old).device }

@@ -21,7 +21,7 @@ use logged_disk::Disk;
 use tape_base::{BLOCK, Digest, HEADER, PieceId};
 
 impl<D: Disk, R: Directory + Drop, C: Chronicle> Pieces<D, R, C> {
-    ghost use Rattle.stripe_core.specs.Pieces.{ArePieces, kept_of, live_place_of, seen_of, state_now};
+    ghost use Rattle.stripe_core.specs.Pieces.{ArePieces, GoOn, kept_of, live_place_of, seen_of, state_now};
     ghost use Rattle.stripe_core.specs.Stripe.{IsUnwritten};
 
     /// Reads a live piece and brings its payload to the front of `into`, which has room for its blocks,
@@ -30,11 +30,11 @@ impl<D: Disk, R: Directory + Drop, C: Chronicle> Pieces<D, R, C> {
         requires pieces { ArePieces self.old }
         requires record { 1 ≤ C.room self.old.chronicle }
         requires into { HasRoomFor (state_now self.old) id into.old }
-        ensures pieces { ArePieces self.new }
+        ensures pieces { GoOn self.old self.new }
         ensures adds { kept_of self.new
             ≡ with_records (kept_of self.old) (find_adds (state_now self.old) id result) }
-        ensures finds { Finds (state_now self.old) (seen_of self.old).device
-            (seen_of self.new).device id result into.new }
+        ensures finds { Finds (state_now self.old) (seen_of self.old) (seen_of self.new) id result
+            into.new }
         // A device that tells its content shows each piece as it was placed.
         ensures unharmed { TellsAll (seen_of self.new).device
             → TellNoDamage (find_adds (state_now self.old) id result) }
@@ -53,11 +53,11 @@ impl<D: Disk, R: Directory + Drop, C: Chronicle> Pieces<D, R, C> {
         requires record { 1 ≤ C.room self.old.chronicle }
         requires into { HasRoomFor (state_now self.old) id into.old }
         requires live { live_place_of (state_now self.old) id ≡ Some place }
-        ensures pieces { ArePieces self.new }
+        ensures pieces { GoOn self.old self.new }
         ensures adds { kept_of self.new
             ≡ with_records (kept_of self.old) (find_adds (state_now self.old) id result) }
-        ensures finds { Finds (state_now self.old) (seen_of self.old).device
-            (seen_of self.new).device id result into.new }
+        ensures finds { Finds (state_now self.old) (seen_of self.old) (seen_of self.new) id result
+            into.new }
         // A device that tells its content shows each piece as it was placed.
         ensures unharmed { TellsAll (seen_of self.new).device
             → TellNoDamage (find_adds (state_now self.old) id result) }
@@ -104,7 +104,7 @@ impl<D: Disk, R: Directory + Drop, C: Chronicle> Pieces<D, R, C> {
         requires some { 0 < blocks }
         requires within { 512 * blocks ≤ length into.old }
         requires few { 512 * blocks ≤ 2 ^ 31 }
-        ensures pieces { ArePieces self.new }
+        ensures pieces { GoOn self.old self.new }
         ensures adds { kept_of self.new ≡ with_records (kept_of self.old)
             (judged_records id place result) }
         ensures judges { IsJudged place kept (take (512 * blocks) into.old) result into.new }

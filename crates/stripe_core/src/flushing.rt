@@ -24,7 +24,7 @@ use tape_base::{LIMIT, blocks_of};
 // No piece that is placed or copied ends at the limit: a buffer is written out only where the half of
 // the next one that takes the copies ends below it.
 impl<D: Disk, R: Directory + Drop, C: Chronicle> Pieces<D, R, C> {
-    ghost use Rattle.stripe_core.specs.Pieces.{ArePieces, kept_of, seen_of, state_now};
+    ghost use Rattle.stripe_core.specs.Pieces.{ArePieces, GoOn, kept_of, seen_of, state_now};
 
     /// Writes the buffer out where it is not empty, begins the next one, and copies into it what is
     /// due at a moment. What is due is read before the buffer is written.
@@ -38,7 +38,7 @@ impl<D: Disk, R: Directory + Drop, C: Chronicle> Pieces<D, R, C> {
         requires entries { budget_of (state_now self.old).geometry ≤ (seen_of self.old).spare }
         requires calls { 1 ≤ (seen_of self.old).device.calls }
         requires blocks { (seen_of self.old).geometry.agg ≤ (seen_of self.old).device.blocks }
-        ensures pieces { ArePieces self.new }
+        ensures pieces { GoOn self.old self.new }
         ensures does { FlushesAsAsked now (kept_of self.old) (kept_of self.new)
             (seen_of self.old).device.past (seen_of self.new).device result }
         ensures tells { IfOk result (Tells (state_now self.old) (state_now self.new)) }
@@ -111,7 +111,7 @@ impl<D: Disk, R: Directory + Drop, C: Chronicle> Pieces<D, R, C> {
         requires entries { budget_of (state_now self.old).geometry ≤ (seen_of self.old).spare }
         requires calls { 1 ≤ (seen_of self.old).device.calls }
         requires blocks { (seen_of self.old).geometry.agg ≤ (seen_of self.old).device.blocks }
-        ensures pieces { ArePieces self.new }
+        ensures pieces { GoOn self.old self.new }
         ensures does { RoomsAsAsked now (kept_of self.old) (kept_of self.new)
             (seen_of self.old).device.past (seen_of self.new).device bytes result }
         ensures room { OnOk result (has_room (state_now self.new) bytes ≡ true) }

@@ -2,7 +2,7 @@
 // memory.
 ghost use Rattle.std.specs.Prelude.{◌≡◌, ◌+◌, ◌*◌, ◌≤◌, ◌<◌, ℕ, List, length, take, slice_get, slice_index, Some, nat_le};
 ghost use Rattle.tape_base.specs.Geometry.{budget_of};
-ghost use Rattle.logged_disk.specs.Device.{IsAsked};
+ghost use Rattle.logged_disk.specs.Device.{IsAsked, SeenStays};
 ghost use Rattle.evacuator.specs.Choice.{AreRising, IsChoice, blocks_of_all};
 ghost use Rattle.cyclone.specs.Cyclone.{SameTape};
 ghost use Rattle.cache_model.specs.State.{Row};
@@ -35,6 +35,7 @@ impl<D: Disk, R: Directory + Drop, C: Chronicle> Pieces<D, R, C> {
         ensures chronicle { self.new.chronicle ≡ self.old.chronicle }
         ensures same { SameTape (seen_of self.old) (seen_of self.new) }
         ensures asked { IsAsked (seen_of self.old).device (seen_of self.new).device }
+        ensures seen { SeenStays (seen_of self.old).device (seen_of self.new).device }
         ensures ahead { IsMadeFor (state_now self.old).geometry ahead.new }
         ensures looks { LooksAhead now (state_now self.old) (seen_of self.old).device
             (seen_of self.new).device ahead.new }
@@ -67,6 +68,7 @@ impl<D: Disk, R: Directory + Drop, C: Chronicle> Pieces<D, R, C> {
         ensures chronicle { self.new.chronicle ≡ self.old.chronicle }
         ensures same { SameTape (seen_of self.old) (seen_of self.new) }
         ensures asked { IsAsked (seen_of self.old).device (seen_of self.new).device }
+        ensures seen { SeenStays (seen_of self.old).device (seen_of self.new).device }
         ensures ahead { IsMadeFor (state_now self.old).geometry ahead.new }
         ensures due { ahead.new.due.items ≡ ahead.old.due.items }
         ensures looked { (rows : List Row) → AreOfRows (state_now self.old) ahead.old.due.items rows
@@ -96,6 +98,7 @@ impl<D: Disk, R: Directory + Drop, C: Chronicle> Pieces<D, R, C> {
         ensures chronicle { self.new.chronicle ≡ self.old.chronicle }
         ensures same { SameTape (seen_of self.old) (seen_of self.new) }
         ensures asked { IsAsked (seen_of self.old).device (seen_of self.new).device }
+        ensures seen { SeenStays (seen_of self.old).device (seen_of self.new).device }
         ensures ahead { IsMadeFor (state_now self.old).geometry ahead.new }
         ensures due { ahead.new.due ≡ ahead.old.due }
         ensures kept { ahead.new.kept ≡ ahead.old.kept }
@@ -127,6 +130,7 @@ impl<D: Disk, R: Directory + Drop, C: Chronicle> Pieces<D, R, C> {
         ensures chronicle { self.new.chronicle ≡ self.old.chronicle }
         ensures same { SameTape (seen_of self.old) (seen_of self.new) }
         ensures asked { IsAsked (seen_of self.old).device (seen_of self.new).device }
+        ensures seen { SeenStays (seen_of self.old).device (seen_of self.new).device }
         ensures comes { (row : Row) → candidate ≡ candidate_of row
             → MayBeCopied (state_now self.old) row
             → Comes (state_now self.old) (seen_of self.old).device

@@ -6,6 +6,7 @@ ghost use Rattle.cyclone.specs.Cyclone.{IsCyclone, SameButRoom, seen};
 ghost use Rattle.logged_disk.specs.Device.{Affords, Keeps};
 ghost use Rattle.stripe_core.specs.Units.{entries_of_unit, records_of_unit};
 ghost use Rattle.stripe_core.specs.This.{is_this};
+ghost use Rattle.call_laws.specs.Contents.{Contents};
 
 use crate::records;
 use cache_chronicle::Chronicle;
@@ -36,7 +37,7 @@ pub struct Pieces<D: Disk, R: Directory + Drop, C: Chronicle> {
 }
 
 impl<D: Disk, R: Directory + Drop, C: Chronicle> Pieces<D, R, C> {
-    ghost use Rattle.stripe_core.specs.Pieces.{ArePieces, kept_of, live_place_of, seen_of, state_now};
+    ghost use Rattle.stripe_core.specs.Pieces.{ArePieces, GoOn, Stand, kept_of, live_place_of, seen_of, state_now};
 
     /// Begins a session on an empty content area. A refusal gives back the device and the chronicle.
     pub fn format(
@@ -49,6 +50,7 @@ impl<D: Disk, R: Directory + Drop, C: Chronicle> Pieces<D, R, C> {
         requires empty { C.kept chronicle ≡ all_of [] }
         ensures pieces { IfOk result ArePieces }
         ensures records { IfOk result (λ p. kept_of p ≡ all_of (format_records g)) }
+        ensures contents { IfOk result (λ p. (contents : Contents) → Stand contents p) }
         ensures device { IfOk result (λ p. (seen_of p).device ≡ D.state disk) }
         ensures back { IfErr result (λ r. (r.1 ≡ disk) × (C.kept r.2 ≡ all_of [])) }
     {
@@ -79,7 +81,7 @@ impl<D: Disk, R: Directory + Drop, C: Chronicle> Pieces<D, R, C> {
     /// least so many flushes.
     pub fn prepare(&mut self, units: u32, flushes: u32) -> Result<(), AllocError>
         requires { ArePieces self.old }
-        ensures pieces { ArePieces self.new }
+        ensures pieces { GoOn self.old self.new }
         ensures records { kept_of self.new ≡ kept_of self.old }
         ensures same { SameButRoom (seen_of self.old) (seen_of self.new) }
         ensures record { OnOk result (records_of_unit (seen_of self.old).geometry * units ≤ C.room self.new.chronicle) }

@@ -1,5 +1,5 @@
 // How a piece is placed behind those of the buffer.
-ghost use Rattle.std.specs.Prelude.{◌≡◌, ◌+◌, ◌*◌, ◌≤◌, ◌^◌, true, false, length};
+ghost use Rattle.std.specs.Prelude.{◌≡◌, ◌+◌, ◌*◌, ◌≤◌, ◌^◌, true, false, length, OnOk};
 ghost use Rattle.tape_base.specs.Digest.{digest_of};
 ghost use Rattle.tape_base.specs.Geometry.{budget_of};
 ghost use Rattle.cache_model.specs.Room.{doc_at, has_room};
@@ -8,6 +8,7 @@ ghost use Rattle.dir_table.specs.Displacement.{purge_of};
 ghost use Rattle.stripe_due.specs.Finding.{most_passed};
 ghost use Rattle.stripe_core.specs.Covers.{Uses};
 ghost use Rattle.stripe_core.specs.Ahead.{IsMadeFor};
+ghost use Rattle.stripe_core.specs.Standing.{IsToldPlaced};
 ghost use Rattle.stripe_core.specs.Place.{CutsAsAsked, IsFragmentOf, IsNew, PlacesIn, PutsIn};
 
 use crate::ahead::Ahead;
@@ -21,7 +22,7 @@ use stripe_actors::Actors;
 use tape_base::{Digest, LIMIT, PieceId, blocks_of};
 
 impl<D: Disk, R: Directory + Drop, C: Chronicle> Pieces<D, R, C> {
-    ghost use Rattle.stripe_core.specs.Pieces.{ArePieces, kept_of, seen_of, state_now};
+    ghost use Rattle.stripe_core.specs.Pieces.{ArePieces, GoOnWith, kept_of, seen_of, state_now};
 
     /// Cuts the next fragment of a put and places it, behind a flush where it has no room.
     pub fn place_fragment(
@@ -45,7 +46,8 @@ impl<D: Disk, R: Directory + Drop, C: Chronicle> Pieces<D, R, C> {
         requires entries { budget_of (state_now self.old).geometry + 1 ≤ (seen_of self.old).spare }
         requires calls { 1 ≤ (seen_of self.old).device.calls }
         requires blocks { (seen_of self.old).geometry.agg ≤ (seen_of self.old).device.blocks }
-        ensures pieces { ArePieces self.new }
+        ensures pieces { GoOnWith (λ contents. OnOk result (IsToldPlaced (seen_of self.new).device
+            (state_now self.old) id start payload.now contents)) self.old self.new }
         ensures does { CutsAsAsked R.purges now (kept_of self.old) (kept_of self.new)
             (seen_of self.old).device.past
             (seen_of self.new).device id pin start payload.now result }
@@ -77,7 +79,8 @@ impl<D: Disk, R: Directory + Drop, C: Chronicle> Pieces<D, R, C> {
         requires room { has_room (state_now self.old) (length payload.now) ≡ true }
         requires records { 2 + purge_of (state_now self.old).geometry ≤ C.room self.old.chronicle }
         requires entry { 1 ≤ (seen_of self.old).spare }
-        ensures pieces { ArePieces self.new }
+        ensures pieces { GoOnWith (λ contents. OnOk result (IsToldPlaced (seen_of self.new).device
+            (state_now self.old) id start payload.now contents)) self.old self.new }
         ensures places { PlacesIn R.purges (kept_of self.old) (kept_of self.new) id pin start
             payload.now result }
         ensures still { (seen_of self.new).device ≡ (seen_of self.old).device }
@@ -109,7 +112,8 @@ impl<D: Disk, R: Directory + Drop, C: Chronicle> Pieces<D, R, C> {
         requires room { has_room (state_now self.old) (length payload.now) ≡ true }
         requires records { 2 + purge_of (state_now self.old).geometry ≤ C.room self.old.chronicle }
         requires entry { 1 ≤ (seen_of self.old).spare }
-        ensures pieces { ArePieces self.new }
+        ensures pieces { let d = doc.now in GoOnWith (IsToldPlaced (seen_of self.new).device
+            (state_now self.old) d.id d.start payload.now) self.old self.new }
         ensures puts { let d = doc.now in
             PutsIn R.purges (kept_of self.old) (kept_of self.new) d.id d.pin d.start payload.now }
         ensures digest { result ≡ digest_of payload.now }

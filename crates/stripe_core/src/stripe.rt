@@ -12,6 +12,8 @@ ghost use Rattle.cache_model.specs.Legal.{is_writing};
 ghost use Rattle.stripe_actors.specs.Actors.{reader_room_of};
 ghost use Rattle.stripe_actors.specs.Calls.{with_room_of_readers};
 ghost use Rattle.stripe_core.specs.Find.{Finds, HasRoomFor, find_adds};
+ghost use Rattle.call_laws.specs.Contents.{Contents, contents_of_vectors};
+ghost use Rattle.stripe_core.specs.Standing.{IsToldPlaced};
 ghost use Rattle.stripe_core.specs.Place.{CutsAsAsked, IsFragmentOf, IsPlacing, IsVectorFor, PlacesAsAsked, PlacesVector, RoomsAsAsked};
 
 use crate::Pieces;
@@ -39,7 +41,7 @@ pub struct Stripe<D: Disk, R: Directory + Drop, C: Chronicle> {
 impl<D: Disk, R: Directory + Drop, C: Chronicle> Stripe<D, R, C> {
     ghost use Rattle.stripe_core.specs.Pieces.{live_place_of};
     ghost use Rattle.stripe_core.specs.Stripe.{alloc_in, Answers, flushes_in, HasMemory, IsSpared, IsStill, IsStripe, IsUnwritten, IsWanting, kept_in, room_for, RowIsMade, seen_in, state_in, units_in, Wanting};
-    ghost use Rattle.stripe_core.specs.Between.{Continues, IsResting};
+    ghost use Rattle.stripe_core.specs.Between.{Continues, ContinuesWith, IsResting, StandIn};
 
     /// Begins a session on an empty content area. A refusal gives back the device and the chronicle.
     pub fn format(
@@ -52,6 +54,7 @@ impl<D: Disk, R: Directory + Drop, C: Chronicle> Stripe<D, R, C> {
         requires empty { C.kept chronicle ≡ all_of [] }
         ensures stripe { IfOk result IsStripe }
         ensures records { IfOk result (λ t. kept_in t ≡ all_of (format_records g)) }
+        ensures contents { IfOk result (λ t. (contents : Contents) → StandIn contents t) }
         ensures device { IfOk result (λ t. (seen_in t).device ≡ D.state disk) }
         ensures alloc { IfOk result (λ t. alloc_in t ≡ alloc) }
         ensures back { IfErr result (λ r. (r.1 ≡ disk) × (C.kept r.2 ≡ all_of [])) }
@@ -237,8 +240,8 @@ impl<D: Disk, R: Directory + Drop, C: Chronicle> Stripe<D, R, C> {
         ensures continues { Continues self.old self.new }
         ensures adds { IfOk result (λ found. kept_in self.new
             ≡ with_records (kept_in self.old) (find_adds (state_in self.old) id found)) }
-        ensures finds { IfOk result (λ found. Finds (state_in self.old) (seen_in self.old).device
-            (seen_in self.new).device id found into.new) }
+        ensures finds { IfOk result (λ found. Finds (state_in self.old) (seen_in self.old)
+            (seen_in self.new) id found into.new) }
         ensures err { OnErr result (kept_in self.new ≡ kept_in self.old) }
         // The device shows what it showed, whatever it answers.
         ensures unwritten { IsUnwritten (seen_in self.old).device (seen_in self.new).device }
@@ -295,7 +298,11 @@ impl<D: Disk, R: Directory + Drop, C: Chronicle> Stripe<D, R, C> {
     ) -> Result<Placed, Refusal>
         requires stripe { IsStripe self.old }
         requires placing { IsPlacing (state_in self.old) id pin start payload.now }
-        ensures continues { Continues self.old self.new }
+        // A vector spells what the records list, where the device tells its content.
+        requires spelled { IsToldPlaced (seen_in self.old).device (state_in self.old) id start payload.now
+            contents_of_vectors }
+        ensures continues { ContinuesWith (λ contents. OnOk result (IsToldPlaced (seen_in self.new).device
+            (state_in self.old) id start payload.now contents)) self.old self.new }
         ensures does { Answers result (PlacesAsAsked R.purges now (kept_in self.old) (kept_in self.new)
             (seen_in self.old).device.past (seen_in self.new).device id pin start payload.now)
             (kept_in self.new ≡ kept_in self.old) }
@@ -327,8 +334,11 @@ impl<D: Disk, R: Directory + Drop, C: Chronicle> Stripe<D, R, C> {
         requires spared { IsSpared (units_in self.old + 1) (flushes_in self.old)
             (C.room self.old.pieces.chronicle) (seen_in self.old) }
         requires kind { id.index ≡ 0 }
+        requires spelled { IsToldPlaced (seen_in self.old).device (state_in self.old) id start payload.now
+            contents_of_vectors }
         requires vector { IsVectorFor (state_in self.old) id start payload.now }
-        ensures continues { Continues self.old self.new }
+        ensures continues { ContinuesWith (λ contents. OnOk result (IsToldPlaced (seen_in self.new).device
+            (state_in self.old) id start payload.now contents)) self.old self.new }
         ensures does { Answers result (PlacesVector R.purges (kept_in self.old) (kept_in self.new)
             (seen_in self.old).device.past
             (seen_in self.new).device.past id pin start payload.now) ⊥ }
@@ -353,7 +363,8 @@ impl<D: Disk, R: Directory + Drop, C: Chronicle> Stripe<D, R, C> {
         requires spared { IsSpared (units_in self.old + 1) (flushes_in self.old)
             (C.room self.old.pieces.chronicle) (seen_in self.old) }
         requires fragment { IsFragmentOf (state_in self.old) id pin start payload.now }
-        ensures continues { Continues self.old self.new }
+        ensures continues { ContinuesWith (λ contents. OnOk result (IsToldPlaced (seen_in self.new).device
+            (state_in self.old) id start payload.now contents)) self.old self.new }
         ensures does { Answers result (CutsAsAsked R.purges now (kept_in self.old) (kept_in self.new)
             (seen_in self.old).device.past (seen_in self.new).device id pin start payload.now)
             (kept_in self.new ≡ kept_in self.old) }

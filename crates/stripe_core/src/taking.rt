@@ -18,14 +18,14 @@ use logged_disk::Disk;
 use tape_base::{Digest, Key, PieceId};
 
 impl<D: Disk, R: Directory + Drop, C: Chronicle> Pieces<D, R, C> {
-    ghost use Rattle.stripe_core.specs.Pieces.{ArePieces, kept_of, live_place_of, seen_of, state_now};
+    ghost use Rattle.stripe_core.specs.Pieces.{ArePieces, GoOn, kept_of, live_place_of, seen_of, state_now};
 
     /// Records that the bytes of a live piece are not its own, and takes its entry out.
     pub fn damage(&mut self, id: PieceId, place: u64, kept: Digest, found: Digest)
         requires pieces { ArePieces self.old }
         requires record { 1 ≤ C.room self.old.chronicle }
         requires live { live_place_of (state_now self.old) id ≡ Some place }
-        ensures pieces { ArePieces self.new }
+        ensures pieces { GoOn self.old self.new }
         ensures adds { kept_of self.new ≡ with_records (kept_of self.old)
             (Damaged id place kept found ∷ []) }
         ensures rest { SameButRows (seen_of self.old) (seen_of self.new) }
@@ -72,7 +72,7 @@ impl<D: Disk, R: Directory + Drop, C: Chronicle> Pieces<D, R, C> {
     pub fn commit(&mut self, put: u64, key: Key, length: u64, alternates: Vector)
         requires pieces { ArePieces self.old }
         requires record { 1 ≤ C.room self.old.chronicle }
-        ensures pieces { ArePieces self.new }
+        ensures pieces { GoOn self.old self.new }
         ensures adds { kept_of self.new
             ≡ with_records (kept_of self.old) (Committed put key length alternates ∷ []) }
         ensures still { (seen_of self.new).device ≡ (seen_of self.old).device }
@@ -88,7 +88,7 @@ impl<D: Disk, R: Directory + Drop, C: Chronicle> Pieces<D, R, C> {
         requires pieces { ArePieces self.old }
         requires record { 1 ≤ C.room self.old.chronicle }
         requires live { IsSome (live_vector_of (state_now self.old) key) }
-        ensures pieces { ArePieces self.new }
+        ensures pieces { GoOn self.old self.new }
         ensures adds { kept_of self.new ≡ with_records (kept_of self.old)
             (Removed result key ∷ []) }
         ensures put { vector_of (state_now self.old) key ≡ Some (vector_piece key result) }

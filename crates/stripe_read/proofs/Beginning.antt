@@ -7,6 +7,7 @@ use Rattle.tape_base.specs.declared.actors.Actor.{Actor}
 use Rattle.tape_base.specs.declared.keys.Key.{Key}
 use Rattle.device_log.specs.Calls.{Call}
 use Rattle.logged_disk.specs.Device.{State as Device}
+use Rattle.logged_disk.proofs.GoingOn.{told_before}
 use Rattle.alternate_vector.specs.Field.{Field}
 use Rattle.cache_model.specs.declared.answer.ReadAnswer.{ReadAnswer}
 use Rattle.cache_model.specs.declared.answer.ReadAnswer.TheVariants as read
@@ -16,6 +17,9 @@ use Rattle.cache_model.specs.Kept.{Kept, state_of, with_records}
 use Rattle.cache_model.specs.Verdict.{live_vector_of}
 use Rattle.cache_model.specs.Permit.{Done, Look, Permit}
 use Rattle.cache_model.specs.Legal.{Does, DoesLook, IsQuiet}
+use Rattle.cache_model.specs.Vectors.{IsVectorAs}
+use Rattle.call_laws.specs.Contents.{Untold}
+use Rattle.call_laws.proofs.Kept.{untold_later}
 use Rattle.stripe_core.specs.Covers.{Covers}
 use Rattle.stripe_core.specs.Stripe.{IsStill}
 use Rattle.stripe_core.proofs.Counting.{cause_later}
@@ -25,7 +29,7 @@ use Rattle.stripe_read.specs.declared.opening.Looked.TheVariants as looked
 use Rattle.stripe_read.specs.declared.opening.Opened.{Opened}
 use Rattle.stripe_read.specs.Readers.{IsOpenReader, IsReaderOf}
 use Rattle.stripe_read.specs.Lookups.{IfReader, IsCountedMiss, IsFound, LooksUp, Opens, Tells, answer_in, answer_of, lookup_adds, open_adds, opened_as, trouble_with}
-use Rattle.stripe_read.proofs.Looking.{hit_adds, nothing_recorded}
+use Rattle.stripe_read.proofs.Looking.{hit_adds, key_pair_wider, nothing_recorded}
 use Rattle.stripe_read.proofs.Staying.{LeavesReaders, cause_leaves, state_behind, two_calls}
 
 -- ---- records
@@ -156,7 +160,10 @@ module _ (k k0 k1 k2 : Kept) (who : Actor) (key : Key) (request : List Field) (f
         does = λ p covers each.
             elim (m.answers p (subst (λ (calls : List Call). Covers p calls new.past) (sym from) (subst (Covers p old.past) still.past covers)) each) [
               | inl h ↦ inl (begun_does p quiet h, begun_own h.table)
-              | inr collide ↦ inr collide
+              | inr collide ↦ (
+                  let later = untold_later IsVectorAs new newer (told_before new newer still.goes) in
+                  inr (key_pair_wider (Untold new IsVectorAs) (Untold newer IsVectorAs) later p (state_of k) key collide)
+                  )
             ];
         counted =
             subst (IsCountedMiss newer.faults (state_of k) key) (sym (ap answer_in is ∙ answer_as (state_of k1).next_reader key found))

@@ -3,8 +3,9 @@ use Rattle.std.proofs.Common.{◌≡◌, ◌≢◌, ℕ, ◌<◌, ◌≤◌, Lis
 use Rattle.std.specs.Prelude.{Option, Some, None, option_and_then, option_map}
 use Rattle.tape_base.specs.declared.digests.Digest.{Digest}
 use Rattle.tape_base.specs.declared.pieces.PieceId.{PieceId}
-use Rattle.logged_disk.specs.Device.{State as Device}
+use Rattle.logged_disk.specs.Device.{State as Device, TellsAll}
 use Rattle.fragment_table.specs.Table.{TableRow}
+use Rattle.cyclone.specs.Cyclone.{Seen}
 use Rattle.cache_model.specs.declared.cause.Cause.{Cause}
 use Rattle.cache_model.specs.declared.cause.Cause.TheVariants as cause
 use Rattle.cache_model.specs.declared.record.Rec.TheVariants as rec
@@ -14,9 +15,11 @@ use Rattle.cache_model.specs.Permit.{Permit}
 use Rattle.cache_model.specs.Given.{IsDocumentOf, IsRead, damage_cause}
 use Rattle.cache_model.specs.Legal.{IsAsListed, IsUnlike, ReadTrouble}
 use Rattle.cache_model.proofs.Lists.{own_piece}
+use Rattle.call_laws.specs.Contents.{Contents}
 use Rattle.stripe_core.specs.declared.refusal.Found.{Found}
 use Rattle.stripe_core.specs.declared.refusal.Found.TheVariants as found
-use Rattle.stripe_core.specs.Find.{Finds, IsFoundAs, cause_records, find_adds, found_records}
+use Rattle.stripe_core.specs.Covers.{AreSeen, Covers}
+use Rattle.stripe_core.specs.Find.{Finds, HasPayload, IsFoundAs, cause_records, find_adds, found_records}
 use Rattle.stripe_core.proofs.Candidates.{live_is}
 use Rattle.stripe_read.specs.declared.fetching.Unlike.{Unlike}
 use Rattle.stripe_read.specs.Fetches.{Fetches, IsCompared, IsFetched, IsOtherPiece, IsPieceAsListed, IsUnlikePiece}
@@ -27,20 +30,20 @@ abbrev payload_in : Option Row → Option Digest
 payload_in o = option_map digest_in (option_and_then (λ (row : Row). row.payload) o)
 
 -- a payload of which a digest is told
-pub record HasPayload (o : Option TableRow) (told : Digest) : Type 0 where
+pub record HasDigest (o : Option TableRow) (told : Digest) : Type 0 where
   pub payload : TableRow
   pub has : o ≡ Some payload
   pub told_is : told ≡ digest_in payload
 
-has_payload : (o : Option TableRow) (told : Digest) → option_map digest_in o ≡ Some told → HasPayload o told
-has_payload None told h = cc
-has_payload (Some payload) told h = record { payload = payload; has = refl; told_is = cc }
+has_digest : (o : Option TableRow) (told : Digest) → option_map digest_in o ≡ Some told → HasDigest o told
+has_digest None told h = cc
+has_digest (Some payload) told h = record { payload = payload; has = refl; told_is = cc }
 
 -- a live piece of another payload, beside a row of a table that lists the digest
 pub unlike_row : (s : State) (id : PieceId) (listed other : Digest) (row : Row) (entry : TableRow) → live_row_of s id ≡ Some row → payload_of_piece s id ≡ Some other → listed ≢ other → digest_in entry ≡ listed
     → IsUnlike row entry other
 unlike_row s id listed other row entry live told differ lists =
-    let h : HasPayload row.payload other = has_payload row.payload other (sym (ap payload_in live) ∙ told) in
+    let h : HasDigest row.payload other = has_digest row.payload other (sym (ap payload_in live) ∙ told) in
     record { payload = h.payload; has = h.has; found_is = h.told_is; differ = λ e. differ (sym lists ∙ e) }
 
 -- one of the payload that is listed
@@ -95,11 +98,24 @@ compared_by p s id (Some row) listed entry size into (found.Found n) live lists 
 compared_by p s id (Some row) listed entry size into (found.Missing why) live lists h c =
     mismatched p s id listed row entry why c.0 live lists (is_read p s row size into h) c.1 c.2
 
-pub compared : (s : State) (old new : Device) (id : PieceId) (listed : Digest) (size : ℕ) (into : List ℕ) (answer : Found)
-    → Finds s old new id (found.Found size) into → IsCompared s id listed size answer → Fetches s old new id listed answer into
-compared s old new id listed size into answer f c = record {
-  seen = f.seen;
-  answers = λ p entry covers lists. compared_by p s id (live_row_of s id) listed entry size into answer refl lists (f.answers p covers) c;
+-- a payload that is given is the one that was found
+compared_payload : (contents : Contents) (s : State) (id : PieceId) (o : Option Row) (listed : Digest) (size : ℕ) (into : List ℕ)
+    (answer : Found) → IsCompared s id listed size answer → HasPayload contents o (found.Found size) into → HasPayload contents o answer into
+compared_payload contents s id None listed size into answer c h = tt
+compared_payload contents s id (Some row) listed size into (found.Found n) c h =
+    subst (λ k. HasPayload contents (Some row) (found.Found k) into) (sym c.0) h
+compared_payload contents s id (Some row) listed size into (found.Missing why) c h = tt
+
+-- what was found is compared with the device left as it is
+pub compared : (s : State) (old new newer : Seen) (id : PieceId) (listed : Digest) (size : ℕ) (into : List ℕ) (answer : Found)
+    → newer.device ≡ new.device → Finds s old new id (found.Found size) into → IsCompared s id listed size answer → Fetches s old newer id listed answer into
+compared s old new newer id listed size into answer still f c = record {
+  seen = subst (AreSeen old.device) (sym still) f.seen;
+  contents = λ tells contents stands.
+      compared_payload contents s id (live_row_of s id) listed size into answer c (f.contents (subst TellsAll still tells) contents stands);
+  answers = λ p entry covers lists.
+      compared_by p s id (live_row_of s id) listed entry size into answer refl lists
+      (f.answers p (subst (λ (d : Device). Covers p old.device.past d.past) still covers)) c;
 }
 
 missing_by : (p : Permit) (s : State) (id : PieceId) (o : Option Row) (entry : TableRow) (why : Cause) (into : List ℕ)
@@ -107,6 +123,14 @@ missing_by : (p : Permit) (s : State) (id : PieceId) (o : Option Row) (entry : T
 missing_by p s id None entry why into h = h
 missing_by p s id (Some row) entry why into h = ReadTrouble.troubled (cause_records row why) why h
 
-pub missing : (s : State) (old new : Device) (id : PieceId) (listed : Digest) (why : Cause) (into : List ℕ)
+missing_payload : (contents : Contents) (o : Option Row) (why : Cause) (into : List ℕ) → HasPayload contents o (found.Missing why) into
+missing_payload contents None why into = tt
+missing_payload contents (Some row) why into = tt
+
+pub missing : (s : State) (old new : Seen) (id : PieceId) (listed : Digest) (why : Cause) (into : List ℕ)
     → Finds s old new id (found.Missing why) into → Fetches s old new id listed (found.Missing why) into
-missing s old new id listed why into f = record { seen = f.seen; answers = λ p entry covers lists. missing_by p s id (live_row_of s id) entry why into (f.answers p covers) }
+missing s old new id listed why into f = record {
+  seen = f.seen;
+  contents = λ tells contents stands. missing_payload contents (live_row_of s id) why into;
+  answers = λ p entry covers lists. missing_by p s id (live_row_of s id) entry why into (f.answers p covers);
+}

@@ -5,32 +5,33 @@ use Rattle.std.specs.Prelude.{Option, Some, None, Result, Ok, Err, IfOk, option_
 use Rattle.tape_base.specs.declared.digests.Digest.{Digest}
 use Rattle.tape_base.specs.declared.pieces.PieceId.{PieceId}
 use Rattle.device_log.specs.Calls.{Call}
-use Rattle.logged_disk.specs.Device.{State as Device}
+use Rattle.logged_disk.specs.Device.{State as Device, TellsAll}
 use Rattle.fragment_table.specs.Table.{TableRow}
+use Rattle.cyclone.specs.Cyclone.{Seen}
 use Rattle.cache_model.specs.declared.cause.Cause.{Cause}
 use Rattle.cache_model.specs.declared.cause.Cause.TheVariants as cause
-use Rattle.cache_model.specs.declared.answer.NextAnswer.{NextAnswer}
 use Rattle.cache_model.specs.declared.answer.NextAnswer.TheVariants as next
-use Rattle.cache_model.specs.declared.record.Rec.{Rec}
 use Rattle.cache_model.specs.State.{Closed, GivenUp, Open, PutRow, ReaderRow, Row, State, Writing, after_all, live_row_of, put_of}
 use Rattle.cache_model.specs.Verdict.{cause_of_piece, digest_in, next_piece, next_row, reader_verdict, verdict_at_end, verdict_of_followed, verdict_of_fragment, verdict_of_writing}
 use Rattle.cache_model.specs.Permit.{Done, Permit, ReadOn}
 use Rattle.cache_model.specs.Given.{IsReadWhereLive}
 use Rattle.cache_model.specs.Legal.{Does, IsAsListed, IsNextAsListed, IsQuiet, IsReading, answer_record, live_next}
 use Rattle.cache_model.proofs.Found.{end_gives_none, no_truth}
+use Rattle.call_laws.specs.Contents.{Contents}
 use Rattle.stripe_core.specs.declared.refusal.Found.{Found}
 use Rattle.stripe_core.specs.declared.refusal.Found.TheVariants as found
 use Rattle.stripe_core.specs.Acts.{NotesAsAsked}
 use Rattle.stripe_core.specs.Counts.{IsCountedCause}
 use Rattle.stripe_core.specs.Covers.{AreSeen, Covers}
 use Rattle.stripe_core.proofs.Covering.{own_covers, own_permit}
-use Rattle.stripe_core.specs.Find.{cause_records, find_adds, found_records}
+use Rattle.stripe_core.specs.Find.{HasPayload, cause_records, find_adds, found_records}
+use Rattle.stripe_core.specs.Standing.{AreStanding}
 use Rattle.stripe_read.specs.declared.reader.Reader.{Reader}
 use Rattle.stripe_read.specs.declared.reading.NextPiece.{NextPiece}
 use Rattle.stripe_read.specs.declared.reading.NextPiece.TheVariants as piece
 use Rattle.stripe_read.specs.Readers.{IsReaderOf, as_row, row_by, rows_in}
 use Rattle.stripe_read.specs.Fetches.{Fetches, IsFetched, IsOtherPiece}
-use Rattle.stripe_read.specs.Nexts.{Gives, GoesOn, HasNext, IsCountedBreak, IsFragment, IsOtherNext, ReadsOn, listed_length, next_behind, noted, read_adds, trouble_with}
+use Rattle.stripe_read.specs.Nexts.{Gives, GivesPayload, GoesOn, HasNext, IsCountedBreak, IsFragment, IsOtherNext, ReadsOn, listed_length, next_behind, noted, read_adds, trouble_with}
 use Rattle.stripe_vectors.proofs.Counting.{cause_counted}
 use Rattle.stripe_vectors.proofs.Seeing.{seen_before, seen_none}
 use Rattle.stripe_read.proofs.Comparing.{is_read, unlike_row}
@@ -169,32 +170,53 @@ other_by s r cut digest has (Some row) live other = record {
 pub other_next : (s : State) (r : Reader) (id : PieceId) (cut : ℕ) (digest : Digest) → HasNext s r cut digest → id ≡ next_piece (as_row r) → IsOtherPiece s id digest → IsOtherNext s r
 other_next s r id cut digest has id_is other = other_by s r cut digest has (live_row_of s (next_piece (as_row r))) refl (subst (λ i. IsOtherPiece s i digest) id_is other)
 
-module _ (s : State) (old new newer : Device) (r : Reader) (id : PieceId) (cut : ℕ) (digest : Digest) (into : List ℕ)
-    (has : HasNext s r cut digest) (quiet : IsQuiet s) (id_is : id ≡ next_piece (as_row r)) (newer_is : newer ≡ new) where
-  fetched : (answer : Found) (f : Fetches s old new id digest answer into) (p : Permit) → Covers p old.past newer.past
+-- a fragment that is given is the one that was fetched
+fetched_payload : (contents : Contents) (o : Option Row) (index size : ℕ) (into : List ℕ) → HasPayload contents o (found.Found size) into
+    → GivesPayload contents o (piece.Piece index size) into
+fetched_payload contents None index size into h = tt
+fetched_payload contents (Some row) index size into h = h
+
+broken_payload : (contents : Contents) (o : Option Row) (why : Cause) (into : List ℕ) → GivesPayload contents o (piece.Broken why) into
+broken_payload contents None why into = tt
+broken_payload contents (Some row) why into = tt
+
+module _ (s : State) (old new newer : Seen) (r : Reader) (id : PieceId) (cut : ℕ) (digest : Digest) (into : List ℕ)
+    (has : HasNext s r cut digest) (quiet : IsQuiet s) (id_is : id ≡ next_piece (as_row r)) (newer_is : newer.device ≡ new.device) where
+  fetched : (answer : Found) (f : Fetches s old new id digest answer into) (p : Permit) → Covers p old.device.past newer.device.past
       → IsFetched p s (next_piece (as_row r)) (live_row_of s (next_piece (as_row r))) has.row answer into
   fetched answer f p covers =
       subst (λ i. IsFetched p s i (live_row_of s i) has.row answer into) id_is
-      (f.answers p has.row (subst (λ (x : Device). Covers p old.past x.past) newer_is covers) has.digest_is)
+      (f.answers p has.row (subst (λ (x : Device). Covers p old.device.past x.past) newer_is covers) has.digest_is)
 
-  pub piece_reads : NotesAsAsked r.reader (next.Gave r.next cut) → (size : ℕ) → Fetches s old new id digest (found.Found size) into → ReadsOn s old newer r (piece.Piece r.next size) into
+  next_is : live_next s (as_row r) ≡ live_row_of s id
+  next_is = next_live s (as_row r) has.row has.found ∙ ap (live_row_of s) (sym id_is)
+
+  pub piece_reads : NotesAsAsked r.reader (next.Gave r.next cut) → (size : ℕ) → Fetches s old new id digest (found.Found size) into
+      → ReadsOn s old newer r (piece.Piece r.next size) into
   piece_reads notes size f = record {
-    seen = subst (AreSeen old) (sym newer_is) f.seen;
+    seen = subst (AreSeen old.device) (sym newer_is) f.seen;
+    contents = λ tells contents stands.
+        fetched_payload contents (live_next s (as_row r)) r.next size into
+        (subst (λ o. HasPayload contents o (found.Found size) into) (sym next_is) (f.contents (subst TellsAll newer_is tells) contents stands));
     does = λ p covers own. given_does p s r has.row size into has.found (subst (λ n. NotesAsAsked r.reader (next.Gave r.next n)) (sym has.length_is) notes) (live_row_of s (next_piece (as_row r))) own quiet refl (fetched (found.Found size) f p covers);
     gives = λ p covers. given_is p s r has.row size into has.found (live_row_of s (next_piece (as_row r))) refl (fetched (found.Found size) f p covers);
     counted = tt;
   }
 
-  pub broken_reads : (why : Cause) → NotesAsAsked r.reader (next.Broke why) → (after_all s (find_adds s id (found.Missing why))).fault ≤ new.faults → Fetches s old new id digest (found.Missing why) into → ReadsOn s old newer r (piece.Broken why) into
+  pub broken_reads : (why : Cause) → NotesAsAsked r.reader (next.Broke why) → (after_all s (find_adds s id (found.Missing why))).fault ≤ new.device.faults
+      → Fetches s old new id digest (found.Missing why) into → ReadsOn s old newer r (piece.Broken why) into
   broken_reads why notes reached f = record {
-    seen = subst (AreSeen old) (sym newer_is) f.seen;
+    seen = subst (AreSeen old.device) (sym newer_is) f.seen;
+    contents = λ tells contents stands. broken_payload contents (live_next s (as_row r)) why into;
     does = λ p covers own. broken_does p s r has.row why into has.found notes own quiet (fetched (found.Missing why) f p covers);
     gives = λ p covers. tt;
     counted =
-        let own : Permit = own_permit 0 old.past newer.past in
-        let there : (after_all s (find_adds s id (found.Missing why))).fault ≤ newer.faults = subst (λ (x : Device). (after_all s (find_adds s id (found.Missing why))).fault ≤ x.faults) (sym newer_is) reached in
-        fetched_counted own s newer.faults (next_piece (as_row r)) (live_row_of s (next_piece (as_row r))) has.row why into
-        (subst (λ i. (after_all s (find_adds s i (found.Missing why))).fault ≤ newer.faults) id_is there) (fetched (found.Missing why) f own (own_covers 0 old.past newer.past));
+        let own : Permit = own_permit 0 old.device.past newer.device.past in
+        let there : (after_all s (find_adds s id (found.Missing why))).fault ≤ newer.device.faults =
+        subst (λ (x : Device). (after_all s (find_adds s id (found.Missing why))).fault ≤ x.faults) (sym newer_is) reached in
+        fetched_counted own s newer.device.faults (next_piece (as_row r)) (live_row_of s (next_piece (as_row r))) has.row why into
+        (subst (λ i. (after_all s (find_adds s i (found.Missing why))).fault ≤ newer.device.faults) id_is there)
+        (fetched (found.Missing why) f own (own_covers 0 old.device.past newer.device.past));
   }
 
 -- ---- behind the last fragment
@@ -240,12 +262,14 @@ module _ (s : State) (r : Reader) (answer : NextPiece) (none : next_row s (as_ro
   stop_counted faults (piece.NotYet cut) h = tt
   stop_counted faults (piece.Broken why) h = inr (end_counted faults s (as_row r) (rows_in r) why h)
 
-  pub stop_reads : NotesAsAsked r.reader (noted 0 answer) → (old new : Device) (into : List ℕ) → new.past ≡ old.past → IsQuiet s → ReadsOn s old new r answer into
+  pub stop_reads : NotesAsAsked r.reader (noted 0 answer) → (old new : Seen) (into : List ℕ) → new.device.past ≡ old.device.past → IsQuiet s
+      → ReadsOn s old new r answer into
   stop_reads notes old new into still quiet = record {
-    seen = seen_none old new still;
+    seen = seen_none old.device new.device still;
+    contents = λ tells contents stands. subst (λ o. GivesPayload contents o answer into) (sym (next_none s (as_row r) none)) tt;
     does = λ p covers own. stop_does notes p own quiet;
     gives = λ p covers. gives_none p s r answer into no_piece;
-    counted = stop_counted new.faults answer is;
+    counted = stop_counted new.device.faults answer is;
   }
 
   pub stop_goes : GoesOn r answer r
@@ -253,15 +277,23 @@ module _ (s : State) (r : Reader) (answer : NextPiece) (none : next_row s (as_ro
 
 -- ---- behind the memory that was made first
 
-pub reads_prepared : (s t : State) (old older new : Device) (r : Reader) (answer : NextPiece) (into : List ℕ) → t ≡ s → older.past ≡ old.past → ReadsOn t older new r answer into → ReadsOn s old new r answer into
-reads_prepared s t old older new r answer into same past h = record {
-  seen = seen_before old older new past h.seen;
-  does = λ p covers. subst (λ (x : State). IsReaderOf x r → Does p x (ReadOn r.reader) (read_adds x r answer) Done) same (h.does p (subst (λ (calls : List Call). Covers p calls new.past) (sym past) covers));
-  gives = λ p covers. subst (λ (x : State). Gives p x r answer into) same (h.gives p (subst (λ (calls : List Call). Covers p calls new.past) (sym past) covers));
-  counted = subst (λ (x : State). IsCountedBreak new.faults x r answer) same h.counted;
+pub reads_prepared : (s t : State) (old older new : Seen) (r : Reader) (answer : NextPiece) (into : List ℕ) → t ≡ s → older.device.past ≡ old.device.past
+    → ((contents : Contents) → AreStanding contents s old → AreStanding contents t older) → ReadsOn t older new r answer into → ReadsOn s old new r answer into
+reads_prepared s t old older new r answer into same past stay h = record {
+  seen = seen_before old.device older.device new.device past h.seen;
+  contents = λ tells contents stands.
+      subst (λ (x : State). GivesPayload contents (live_next x (as_row r)) answer into) same (h.contents tells contents (stay contents stands));
+  does = λ p covers.
+      subst (λ (x : State). IsReaderOf x r → Does p x (ReadOn r.reader) (read_adds x r answer) Done) same
+      (h.does p (subst (λ (calls : List Call). Covers p calls new.device.past) (sym past) covers));
+  gives = λ p covers.
+      subst (λ (x : State). Gives p x r answer into) same
+      (h.gives p (subst (λ (calls : List Call). Covers p calls new.device.past) (sym past) covers));
+  counted = subst (λ (x : State). IsCountedBreak new.device.faults x r answer) same h.counted;
 }
 
-pub given_prepared : (s t : State) (old older new : Device) (r : Reader) (answer : Result NextPiece AllocError) (into : List ℕ) → t ≡ s → older.past ≡ old.past
+pub given_prepared : (s t : State) (old older new : Seen) (r : Reader) (answer : Result NextPiece AllocError) (into : List ℕ) → t ≡ s
+    → older.device.past ≡ old.device.past → ((contents : Contents) → AreStanding contents s old → AreStanding contents t older)
     → IfOk answer (λ a. ReadsOn t older new r a into) → IfOk answer (λ a. ReadsOn s old new r a into)
-given_prepared s t old older new r (Ok answer) into same past h = reads_prepared s t old older new r answer into same past h
-given_prepared s t old older new r (Err e) into same past h = tt
+given_prepared s t old older new r (Ok answer) into same past stay h = reads_prepared s t old older new r answer into same past stay h
+given_prepared s t old older new r (Err e) into same past stay h = tt

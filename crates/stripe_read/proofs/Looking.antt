@@ -17,8 +17,10 @@ use Rattle.cache_model.specs.Verdict.{cause_of_last, cause_of_miss, cause_of_pie
 use Rattle.cache_model.specs.Permit.{Permit}
 use Rattle.cache_model.specs.Given.{IsRead, IsReadWhereLive}
 use Rattle.cache_model.specs.Legal.{IsLookup}
-use Rattle.cache_model.specs.Pair.{IsKeyPair}
-use Rattle.cache_model.specs.Vectors.{IsVectorAs}
+use Rattle.cache_model.specs.Pair.{Documents, IsKeyPair}
+use Rattle.cache_model.specs.Vectors.{AreVectors, IsVectorAs}
+use Rattle.call_laws.specs.Contents.{Untold}
+use Rattle.call_laws.proofs.Kept.{tells_or_not}
 use Rattle.stripe_core.specs.Counts.{IsCountedCause}
 use Rattle.stripe_actors.specs.Actors.{AreActors, Seen}
 use Rattle.stripe_actors.specs.ActorLaws.{number_in}
@@ -147,10 +149,39 @@ otherwise_counted faults s key request answer is = by (followed s key request) i
     by (Some w) h = subst (IsCountedMiss faults s key) (sym h) tt
     by None h = subst (IsCountedMiss faults s key) (sym h) (inl refl)
 
+-- a pair of some documents is one of more
+pub key_pair_wider : (P Q : Documents) → ((s : State) (row : Row) (document : List ℕ) → P s row document → Q s row document)
+    → (p : Permit) (s : State) (key : Key)
+    → IsKeyPair P p s key → IsKeyPair Q p s key
+key_pair_wider P Q wider p s key h = record {
+  row = h.row;
+  vector = h.vector;
+  pair = record {
+    document = h.pair.document;
+    bytes = h.pair.bytes;
+    live = h.pair.live;
+    placed = wider s h.row h.pair.document h.pair.placed;
+    given = h.pair.given;
+    collide = h.pair.collide;
+  };
+}
+
 module _ (s : State) (old new : Device) (key : Key) (request : List Field) where
+  -- what was read is what the key has, or two documents of one SHA-256 are shown on a device that did not tell its content
+  read_listed : ReadIsListed → (list : List Stored) → FindsVector s old new key (vector.Read list) → (p : Permit) → AreVectors s → (row : Row)
+      → live_vector_of s key ≡ Some row → IsReadAs p s row list → (list ≡ alternates_of s key) ⊎ IsKeyPair (Untold new IsVectorAs) p s key
+  read_listed law list f p each row live read = elim (tells_or_not new) [
+    | inl tells ↦ inl (f.exact tells)
+    | inr n ↦ elim (law p s key row list each live read) [
+      | inl same ↦ inl same
+      | inr collide ↦ inr (key_pair_wider IsVectorAs (Untold new IsVectorAs) (λ t x document h. (h, n)) p s key collide)
+    ]
+  ]
+
   -- there is none
-  absent_in : (p : Permit) (found : Looked) → answer_of found ≡ otherwise s key request → HasTable s key request found → (o : Option Row) → live_vector_of s key ≡ o → IsVectorFound p s o vector.Absent
-      → IsFound p s key request found ⊎ IsKeyPair IsVectorAs p s key
+  absent_in : (p : Permit) (found : Looked) → answer_of found ≡ otherwise s key request → HasTable s key request found → (o : Option Row)
+      → live_vector_of s key ≡ o → IsVectorFound p s o vector.Absent
+      → IsFound p s key request found ⊎ IsKeyPair (Untold new IsVectorAs) p s key
   absent_in p found is table (Some row) live h = absurd h
   absent_in p found is table None live h =
       inl (verdict_found p s key request found (subst (IsReadWhereLive p s) (sym live) tt) (verdict_otherwise s key request (ap (last_match request) (no_alternates s key live)) ∙ sym is)
@@ -164,7 +195,8 @@ module _ (s : State) (old new : Device) (key : Key) (request : List Field) where
   }
 
   -- it cannot be read
-  trouble_in : (p : Permit) (why : Cause) (o : Option Row) → live_vector_of s key ≡ o → IsVectorFound p s o (vector.Trouble why) → IsFound p s key request (looked.Miss why) ⊎ IsKeyPair IsVectorAs p s key
+  trouble_in : (p : Permit) (why : Cause) (o : Option Row) → live_vector_of s key ≡ o → IsVectorFound p s o (vector.Trouble why)
+      → IsFound p s key request (looked.Miss why) ⊎ IsKeyPair (Untold new IsVectorAs) p s key
   trouble_in p why None live h = absurd h
   trouble_in p why (Some row) live h = inl (record {
     right = subst (λ o. IsLookup p s key request (trouble_with o (read.Miss why)) (read.Miss why)) (sym live) (IsLookup.trouble row (Rattle.stripe_core.specs.Find.cause_records row why) why live h);
@@ -179,9 +211,10 @@ module _ (s : State) (old new : Device) (key : Key) (request : List Field) where
   }
 
   -- it was read, and nothing in it answers
-  unmatched_in : (p : Permit) (found : Looked) (list : List Stored) → answer_of found ≡ otherwise s key request → HasTable s key request found → last_match request list ≡ None
-      → (o : Option Row) → live_vector_of s key ≡ o → IsVectorFound p s o (vector.Read list) → ((row : Row) → o ≡ Some row → IsReadAs p s row list → (list ≡ alternates_of s key) ⊎ IsKeyPair IsVectorAs p s key)
-      → IsFound p s key request found ⊎ IsKeyPair IsVectorAs p s key
+  unmatched_in : (p : Permit) (found : Looked) (list : List Stored) → answer_of found ≡ otherwise s key request → HasTable s key request found
+      → last_match request list ≡ None → (o : Option Row) → live_vector_of s key ≡ o → IsVectorFound p s o (vector.Read list)
+      → ((row : Row) → o ≡ Some row → IsReadAs p s row list → (list ≡ alternates_of s key) ⊎ IsKeyPair (Untold new IsVectorAs) p s key)
+      → IsFound p s key request found ⊎ IsKeyPair (Untold new IsVectorAs) p s key
   unmatched_in p found list is table none None live h law = absurd h
   unmatched_in p found list is table none (Some row) live h law = elim (law row refl h) [
     | inl same ↦ inl (verdict_found p s key request found (subst (IsReadWhereLive p s) (sym live) (vector_is_read p s row list h)) (verdict_otherwise s key request (ap (last_match request) (sym same) ∙ none) ∙ sym is)
@@ -193,7 +226,9 @@ module _ (s : State) (old new : Device) (key : Key) (request : List Field) where
       → FindsVector s old new key (vector.Read list) → LooksUp s old new key request found
   unmatched_looks law found list is table none f = record {
     seen = f.seen;
-    answers = λ p covers each. unmatched_in p found list is table (no_choice (last_match request list) none) (live_vector_of s key) refl (f.answers p covers) (λ row live. law p s key row list each live);
+    answers = λ p covers each.
+        unmatched_in p found list is table (no_choice (last_match request list) none) (live_vector_of s key) refl (f.answers p covers)
+        (read_listed law list f p each);
     counted = otherwise_counted new.faults s key request (answer_of found) is;
   }
     where
@@ -210,8 +245,10 @@ module _ (s : State) (old new : Device) (key : Key) (request : List Field) where
       verdict_found p s key request (looked.Hit chosen) was (verdict_hit s key request a there ∙ ap read.Hit (sym h.0)) (hit_adds s key chosen.put)
       (h.1 ∙ sym (ap (λ o. unwrap_or (option_map (λ (x : Stored). x.table) o) []) there))
 
-  matched_in : (p : Permit) (chosen : Chosen) (list : List Stored) → IsChosen (last_match request list) (Some chosen) → (o : Option Row) → live_vector_of s key ≡ o → IsVectorFound p s o (vector.Read list)
-      → ((row : Row) → o ≡ Some row → IsReadAs p s row list → (list ≡ alternates_of s key) ⊎ IsKeyPair IsVectorAs p s key) → IsFound p s key request (looked.Hit chosen) ⊎ IsKeyPair IsVectorAs p s key
+  matched_in : (p : Permit) (chosen : Chosen) (list : List Stored) → IsChosen (last_match request list) (Some chosen) → (o : Option Row)
+      → live_vector_of s key ≡ o → IsVectorFound p s o (vector.Read list)
+      → ((row : Row) → o ≡ Some row → IsReadAs p s row list → (list ≡ alternates_of s key) ⊎ IsKeyPair (Untold new IsVectorAs) p s key)
+      → IsFound p s key request (looked.Hit chosen) ⊎ IsKeyPair (Untold new IsVectorAs) p s key
   matched_in p chosen list is None live h law = absurd h
   matched_in p chosen list is (Some row) live h law = elim (law row refl h) [
     | inl same ↦ inl (matched_by p chosen list (last_match request list) refl is same (subst (IsReadWhereLive p s) (sym live) (vector_is_read p s row list h)))
@@ -221,6 +258,6 @@ module _ (s : State) (old new : Device) (key : Key) (request : List Field) where
   pub matched_looks : ReadIsListed → (chosen : Chosen) (list : List Stored) → IsChosen (last_match request list) (Some chosen) → FindsVector s old new key (vector.Read list) → LooksUp s old new key request (looked.Hit chosen)
   matched_looks law chosen list is f = record {
     seen = f.seen;
-    answers = λ p covers each. matched_in p chosen list is (live_vector_of s key) refl (f.answers p covers) (λ row live. law p s key row list each live);
+    answers = λ p covers each. matched_in p chosen list is (live_vector_of s key) refl (f.answers p covers) (read_listed law list f p each);
     counted = tt;
   }

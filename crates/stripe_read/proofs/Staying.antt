@@ -148,6 +148,12 @@ given_reader k k1 k2 o answer r new size e f behind own =
     subst (λ t. IsReaderOf t new) (sym (state_behind k1 k2 (rec.Gave r.reader r.next size ∷ []) f))
     (goes_reader (state_of k1) r new size behind (leaves_reader (state_of k) (state_of k1) r (found_behind k k1 o answer e) own))
 
+pub given_quiet : (k k1 k2 : Kept) (o : Option Row) (answer : Found) (reader index size : ℕ) → k1 ≡ with_records k (found_records o answer)
+    → k2 ≡ with_records k1 (rec.Gave reader index size ∷ []) → IsQuiet (state_of k) → IsQuiet (state_of k2)
+given_quiet k k1 k2 o answer reader index size e f quiet =
+    subst IsQuiet (sym (state_behind k1 k2 (rec.Gave reader index size ∷ []) f))
+    (leaves_quiet (state_of k) (state_of k1) (found_behind k k1 o answer e) quiet)
+
 pub told_behind : (k k1 : Kept) (reader : ℕ) (answer : NextAnswer) → k1 ≡ with_records k (answer_record reader answer ∷ []) → is_gave answer ≡ false → LeavesReaders (state_of k) (state_of k1)
 told_behind k k1 reader answer is h = subst (LeavesReaders (state_of k)) (sym (state_behind k k1 (answer_record reader answer ∷ []) is)) (answer_leaves (state_of k) reader answer h)
 

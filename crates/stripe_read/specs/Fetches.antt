@@ -2,18 +2,21 @@
 use Rattle.std.specs.Prelude.{ℕ, ◌≡◌, ◌≢◌, List, Option, Some, None}
 use Rattle.tape_base.specs.declared.digests.Digest.{Digest}
 use Rattle.tape_base.specs.declared.pieces.PieceId.{PieceId}
-use Rattle.logged_disk.specs.Device.{State as Device}
+use Rattle.logged_disk.specs.Device.{TellsAll}
 use Rattle.fragment_table.specs.Table.{TableRow}
+use Rattle.cyclone.specs.Cyclone.{Seen}
 use Rattle.cache_model.specs.declared.cause.Cause.TheVariants as cause
 use Rattle.cache_model.specs.State.{Row, State, live_row_of}
 use Rattle.cache_model.specs.Verdict.{cause_of_piece, digest_in, payload_of_piece}
 use Rattle.cache_model.specs.Permit.{Permit}
 use Rattle.cache_model.specs.Given.{IsDocumentOf}
 use Rattle.cache_model.specs.Legal.{IsAsListed, ReadTrouble}
+use Rattle.call_laws.specs.Contents.{Contents}
 use Rattle.stripe_core.specs.declared.refusal.Found.{Found}
 use Rattle.stripe_core.specs.declared.refusal.Found.TheVariants as found
 use Rattle.stripe_core.specs.Covers.{AreSeen, Covers}
-use Rattle.stripe_core.specs.Find.{cause_records}
+use Rattle.stripe_core.specs.Find.{HasPayload, cause_records}
+use Rattle.stripe_core.specs.Standing.{AreStanding}
 use Rattle.stripe_core.specs.Pieces.{live_place_of}
 use Rattle.stripe_read.specs.declared.fetching.Unlike.{Unlike}
 
@@ -46,8 +49,9 @@ IsFetched p s id (Some row) entry (found.Found size) into = IsDocumentOf p s row
 IsFetched p s id (Some row) entry (found.Missing why) into = ReadTrouble p s row entry (cause_records row why) why
 
 -- what was read is what is seen, and what came of it in any step that covers the call, for each row of a table that
--- lists this digest
-pub record Fetches (s : State) (old new : Device) (id : PieceId) (listed : Digest) (answer : Found) (into : List ℕ) : Type 0 where
-  pub seen : AreSeen old new
-  pub answers : (p : Permit) (entry : TableRow) → Covers p old.past new.past → digest_in entry ≡ listed
+-- lists this digest; where the device tells its content a payload is the one that is told
+pub record Fetches (s : State) (old new : Seen) (id : PieceId) (listed : Digest) (answer : Found) (into : List ℕ) : Type 0 where
+  pub seen : AreSeen old.device new.device
+  pub contents : TellsAll new.device → (contents : Contents) → AreStanding contents s old → HasPayload contents (live_row_of s id) answer into
+  pub answers : (p : Permit) (entry : TableRow) → Covers p old.device.past new.device.past → digest_in entry ≡ listed
       → IsFetched p s id (live_row_of s id) entry answer into

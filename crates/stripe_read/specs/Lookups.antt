@@ -2,10 +2,10 @@
 use Rattle.std.specs.Prelude.{ℕ, ◌≡◌, ◌⊎◌, List, [], ◌∷◌, ◌++◌, Option, Some, None, option_map, unwrap_or}
 use Rattle.tape_base.specs.declared.actors.Actor.{Actor}
 use Rattle.tape_base.specs.declared.keys.Key.{Key}
-use Rattle.logged_disk.specs.Device.{State as Device}
 use Rattle.fragment_table.specs.Table.{Table, total_length}
 use Rattle.alternate_vector.specs.Field.{Field}
 use Rattle.alternate_vector.specs.Alternates.{Stored}
+use Rattle.logged_disk.specs.Device.{State as Device}
 use Rattle.cache_model.specs.declared.answer.ReadAnswer.{ReadAnswer}
 use Rattle.cache_model.specs.declared.answer.ReadAnswer.TheVariants as read
 use Rattle.cache_model.specs.declared.record.Rec.{Rec}
@@ -16,6 +16,7 @@ use Rattle.cache_model.specs.Permit.{Done, Look, Permit}
 use Rattle.cache_model.specs.Legal.{Does, IsLookup}
 use Rattle.cache_model.specs.Pair.{IsKeyPair}
 use Rattle.cache_model.specs.Vectors.{AreVectors, IsVectorAs}
+use Rattle.call_laws.specs.Contents.{Untold}
 use Rattle.stripe_core.specs.Covers.{AreSeen, Covers}
 use Rattle.stripe_core.specs.Counts.{IsCountedCause}
 use Rattle.stripe_core.specs.Find.{cause_records}
@@ -74,10 +75,11 @@ IsCountedMiss faults s key (read.Miss why) = (why ≡ cause_of_miss s key) ⊎ I
 IsCountedMiss faults s key _ = Unit {0}
 
 -- what was read is what is seen, and what came of it in any step that covers the call; or two documents of
--- one SHA-256 are shown
+-- one SHA-256 are shown, on a device that did not tell its content
 pub record LooksUp (s : State) (old new : Device) (key : Key) (request : List Field) (found : Looked) : Type 0 where
   pub seen : AreSeen old new
-  pub answers : (p : Permit) → Covers p old.past new.past → AreVectors s → IsFound p s key request found ⊎ IsKeyPair IsVectorAs p s key
+  pub answers : (p : Permit) → Covers p old.past new.past → AreVectors s
+      → IsFound p s key request found ⊎ IsKeyPair (Untold new IsVectorAs) p s key
   pub counted : IsCountedMiss new.faults s key (answer_of found)
 
 -- ---- what opens
@@ -117,9 +119,10 @@ Tells number (opened.Follow reader put) = (reader.reader ≡ number) × (put ≡
 Tells number (opened.Miss why) = Unit {0}
 
 -- what was read is what is seen, and in any step that covers the call: it was looked up as asked, and the
--- reader has the fragments of the alternate; or two documents of one SHA-256 are shown
+-- reader has the fragments of the alternate; or two documents of one SHA-256 are shown, on a device that did not tell its content
 pub record Opens (s t : State) (old new : Device) (who : Actor) (key : Key) (request : List Field) (answer : Opened) : Type 0 where
   pub seen : AreSeen old new
   pub does : (p : Permit) → Covers p old.past new.past → AreVectors s
-      → (Does p s (Look who.0 key request) (open_adds s who key request (answer_in answer)) Done × IfReader (IsReaderOf t) answer) ⊎ IsKeyPair IsVectorAs p s key
+      → (Does p s (Look who.0 key request) (open_adds s who key request (answer_in answer)) Done × IfReader (IsReaderOf t) answer)
+      ⊎ IsKeyPair (Untold new IsVectorAs) p s key
   pub counted : IsCountedMiss new.faults s key (answer_in answer)

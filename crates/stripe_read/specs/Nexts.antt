@@ -1,8 +1,9 @@
 -- What a reader is given, and what is recorded.
-use Rattle.std.specs.Prelude.{ℕ, ◌≡◌, ◌⊎◌, ◌+◌, List, [], ◌∷◌, ◌++◌, Option, Some, None, option_map, unwrap_or}
+use Rattle.std.specs.Prelude.{ℕ, ◌≡◌, ◌⊎◌, ◌+◌, IfSome, List, [], ◌∷◌, ◌++◌, Option, Some, None, length, option_map, take, unwrap_or}
 use Rattle.tape_base.specs.declared.digests.Digest.{Digest}
-use Rattle.logged_disk.specs.Device.{State as Device}
+use Rattle.logged_disk.specs.Device.{TellsAll}
 use Rattle.fragment_table.specs.Table.{TableRow}
+use Rattle.cyclone.specs.Cyclone.{Seen}
 use Rattle.cache_model.specs.declared.answer.NextAnswer.{NextAnswer}
 use Rattle.cache_model.specs.declared.answer.NextAnswer.TheVariants as next
 use Rattle.cache_model.specs.declared.record.Rec.{Rec}
@@ -10,10 +11,12 @@ use Rattle.cache_model.specs.State.{Row, State, live_row_of}
 use Rattle.cache_model.specs.Verdict.{cause_of_piece, digest_in, next_piece, next_row}
 use Rattle.cache_model.specs.Permit.{Done, Permit, ReadOn}
 use Rattle.cache_model.specs.Legal.{Does, IsAsListed, IsUnlike, answer_record, live_next}
+use Rattle.call_laws.specs.Contents.{Contents}
 use Rattle.stripe_core.specs.Covers.{AreSeen, Covers}
 use Rattle.stripe_core.specs.Counts.{IsCountedCause}
 use Rattle.cache_model.specs.Given.{IsDocumentOf}
 use Rattle.stripe_core.specs.Find.{cause_records}
+use Rattle.stripe_core.specs.Standing.{AreStanding}
 use Rattle.stripe_read.specs.declared.reader.Reader.{Reader}
 use Rattle.stripe_read.specs.declared.reading.NextPiece.{NextPiece}
 use Rattle.stripe_read.specs.declared.reading.NextPiece.TheVariants as piece
@@ -74,13 +77,19 @@ abbrev pub IsCountedBreak : ℕ → State → Reader → NextPiece → Type 0
 IsCountedBreak faults s r (piece.Broken why) = (why ≡ cause_of_piece s (next_piece (as_row r))) ⊎ IsCountedCause faults why
 IsCountedBreak faults s r _ = Unit {0}
 
+-- the payload that is given is the one that is told of the fragment
+abbrev pub GivesPayload : Contents → Option Row → NextPiece → List ℕ → Type 0
+GivesPayload contents (Some row) (piece.Piece index size) into = IfSome (contents row.id row.alternates) (λ c. (size ≡ length c.payload) × (take size into ≡ c.payload))
+GivesPayload contents _ answer into = Unit {0}
+
 -- what was read is what is seen, and in any step that covers the call: it was read on as asked, where the
--- reader has the fragments of the records; and what it is given
-pub record ReadsOn (s : State) (old new : Device) (r : Reader) (answer : NextPiece) (into : List ℕ) : Type 0 where
-  pub seen : AreSeen old new
-  pub does : (p : Permit) → Covers p old.past new.past → IsReaderOf s r → Does p s (ReadOn r.reader) (read_adds s r answer) Done
-  pub gives : (p : Permit) → Covers p old.past new.past → Gives p s r answer into
-  pub counted : IsCountedBreak new.faults s r answer
+-- reader has the fragments of the records; and what it is given, where the device tells its content as it is told
+pub record ReadsOn (s : State) (old new : Seen) (r : Reader) (answer : NextPiece) (into : List ℕ) : Type 0 where
+  pub seen : AreSeen old.device new.device
+  pub contents : TellsAll new.device → (contents : Contents) → AreStanding contents s old → GivesPayload contents (live_next s (as_row r)) answer into
+  pub does : (p : Permit) → Covers p old.device.past new.device.past → IsReaderOf s r → Does p s (ReadOn r.reader) (read_adds s r answer) Done
+  pub gives : (p : Permit) → Covers p old.device.past new.device.past → Gives p s r answer into
+  pub counted : IsCountedBreak new.device.faults s r answer
 
 -- the fragment that it takes next is live, and by the records its payload is not the one that the reader's table lists,
 -- or that the writer has cut

@@ -85,7 +85,7 @@ pub(crate) fn fetch<D: Disk, R: Directory + Drop, C: Chronicle>(
     ensures adds { IfOk result (λ found. kept_in stripe.new
         ≡ with_records (kept_in stripe.old) (find_adds (state_in stripe.old) id found)) }
     ensures fetches { IfOk result (λ found. Fetches (state_in stripe.old)
-        (seen_in stripe.old).device (seen_in stripe.new).device id listed found into.new) }
+        (seen_in stripe.old) (seen_in stripe.new) id listed found into.new) }
     ensures err { OnErr result (kept_in stripe.new ≡ kept_in stripe.old) }
     ensures untouched { OnErr result (IsStill (seen_in stripe.old).device
         (seen_in stripe.new).device) }

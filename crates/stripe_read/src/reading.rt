@@ -49,8 +49,8 @@ pub fn read_next<D: Disk, R: Directory + Drop, C: Chronicle>(
     ensures adds { IfOk result (λ answer. kept_in stripe.new
         ≡ with_records (kept_in stripe.old) (read_adds (state_in stripe.old) reader.old answer)) }
     ensures own { AddsOfReader reader.old.reader (kept_in stripe.old) (kept_in stripe.new) }
-    ensures reads { IfOk result (λ answer. ReadsOn (state_in stripe.old) (seen_in stripe.old).device
-        (seen_in stripe.new).device reader.old answer into.new) }
+    ensures reads { IfOk result (λ answer. ReadsOn (state_in stripe.old) (seen_in stripe.old)
+        (seen_in stripe.new) reader.old answer into.new) }
     ensures goes { IfOk result (λ answer. GoesOn reader.old answer reader.new) }
     ensures reader { IsOpenReader (state_in stripe.new) reader.new }
     ensures keeps { IsReaderOf (state_in stripe.old) reader.old
@@ -87,8 +87,8 @@ fn give<D: Disk, R: Directory + Drop, C: Chronicle>(
         ⊎ IsOtherNext (state_in stripe.old) reader.old }
     ensures adds { IfOk result (λ answer. kept_in stripe.new
         ≡ with_records (kept_in stripe.old) (read_adds (state_in stripe.old) reader.old answer)) }
-    ensures reads { IfOk result (λ answer. ReadsOn (state_in stripe.old) (seen_in stripe.old).device
-        (seen_in stripe.new).device reader.old answer into.new) }
+    ensures reads { IfOk result (λ answer. ReadsOn (state_in stripe.old) (seen_in stripe.old)
+        (seen_in stripe.new) reader.old answer into.new) }
     ensures goes { IfOk result (λ answer. GoesOn reader.old answer reader.new) }
     ensures reader { IsOpenReader (state_in stripe.new) reader.new }
     ensures keeps { IsReaderOf (state_in stripe.old) reader.old
@@ -127,8 +127,8 @@ fn stop<D: Disk, R: Directory + Drop, C: Chronicle>(
     ensures rests { Rests stripe.old stripe.new }
     ensures adds { kept_in stripe.new
         ≡ with_records (kept_in stripe.old) (read_adds (state_in stripe.old) reader.now result) }
-    ensures reads { (into : List ℕ) → ReadsOn (state_in stripe.old) (seen_in stripe.old).device
-        (seen_in stripe.new).device reader.now result into }
+    ensures reads { (into : List ℕ) → ReadsOn (state_in stripe.old) (seen_in stripe.old)
+        (seen_in stripe.new) reader.now result into }
     ensures goes { GoesOn reader.now result reader.now }
     ensures reader { IsOpenReader (state_in stripe.new) reader.now }
     ensures keeps { IsReaderOf (state_in stripe.old) reader.now

@@ -1,22 +1,29 @@
 -- What was found of a live vector.
 use Rattle.std.proofs.Common.{◌≡◌, ℕ, List, refl, sym, ◌∙◌, ap, subst, arith, ◌≤◌, length, take}
 use Rattle.std.proofs.lemmas.List.{length-take}
-use Rattle.std.specs.Prelude.{min, Option, Some, None, IsSome, option_and_then}
+use Rattle.std.specs.Prelude.{IfSome, min, Option, Some, None, IsSome, option_and_then, option_map}
 use Rattle.tape_base.specs.declared.keys.Key.{Key}
 use Rattle.tape_base.specs.declared.pieces.PieceId.{PieceId}
-use Rattle.logged_disk.specs.Device.{State as Device}
+use Rattle.logged_disk.specs.Device.{TellsAll}
 use Rattle.alternate_vector.specs.Alternates.{Stored}
+use Rattle.alternate_vector.specs.Spelling.{vector_bytes}
+use Rattle.alternate_vector.proofs.Again.{vector_again}
+use Rattle.cyclone.specs.Cyclone.{Seen}
 use Rattle.cache_model.specs.declared.cause.Cause.{Cause}
-use Rattle.cache_model.specs.State.{Row, State, live_row_of}
+use Rattle.cache_model.specs.State.{Row, State, alternates_of, live_row_of}
+use Rattle.cache_model.specs.Vectors.{AreVectors}
+use Rattle.cache_model.proofs.VectorLaws.{live_vector_is_listed}
+use Rattle.call_laws.specs.Contents.{contents_of_vectors, spelled_content}
 use Rattle.cache_model.specs.Verdict.{live_vector_of, vector_of}
 use Rattle.cache_model.specs.Permit.{Permit}
 use Rattle.stripe_core.specs.Covers.{Covers}
 use Rattle.stripe_core.specs.declared.refusal.Found.TheVariants as found
-use Rattle.stripe_core.specs.Find.{Finds, IsFoundAs}
+use Rattle.stripe_core.specs.Find.{Finds, HasPayload, IsFoundAs}
+use Rattle.stripe_core.specs.Standing.{AreStanding}
 use Rattle.cache_model.specs.Given.{IsDocumentOf}
 use Rattle.stripe_core.proofs.Covering.{own_covers, own_permit}
 use Rattle.stripe_vectors.specs.declared.reading.KeyVector.TheVariants as answer
-use Rattle.stripe_vectors.specs.Reading.{FindsVector, IsReadAs, IsVectorFound, listed_in}
+use Rattle.stripe_vectors.specs.Reading.{FindsVector, IsReadAs, IsVectorFound, listed_in, spelled_in}
 
 -- ---- a piece that is live
 
@@ -24,32 +31,50 @@ pub live_row : (o : Option Row) → IsSome o → (row : Row) × (o ≡ Some row)
 live_row (Some row) h = (row, refl)
 live_row None h = cc
 
-module _ (s : State) (old new : Device) (id : PieceId) (row : Row) (size : ℕ) (into : List ℕ) (live : live_row_of s id ≡ Some row) (finds : Finds s old new id (found.Found size) into) where
-  document : (p : Permit) → Covers p old.past new.past → IsDocumentOf p s row size into
+module _ (s : State) (old new : Seen) (id : PieceId) (row : Row) (size : ℕ) (into : List ℕ) (live : live_row_of s id ≡ Some row) (finds : Finds s old new id (found.Found size) into) where
+  document : (p : Permit) → Covers p old.device.past new.device.past → IsDocumentOf p s row size into
   document p covers = subst (λ o. IsFoundAs p s id o (found.Found size) into) live (finds.answers p covers)
 
   pub found_taken : size ≡ length (take size into)
-  found_taken = let d = document (own_permit 0 old.past new.past) (own_covers 0 old.past new.past) in d.size_is ∙ ap length (sym d.payload)
+  found_taken = let d = document (own_permit 0 old.device.past new.device.past) (own_covers 0 old.device.past new.device.past) in d.size_is ∙ ap length (sym d.payload)
 
   pub found_fits : size ≤ length into
   found_fits = let cut : length (take size into) ≡ min size (length into) = length-take size into in omega (arith, found_taken, cut)
 
-  pub found_vector : (key : Key) (list : List Stored) → vector_of s key ≡ Some id → list ≡ listed_in (take size into) → FindsVector s old new key (answer.Read list)
-  found_vector key list vector spelled =
+  -- the payload is the one that the vector spells, by its contents
+  payload_of_list : (alternates : Option (List Stored)) (list : List Stored) → alternates ≡ Some list
+      → IfSome (option_map spelled_content alternates) (λ c. (size ≡ length c.payload) × (take size into ≡ c.payload)) → take size into ≡ vector_bytes list
+  payload_of_list None list is h = cc
+  payload_of_list (Some other) list is h = h.1 ∙ ap vector_bytes (cc is)
+
+  -- so what is read are the key's alternates, where the device tells its content and each vector stood as it lists
+  is_listed : (key : Key) (list : List Stored) → live_vector_of s key ≡ Some row → list ≡ listed_in (take size into) → AreVectors s
+      → HasPayload contents_of_vectors (live_row_of s id) (found.Found size) into → list ≡ alternates_of s key
+  is_listed key list there spelled vectors has =
+      let l = live_vector_is_listed s key row vectors there in
+      let told = subst (λ o. HasPayload contents_of_vectors o (found.Found size) into) live has in
+      spelled ∙ (ap listed_in (payload_of_list row.alternates l.0 l.1.lists told)
+      ∙ (ap spelled_in (vector_again l.0 l.1.spelled.some l.1.spelled.stored) ∙ sym l.2))
+
+  pub found_vector : (key : Key) (list : List Stored) → vector_of s key ≡ Some id → list ≡ listed_in (take size into)
+      → (TellsAll new.device → AreVectors s) → AreStanding contents_of_vectors s old → FindsVector s old.device new.device key (answer.Read list)
+  found_vector key list vector spelled vectors stands =
       let there : live_vector_of s key ≡ Some row = ap (option_and_then (live_row_of s)) vector ∙ live in
       record {
         seen = finds.seen;
+        exact = λ tells. is_listed key list there spelled (vectors tells) (finds.contents tells contents_of_vectors stands);
         answers = λ p covers.
             let d = document p covers in
             let read : IsReadAs p s row list = record { bytes = d.bytes; whole = d.whole; of_bytes = d.of_bytes; digest = d.digest; given = d.given; spelled = spelled ∙ ap listed_in d.payload } in
             subst (λ o. IsVectorFound p s o (answer.Read list)) (sym there) read;
       }
 
-pub missed_vector : (s : State) (old new : Device) (id : PieceId) (row : Row) (why : Cause) (into : List ℕ) (key : Key) → live_row_of s id ≡ Some row → vector_of s key ≡ Some id
-    → Finds s old new id (found.Missing why) into → FindsVector s old new key (answer.Trouble why)
+pub missed_vector : (s : State) (old new : Seen) (id : PieceId) (row : Row) (why : Cause) (into : List ℕ) (key : Key) → live_row_of s id ≡ Some row → vector_of s key ≡ Some id
+    → Finds s old new id (found.Missing why) into → FindsVector s old.device new.device key (answer.Trouble why)
 missed_vector s old new id row why into key live vector finds =
     let there : live_vector_of s key ≡ Some row = ap (option_and_then (live_row_of s)) vector ∙ live in
     record {
       seen = finds.seen;
+      exact = λ tells. tt;
       answers = λ p covers. subst (λ o. IsVectorFound p s o (answer.Trouble why)) (sym there) (subst (λ o. IsFoundAs p s id o (found.Missing why) into) live (finds.answers p covers));
     }

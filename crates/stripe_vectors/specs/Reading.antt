@@ -2,7 +2,7 @@
 use Rattle.std.specs.Prelude.{ℕ, ◌≡◌, ◌*◌, ◌⊎◌, List, [], length, Option, Some, None, Result, Ok, Err}
 use Rattle.hex.specs.Hex.{IsBytes}
 use Rattle.tape_base.specs.declared.keys.Key.{Key}
-use Rattle.logged_disk.specs.Device.{State as Device}
+use Rattle.logged_disk.specs.Device.{State as Device, TellsAll}
 use Rattle.doc_header.specs.Reading.{document_digest, payload_of}
 use Rattle.alternate_vector.specs.declared.fault.VectorFault.{VectorFault}
 use Rattle.alternate_vector.specs.Alternates.{Stored}
@@ -46,9 +46,16 @@ IsVectorFound p s (Some row) found.Absent = ⊥
 IsVectorFound p s (Some row) (found.Read list) = IsReadAs p s row list
 IsVectorFound p s (Some row) (found.Trouble why) = Trouble p s row (cause_records row why) why
 
--- what was read is what is seen, and what came of it in any step that covers the call
+-- what was read are the key's alternates
+abbrev pub HasAlternates : State → Key → KeyVector → Type 0
+HasAlternates s key (found.Read list) = list ≡ alternates_of s key
+HasAlternates s key _ = Unit {0}
+
+-- what was read is what is seen, and what came of it in any step that covers the call; where the device tells its content, what
+-- the key has
 pub record FindsVector (s : State) (old new : Device) (key : Key) (answer : KeyVector) : Type 0 where
   pub seen : AreSeen old new
+  pub exact : TellsAll new → HasAlternates s key answer
   pub answers : (p : Permit) → Covers p old.past new.past → IsVectorFound p s (live_vector_of s key) answer
 
 -- the record of what kept a live vector from being read

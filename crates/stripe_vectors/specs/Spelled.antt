@@ -4,7 +4,7 @@ use Rattle.tape_base.specs.declared.geometries.Geometry.{Geometry}
 use Rattle.tape_base.specs.Blocks.{blocks_of}
 use Rattle.tape_base.specs.Geometry.{budget_of}
 use Rattle.alternate_vector.specs.Alternates.{Stored, merged, vector_size}
-use Rattle.alternate_vector.specs.Spelling.{vector_bytes}
+use Rattle.alternate_vector.specs.Spelling.{IsSpelling, vector_bytes}
 use Rattle.cache_model.specs.State.{most_payload}
 use Rattle.cache_model.specs.Room.{greatest_pin}
 use Rattle.stripe_vectors.specs.declared.spelling.Spelled.{Spelled}
@@ -20,3 +20,5 @@ pub record IsSpelled (g : Geometry) (list : List Stored) (new : Stored) (spelled
   pub pin : spelled.pin ≡ greatest_pin (listed_with g list new)
   pub small : blocks_of (length spelled.bytes.items) ≤ budget_of g
   pub lists : spelled.list ≡ listed_with g list new
+  -- and is read back as that
+  pub again : IsSpelling (vector_bytes (listed_with g list new)) (listed_with g list new)

@@ -13,7 +13,7 @@ use Rattle.tape_base.specs.Geometry.{budget_of}
 use Rattle.device_log.specs.Calls.{Call}
 use Rattle.fragment_table.specs.Table.{TableRow, total_length}
 use Rattle.alternate_vector.specs.Alternates.{Stored, vector_size}
-use Rattle.alternate_vector.specs.Spelling.{vector_bytes}
+use Rattle.alternate_vector.specs.Spelling.{IsSpelling, vector_bytes}
 use Rattle.cache_model.specs.declared.record.Rec.{Rec}
 use Rattle.cache_model.specs.declared.record.Rec.TheVariants as rec
 use Rattle.cache_model.specs.State.{Closed, Complete, LastVector, Open, PutRow, Row, State, TakenOut, alternate_of, alternates_of, fragment_piece, is_live, last_vector, list_among, list_of_last, list_of_piece, list_of_put, list_of_row, live_row_of, merged_list, only_live, placed_row, put_of, row_in, state_after, vector_piece, with_writing, after_all}
@@ -35,6 +35,7 @@ use Rattle.stripe_core.specs.Acts.{CommitsAsAsked, committed_record}
 use Rattle.stripe_core.specs.Stripe.{Answers, HasMemory}
 use Rattle.stripe_core.specs.Covers.{Covers}
 use Rattle.stripe_core.specs.Place.{IsPlacedAs, IsVectorFor, IsVectorOf, PlacesAt, PlacesIn, PlacesVector, ReachesLimit}
+use Rattle.stripe_core.proofs.Displacing.{displaced_list}
 use Rattle.stripe_vectors.specs.declared.spelling.Spelled.{Spelled}
 use Rattle.stripe_vectors.specs.Spelled.{IsSpelled, listed_with}
 use Rattle.stripe_write.specs.declared.weighing.Vectors.{Vectors}
@@ -43,7 +44,7 @@ use Rattle.stripe_write.specs.Writers.{IsAtHand, IsWriterOf}
 use Rattle.stripe_write.specs.Closing.{AreSpelled, IsReadFor, alternate_at_close, rest_rows, rows_at_close, size_at_close}
 use Rattle.stripe_write.specs.Finishing.{AreLive, FinishesAsRead, IsCurrent, VectorStops, bytes_now, picked, vector_now}
 use Rattle.stripe_write.specs.declared.finishing.Receipt.{Receipt}
-use Rattle.stripe_write.proofs.Pushed.{pushed_by, pushed_list}
+use Rattle.stripe_write.proofs.Pushed.{pushed_by}
 use Rattle.stripe_write.proofs.Spending.{last_done, nothing_more, one_group, state_behind, then_all, then_more}
 use Rattle.stripe_write.proofs.Ended.{open_put, own_number}
 use Rattle.stripe_write.proofs.Reaching.{place_reaches}
@@ -136,6 +137,14 @@ is_current s w v c none spelled read =
       lists = here.lists ∙ sym list;
     }
 
+-- that can be spelled
+pub lists_spelled : (s : State) (w : Writer) (v : Vectors) (c : IsClosing s w) → s.displaced ≡ [] → AreSpelled s.geometry w v
+    → IsReadFor s w v → IsSpelling (vector_bytes (list_of_put s w.put)) (list_of_put s w.put)
+lists_spelled s w v c none spelled read =
+    let here : IsSpelled s.geometry (alternates_of s w.key) (alternate_at_close w) (vector_now s w v) =
+    picked_by s w v (live_vector_of s w.key) refl spelled read in
+    subst (λ list. IsSpelling (vector_bytes list) list) (sym (listed_now s w c none)) here.again
+
 -- whatever flag tells that the key's vector is live
 pub picked_lists : (s : State) (w : Writer) (v : Vectors) (c : IsClosing s w) (live : Bool) (list : List Stored) → live ≡ is_some (live_vector_of s w.key) → list ≡ (picked v live).list
     → AreSpelled s.geometry w v → s.displaced ≡ [] → IsReadFor s w v → list ≡ list_of_put s w.put
@@ -221,7 +230,8 @@ vector_lists : {packed : Bool} (s : State) (key : Key) (put pin : ℕ) (payload 
     → list_of_piece (after_all s added) (vector_piece key put) ≡ list_of_put s put
 vector_lists s key put pin payload added a =
     ap (λ t. list_of_piece t (vector_piece key put)) (vector_state s key put pin payload added a)
-    ∙ (placed_lists (after_all s a.displaced) key put _ _ _ _ ∙ pushed_list s a.displaced put (pushed_by s (vector_piece key put) pin 0 payload added a))
+    ∙ (placed_lists (after_all s a.displaced) key put _ _ _ _
+    ∙ displaced_list s a.displaced put (pushed_by s (vector_piece key put) pin 0 payload added a))
 
 -- a vector that has no place adds nothing
 nothing_placed : {packed : Bool} (old new : Kept) (piece : PieceId) (pin : ℕ) (payload : List ℕ) (why : Stop) → PlacesIn packed old new piece pin 0 payload (Err why) → new ≡ old

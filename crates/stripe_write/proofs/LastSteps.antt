@@ -24,18 +24,20 @@ use Rattle.stripe_core.specs.Stripe.{Answers, IsStill, IsUnwritten, Wanting}
 use Rattle.stripe_core.proofs.Covering.{covers_first, covers_last}
 use Rattle.stripe_core.proofs.Stills.{still_shows, still_then, unwritten_then}
 use Rattle.cache_model.specs.Pair.{IsKeyPair}
+use Rattle.call_laws.specs.Contents.{Untold}
 use Rattle.stripe_write.specs.declared.finishing.Receipt.{Receipt}
 use Rattle.stripe_write.specs.declared.weighing.Vectors.{Vectors}
 use Rattle.stripe_write.specs.declared.writer.Writer.{Writer}
 use Rattle.stripe_write.specs.Writers.{IsWriterOf}
 use Rattle.stripe_write.specs.Writes.{SameButBytes, SameWriter}
-use Rattle.stripe_write.specs.Closing.{SpendsAll, Weighs, WeighsAsAsked, WeighsWhere, close_intents, rest_intents, rest_rows, rows_at_close, weigh_end, work_behind}
+use Rattle.stripe_write.specs.Closing.{IsReadFor, SpendsAll, Weighs, WeighsAsAsked, WeighsWhere, close_intents, rest_intents, rest_rows, rows_at_close, weigh_end, work_behind}
 use Rattle.stripe_write.specs.Resting.{RestsAsAsked}
 use Rattle.stripe_write.specs.Finishing.{FinishesAsRead, FinishesWhere, finish_end, finish_intents}
 use Rattle.stripe_write.specs.Closes.{Closes, ClosesAsAsked, ClosesWhere, EndsAsAsked, EndsWhere, IsRested, SealsWhere, Spent, UntouchedWhere, bytes_next, close_end, end_intents, is_sealed_by}
 use Rattle.stripe_write.specs.Numbers.{StopsAtLimit}
 use Rattle.stripe_write.proofs.Ended.{open_put}
 use Rattle.stripe_write.proofs.Keeping.{KeepsVectors, keeps_rest, read_kept}
+use Rattle.stripe_write.proofs.KeyPairs.{key_later}
 use Rattle.stripe_write.proofs.LastCut.{rest_puts}
 use Rattle.stripe_write.proofs.Reaching.{finished_stops, rest_stops}
 use Rattle.stripe_write.proofs.Sealing.{IsSealed, SameAtClose, cut_same, sealed_same, sealed_writer, then_same}
@@ -75,6 +77,15 @@ same_rests w sealed (byte ∷ bytes) is =
     ap (λ n. Rattle.cache_model.specs.Permit.Fragment n (length sealed.table.rows + 1) (byte ∷ bytes) ∷ []) is.put
     ∙ ap (λ (r : List TableRow). Rattle.cache_model.specs.Permit.Fragment w.put (length r + 1) (byte ∷ bytes) ∷ []) is.rows
 
+-- what was read stays read behind the rest
+pub rest_reads : {packed : Bool} (now : ℕ) (old mid : Kept) (before : List Call) (between : Device)
+    (w sealed cut : Writer) (v : Vectors) (u : Unit {0}) → IsSealed w sealed → SameButBytes sealed cut
+    → cut.table.rows ≡ rows_at_close sealed → cut.gathered.items ≡ [] → RestsAsAsked packed now old mid before between sealed (Ok u)
+    → IsReadFor (state_of old) w v → IsReadFor (state_of mid) cut v
+rest_reads now old mid before between w sealed cut v u is same rows none rests read =
+    read_kept (state_of old) (state_of mid) w cut v (keeps_rest now old mid before between sealed u rests)
+    (then_same w sealed cut (sealed_same w sealed is) (cut_same sealed cut same rows none)) read
+
 -- the rest is cut, and the put is finished
 module _ (packed : Bool) (now : ℕ) (old mid new : Kept) (first between last : Device) (w sealed cut : Writer) (v : Vectors) where
   pub rest_then_finish : (u : Unit {0}) (result : Result Receipt Refusal) → IsSealed w sealed → SameButBytes sealed cut → cut.table.rows ≡ rows_at_close sealed → cut.gathered.items ≡ []
@@ -87,7 +98,8 @@ module _ (packed : Bool) (now : ℕ) (old mid new : Kept) (first between last : 
         let there : state_of mid ≡ after_all s a = state_behind old mid a rests.adds in
         let all : SameAtClose w cut = then_same w sealed cut (sealed_same w sealed is) (cut_same sealed cut same rows none) in
         let keeps : KeepsVectors s (state_of mid) = keeps_rest now old mid first.past between sealed u rests in
-        let finished = ends.does p packs at (covers_last p first.past between.past last.past f.made f.past covers) (keeps.displaced displaced) (read_kept s (state_of mid) w cut v keeps all read) in
+        let finished = ends.does p packs at (covers_last p first.past between.past last.past f.made f.past covers) (keeps.displaced displaced)
+        (rest_reads now old mid first.past between w sealed cut v u is same rows none rests read) in
         let intents : rest_intents sealed sealed.gathered.items ≡ rest_intents w w.gathered.items = ap (rest_intents sealed) is.gathered ∙ same_rests w sealed w.gathered.items is in
         let cut_all : SpendsAll p s (rest_intents w w.gathered.items) a Done =
         subst (λ (is : List Intent). SpendsAll p s is a Done) intents (rests.does p packs at (covers_first p first.past between.past last.past l.made l.past covers)) in
@@ -171,10 +183,10 @@ spent_by p s t w (Err (refusal.Memory e')) added e h = absurd e
 
 pub weighed_closes : {packed : Bool} (now : ℕ) (old mid new : Kept) (before between after : Device) (w : Writer) (v : Vectors) (result : Result Receipt Refusal) → IsAfter before between → IsAfter between after
     → WeighsAsAsked before between old mid w (Ok v) → (state_of mid).displaced ≡ (state_of old).displaced → EndsWhere (state_of new) w result → EndsAsAsked packed now between.past after.past mid new w v result
-    → ClosesAsAsked packed now before.past after.past old new w result
+    → ClosesAsAsked packed now before.past after old new w result
 weighed_closes now old mid new before between after w v result f l weighs displaced where_ ends = record {
   does = λ p packs at covers told.
-      let h : Weighs p old mid w (Ok v) = weighs.does p (covers_first p before.past between.past after.past l.made l.past covers) in
+      let h : Weighs p between old mid w (Ok v) = weighs.does p (covers_first p before.past between.past after.past l.made l.past covers) in
       let there : state_of mid ≡ after_all (state_of old) h.added = state_behind old mid h.added h.adds in
       elim (h.told told.vectors) [
         | inl read ↦
@@ -187,7 +199,7 @@ weighed_closes now old mid new before between after w v result f l weighs displa
                   (subst (λ t. SpendsAll p t (end_intents w) ended.added (close_end w result)) there ended.does));
               number = ended.number;
             })
-        | inr collision ↦ inr collision
+        | inr collision ↦ inr (key_later between after l p (state_of old) w.key collision)
       ];
 }
 
@@ -210,16 +222,16 @@ weighed_stops : (s t : State) (w : Writer) (why : Refusal) → WeighsWhere s w (
 weighed_stops s t w (refusal.Exhausted number) where_ = absurd where_
 weighed_stops s t w _ where_ = tt
 
-pub refused_closes : {packed : Bool} (now : ℕ) (old new : Kept) (before after : Device) (w : Writer) (why : Refusal) → WeighsWhere (state_of old) w (Err why) → WeighsAsAsked before after old new w (Err why) → ClosesAsAsked packed now before.past after.past old new w (Err why)
+pub refused_closes : {packed : Bool} (now : ℕ) (old new : Kept) (before after : Device) (w : Writer) (why : Refusal) → WeighsWhere (state_of old) w (Err why) → WeighsAsAsked before after old new w (Err why) → ClosesAsAsked packed now before.past after old new w (Err why)
 refused_closes now old new before after w why where_ weighs = record {
   does = λ p packs at covers told.
-      let h : Weighs p old new w (Err why) = weighs.does p covers in
+      let h : Weighs p after old new w (Err why) = weighs.does p covers in
       inl (record { added = h.added; adds = h.adds; does = refused_spent p (state_of old) (state_of old) w why h.added where_ h.does; number = weighed_stops (state_of old) (state_of new) w why where_ });
 }
 
 -- ---- before anything is recorded
 
-pub wanting_closes : {packed : Bool} (now : ℕ) (old new : Kept) (before after : List Call) (w : Writer) (why : Refusal) (e : Rattle.std.specs.declared.alloc.AllocError.AllocError) → why ≡ refusal.Memory e → new ≡ old → ClosesAsAsked packed now before after old new w (Err why)
+pub wanting_closes : {packed : Bool} (now : ℕ) (old new : Kept) (before : List Call) (after : Device) (w : Writer) (why : Refusal) (e : Rattle.std.specs.declared.alloc.AllocError.AllocError) → why ≡ refusal.Memory e → new ≡ old → ClosesAsAsked packed now before after old new w (Err why)
 wanting_closes now old new before after w why e is same = record {
   does = λ p packs at covers told. inl (subst (λ (r : Refusal). Closes p old new w (Err r)) (sym is) (record { added = []; adds = same ∙ sym (nothing_more old); does = λ rest reason. MayGrow.nothing; number = tt }));
 }
@@ -272,11 +284,11 @@ next_same t w new same =
 stops_same : (t : State) (w new : Writer) (result : Result Receipt Refusal) → SameCloser w new → IfErr result (StopsAtLimit t (bytes_next t new)) → IfErr result (StopsAtLimit t (bytes_next t w))
 stops_same t w new result same h = subst (λ n. IfErr result (StopsAtLimit t n)) (next_same t w new same) h
 
-pub closes_same : {packed : Bool} (now : ℕ) (kept old new : Kept) (first before after : List Call) (w used : Writer) (result : Result Receipt Refusal) → old ≡ kept → before ≡ first → SameCloser w used
+pub closes_same : {packed : Bool} (now : ℕ) (kept old new : Kept) (first before : List Call) (after : Device) (w used : Writer) (result : Result Receipt Refusal) → old ≡ kept → before ≡ first → SameCloser w used
     → ClosesAsAsked packed now before after old new used result → ClosesAsAsked packed now first after kept new w result
 closes_same now kept old new first before after w used result e f same h = record {
   does = λ p packs at covers told.
-      let cover : Covers p before after = subst (λ (calls : List Call). Covers p calls after) (sym f) covers in
+      let cover : Covers p before after.past = subst (λ (calls : List Call). Covers p calls after.past) (sym f) covers in
       elim (h.does p packs at cover (subst (λ (k : Kept). AreTold (state_of k)) (sym e) told)) [
         | inl c ↦ inl (record {
           added = c.added;
@@ -284,7 +296,8 @@ closes_same now kept old new first before after w used result e f same h = recor
           does = spent_same p (state_of kept) w used result c.added same (subst (λ (k : Kept). Spent p (state_of k) used result c.added) e c.does);
           number = stops_same (state_of new) w used result same c.number;
         })
-        | inr collision ↦ inr (subst (λ k. IsKeyPair IsVectorAs p (state_of kept) k) same.key (subst (λ (k : Kept). IsKeyPair IsVectorAs p (state_of k) used.key) e collision))
+        | inr collision ↦ inr (subst (λ k. IsKeyPair (Untold after IsVectorAs) p (state_of kept) k) same.key
+            (subst (λ (k : Kept). IsKeyPair (Untold after IsVectorAs) p (state_of k) used.key) e collision))
       ];
 }
 

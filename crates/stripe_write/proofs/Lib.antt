@@ -10,6 +10,10 @@ mod LastCut
 pub mod Completing
 mod Sealing
 mod Keeping
+mod CutsStay
+mod KeyPairs
+mod ToldPieces
+mod ToldClosed
 mod Roomed
 mod WeighingReads
 mod WeighingFits

@@ -21,6 +21,7 @@ use Rattle.cache_model.proofs.SoundFlush.{flush_is_sound}
 use Rattle.cache_model.proofs.Steps.{grows_on}
 use Rattle.stripe_core.specs.declared.refusal.Refusal.{Refusal}
 use Rattle.stripe_core.specs.declared.refusal.Refusal.TheVariants as refusal
+use Rattle.stripe_core.specs.declared.refusal.Stop.{Stop}
 use Rattle.stripe_core.specs.declared.refusal.Stop.TheVariants as stop
 use Rattle.stripe_core.specs.Flush.{LiveBefore, StopsWith}
 use Rattle.stripe_core.specs.Place.{ReachesLimit, RoomsAsAsked}
@@ -81,6 +82,14 @@ room_grows p s w row size added false is cut makes rest e h = λ others why.
     let d : Does p s (Finish w.put (length w.table.rows)) added Stays = DoesFinish.rooms row cut (subst (λ n. MakesRoom p s n added Stays) is makes) in
     grows_on (one_group p s (Finish w.put (length w.table.rows)) added Stays d (Commit w.put ∷ others) why) (h others why)
 
+-- it leaves the vectors that are live as they are
+pub room_keeps : (now : ℕ) (old new : Kept) (before : List Call) (after : Device) (bytes : ℕ) (r : Result (Unit {0}) Stop)
+    → RoomsAsAsked now old new before after bytes r → KeepsVectors (state_of old) (state_of new)
+room_keeps now old new before after bytes r room =
+    let s : State = state_of old in
+    let there : state_of new ≡ after_all s room.added = state_behind old new room.added room.adds in
+    subst (KeepsVectors s) (sym there) (keeps_flush s room.added room.kinds (subst (LiveBefore s) there room.live))
+
 module _ (packed : Bool) (now : ℕ) (old mid new : Kept) (first between last : Device) (w : Writer) (v : Vectors) (c : IsClosing (state_of old) w) (spelled : AreSpelled (state_of old).geometry w v) where
   abbrev s : State
   s = state_of old
@@ -90,7 +99,7 @@ module _ (packed : Bool) (now : ℕ) (old mid new : Kept) (first between last : 
   behind_room u result f l room ends = record {
     does = λ p packs at covers none read.
         let there : state_of mid ≡ after_all s room.added = state_behind old mid room.added room.adds in
-        let keeps : KeepsVectors s (state_of mid) = subst (KeepsVectors s) (sym there) (keeps_flush s room.added room.kinds (subst (LiveBefore s) there room.live)) in
+        let keeps : KeepsVectors s (state_of mid) = room_keeps now old mid first.past between (bytes_now s w v) (Ok u) room in
         let here = is_current s w v c none spelled read in
         let makes = room.does p at (covers_first p first.past between.past last.past l.made l.past covers) in
         let rest = ends.does p packs at (covers_last p first.past between.past last.past f.made f.past covers) (keeps.displaced none) (read_stays s (state_of mid) w v keeps read) in

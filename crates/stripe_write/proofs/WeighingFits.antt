@@ -7,7 +7,7 @@ use Rattle.std.proofs.lemmas.List.{length-append}
 use Rattle.tape_base.specs.declared.geometries.Geometry.{Geometry}
 use Rattle.tape_base.specs.Blocks.{blocks_of}
 use Rattle.tape_base.specs.Geometry.{budget_of}
-use Rattle.logged_disk.specs.Device.{State as Device}
+use Rattle.logged_disk.specs.Device.{State as Device, TellsAll}
 use Rattle.fragment_table.specs.Table.{TableRow, made_row}
 use Rattle.alternate_vector.specs.Field.{Field}
 use Rattle.alternate_vector.specs.Alternates.{Stored, fields_size, vector_size}
@@ -22,10 +22,13 @@ use Rattle.cache_model.specs.Legal.{DoesWeigh, IsQuiet, IsWriting, MayGrow, abor
 use Rattle.cache_model.specs.Pair.{IsKeyPair}
 use Rattle.cache_model.specs.Vectors.{AreVectors, IsVectorAs}
 use Rattle.cache_model.proofs.Steps.{grows_by, grows_on}
+use Rattle.call_laws.specs.Contents.{Untold}
+use Rattle.call_laws.proofs.Kept.{tells_or_not}
 use Rattle.stripe_core.specs.declared.refusal.Refusal.{Refusal}
 use Rattle.stripe_core.specs.declared.refusal.Refusal.TheVariants as refusal
 use Rattle.stripe_core.specs.Covers.{AreSeen, Covers, Spends}
 use Rattle.stripe_core.specs.Stripe.{Wanting}
+use Rattle.stripe_core.proofs.Covering.{own_covers, own_permit}
 use Rattle.stripe_vectors.specs.declared.reading.KeyVector.{KeyVector}
 use Rattle.stripe_vectors.specs.declared.reading.KeyVector.TheVariants as found
 use Rattle.stripe_vectors.specs.declared.spelling.Spelled.{Spelled}
@@ -37,6 +40,7 @@ use Rattle.stripe_write.specs.Closing.{AreSpelled, IsReadFor, WeighsAsAsked, Wei
 use Rattle.stripe_write.specs.Weighing.{FitsWhere, IsSpelledWith, fault_in, fit_adds, list_in}
 use Rattle.stripe_write.specs.Writers.{IsAtHand, IsWriterOf}
 use Rattle.stripe_write.proofs.Ended.{open_put, own_number}
+use Rattle.stripe_write.proofs.KeyPairs.{key_wider}
 use Rattle.stripe_write.proofs.Spending.{nothing_more, state_behind}
 use Rattle.stripe_write.proofs.WeighingReads.{IsReadSoFar, fault_does, read_so_far}
 
@@ -150,20 +154,44 @@ merged_some : (g : Geometry) (list : List Stored) (new : Stored) (o : Option Spe
 merged_some g list new (Some m) h = (m, refl, h)
 merged_some g list new None h = absurd h
 
+read_by : (t : State) (w : Writer) (answer : KeyVector) (v : Vectors) → FitsWhere t (list_in answer) w (Ok v)
+    → ((row : Row) → live_vector_of t w.key ≡ Some row → list_in answer ≡ Some (alternates_of t w.key)) → IsReadFor t w v
+read_by t w answer v h same = λ row live.
+    merged_some t.geometry (alternates_of t w.key) (alternate_at_close w) v.merged
+    (subst (λ o. IsSpelledWith t.geometry o (alternate_at_close w) v.merged) (same row live) h.merged)
+
 told_by : (p : Permit) (s t : State) (w : Writer) (answer : KeyVector) (result : Result Vectors Refusal) → FitsWhere t (list_in answer) w result
     → (AreVectors s → ((row : Row) → live_vector_of t w.key ≡ Some row → list_in answer ≡ Some (alternates_of t w.key)) ⊎ IsKeyPair IsVectorAs p s w.key)
     → IfOk result (λ v. AreVectors s → IsReadFor t w v ⊎ IsKeyPair IsVectorAs p s w.key)
 told_by p s t w answer (Err e) h listed = tt
-told_by p s t w answer (Ok v) h listed = λ vectors. elim (listed vectors) [
-  | inl same ↦ inl (λ row live. merged_some t.geometry (alternates_of t w.key) (alternate_at_close w) v.merged (subst (λ o. IsSpelledWith t.geometry o (alternate_at_close w) v.merged) (same row live) h.merged))
-  | inr collide ↦ inr collide
+told_by p s t w answer (Ok v) h listed = λ vectors.
+    elim (listed vectors) [ inl same ↦ inl (read_by t w answer v h same) | inr collide ↦ inr collide ]
+
+-- what was read of the device's own content
+exact_by : (t : State) (w : Writer) (answer : KeyVector) (result : Result Vectors Refusal) → FitsWhere t (list_in answer) w result
+    → ((row : Row) → live_vector_of t w.key ≡ Some row → list_in answer ≡ Some (alternates_of t w.key)) → IfOk result (IsReadFor t w)
+exact_by t w answer (Err e) h same = tt
+exact_by t w answer (Ok v) h same = read_by t w answer v h same
+
+-- a pair is shown where the device did not tell its content alone
+told_surely : (p : Permit) (after : Device) (s t : State) (w : Writer) (result : Result Vectors Refusal)
+    → (TellsAll after → IfOk result (IsReadFor t w))
+    → IfOk result (λ v. AreVectors s → IsReadFor t w v ⊎ IsKeyPair IsVectorAs p s w.key)
+    → IfOk result (λ v. AreVectors s → IsReadFor t w v ⊎ IsKeyPair (Untold after IsVectorAs) p s w.key)
+told_surely p after s t w (Err e) exact told = tt
+told_surely p after s t w (Ok v) exact told = λ vectors. elim (tells_or_not after) [
+  | inl tells ↦ inl (exact tells)
+  | inr n ↦ elim (told vectors) [
+    | inl read ↦ inl read
+    | inr pair ↦ inr (key_wider IsVectorAs (Untold after IsVectorAs) (λ u row document h. (h, n)) p s w.key pair)
+  ]
 ]
 
 -- where a vector is spelled nothing is added
-no_more : (mid new : Kept) (w : Writer) (s : State) (p : Permit) (result : Result Vectors Refusal) → new ≡ with_records mid (fit_adds w result)
-    → IfOk result (λ v. AreVectors s → IsReadFor (state_of mid) w v ⊎ IsKeyPair IsVectorAs p s w.key) → IfOk result (λ v. AreVectors s → IsReadFor (state_of new) w v ⊎ IsKeyPair IsVectorAs p s w.key)
-no_more mid new w s p (Err e) is h = tt
-no_more mid new w s p (Ok v) is h = subst (λ t. AreVectors s → IsReadFor t w v ⊎ IsKeyPair IsVectorAs p s w.key) (sym (state_behind mid new [] is)) h
+no_more : (mid new : Kept) (w : Writer) (P : State → Vectors → Type 0) (result : Result Vectors Refusal)
+    → new ≡ with_records mid (fit_adds w result) → IfOk result (P (state_of mid)) → IfOk result (P (state_of new))
+no_more mid new w P (Err e) is h = tt
+no_more mid new w P (Ok v) is h = subst (λ t. P t v) (sym (state_behind mid new [] is)) h
 
 -- ---- weighing
 
@@ -172,6 +200,7 @@ pub wants : (kept new : Kept) (before after : Device) (w : Writer) (e : AllocErr
 wants kept new before after w e result is same seen =
     subst (WeighsAsAsked before after kept new w) (sym is) (record {
       seen = seen;
+      exact = λ tells. tt;
       does = λ p covers. record {
         added = [];
         adds = same ∙ ap (λ recs. let k : Kept = record { told = kept.told; base = kept.base; since = recs } in k) (sym (append-nil kept.since));
@@ -190,6 +219,7 @@ faults kept new before after w answer count quiet writing own fault adds finds =
     let key : o.0.key ≡ w.key = (own o.0 o.1 o.2).key_is in
     record {
       seen = finds.seen;
+      exact = λ tells. tt;
       does = λ p covers. record {
         added = vector_adds s w.key answer;
         adds = adds;
@@ -232,8 +262,15 @@ weighs law kept mid new before during after w answer result h =
     let there : state_of mid ≡ after_all s first = state_behind kept mid first h.reads in
     let o = open_put (put_of (state_of mid) w.put) h.writing_then in
     let here : IsAtHand (state_of mid).geometry o.0 w = h.own_then o.0 o.1 o.2 in
+    let own = so_far law kept mid new before during after w answer result h (own_permit 0 before.past during.past)
+    (own_covers 0 before.past during.past) in
+    let exact : TellsAll after → IfOk result (IsReadFor (state_of mid) w) = λ tells.
+    let same = own.exact (h.finds.exact (subst TellsAll h.still tells)) in
+    exact_by (state_of mid) w answer result h.fits
+    (subst (λ t. (row : Row) → live_vector_of t w.key ≡ Some row → list_in answer ≡ Some (alternates_of t w.key)) (sym there) same) in
     record {
       seen = subst (AreSeen before) (sym h.still) h.finds.seen;
+      exact = λ tells. no_more mid new w (λ t. IsReadFor t w) result h.adds (exact tells);
       does = λ p covers.
           let far = so_far law kept mid new before during after w answer result h p (subst (λ (d : Device). Covers p before.past d.past) h.still covers) in
           let readable : IsReadWhereLive p (state_of mid) (live_vector_of (state_of mid) o.0.key) =
@@ -244,7 +281,9 @@ weighs law kept mid new before during after w answer result h =
             added = first ++ fit_adds w result;
             adds = h.adds ∙ (ap (λ k. with_records k (fit_adds w result)) h.reads ∙ ap (λ recs. let k : Kept = record { told = kept.told; base = kept.base; since = recs } in k) (append_assoc kept.since first (fit_adds w result)));
             does = spends_on p s w.put (length w.gathered.items) first (fit_adds w result) (weigh_end w result) far.grows (subst (λ t. Spends p t (Weigh w.put (length w.gathered.items)) (fit_adds w result) (weigh_end w result)) there last);
-            told = no_more mid new w s p result h.adds (told_by p s (state_of mid) w answer result h.fits
-                (subst (λ t. AreVectors s → ((row : Row) → live_vector_of t w.key ≡ Some row → list_in answer ≡ Some (alternates_of t w.key)) ⊎ IsKeyPair IsVectorAs p s w.key) (sym there) far.listed));
+            told = no_more mid new w (λ t v. AreVectors s → IsReadFor t w v ⊎ IsKeyPair (Untold after IsVectorAs) p s w.key) result h.adds
+                (told_surely p after s (state_of mid) w result exact (told_by p s (state_of mid) w answer result h.fits
+                (subst (λ t. AreVectors s → ((row : Row) → live_vector_of t w.key ≡ Some row → list_in answer ≡ Some (alternates_of t w.key))
+                ⊎ IsKeyPair IsVectorAs p s w.key) (sym there) far.listed)));
           };
     }

@@ -23,7 +23,7 @@ use Rattle.cache_chronicle.proofs.RowLemmas.{row_in-named, row_in-without}
 use Rattle.stripe_core.specs.Find.{cause_records}
 use Rattle.stripe_vectors.specs.declared.reading.KeyVector.{KeyVector}
 use Rattle.stripe_vectors.specs.declared.reading.KeyVector.TheVariants as found
-use Rattle.stripe_vectors.specs.Reading.{IsReadAs, IsVectorFound, ReadIsListed, trouble_records, vector_adds}
+use Rattle.stripe_vectors.specs.Reading.{HasAlternates, IsReadAs, IsVectorFound, ReadIsListed, trouble_records, vector_adds}
 use Rattle.stripe_write.specs.Weighing.{fault_in, list_in}
 use Rattle.stripe_write.proofs.Gathering.{SamePuts}
 use Rattle.stripe_write.proofs.Spending.{state_behind}
@@ -166,10 +166,12 @@ fault_does p s put rest w (Some row) (found.Trouble why) count writing live h e 
 
 -- ---- what holds behind what was read
 
--- a damaged vector was recorded, or nothing; a live one was read, and is what the key has
+-- a damaged vector was recorded, or nothing; a live one was read, and is what the key has, where the answer is that or but for a pair
 pub record IsReadSoFar (p : Permit) (s : State) (put rest : ℕ) (key : Key) (before : List Rec) (answer : KeyVector) : Type 0 where
   pub grows : (before ≡ []) ⊎ DoesWeigh p s put rest before Stays
   pub readable : IsReadWhereLive p (after_all s before) (live_vector_of (after_all s before) key)
+  pub exact : HasAlternates s key answer
+      → (row : Row) → live_vector_of (after_all s before) key ≡ Some row → list_in answer ≡ Some (alternates_of (after_all s before) key)
   pub listed : AreVectors s
       → ((row : Row) → live_vector_of (after_all s before) key ≡ Some row → list_in answer ≡ Some (alternates_of (after_all s before) key)) ⊎ IsKeyPair IsVectorAs p s key
 
@@ -180,6 +182,7 @@ none_live p s t put rest key before answer is none grows =
     record {
       grows = grows;
       readable = subst (IsReadWhereLive p (after_all s before)) (sym gone) tt;
+      exact = λ has row live. let clash : None ≡ Some row = sym gone ∙ live in cc;
       listed = λ vectors. inl (λ row live. let clash : None ≡ Some row = sym gone ∙ live in cc);
     }
 
@@ -192,6 +195,7 @@ read_so_far law p s put rest w (Some row) found.Absent writing live h e = absurd
 read_so_far law p s put rest w (Some row) (found.Read list) writing live h e = record {
   grows = inl refl;
   readable = subst (IsReadWhereLive p s) (sym live) (is_read p s row list h);
+  exact = λ has other there. ap Some has;
   listed = λ vectors. elim (law p s w.key row list vectors live h) [ inl same ↦ inl (λ other there. ap Some same) | inr collide ↦ inr collide ];
 }
 read_so_far law p s put rest w (Some row) (found.Trouble why) writing live h e = elim (which h) [

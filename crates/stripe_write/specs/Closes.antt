@@ -13,6 +13,7 @@ use Rattle.cache_model.specs.Permit.{Commit, Done, Finish, Intent, End, Exhauste
 use Rattle.cache_model.specs.Legal.{is_writing, vector_length}
 use Rattle.cache_model.specs.Room.{limit}
 use Rattle.cache_model.specs.Vectors.{AreTold, IsVectorAs}
+use Rattle.call_laws.specs.Contents.{Contents, TellsVectors, Untold}
 use Rattle.stripe_core.specs.declared.refusal.Refusal.{Refusal}
 use Rattle.stripe_core.specs.declared.refusal.Refusal.TheVariants as refusal
 use Rattle.stripe_core.specs.Covers.{Covers, Spends}
@@ -23,7 +24,7 @@ use Rattle.stripe_write.specs.declared.weighing.Vectors.{Vectors}
 use Rattle.stripe_write.specs.declared.writer.Writer.{Writer}
 use Rattle.stripe_write.specs.Closing.{IsReadFor, SpendsAll, close_intents, rest_intents, rows_at_close, size_at_close}
 use Rattle.stripe_write.specs.Numbers.{StopsAtLimit}
-use Rattle.stripe_write.specs.Writes.{SameWriter}
+use Rattle.stripe_write.specs.Writes.{IsToldNext, SameWriter}
 
 -- ---- when each answer comes
 
@@ -96,9 +97,16 @@ pub record Closes (p : Permit) (old new : Kept) (w : Writer) (result : Result Re
   pub does : Spent p (state_of old) w result added
   pub number : IfErr result (StopsAtLimit (state_of new) (bytes_next (state_of new) w))
 
--- what came of it in any step at that moment that covers the call; or two documents of one SHA-256 are shown
-pub record ClosesAsAsked (packed : Bool) (now : ℕ) (before after : List Call) (old new : Kept) (w : Writer) (result : Result Receipt Refusal) : Type 0 where
-  pub does : (p : Permit) → p.packed ≡ packed → p.now ≡ now → Covers p before after → AreTold (state_of old) → Closes p old new w result ⊎ IsKeyPair IsVectorAs p (state_of old) w.key
+-- what came of it in any step at that moment that covers the call; or two documents of one SHA-256 are shown, on a device that
+-- did not tell its content
+pub record ClosesAsAsked (packed : Bool) (now : ℕ) (before : List Call) (after : Device) (old new : Kept) (w : Writer) (result : Result Receipt Refusal) : Type 0 where
+  pub does : (p : Permit) → p.packed ≡ packed → p.now ≡ now → Covers p before after.past → AreTold (state_of old)
+      → Closes p old new w result ⊎ IsKeyPair (Untold after IsVectorAs) p (state_of old) w.key
+
+-- the rest is told of the fragment that it became, where it was cut; and each vector spells its alternates
+pub record IsToldClosed (new : State) (w : Writer) (contents : Contents) : Type 0 where
+  pub rest : length w.table.rows < length (cuts_of new w.put) → IsToldNext w w.gathered.items contents
+  pub vectors : TellsVectors contents
 
 -- a writer that was refused by the device, or by the end of the tape, takes no more bytes; one whose rest was not come to is
 -- as it was

@@ -4,7 +4,7 @@ use Rattle.tape_base.specs.declared.geometries.Geometry.{Geometry}
 use Rattle.tape_base.specs.Blocks.{blocks_of}
 use Rattle.tape_base.specs.Digest.{digest_of}
 use Rattle.tape_base.specs.Geometry.{budget_of}
-use Rattle.logged_disk.specs.Device.{State as Device}
+use Rattle.logged_disk.specs.Device.{State as Device, TellsAll}
 use Rattle.fragment_table.specs.Table.{TableRow, made_row, total_length}
 use Rattle.alternate_vector.specs.Alternates.{Stored, vector_size}
 use Rattle.cache_model.specs.declared.record.Rec.{Rec}
@@ -14,6 +14,7 @@ use Rattle.cache_model.specs.Verdict.{live_vector_of}
 use Rattle.cache_model.specs.Permit.{Commit, Done, End, Fails, Faulted, Finish, Fragment, Intent, Permit, Reason, Stays, TooLarge, Weigh, Work, is_cleanup}
 use Rattle.cache_model.specs.Vectors.{AreVectors, IsVectorAs}
 use Rattle.cache_model.specs.Legal.{MayGrow}
+use Rattle.call_laws.specs.Contents.{Untold}
 use Rattle.stripe_core.specs.declared.refusal.Refusal.{Refusal}
 use Rattle.stripe_core.specs.declared.refusal.Refusal.TheVariants as refusal
 use Rattle.stripe_core.specs.Covers.{AreSeen, Covers, Spends}
@@ -103,13 +104,16 @@ WeighsWhere s w (Err (refusal.Memory e)) = Unit {0}
 WeighsWhere s w (Err _) = ⊥
 
 -- what it makes of the records, of which the last state is known
-pub record Weighs (p : Permit) (old new : Kept) (w : Writer) (result : Result Vectors Refusal) : Type 0 where
+pub record Weighs (p : Permit) (after : Device) (old new : Kept) (w : Writer) (result : Result Vectors Refusal) : Type 0 where
   pub added : List Rec
   pub adds : new ≡ with_records old added
   pub does : Spends p (state_of old) (Weigh w.put (length w.gathered.items)) added (weigh_end w result)
-  pub told : IfOk result (λ v. AreVectors (state_of old) → IsReadFor (state_of new) w v ⊎ IsKeyPair IsVectorAs p (state_of old) w.key)
+  pub told : IfOk result (λ v. AreVectors (state_of old) → IsReadFor (state_of new) w v
+      ⊎ IsKeyPair (Untold after IsVectorAs) p (state_of old) w.key)
 
--- what was read is what is seen, and what came of it in any step that covers the call
+-- what was read is what is seen, and what came of it in any step that covers the call; where the device tells its content, what
+-- the key has
 pub record WeighsAsAsked (before after : Device) (old new : Kept) (w : Writer) (result : Result Vectors Refusal) : Type 0 where
   pub seen : AreSeen before after
-  pub does : (p : Permit) → Covers p before.past after.past → Weighs p old new w result
+  pub exact : TellsAll after → IfOk result (IsReadFor (state_of new) w)
+  pub does : (p : Permit) → Covers p before.past after.past → Weighs p after old new w result

@@ -2,6 +2,7 @@
 use Rattle.std.specs.Prelude.{ℕ, ◌≡◌, ◌<◌, ◌≤◌, ◌-◌, Bool, true, false, List, [], ◌∷◌, length, Option, Some, None, IsSome, is_some, unwrap_or, Result, Ok, Err, IfErr}
 use Rattle.fragment_table.specs.Table.{total_length}
 use Rattle.device_log.specs.Calls.{Call}
+use Rattle.logged_disk.specs.Device.{State as Device, TellsAll}
 use Rattle.cache_model.specs.declared.record.Rec.{Rec}
 use Rattle.cache_model.specs.State.{State, fragment_piece, list_of_put, live_row_of}
 use Rattle.cache_model.specs.Kept.{Kept, state_of, with_records}
@@ -97,3 +98,7 @@ pub record Finishes (p : Permit) (old new : Kept) (w : Writer) (result : Result 
 -- the one that was read
 pub record FinishesAsRead (packed : Bool) (now : ℕ) (before after : List Call) (old new : Kept) (w : Writer) (v : Vectors) (result : Result Receipt Refusal) : Type 0 where
   pub does : (p : Permit) → p.packed ≡ packed → p.now ≡ now → Covers p before after → (state_of old).displaced ≡ [] → IsReadFor (state_of old) w v → Finishes p old new w result
+
+-- where the device tells its content, the key's vector is the one that was read
+abbrev pub IsReadWhereTold : Device → State → Writer → Vectors → Type 0
+IsReadWhereTold device s w v = TellsAll device → IsReadFor s w v

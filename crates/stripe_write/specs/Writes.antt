@@ -1,5 +1,5 @@
 -- What writers are answered, and what is recorded.
-use Rattle.std.specs.Prelude.{ℕ, ◌≡◌, ◌+◌, ◌-◌, ◌*◌, ◌==◌, ◌<◌, ◌≤◌, ◌⊎◌, min, Bool, true, false, if◌then◌else◌, List, [], ◌∷◌, ◌++◌, length, take, Some, Result, Ok, Err, MatchBool}
+use Rattle.std.specs.Prelude.{ℕ, ◌≡◌, ◌+◌, ◌-◌, ◌*◌, ◌==◌, ◌<◌, ◌≤◌, ◌⊎◌, min, Bool, true, false, if◌then◌else◌, List, [], ◌∷◌, ◌++◌, length, take, IfOk, IfSome, Some, None, Result, Ok, Err, MatchBool}
 use Rattle.std.specs.List.{AllByRecursion}
 use Rattle.tape_base.specs.declared.geometries.Geometry.{Geometry}
 use Rattle.tape_base.specs.declared.keys.Key.{Key}
@@ -13,6 +13,7 @@ use Rattle.cache_model.specs.Permit.{Done, Fails, Fragment, GiveUp, Intent, Many
 use Rattle.cache_model.specs.Legal.{Does, is_writing}
 use Rattle.device_log.specs.Calls.{Call}
 use Rattle.logged_disk.specs.Device.{State as Device, TellsAll}
+use Rattle.call_laws.specs.Contents.{Contents}
 use Rattle.stripe_core.specs.declared.refusal.Placed.{Placed}
 use Rattle.stripe_core.specs.declared.refusal.Refusal.{Refusal}
 use Rattle.stripe_core.specs.declared.refusal.Refusal.TheVariants as refusal
@@ -72,6 +73,10 @@ next_id w = fragment_piece w.key w.put (length w.table.rows + 1)
 abbrev pub next_start : Writer → ℕ
 next_start w = total_length w.table.rows
 
+-- these bytes are told of the fragment that is cut next, as they are placed
+abbrev pub IsToldNext : Writer → List ℕ → Contents → Type 0
+IsToldNext w payload contents = IfSome (contents (next_id w) None) (λ c. c ≡ record { start = next_start w; payload = payload })
+
 -- the bytes that stay gathered: none behind a cut
 abbrev pub left_of : Geometry → Writer → List ℕ → ℕ → List ℕ
 left_of g w bytes n = if is_cut g w n then [] else gathered_with w bytes n
@@ -116,6 +121,10 @@ pub record CutsNext (packed : Bool) (now : ℕ) (s : State) (before : List Call)
 -- the bytes that are gathered when a fragment has gathered
 abbrev pub next_payload : State → Writer → List ℕ → List ℕ
 next_payload s w bytes = gathered_with w bytes (taken_of s.geometry w bytes)
+
+-- they are told of it where a write cut it
+abbrev pub IsToldWritten : State → Writer → List ℕ → Result ℕ Refusal → Contents → Type 0
+IsToldWritten s w bytes result contents = IfOk result (λ n. is_cut s.geometry w n ≡ true → IsToldNext w (gathered_with w bytes n) contents)
 
 -- the next fragment is cut, where it has gathered, or cannot be; or there would be one too many
 abbrev pub WritesAs : Bool → ℕ → State → List Call → Device → Writer → List ℕ → Result ℕ Refusal → List Rec → Type 0

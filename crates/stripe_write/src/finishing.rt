@@ -7,16 +7,17 @@ ghost use Rattle.cache_model.specs.State.{fragment_piece, live_row_of};
 ghost use Rattle.cache_model.specs.Verdict.{cause_of_piece, live_vector_of};
 ghost use Rattle.cache_model.specs.declared.record.Rec.TheVariants as rec;
 ghost use Rattle.stripe_core.specs.declared.refusal.Refusal.TheVariants as refusal;
+ghost use Rattle.call_laws.specs.Contents.{TellsVectors};
 ghost use Rattle.stripe_core.specs.Acts.{CommitsAsAsked, IsCommitting, committed_record};
 ghost use Rattle.stripe_core.specs.Flush.{StopsWith};
 ghost use Rattle.stripe_core.specs.Place.{RoomsAsAsked};
 ghost use Rattle.stripe_core.specs.Counts.{IsCounted};
 ghost use Rattle.stripe_core.specs.Stripe.{Answers, IsStripe, kept_in, seen_in, state_in, units_in};
-ghost use Rattle.stripe_core.specs.Between.{Continues, IsResting, Rests};
+ghost use Rattle.stripe_core.specs.Between.{Continues, IsResting, Rests, RestsWith};
 ghost use Rattle.stripe_write.specs.Others.{AddsOfPut};
 ghost use Rattle.stripe_write.specs.Writers.{IsWriterOf};
 ghost use Rattle.stripe_write.specs.Closing.{AreSpelled};
-ghost use Rattle.stripe_write.specs.Finishing.{AreLive, FinishesAsRead, FinishesWhere, IsFirstLost, IsReceiptOf, bytes_now, picked};
+ghost use Rattle.stripe_write.specs.Finishing.{AreLive, FinishesAsRead, FinishesWhere, IsFirstLost, IsReadWhereTold, IsReceiptOf, bytes_now, picked};
 
 use crate::Writer;
 use crate::weighing::Vectors;
@@ -82,9 +83,10 @@ pub(crate) fn finish<D: Disk, R: Directory + Drop, C: Chronicle>(
     requires writer { IsWriterOf (state_in stripe.old) writer.now }
     requires open { is_writing (state_in stripe.old) writer.now.put ≡ true }
     requires cut { writer.now.gathered.items ≡ [] }
+    requires read { IsReadWhereTold (seen_in stripe.old).device (state_in stripe.old) writer.now vectors }
     requires spelled { AreSpelled (state_in stripe.old).geometry writer.now vectors }
     requires units { 3 ≤ units_in stripe.old }
-    ensures rests { Rests stripe.old stripe.new }
+    ensures rests { RestsWith TellsVectors stripe.old stripe.new }
     ensures finishes { FinishesWhere (state_in stripe.new) writer.now result }
     ensures does { FinishesAsRead R.purges now (seen_in stripe.old).device.past
         (seen_in stripe.new).device.past (kept_in stripe.old)
@@ -110,11 +112,12 @@ fn end<D: Disk, R: Directory + Drop, C: Chronicle>(
     requires writer { IsWriterOf (state_in stripe.old) writer.now }
     requires open { is_writing (state_in stripe.old) writer.now.put ≡ true }
     requires cut { writer.now.gathered.items ≡ [] }
+    requires read { IsReadWhereTold (seen_in stripe.old).device (state_in stripe.old) writer.now vectors }
     requires spelled { AreSpelled (state_in stripe.old).geometry writer.now vectors }
     requires room { has_room (state_in stripe.old)
         (bytes_now (state_in stripe.old) writer.now vectors) ≡ true }
     requires units { 2 ≤ units_in stripe.old }
-    ensures rests { Rests stripe.old stripe.new }
+    ensures rests { RestsWith TellsVectors stripe.old stripe.new }
     ensures finishes { FinishesWhere (state_in stripe.new) writer.now result }
     ensures does { FinishesAsRead R.purges now (seen_in stripe.old).device.past
         (seen_in stripe.new).device.past (kept_in stripe.old)
@@ -219,12 +222,13 @@ fn complete<D: Disk, R: Directory + Drop, C: Chronicle>(
     requires writer { IsWriterOf (state_in stripe.old) writer.now }
     requires open { is_writing (state_in stripe.old) writer.now.put ≡ true }
     requires cut { writer.now.gathered.items ≡ [] }
+    requires read { IsReadWhereTold (seen_in stripe.old).device (state_in stripe.old) writer.now vectors }
     requires spelled { AreSpelled (state_in stripe.old).geometry writer.now vectors }
     requires room { has_room (state_in stripe.old)
         (bytes_now (state_in stripe.old) writer.now vectors) ≡ true }
     requires whole { AreLive (state_in stripe.old) writer.now (length writer.now.table.rows) }
     requires units { 2 ≤ units_in stripe.old }
-    ensures rests { Rests stripe.old stripe.new }
+    ensures rests { RestsWith TellsVectors stripe.old stripe.new }
     ensures finishes { FinishesWhere (state_in stripe.new) writer.now result }
     ensures does { FinishesAsRead R.purges now (seen_in stripe.old).device.past
         (seen_in stripe.new).device.past (kept_in stripe.old)

@@ -3,12 +3,12 @@ ghost use Rattle.std.specs.Prelude.{◌≡◌, ◌+◌, ◌≤◌, ◌<◌, [], 
 ghost use Rattle.cache_model.specs.Legal.{is_writing};
 ghost use Rattle.stripe_core.specs.Counts.{IsCounted};
 ghost use Rattle.stripe_core.specs.Stripe.{Answers, kept_in, room_for, seen_in, state_in, units_in};
-ghost use Rattle.stripe_core.specs.Between.{IsResting, Rests};
+ghost use Rattle.stripe_core.specs.Between.{IsResting, RestsWith};
 ghost use Rattle.stripe_write.specs.Closing.{rows_at_close};
 ghost use Rattle.stripe_write.specs.Numbers.{StopsAtLimit};
 ghost use Rattle.stripe_write.specs.Resting.{RestsAsAsked};
 ghost use Rattle.stripe_write.specs.Writers.{IsWriterOf};
-ghost use Rattle.stripe_write.specs.Writes.{SameButBytes, SameWriter};
+ghost use Rattle.stripe_write.specs.Writes.{IsToldNext, SameButBytes, SameWriter};
 
 use crate::Writer;
 use crate::writing::cut;
@@ -30,7 +30,8 @@ pub(crate) fn cut_rest<D: Disk, R: Directory + Drop, C: Chronicle>(
     requires unit { 1 ≤ units_in stripe.old }
     requires row { 0 < room_for writer.old.put stripe.old.actors }
     requires table { 0 < writer.old.table.room }
-    ensures rests { Rests stripe.old stripe.new }
+    ensures rests { RestsWith (λ contents. OnOk result (0 < length writer.old.gathered.items
+        → IsToldNext writer.old writer.old.gathered.items contents)) stripe.old stripe.new }
     ensures counts { IfErr result (IsCounted (seen_in stripe.new).device.faults) }
     ensures unit { units_in stripe.old ≤ units_in stripe.new + 1 }
     // Memory is not wanting, and no other refusal comes.

@@ -10,10 +10,10 @@ ghost use Rattle.stripe_core.specs.Acts.{OpensAsAsked, opened_record};
 ghost use Rattle.stripe_core.specs.Place.{CutsAsAsked};
 ghost use Rattle.stripe_core.specs.Counts.{IsCounted};
 ghost use Rattle.stripe_core.specs.Stripe.{Answers, HasMemory, IsStill, IsStripe, kept_in, room_for, seen_in, state_in, units_in, Unstopped};
-ghost use Rattle.stripe_core.specs.Between.{IsResting, Rests};
+ghost use Rattle.stripe_core.specs.Between.{IsResting, Rests, RestsWith};
 ghost use Rattle.stripe_write.specs.Numbers.{StopsAtLimit};
 ghost use Rattle.stripe_write.specs.Writers.{IsWriterOf};
-ghost use Rattle.stripe_write.specs.Writes.{AbortsAsAsked, AbortsWhere, GathersAsAsked, IsOverflow, IsReady, OverflowsAsAsked, SameButBytes, SameWriter, WritesAsAsked, WritesWhere, abort_adds, next_id, next_start, number_of, overflow_adds};
+ghost use Rattle.stripe_write.specs.Writes.{AbortsAsAsked, AbortsWhere, GathersAsAsked, IsOverflow, IsReady, IsToldNext, IsToldWritten, OverflowsAsAsked, SameButBytes, SameWriter, WritesAsAsked, WritesWhere, abort_adds, next_id, next_start, number_of, overflow_adds};
 
 use crate::Writer;
 use alternate_vector::Fields;
@@ -67,7 +67,8 @@ pub fn write<D: Disk, R: Directory + Drop, C: Chronicle>(
 ) -> Result<usize, Refusal>
     requires resting { IsResting stripe.old }
     requires writer { IsWriterOf (state_in stripe.old) writer.old }
-    ensures rests { Rests stripe.old stripe.new }
+    ensures rests { RestsWith (IsToldWritten (state_in stripe.old) writer.old bytes.now result)
+        stripe.old stripe.new }
     ensures writes { WritesWhere (state_in stripe.old) writer.old bytes.now result }
     ensures number { IfErr result (StopsAtLimit (state_in stripe.new)
         (state_in stripe.old).geometry.fragment) }
@@ -204,7 +205,8 @@ fn take<D: Disk, R: Directory + Drop, C: Chronicle>(
     requires open { is_writing (state_in stripe.old) writer.old.put ≡ true }
     requires unsealed { writer.old.sealed ≡ false }
     requires few { length writer.old.table.rows < most_fragments }
-    ensures rests { Rests stripe.old stripe.new }
+    ensures rests { RestsWith (IsToldWritten (state_in stripe.old) writer.old bytes.now result)
+        stripe.old stripe.new }
     ensures writes { WritesWhere (state_in stripe.old) writer.old bytes.now result }
     ensures number { IfErr result (StopsAtLimit (state_in stripe.new)
         (state_in stripe.old).geometry.fragment) }
@@ -243,7 +245,8 @@ pub(crate) fn cut<D: Disk, R: Directory + Drop, C: Chronicle>(
 ) -> Result<Placed, Refusal>
     requires resting { IsResting stripe.old }
     requires ready { IsReady (state_in stripe.old) writer.old }
-    ensures rests { Rests stripe.old stripe.new }
+    ensures rests { RestsWith (λ contents. OnOk result (IsToldNext writer.old
+        writer.old.gathered.items contents)) stripe.old stripe.new }
     ensures does { let w = writer.old in
         Answers result (CutsAsAsked R.purges now (kept_in stripe.old) (kept_in stripe.new)
         (seen_in stripe.old).device.past (seen_in stripe.new).device (next_id w) w.pin

@@ -20,14 +20,15 @@ returns-in-Ok g c = record {
     };
     goes = c.get.ensures.leaves.goes;
     leaves = reader_leaves _ _ _ c.get.ensures.leaves.own;
-    ends = λ run moment told own.
+    stands = λ contents told stood. c.get.ensures.leaves.stands contents tt stood;
+    ends = λ run moment told own standing.
         subst (λ said. MovesOrShows run (step.Get c.args.key c.args.request) (g.S.Calls.at c.args.part.now.cache) (g.S.Calls.at c.get.new.cache) said) (sym c.said_of.ensures)
-        (line_gets run c.args.now (g.S.Calls.at c.args.part.now.cache) (g.S.Calls.at c.get.new.cache) c.args.key c.args.request
-        c.requires.part.plain moment c.requires.part.rest told own
+        (line_gets g.S.Calls run c.args.now c.args.part.now.cache c.get.new.cache c.args.key c.args.request
+        c.requires.part.plain moment c.requires.part.rest told own standing
         (given_in c.in-Ok.got) (got_answer c.in-Ok.got) (g.met.S.Calls.at_rest _ c.get.ensures.leaves.goes.holds_then).quiet c.in-Ok.ensures.gets.answers);
-    unharmed = λ run moment told own.
-        line_stays run c.args.now (g.S.Calls.at c.args.part.now.cache) (g.S.Calls.at c.get.new.cache) c.args.key c.args.request
-        c.requires.part.plain moment c.requires.part.rest told own
+    unharmed = λ run moment told own standing.
+        line_stays g.S.Calls run c.args.now c.args.part.now.cache c.get.new.cache c.args.key c.args.request
+        c.requires.part.plain moment c.requires.part.rest told own standing
         c.get.ensures.leaves.goes.goes c.get.ensures.gets.unharmed;
     counts = subst (λ said. count_in said ≤ (g.S.Calls.at c.get.new.cache).device.faults) (sym c.said_of.ensures) (c.in-Ok.ensures.gets.counts c.requires.part.losses);
     stop = search rules;
@@ -46,10 +47,11 @@ returns-in-Err g c = record {
     };
     goes = c.get.ensures.leaves.goes;
     leaves = reader_leaves _ _ _ c.get.ensures.leaves.own;
+    stands = λ contents told stood. c.get.ensures.leaves.stands contents tt stood;
     ends = search rules;
-    unharmed = λ run moment told own.
-        line_stays run c.args.now (g.S.Calls.at c.args.part.now.cache) (g.S.Calls.at c.get.new.cache) c.args.key c.args.request
-        c.requires.part.plain moment c.requires.part.rest told own
+    unharmed = λ run moment told own standing.
+        line_stays g.S.Calls run c.args.now c.args.part.now.cache c.get.new.cache c.args.key c.args.request
+        c.requires.part.plain moment c.requires.part.rest told own standing
         c.get.ensures.leaves.goes.goes c.get.ensures.gets.unharmed;
     counts = search rules;
     stop = search rules;

@@ -41,10 +41,11 @@ pub returns-in_ok-extend_from_slice-in-Piece-clause-reads : goal.returns-in_ok-e
 returns-in_ok-extend_from_slice-in-Piece-clause-reads g c = record {
   comes = λ first asks under.
       let items : c.extend_from_slice.new.self.items ≡ c.args.body.now.items ++ take c.in-Piece.length c.read_next.new.into = c.in_ok-extend_from_slice-in-Piece.ensures.items in
-      subst (λ xs. IsUnderway first (g.S.Calls.at c.read_next.new.self) asks (g.S.Calls.reading c.read_next.new.reader) xs) (sym items)
-      (piece_comes (g.met.S.Calls.at_rest _ c.requires.ready.holds) c.requires.hit.hit c.requires.hit.reader.first under
+      subst (λ xs. IsUnderway g.S.Calls first c.read_next.new.self asks (g.S.Calls.reading c.read_next.new.reader) xs) (sym items)
+      (piece_comes (g.met.S.Calls.at_rest _ c.requires.ready.holds) c.requires.hit.hit c.requires.hit.reader.first c.in_ok-index.ensures.keeps.goes under
       c.in-Piece.index c.in-Piece.length (g.S.Calls.reading c.read_next.new.reader) (rw c.in-Piece.is at c.in_ok-index.ensures.gives) c.in_ok-index.ensures.serves
-      c.in_ok-index.ensures.own (rw c.in-Piece.is at c.in_ok-index.ensures.reader.goes) c.in_ok-index.ensures.reader.keeps);
+      c.in_ok-index.ensures.own (rw c.in-Piece.is at c.in_ok-index.ensures.reader.goes) c.in_ok-index.ensures.reader.keeps
+      (rw c.in-Piece.is at c.in_ok-index.ensures.exact) c.in_ok-index.ensures.stands);
   hit = still_hit _ _ _ _ _ c.read_next.ensures.reader c.requires.hit.hit;
   same = same_reader _ _ _ _ _ c.read_next.ensures.reader;
   nearer = nearer (rw c.in-Piece.is at c.in_ok-index.ensures.gives) (g.met.S.Calls.at_rest _ c.requires.ready.holds).plain
@@ -57,8 +58,8 @@ returns-in_ok-extend_from_slice-in-Piece-clause-reads g c = record {
 pub returns-in-End-clause-reads : goal.returns-in-End-clause-reads
 returns-in-End-clause-reads g c = record {
   comes = λ first asks under.
-      answered_as _ _ _ _ (sym c.in_ok-index.ensures.reader.goes.reader) refl
-      (end_comes (g.met.S.Calls.at_rest _ c.requires.ready.holds) c.requires.hit.hit c.requires.hit.reader.first under
+      answered_as g.S.Calls _ _ _ _ (sym c.in_ok-index.ensures.reader.goes.reader) refl
+      (end_comes (g.met.S.Calls.at_rest _ c.requires.ready.holds) c.requires.hit.hit c.requires.hit.reader.first c.in_ok-index.ensures.keeps.goes under
       c.in-End.length (rw c.in-End.is at c.in_ok-index.ensures.gives) c.in_ok-index.ensures.serves);
   hit = still_hit _ _ _ _ _ c.read_next.ensures.reader c.requires.hit.hit;
   same = same_reader _ _ _ _ _ c.read_next.ensures.reader;
@@ -70,7 +71,7 @@ returns-in-End-clause-reads g c = record {
 pub returns-in-NotYet-clause-reads : goal.returns-in-NotYet-clause-reads
 returns-in-NotYet-clause-reads g c = record {
   comes = λ first asks under.
-      waits_comes (g.met.S.Calls.at_rest _ c.requires.ready.holds) c.requires.hit.hit c.requires.hit.reader.first under
+      waits_comes (g.met.S.Calls.at_rest _ c.requires.ready.holds) c.requires.hit.hit c.requires.hit.reader.first c.in_ok-index.ensures.keeps.goes under
       _ c.in-NotYet.cut (rw c.in-NotYet.is at c.in_ok-index.ensures.gives) c.in_ok-index.ensures.serves;
   hit = still_hit _ _ _ _ _ c.read_next.ensures.reader c.requires.hit.hit;
   same = same_reader _ _ _ _ _ c.read_next.ensures.reader;
@@ -82,8 +83,8 @@ returns-in-NotYet-clause-reads g c = record {
 pub returns-in-Broken-clause-reads : goal.returns-in-Broken-clause-reads
 returns-in-Broken-clause-reads g c = record {
   comes = λ first asks under.
-      answered_as _ _ _ _ (sym c.in_ok-index.ensures.reader.goes.reader) refl
-      (broken_comes (g.met.S.Calls.at_rest _ c.requires.ready.holds) c.requires.hit.hit c.requires.hit.reader.first under
+      answered_as g.S.Calls _ _ _ _ (sym c.in_ok-index.ensures.reader.goes.reader) refl
+      (broken_comes (g.met.S.Calls.at_rest _ c.requires.ready.holds) c.requires.hit.hit c.requires.hit.reader.first c.in_ok-index.ensures.keeps.goes under
       c.in-Broken.why (rw c.in-Broken.is at c.in_ok-index.ensures.gives) c.in_ok-index.ensures.serves);
   hit = still_hit _ _ _ _ _ c.read_next.ensures.reader c.requires.hit.hit;
   same = same_reader _ _ _ _ _ c.read_next.ensures.reader;

@@ -2,9 +2,9 @@ use Rattle.std.proofs.Common.{rules, refl, sym, ◌∙◌, ap, subst, arith}
 use Rattle.script_lang.specs.declared.answer.StepAnswer.TheVariants as answer
 use Rattle.cache_replay.specs.Getting.{IsUnderway}
 use Rattle.cache_replay.proofs.Counts.{broken_tells}
-use Rattle.cache_replay.proofs.OtherNext.{sound_still, way_sound}
 use Rattle.cache_replay.proofs.ReadsOn.{leaves_more, leaves_still, losses_read, still_ready}
 use Rattle.cache_replay.proofs.WholeReads.{answered_as}
+use Rattle.cache_replay.proofs.OtherNext.{sound_still, way_sound}
 use Rattle.cache_replay.proofs.getting.read_to_end.Goals as goal
 
 pub returns-in_err-body-clause-leaves : goal.returns-in_err-body-clause-leaves
@@ -13,7 +13,7 @@ returns-in_err-body-clause-leaves g c = leaves_still _ _ c.requires.ready.holds
 pub returns-in_err-body-clause-reads : goal.returns-in_err-body-clause-reads
 returns-in_err-body-clause-reads g c = record {
   answers = search rules;
-  unharmed = λ first asks under. sound_still first (g.S.Calls.at c.args.cache.now) asks;
+  unharmed = λ first asks under. sound_still g.S.Calls first c.args.cache.now asks;
   counts = search rules;
 }
 
@@ -25,8 +25,8 @@ loop-body-init g c = record {
   number = refl;
   page = refl;
   leaves = leaves_still _ _ c.requires.ready.holds;
-  under = λ first asks under. subst (λ xs. IsUnderway first (g.S.Calls.at c.args.cache.now) asks (g.S.Calls.reading c.args.reader.now) xs) (sym c.in_ok-body.ensures.items) under;
-  sound = λ first asks under. sound_still first (g.S.Calls.at c.args.cache.now) asks;
+  under = λ first asks under. subst (λ xs. IsUnderway g.S.Calls first c.args.cache.now asks (g.S.Calls.reading c.args.reader.now) xs) (sym c.in_ok-body.ensures.items) under;
+  sound = λ first asks under. sound_still g.S.Calls first c.args.cache.now asks;
 }
 
 pub loop-body-preserved : goal.loop-body-preserved
@@ -39,7 +39,7 @@ loop-body-preserved g c = record {
   leaves = leaves_more _ _ _ _ _ c.loop-body.invariant.number c.loop-body.invariant.leaves c.read_more.ensures.leaves;
   under = λ first asks under. (rw c.in-Piece.is at c.in_ok-read_more.ensures.reads.comes) first asks (c.loop-body.invariant.under first asks under);
   sound = λ first asks under.
-      way_sound first (g.S.Calls.at c.args.cache.now) (g.S.Calls.at c.loop-body.cache) (g.S.Calls.at c.read_more.new.cache) asks (g.S.Calls.reading c.loop-body.reader)
+      way_sound g.S.Calls first c.args.cache.now c.loop-body.cache c.read_more.new.cache asks (g.S.Calls.reading c.loop-body.reader)
       c.loop-body.body.items c.read_more.ensures.leaves.goes.goes c.read_more.ensures.reads.unharmed
       (c.loop-body.invariant.under first asks under) (c.loop-body.invariant.sound first asks under);
 }
@@ -51,7 +51,7 @@ pub returns-in_err-read_more-clause-reads : goal.returns-in_err-read_more-clause
 returns-in_err-read_more-clause-reads g c = record {
   answers = search rules;
   unharmed = λ first asks under.
-      way_sound first (g.S.Calls.at c.args.cache.now) (g.S.Calls.at c.loop-body.cache) (g.S.Calls.at c.read_more.new.cache) asks (g.S.Calls.reading c.loop-body.reader)
+      way_sound g.S.Calls first c.args.cache.now c.loop-body.cache c.read_more.new.cache asks (g.S.Calls.reading c.loop-body.reader)
       c.loop-body.body.items c.read_more.ensures.leaves.goes.goes c.read_more.ensures.reads.unharmed
       (c.loop-body.invariant.under first asks under) (c.loop-body.invariant.sound first asks under);
   counts = search rules;
@@ -63,11 +63,11 @@ returns-in-End-clause-leaves g c = leaves_more _ _ _ _ _ c.loop-body.invariant.n
 pub returns-in-End-clause-reads : goal.returns-in-End-clause-reads
 returns-in-End-clause-reads g c = record {
   answers = λ first asks under.
-      answered_as _ _ _ _ (c.read_more.ensures.reads.same ∙ c.loop-body.invariant.number)
+      answered_as g.S.Calls _ _ _ _ (c.read_more.ensures.reads.same ∙ c.loop-body.invariant.number)
       (ap (λ n. answer.Got n c.in-End.length c.read_more.new.body.items) c.loop-body.invariant.put)
       ((rw c.in-End.is at c.in_ok-read_more.ensures.reads.comes) first asks (c.loop-body.invariant.under first asks under));
   unharmed = λ first asks under.
-      way_sound first (g.S.Calls.at c.args.cache.now) (g.S.Calls.at c.loop-body.cache) (g.S.Calls.at c.read_more.new.cache) asks (g.S.Calls.reading c.loop-body.reader)
+      way_sound g.S.Calls first c.args.cache.now c.loop-body.cache c.read_more.new.cache asks (g.S.Calls.reading c.loop-body.reader)
       c.loop-body.body.items c.read_more.ensures.leaves.goes.goes c.read_more.ensures.reads.unharmed
       (c.loop-body.invariant.under first asks under) (c.loop-body.invariant.sound first asks under);
   counts = λ none. omega arith;
@@ -79,10 +79,10 @@ returns-in-NotYet-clause-leaves g c = leaves_more _ _ _ _ _ c.loop-body.invarian
 pub returns-in-NotYet-clause-reads : goal.returns-in-NotYet-clause-reads
 returns-in-NotYet-clause-reads g c = record {
   answers = λ first asks under.
-      answered_as _ _ _ _ (c.read_more.ensures.reads.same ∙ c.loop-body.invariant.number) (ap (λ n. answer.Follow n) c.loop-body.invariant.put)
+      answered_as g.S.Calls _ _ _ _ (c.read_more.ensures.reads.same ∙ c.loop-body.invariant.number) (ap (λ n. answer.Follow n) c.loop-body.invariant.put)
       ((rw c.in-NotYet.is at c.in_ok-read_more.ensures.reads.comes) first asks (c.loop-body.invariant.under first asks under));
   unharmed = λ first asks under.
-      way_sound first (g.S.Calls.at c.args.cache.now) (g.S.Calls.at c.loop-body.cache) (g.S.Calls.at c.read_more.new.cache) asks (g.S.Calls.reading c.loop-body.reader)
+      way_sound g.S.Calls first c.args.cache.now c.loop-body.cache c.read_more.new.cache asks (g.S.Calls.reading c.loop-body.reader)
       c.loop-body.body.items c.read_more.ensures.leaves.goes.goes c.read_more.ensures.reads.unharmed
       (c.loop-body.invariant.under first asks under) (c.loop-body.invariant.sound first asks under);
   counts = λ none. omega arith;
@@ -94,10 +94,10 @@ returns-in-Broken-clause-leaves g c = leaves_more _ _ _ _ _ c.loop-body.invarian
 pub returns-in-Broken-clause-reads : goal.returns-in-Broken-clause-reads
 returns-in-Broken-clause-reads g c = record {
   answers = λ first asks under.
-      answered_as _ _ _ _ (c.read_more.ensures.reads.same ∙ c.loop-body.invariant.number) (refl)
+      answered_as g.S.Calls _ _ _ _ (c.read_more.ensures.reads.same ∙ c.loop-body.invariant.number) (refl)
       ((rw c.in-Broken.is at c.in_ok-read_more.ensures.reads.comes) first asks (c.loop-body.invariant.under first asks under));
   unharmed = λ first asks under.
-      way_sound first (g.S.Calls.at c.args.cache.now) (g.S.Calls.at c.loop-body.cache) (g.S.Calls.at c.read_more.new.cache) asks (g.S.Calls.reading c.loop-body.reader)
+      way_sound g.S.Calls first c.args.cache.now c.loop-body.cache c.read_more.new.cache asks (g.S.Calls.reading c.loop-body.reader)
       c.loop-body.body.items c.read_more.ensures.leaves.goes.goes c.read_more.ensures.reads.unharmed
       (c.loop-body.invariant.under first asks under) (c.loop-body.invariant.sound first asks under);
   counts = λ none.

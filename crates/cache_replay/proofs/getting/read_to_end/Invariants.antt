@@ -1,6 +1,5 @@
 use Rattle.std.proofs.Common.{◌≡◌, List, [], length}
 use Rattle.cache_model.specs.Permit.{Intent}
-use Rattle.call_laws.specs.Moments.{At}
 use Rattle.cache_calls.specs.Keeping.{state_at}
 use Rattle.cache_replay.specs.Getting.{IsHit, IsUnderway, StaysSound, rows_left}
 use Rattle.cache_replay.specs.ReaderLines.{IsReady, LeavesReader}
@@ -14,10 +13,10 @@ invariant-loop-body g l = record {
   number : (g.S.Calls.reading l.reader).reader ≡ (g.S.Calls.reading l.fn.reader).reader;
   page : length l.page ≡ length l.fn.page;
   leaves : LeavesReader g.S.Calls l.fn.cache l.cache (g.S.Calls.reading l.fn.reader).reader;
-  under : (first : At) (asks : List Intent) → IsUnderway first (g.S.Calls.at l.fn.cache) asks (g.S.Calls.reading l.fn.reader) []
-      → IsUnderway first (g.S.Calls.at l.cache) asks (g.S.Calls.reading l.reader) l.body.items;
-  sound : (first : At) (asks : List Intent) → IsUnderway first (g.S.Calls.at l.fn.cache) asks (g.S.Calls.reading l.fn.reader) []
-      → StaysSound first (g.S.Calls.at l.fn.cache) (g.S.Calls.at l.cache) asks;
+  under : (first : g.row.S.Denot) (asks : List Intent) → IsUnderway g.S.Calls first l.fn.cache asks (g.S.Calls.reading l.fn.reader) []
+      → IsUnderway g.S.Calls first l.cache asks (g.S.Calls.reading l.reader) l.body.items;
+  sound : (first : g.row.S.Denot) (asks : List Intent) → IsUnderway g.S.Calls first l.fn.cache asks (g.S.Calls.reading l.fn.reader) []
+      → StaysSound g.S.Calls first l.fn.cache l.cache asks;
 }
 
 abbrev pub decreases-loop-body : goal.decreases-loop-body

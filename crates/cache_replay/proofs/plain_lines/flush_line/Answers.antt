@@ -6,6 +6,7 @@ use Rattle.cache_replay.proofs.plain_lines.flush_line.Goals as goal
 
 pub returns-in-Some : goal.returns-in-Some
 returns-in-Some g c = record {
-  line = plain_line c.args.session.now c.in-Some.part c.flush.new.part c.in-Some.is c.requires.session None None step.Flush
+  line = plain_line (record { rest = g.met.S.Calls.at_rest; vectors = g.met.S.Calls.vectors_listed; recorded = g.met.S.Calls.recorded }) c.args.session.now
+      c.in-Some.part c.flush.new.part c.in-Some.is c.requires.session None None step.Flush
       (flush_without (state_in c.in-Some.part)) c.flush.result c.flush.ensures.line;
 }

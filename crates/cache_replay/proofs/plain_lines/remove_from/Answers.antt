@@ -9,7 +9,8 @@ returns-in-Ok-Removed g c =
     c.in-Ok-Removed.ensures.gives in
     record {
       line = removed c.args.now c.args.part.now _ c.args.key c.in-Ok-Removed.put c.requires.part c.remove.ensures.keeps
-          (g.met.S.Calls.at_rest _ c.remove.ensures.keeps.goes_on.holds_then) refl (c.in-Ok-Removed.ensures.serves c.args.now) gives.1;
+          (g.met.S.Calls.at_rest _ c.remove.ensures.keeps.goes_on.holds_then) refl c.remove.ensures.stands
+          (c.in-Ok-Removed.ensures.serves c.args.now) gives.1;
     }
 
 pub returns-in-Ok-Absent : goal.returns-in-Ok-Absent
@@ -18,11 +19,12 @@ returns-in-Ok-Absent g c =
     c.in-Ok-Absent.ensures.gives in
     record {
       line = absent c.args.now c.args.part.now _ c.args.key c.in-Ok-Absent.why c.requires.part c.remove.ensures.keeps
-          (g.met.S.Calls.at_rest _ c.remove.ensures.keeps.goes_on.holds_then) refl (c.in-Ok-Absent.ensures.serves c.args.now) gives.2 gives.1;
+          (g.met.S.Calls.at_rest _ c.remove.ensures.keeps.goes_on.holds_then) refl c.remove.ensures.stands
+          (c.in-Ok-Absent.ensures.serves c.args.now) gives.2 gives.1;
     }
 
 pub returns-in-Err : goal.returns-in-Err
 returns-in-Err g c = record {
   line = unremoved c.args.now c.args.part.now _ c.args.key c.requires.part c.remove.ensures.keeps
-      (g.met.S.Calls.at_rest _ c.remove.ensures.keeps.goes_on.holds_then) refl c.in-Err.ensures.gives;
+      (g.met.S.Calls.at_rest _ c.remove.ensures.keeps.goes_on.holds_then) refl c.remove.ensures.stands c.in-Err.ensures.gives;
 }

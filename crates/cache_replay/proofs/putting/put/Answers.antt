@@ -1,9 +1,11 @@
-use Rattle.std.proofs.Common.{◌≤◌, refl, subst}
+use Rattle.std.proofs.Common.{◌≤◌, refl, sym, subst}
+use Rattle.logged_disk.proofs.GoingOn.{told_before}
 use Rattle.tape_base.specs.declared.actors.Actor.{Actor}
 use Rattle.cache_calls.specs.Adds.{Adds, IsOfPut}
 use Rattle.cache_calls.specs.Keeping.{state_at}
 use Rattle.cache_calls.proofs.Keeping.{keeps_then}
 use Rattle.cache_replay.specs.Replies.{count_of_refusal}
+use Rattle.cache_replay.specs.Standing.{TellsPut}
 use Rattle.cache_replay.proofs.Frames.{adds_then, losses_kept}
 use Rattle.cache_replay.proofs.PutEnds.{err_when}
 use Rattle.cache_replay.proofs.PutOpens.{is_fresh, is_open, open_counts, puts_opened, puts_refused}
@@ -29,7 +31,13 @@ pub returns-in-Ok-clause-puts : goal.returns-in-Ok-clause-puts
 returns-in-Ok-clause-puts g c =
     puts_opened (g.S.Calls.at c.args.cache.now) (g.S.Calls.at c.open_write.new.self) nobody c.args.key c.args.request c.args.response
     (g.S.Calls.written c.in-Ok.writer) c.in-Ok.ensures.gives.answers c.args.now (g.S.Calls.at c.put_open.new.cache) c.args.body.now
-    (g.met.S.Calls.at_rest c.args.cache.now c.requires.holds).sound refl (c.in-Ok.ensures.serves c.args.now) c.put_open.result c.put_open.ensures.ends
+    (g.met.S.Calls.at_rest c.args.cache.now c.requires.holds).sound
+    (record {
+      vectors = g.met.S.Calls.vectors_listed c.open_write.new.self c.open_write.ensures.keeps.goes_on.holds_then;
+      none = (g.met.S.Calls.at_rest c.open_write.new.self c.open_write.ensures.keeps.goes_on.holds_then).none;
+    })
+    (told_before (g.S.Calls.at c.open_write.new.self).device (g.S.Calls.at c.put_open.new.cache).device c.put_open.ensures.keeps.goes_on.goes)
+    refl (c.in-Ok.ensures.serves c.args.now) c.put_open.result c.put_open.ensures.ends
 
 pub returns-in-Ok-clause-tells : goal.returns-in-Ok-clause-tells
 returns-in-Ok-clause-tells g c =
@@ -42,6 +50,12 @@ returns-in-Ok-clause-tells g c =
       own = adds_then (IsOfPut put) old mid new opened (subst (λ q. Adds (IsOfPut q) mid new) c.in-Ok.ensures.gives.answers.put c.put_open.ensures.tells.own);
       counts = err_when (λ why. count_of_refusal why ≤ new.device.faults) c.put_open.result (losses_kept old mid opened.added opened.adds) c.put_open.ensures.tells.counts;
     }
+
+pub returns-in-Ok-clause-stands : goal.returns-in-Ok-clause-stands
+returns-in-Ok-clause-stands g c = λ contents told before.
+    let new = state_at (g.S.Calls.at c.put_open.new.cache) in
+    c.put_open.ensures.stands contents
+    (told.0, subst (λ q. TellsPut new q c.args.body.now contents) (sym c.in-Ok.ensures.gives.answers.put) told.1) (c.open_write.ensures.stands contents tt before)
 
 pub returns-in-Err-clause-puts : goal.returns-in-Err-clause-puts
 returns-in-Err-clause-puts g c =

@@ -12,11 +12,11 @@ pub returns-in-Ok : goal.returns-in-Ok
 returns-in-Ok g c =
     let same = seen_same g.S.Calls c.args.actors.now c.number.new.self c.in_ok-number.ensures.slots in
     record {
-      line = done_line c.args.part.now _ c.args.actors.now c.take_reader.new.actors c.args.actor.now c.in_ok-number.number (g.S.Calls.reading c.in-Some.reader)
+      line = done_line (record { rest = g.met.S.Calls.at_rest; vectors = g.met.S.Calls.vectors_listed; recorded = g.met.S.Calls.recorded }) c.args.part.now _ c.args.actors.now c.take_reader.new.actors c.args.actor.now c.in_ok-number.number (g.S.Calls.reading c.in-Some.reader)
           c.in_ok-number.ensures.number (c.in-Some.ensures.names ∙ c.in_ok-number.ensures.names)
           (took (slots_of g.S.Calls c.args.actors.now) (slots_of g.S.Calls c.number.new.self) (slots_of g.S.Calls c.take_reader.new.actors) c.in_ok-number.number
           (g.S.Calls.reading c.in-Some.reader) same c.in-Some.ensures.slots c.in-Some.ensures.reader)
-          c.requires.active c.in-Ok.ensures.keeps (g.met.S.Calls.at_rest _ c.in-Ok.ensures.keeps.goes_on.holds_then) refl
+          c.requires.active c.in-Ok.ensures.keeps (g.met.S.Calls.at_rest _ c.in-Ok.ensures.keeps.goes_on.holds_then) c.in-Ok.ensures.stands refl
           c.in-Ok.ensures.gives c.in-Ok.ensures.own c.in-Ok.ensures.serves c.args.now;
     }
 

@@ -10,7 +10,7 @@ pub returns-in-Some : goal.returns-in-Some
 returns-in-Some g c =
     let same = seen_same g.S.Calls c.args.actors.now c.number.new.self c.in_ok-number.ensures.slots in
     record {
-      line = next_line c.args.part.now _ c.args.actors.now c.take_reader.new.actors c.set.new.self c.args.actor.now c.in_ok-number.number
+      line = next_line (record { rest = g.met.S.Calls.at_rest; vectors = g.met.S.Calls.vectors_listed; recorded = g.met.S.Calls.recorded }) c.args.part.now _ c.args.actors.now c.take_reader.new.actors c.set.new.self c.args.actor.now c.in_ok-number.number
           (g.S.Calls.reading c.in-Some.reader) (g.S.Calls.reading c.read_on-said.new.reader)
           c.in_ok-number.ensures.number (c.set.ensures.names ∙ (c.in-Some.ensures.names ∙ c.in_ok-number.ensures.names))
           (took (slots_of g.S.Calls c.args.actors.now) (slots_of g.S.Calls c.number.new.self) (slots_of g.S.Calls c.take_reader.new.actors) c.in_ok-number.number

@@ -29,11 +29,11 @@ pub returns : goal.returns
 returns g c =
     let same = seen_same g.S.Calls c.args.actors.now c.number.new.self c.in_ok-number.ensures.slots in
     record {
-      line = open_line c.args.part.now _ c.args.actors.now c.give_reader.new.actors c.args.actor.now c.in_ok-number.number _ c.args.key c.args.request c.in_ok-opened.opened
+      line = open_line (record { rest = g.met.S.Calls.at_rest; vectors = g.met.S.Calls.vectors_listed; recorded = g.met.S.Calls.recorded }) c.args.part.now _ c.args.actors.now c.give_reader.new.actors c.args.actor.now c.in_ok-number.number _ c.args.key c.args.request c.in_ok-opened.opened
           c.in_ok-number.ensures.number refl (c.give_reader.ensures.names ∙ c.in_ok-number.ensures.names)
           (sym (same c.in_ok-number.number) ∙ none_there (slots_of g.S.Calls c.number.new.self c.in_ok-number.number) (sym c.has_something.ensures ∙ c.if-has_something.false))
           (changed_from (slots_of g.S.Calls c.args.actors.now) (slots_of g.S.Calls c.number.new.self) (slots_of g.S.Calls c.give_reader.new.actors) c.in_ok-number.number
           (as_held (seen_opened g.S.Calls.reading c.in_ok-opened.opened)) same c.give_reader.ensures.slots)
-          c.requires.active c.in_ok-opened.ensures.keeps (g.met.S.Calls.at_rest _ c.in_ok-opened.ensures.keeps.goes_on.holds_then) refl
+          c.requires.active c.in_ok-opened.ensures.keeps (g.met.S.Calls.at_rest _ c.in_ok-opened.ensures.keeps.goes_on.holds_then) c.in_ok-opened.ensures.stands refl
           c.in_ok-opened.ensures.gives c.in_ok-opened.ensures.own c.in_ok-opened.ensures.serves c.args.now c.give_reader.result c.give_reader.ensures.answer;
     }

@@ -9,7 +9,8 @@ returns-in-Some g c = record {
       c.in-Some.writer
       c.give_up-outcome.result.left c.give_up-outcome.result.answer c.set_back.result c.in-Ok.ensures.number c.number.ensures.slots
       (c.set_back.ensures.names ∙ (c.in-Some.ensures.names ∙ c.in-Ok.ensures.names)) c.requires.active c.in-Some.ensures.takes c.set_back.ensures.slots refl
-      (g.met.S.Calls.at_rest c.give_up-outcome.new.cache c.give_up-outcome.ensures.leaves.keeps.goes_on.holds_then) c.give_up-outcome.ensures.leaves
+      (record { rest = g.met.S.Calls.at_rest; vectors = g.met.S.Calls.vectors_listed; recorded = g.met.S.Calls.recorded })
+      c.give_up-outcome.ensures.leaves c.give_up-outcome.ensures.stands
       (c.give_up-outcome.ensures.does c.args.now) c.set_back.ensures.said c.set_back.ensures.stop;
 }
 

@@ -9,7 +9,8 @@ returns-in-Some g c = record {
       c.in-Some.writer
       c.finish-outcome.result.left c.finish-outcome.result.answer c.set_back.result c.in-Ok.ensures.number c.number.ensures.slots
       (c.set_back.ensures.names ∙ (c.in-Some.ensures.names ∙ c.in-Ok.ensures.names)) c.requires.active c.in-Some.ensures.takes c.set_back.ensures.slots refl
-      (g.met.S.Calls.at_rest c.finish-outcome.new.cache c.finish-outcome.ensures.leaves.keeps.goes_on.holds_then) c.finish-outcome.ensures.leaves
+      (record { rest = g.met.S.Calls.at_rest; vectors = g.met.S.Calls.vectors_listed; recorded = g.met.S.Calls.recorded })
+      c.finish-outcome.ensures.leaves c.finish-outcome.ensures.stands
       c.finish-outcome.ensures.does c.set_back.ensures.said c.set_back.ensures.stop;
 }
 

@@ -14,6 +14,7 @@ returns-in-None g c = record {
       c.in-Ok.number
       c.begin-outcome.result.left c.begin-outcome.result.answer c.set_back.result c.in-Ok.ensures.number c.number.ensures.slots
       (c.set_back.ensures.names ∙ c.in-Ok.ensures.names) c.requires.active (sym c.in-None.ensures) c.set_back.ensures.slots refl
-      (g.met.S.Calls.at_rest c.begin-outcome.new.cache c.begin-outcome.ensures.leaves.keeps.goes_on.holds_then) c.begin-outcome.ensures.leaves
+      (record { rest = g.met.S.Calls.at_rest; vectors = g.met.S.Calls.vectors_listed; recorded = g.met.S.Calls.recorded })
+      c.begin-outcome.ensures.leaves c.begin-outcome.ensures.stands
       c.begin-outcome.ensures.does c.set_back.ensures.said c.set_back.ensures.stop;
 }

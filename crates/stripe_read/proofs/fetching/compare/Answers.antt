@@ -21,6 +21,7 @@ pub returns-in-Some-clause-proceeds : goal.returns-in-Some-clause-proceeds
 returns-in-Some-clause-proceeds g c = record {
   goes = stays_as _ _ c.mark_damaged.ensures.still;
   accounted = accounted_quiet _ _ _ _ _ (ap (λ (d : Device). d.past) c.mark_damaged.ensures.still) (c.mark_damaged.ensures.adds c.in-Some.field-0.place c.in-Some.ensures.some.place) refl;
+  contents = c.mark_damaged.ensures.contents;
   later = no_less _ _ c.mark_damaged.ensures.still;
 }
 

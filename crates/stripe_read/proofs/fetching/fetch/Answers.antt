@@ -1,10 +1,10 @@
-use Rattle.std.proofs.Common.{◌≡◌, ◌∙◌, ap, sym, subst}
+use Rattle.std.proofs.Common.{◌≡◌, ◌∙◌, ap, subst}
 use Rattle.cache_model.specs.State.{live_row_of}
 use Rattle.cache_model.specs.Kept.{Kept, state_of, with_records}
 use Rattle.stripe_core.specs.Find.{Finds, find_adds}
 use Rattle.stripe_core.specs.Stripe.{kept_in, seen_in, state_in}
 use Rattle.stripe_core.proofs.Fitting.{budget_has_room}
-use Rattle.stripe_read.specs.Fetches.{Fetches, IsCompared, IsOtherPiece}
+use Rattle.stripe_read.specs.Fetches.{IsCompared, IsOtherPiece}
 use Rattle.stripe_read.proofs.Staying.{found_same}
 use Rattle.stripe_read.proofs.Comparing.{compared, missing}
 use Rattle.stripe_read.proofs.Harmless.{behind_unharmed}
@@ -18,21 +18,22 @@ find_piece-requires-clause-into g c =
 pub returns-in-Found-clause-fetches : goal.returns-in-Found-clause-fetches
 returns-in-Found-clause-fetches g c =
     let s = state_in c.args.stripe.now in
-    let old = (seen_in c.args.stripe.now).device in
-    let new = (seen_in c.find_piece.new.self).device in
+    let old = seen_in c.args.stripe.now in
+    let new = seen_in c.find_piece.new.self in
     let into = c.find_piece.new.into in
     let same = found_same (kept_in c.args.stripe.now) (kept_in c.find_piece.new.self) (live_row_of s c.args.id) c.in-Found.size
     (subst (λ f. kept_in c.find_piece.new.self ≡ with_records (kept_in c.args.stripe.now) (find_adds s c.args.id f)) c.in-Found.is c.in_ok-size.ensures.adds) in
-    subst (λ d. Fetches s old d c.args.id c.args.listed c.compare.result into) (sym c.compare.ensures.still)
-    (compared s old new c.args.id c.args.listed c.in-Found.size into c.compare.result (subst (λ f. Finds s old new c.args.id f into) c.in-Found.is c.in_ok-size.ensures.finds)
-    (subst (λ k. IsCompared (state_of k) c.args.id c.args.listed c.in-Found.size c.compare.result) same c.compare.ensures.compares))
+    compared s old new (seen_in c.compare.new.stripe) c.args.id c.args.listed c.in-Found.size into c.compare.result c.compare.ensures.still
+    (subst (λ f. Finds s old new c.args.id f into) c.in-Found.is c.in_ok-size.ensures.finds)
+    (subst (λ k. IsCompared (state_of k) c.args.id c.args.listed c.in-Found.size c.compare.result) same c.compare.ensures.compares)
 
 pub returns-in-Missing-clause-fetches : goal.returns-in-Missing-clause-fetches
 returns-in-Missing-clause-fetches g c =
     let s = state_in c.args.stripe.now in
-    let old = (seen_in c.args.stripe.now).device in
-    let new = (seen_in c.find_piece.new.self).device in
-    missing s old new c.args.id c.args.listed c.in-Missing.why c.find_piece.new.into (subst (λ f. Finds s old new c.args.id f c.find_piece.new.into) c.in-Missing.is c.in_ok-size.ensures.finds)
+    let old = seen_in c.args.stripe.now in
+    let new = seen_in c.find_piece.new.self in
+    missing s old new c.args.id c.args.listed c.in-Missing.why c.find_piece.new.into
+    (subst (λ f. Finds s old new c.args.id f c.find_piece.new.into) c.in-Missing.is c.in_ok-size.ensures.finds)
 
 pub returns-in-Found-clause-unharmed : goal.returns-in-Found-clause-unharmed
 returns-in-Found-clause-unharmed g c =

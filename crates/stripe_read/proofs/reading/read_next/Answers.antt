@@ -15,13 +15,15 @@ use Rattle.stripe_read.proofs.reading.read_next.Goals as goal
 
 pub returns-in-Some-clause-reads : goal.returns-in-Some-clause-reads
 returns-in-Some-clause-reads g c =
-    given_prepared (state_in c.args.stripe.now) (state_in c.prepare.new.self) (seen_in c.args.stripe.now).device (seen_in c.prepare.new.self).device
-    (seen_in c.give.new.stripe).device c.args.reader.now c.give.result c.give.new.into (ap state_of c.prepare.ensures.records) c.prepare.ensures.still.past c.give.ensures.reads
+    given_prepared (state_in c.args.stripe.now) (state_in c.prepare.new.self) (seen_in c.args.stripe.now) (seen_in c.prepare.new.self)
+    (seen_in c.give.new.stripe) c.args.reader.now c.give.result c.give.new.into (ap state_of c.prepare.ensures.records) c.prepare.ensures.still.past
+    (λ contents. c.prepare.ensures.continues.contents contents tt) c.give.ensures.reads
 
 pub returns-in-None-clause-reads : goal.returns-in-None-clause-reads
 returns-in-None-clause-reads g c =
-    reads_prepared (state_in c.args.stripe.now) (state_in c.prepare.new.self) (seen_in c.args.stripe.now).device (seen_in c.prepare.new.self).device
-    (seen_in c.stop.new.stripe).device c.args.reader.now c.stop.result c.args.into.now (ap state_of c.prepare.ensures.records) c.prepare.ensures.still.past (c.stop.ensures.reads c.args.into.now)
+    reads_prepared (state_in c.args.stripe.now) (state_in c.prepare.new.self) (seen_in c.args.stripe.now) (seen_in c.prepare.new.self)
+    (seen_in c.stop.new.stripe) c.args.reader.now c.stop.result c.args.into.now (ap state_of c.prepare.ensures.records) c.prepare.ensures.still.past
+    (λ contents. c.prepare.ensures.continues.contents contents tt) (c.stop.ensures.reads c.args.into.now)
 
 pub returns-in-Some-clause-unharmed : goal.returns-in-Some-clause-unharmed
 returns-in-Some-clause-unharmed g c =

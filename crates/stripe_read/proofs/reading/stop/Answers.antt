@@ -29,7 +29,7 @@ returns-clause-adds g c =
 pub returns-clause-reads : goal.returns-clause-reads
 returns-clause-reads g c = λ into.
     stop_reads (state_in c.args.stripe.now) c.args.reader.now c.at_end-answer.result c.requires.none c.at_end-answer.ensures (subst (NotesAsAsked c.args.reader.now.reader) c.noted.ensures c.note.ensures.does)
-    (seen_in c.args.stripe.now).device (seen_in c.note.new.self).device into (ap (λ (d : Device). d.past) c.note.ensures.still) c.requires.resting.quiet
+    (seen_in c.args.stripe.now) (seen_in c.note.new.self) into (ap (λ (d : Device). d.past) c.note.ensures.still) c.requires.resting.quiet
 
 pub returns-clause-goes : goal.returns-clause-goes
 returns-clause-goes g c = stop_goes (state_in c.args.stripe.now) c.args.reader.now c.at_end-answer.result c.requires.none c.at_end-answer.ensures

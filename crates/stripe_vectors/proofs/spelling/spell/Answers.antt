@@ -1,7 +1,7 @@
 use Rattle.std.proofs.Common.{◌≡◌, ◌≤◌, ◌<◌, ◌++◌, ◌∙◌, ap, sym, subst, arith, length}
 use Rattle.tape_base.specs.Geometry.{budget_of}
 use Rattle.alternate_vector.specs.Alternates.{merged, stored_of, vector_size, with_new}
-use Rattle.alternate_vector.specs.Spelling.{vector_bytes}
+use Rattle.alternate_vector.specs.Spelling.{IsSpelling, vector_bytes}
 use Rattle.cache_model.specs.State.{most_payload}
 use Rattle.cache_model.specs.Room.{greatest_pin}
 use Rattle.cache_model.proofs.Merged.{blocks_fit}
@@ -27,4 +27,5 @@ returns c =
       pin = c.greatest_pin.ensures ∙ ap greatest_pin same;
       small = blocks_fit (length c.encode.new.into.items) (budget_of g) budget (omega (arith, size, within));
       lists = same;
+      again = subst (λ xs. IsSpelling (vector_bytes xs) xs) same c.in_ok-encode.ensures.spelling;
     }

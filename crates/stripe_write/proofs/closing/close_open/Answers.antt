@@ -6,7 +6,9 @@ use Rattle.stripe_write.specs.Closes.{SealsWhere}
 use Rattle.stripe_write.specs.Closing.{AreSpelled}
 use Rattle.stripe_write.proofs.Owning.{then_owns}
 use Rattle.stripe_write.proofs.LastSteps.{ended_leaves, ended_seals, ended_wants, refused_closes, refused_leaves, refused_own, refused_seals, refused_where, weighed_closes}
-use Rattle.stripe_core.proofs.Continuing.{rests_then}
+use Rattle.stripe_core.proofs.Continuing.{rests_with}
+use Rattle.stripe_write.specs.Closes.{IsToldClosed}
+use Rattle.stripe_write.proofs.ToldPieces.{rests_behind}
 use Rattle.stripe_write.proofs.closing.close_open.Goals as goal
 
 pub end-requires-clause-spelled : goal.end-requires-clause-spelled
@@ -47,7 +49,16 @@ pub returns-in-Err-clause-rested : goal.returns-in-Err-clause-rested
 returns-in-Err-clause-rested g c = inl (record { put = refl; gathered = refl; rows = refl })
 
 pub returns-in-Ok-clause-rests : goal.returns-in-Ok-clause-rests
-returns-in-Ok-clause-rests g c = rests_then _ _ _ c.weigh.ensures.rests c.end.ensures.rests
+returns-in-Ok-clause-rests g c =
+    let told = IsToldClosed (state_in c.end.new.stripe) c.args.writer.now in
+    rests_behind told told _ _ _ (λ contents tells h. h) c.weigh.ensures.rests c.end.ensures.rests
+
+pub returns-in-Err-clause-rests : goal.returns-in-Err-clause-rests
+returns-in-Err-clause-rests g c = rests_with _ _ _ c.weigh.ensures.rests
+
+-- what was read is what the key has, where the device tells its content
+pub end-requires-clause-read : goal.end-requires-clause-read
+end-requires-clause-read g c = c.in-Ok.ensures.does.exact
 
 pub returns-in-Ok-clause-seals : goal.returns-in-Ok-clause-seals
 returns-in-Ok-clause-seals g c = ended_seals (state_in c.end.new.stripe) c.args.writer.now c.end.new.writer c.end.result c.end.ensures.ends c.end.ensures.sealed

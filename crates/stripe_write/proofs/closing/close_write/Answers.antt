@@ -8,7 +8,10 @@ use Rattle.stripe_write.specs.Others.{AddsOfPut}
 use Rattle.stripe_write.proofs.Owning.{owns_none}
 use Rattle.stripe_write.proofs.Gathering.{same_writer}
 use Rattle.stripe_write.proofs.LastSteps.{closes_same, prepared_leaves, rested_same, seals_same, wanting_closes, wanting_map}
-use Rattle.stripe_core.proofs.Continuing.{continues_still, still_resting, then_rests}
+use Rattle.stripe_core.proofs.Continuing.{continues_still, rests_same, rests_with, still_resting}
+use Rattle.stripe_write.specs.Closes.{IsToldClosed}
+use Rattle.stripe_write.proofs.ToldClosed.{closed_same}
+use Rattle.stripe_write.proofs.ToldPieces.{rests_behind}
 use Rattle.stripe_write.proofs.closing.close_write.Goals as goal
 
 pub close_open-requires-clause-writer : goal.close_open-requires-clause-writer
@@ -52,10 +55,20 @@ pub returns-in-Ok-clause-rested : goal.returns-in-Ok-clause-rested
 returns-in-Ok-clause-rested g c = rested_same c.args.writer.now c.make_memory.new.writer c.close_open.new.writer c.make_memory.ensures.same c.close_open.ensures.rested
 
 pub returns-in-Ok-clause-rests : goal.returns-in-Ok-clause-rests
-returns-in-Ok-clause-rests g c = then_rests _ _ _ c.make_memory.ensures.continues c.close_open.ensures.rests
+returns-in-Ok-clause-rests g c =
+    let t = state_in c.close_open.new.stripe in
+    let w = c.args.writer.now in
+    let made = c.make_memory.new.writer in
+    rests_behind (IsToldClosed t made) (IsToldClosed t w) _ _ _
+    (λ contents tells told. closed_same t w made contents c.make_memory.ensures.same told)
+    (continues_still _ _ c.make_memory.ensures.continues c.make_memory.ensures.records c.requires.resting) c.close_open.ensures.rests
+
+pub returns-then-not-is_open-clause-rests : goal.returns-then-not-is_open-clause-rests
+returns-then-not-is_open-clause-rests g c = rests_with _ _ _ (rests_same c.args.stripe.now c.requires.resting)
 
 pub returns-in-Err-clause-rests : goal.returns-in-Err-clause-rests
-returns-in-Err-clause-rests g c = continues_still _ _ c.make_memory.ensures.continues c.make_memory.ensures.records c.requires.resting
+returns-in-Err-clause-rests g c =
+    rests_with _ _ _ (continues_still _ _ c.make_memory.ensures.continues c.make_memory.ensures.records c.requires.resting)
 
 pub close_open-requires-clause-resting : goal.close_open-requires-clause-resting
 close_open-requires-clause-resting g c = still_resting c.args.stripe.now _ c.make_memory.ensures.continues.stripe c.make_memory.ensures.records c.requires.resting

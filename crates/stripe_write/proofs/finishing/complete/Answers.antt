@@ -10,12 +10,16 @@ use Rattle.stripe_write.specs.declared.writer.Writer.{Writer}
 use Rattle.stripe_write.proofs.Pushed.{pushed_by}
 use Rattle.stripe_write.proofs.Spending.{state_behind}
 use Rattle.logged_disk.specs.Device.{State as Device}
-use Rattle.stripe_core.specs.Stripe.{kept_in, state_in}
+use Rattle.logged_disk.proofs.GoingOn.{told_before}
+use Rattle.call_laws.specs.Contents.{TellsVectors, contents_of_vectors}
+use Rattle.stripe_core.specs.Standing.{IsToldPlaced}
+use Rattle.stripe_core.specs.Stripe.{kept_in, seen_in, state_in}
 use Rattle.stripe_vectors.specs.declared.spelling.Spelled.{Spelled}
 use Rattle.stripe_write.specs.Finishing.{picked}
 use Rattle.stripe_write.proofs.Owning.{owns, owns_none, owns_vector, then_owns}
 use Rattle.stripe_write.proofs.Completing.{IsClosing, completes, is_closing, not_placed, picked_lists, refused_finishes, refused_writer, vector_for, vector_of_put, vector_state}
-use Rattle.stripe_core.proofs.Continuing.{continues_still, then_rests}
+use Rattle.stripe_core.proofs.Continuing.{continues_still, rests_with}
+use Rattle.stripe_write.proofs.ToldPieces.{own_vectors, rests_before, told_vector}
 use Rattle.stripe_core.proofs.Displacing.{displaced_puts}
 use Rattle.stripe_write.proofs.finishing.complete.Goals as goal
 
@@ -34,6 +38,15 @@ place_piece-requires-clause-placing g c =
     let w = c.args.writer.now in
     vector_for s w c.args.vectors c.deref.result.now (is_closing s w c.requires.resting.quiet c.requires.open c.requires.writer c.requires.cut) c.requires.spelled c.requires.room
     (c.deref.ensures.value ∙ ap (λ (x : Spelled). x.bytes.items) (c.pick-spelled.ensures ∙ ap (picked c.args.vectors) c.is_live-live.ensures))
+
+-- the vector spells what the records list, where the device tells its content
+pub place_piece-requires-clause-spelled : goal.place_piece-requires-clause-spelled
+place_piece-requires-clause-spelled g c = λ tells.
+    let s = state_in c.args.stripe.now in
+    let w = c.args.writer.now in
+    told_vector s w c.args.vectors c.deref.result.now (is_closing s w c.requires.resting.quiet c.requires.open c.requires.writer c.requires.cut) contents_of_vectors
+    c.requires.resting.stripe.none c.requires.spelled (c.requires.read tells)
+    (c.deref.ensures.value ∙ ap (λ (x : Spelled). x.bytes.items) (c.pick-spelled.ensures ∙ ap (picked c.args.vectors) c.is_live-live.ensures)) own_vectors
 
 pub returns-in-Err-clause-does : goal.returns-in-Err-clause-does
 returns-in-Err-clause-does g c =
@@ -75,7 +88,17 @@ returns-in-Ok-clause-own g c =
     (owns c.args.writer.now.put (kept_in c.place_piece.new.self) (kept_in c.commit.new.stripe) _ c.commit.ensures.adds (refl, tt))
 
 pub returns-in-Ok-clause-rests : goal.returns-in-Ok-clause-rests
-returns-in-Ok-clause-rests g c = then_rests _ _ _ c.place_piece.ensures.continues c.commit.ensures.rests
+returns-in-Ok-clause-rests g c =
+    let s = state_in c.args.stripe.now in
+    let w = c.args.writer.now in
+    let before = (seen_in c.args.stripe.now).device in
+    let placed = (seen_in c.place_piece.new.self).device in
+    let closing = is_closing s w c.requires.resting.quiet c.requires.open c.requires.writer c.requires.cut in
+    rests_before (IsToldPlaced placed s (vector_piece w.key w.put) 0 c.deref.result.now) TellsVectors _ _ _
+    (λ contents tells told now. told_vector s w c.args.vectors c.deref.result.now closing contents c.requires.resting.stripe.none c.requires.spelled
+    (c.requires.read (told_before before placed c.place_piece.ensures.continues.between.goes now))
+    (c.deref.ensures.value ∙ ap (λ (x : Spelled). x.bytes.items) (c.pick-spelled.ensures ∙ ap (picked c.args.vectors) c.is_live-live.ensures)) told)
+    c.in-Ok.ensures.continues c.commit.ensures.rests
 
 pub commit-requires-clause-committing : goal.commit-requires-clause-committing
 commit-requires-clause-committing g c =
@@ -86,6 +109,7 @@ commit-requires-clause-committing g c =
 
 pub returns-in-Err-clause-rests : goal.returns-in-Err-clause-rests
 returns-in-Err-clause-rests g c =
-    continues_still _ _ c.place_piece.ensures.continues
+    rests_with _ _ _
+    (continues_still _ _ c.in-Err.ensures.continues
     (not_placed g.R.Directory.purges (kept_in c.args.stripe.now) (kept_in c.place_piece.new.self) _ _ _ c.pick-spelled.result.now.pin c.deref.result.now c.in-Err.why c.in-Err.ensures.does)
-    c.requires.resting
+    c.requires.resting)

@@ -5,6 +5,7 @@ use Rattle.std.proofs.Common.{refl}
 use Rattle.stripe_write.proofs.Owning.{owns}
 use Rattle.stripe_write.proofs.Completing.{is_closing}
 use Rattle.stripe_write.proofs.Roomed.{loses}
+use Rattle.stripe_core.proofs.Continuing.{rests_with}
 use Rattle.stripe_write.proofs.finishing.end.Goals as goal
 
 pub returns-in-Some-clause-does : goal.returns-in-Some-clause-does
@@ -16,3 +17,7 @@ returns-in-Some-clause-does g c =
 
 pub returns-in-Some-clause-own : goal.returns-in-Some-clause-own
 returns-in-Some-clause-own g c = owns c.args.writer.now.put (kept_in c.args.stripe.now) (kept_in c.lose.new.stripe) _ c.lose.ensures.adds (refl, tt)
+
+-- no vector is placed
+pub returns-in-Some-clause-rests : goal.returns-in-Some-clause-rests
+returns-in-Some-clause-rests g c = rests_with _ _ _ c.lose.ensures.rests

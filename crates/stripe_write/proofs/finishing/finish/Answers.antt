@@ -1,4 +1,6 @@
 use Rattle.std.proofs.Common.{sym, ◌∙◌, subst}
+use Rattle.logged_disk.proofs.GoingOn.{told_before}
+use Rattle.call_laws.specs.Contents.{TellsVectors}
 use Rattle.stripe_core.specs.Place.{RoomsAsAsked}
 use Rattle.stripe_core.specs.Stripe.{kept_in, seen_in, state_in}
 use Rattle.stripe_write.specs.Closing.{AreSpelled}
@@ -7,9 +9,11 @@ use Rattle.stripe_write.proofs.Owning.{owns_room, then_owns}
 use Rattle.stripe_write.proofs.Completing.{is_closing}
 use Rattle.stripe_write.proofs.Flushed.{stop_in}
 use Rattle.stripe_write.proofs.Gathering.{left_writer, puts_left, room_leaves}
-use Rattle.stripe_write.proofs.Roomed.{behind_room, no_room_ends, room_is_made}
+use Rattle.stripe_write.proofs.Roomed.{behind_room, no_room_ends, room_is_made, room_keeps}
 use Rattle.stripe_write.proofs.WeighingReads.{still_writing}
-use Rattle.stripe_core.proofs.Continuing.{continues_rests, then_rests}
+use Rattle.stripe_core.proofs.Continuing.{continues_rests, rests_with}
+use Rattle.stripe_write.proofs.Keeping.{read_stays}
+use Rattle.stripe_write.proofs.ToldPieces.{rests_behind}
 use Rattle.stripe_write.proofs.finishing.finish.Goals as goal
 
 pub end-requires-clause-resting : goal.end-requires-clause-resting
@@ -35,7 +39,20 @@ end-requires-clause-room g c =
     c.in-Ok.ensures.does c.in-Ok.ensures.room
 
 pub returns-in-Ok-clause-rests : goal.returns-in-Ok-clause-rests
-returns-in-Ok-clause-rests g c = then_rests _ _ _ c.make_room.ensures.continues c.end.ensures.rests
+returns-in-Ok-clause-rests g c =
+    rests_behind TellsVectors TellsVectors _ _ _ (λ contents tells told. told)
+    (continues_rests _ _ c.make_room.ensures.continues
+    ((room_leaves c.args.now (kept_in c.args.stripe.now) (kept_in c.make_room.new.stripe) _ _ _ _ c.in-Ok.ensures.does).pending ∙ c.requires.resting.quiet))
+    c.end.ensures.rests
+
+-- what was read stays read over the flush
+pub end-requires-clause-read : goal.end-requires-clause-read
+end-requires-clause-read g c = λ tells.
+    let before = (seen_in c.args.stripe.now).device in
+    let between = (seen_in c.make_room.new.stripe).device in
+    read_stays (state_in c.args.stripe.now) (state_in c.make_room.new.stripe) c.args.writer.now c.args.vectors
+    (room_keeps c.args.now (kept_in c.args.stripe.now) (kept_in c.make_room.new.stripe) before.past between _ _ c.in-Ok.ensures.does)
+    (c.requires.read (told_before before between c.make_room.ensures.continues.between.goes tells))
 
 pub end-requires-clause-writer : goal.end-requires-clause-writer
 end-requires-clause-writer g c =
@@ -62,7 +79,9 @@ pub returns-in-Err-clause-rests : goal.returns-in-Err-clause-rests
 returns-in-Err-clause-rests g c =
     let stopped = stop_in (RoomsAsAsked c.args.now (kept_in c.args.stripe.now) (kept_in c.make_room.new.stripe) (seen_in c.args.stripe.now).device.past
     (seen_in c.make_room.new.stripe).device (bytes_now (state_in c.args.stripe.now) c.args.writer.now c.args.vectors)) c.in-Err.why c.in-Err.ensures.does in
-    continues_rests _ _ c.make_room.ensures.continues ((room_leaves c.args.now (kept_in c.args.stripe.now) (kept_in c.make_room.new.stripe) _ _ _ _ stopped.1).pending ∙ c.requires.resting.quiet)
+    rests_with _ _ _
+    (continues_rests _ _ c.make_room.ensures.continues
+    ((room_leaves c.args.now (kept_in c.args.stripe.now) (kept_in c.make_room.new.stripe) _ _ _ _ stopped.1).pending ∙ c.requires.resting.quiet))
 
 pub returns-in-Err-clause-writer : goal.returns-in-Err-clause-writer
 returns-in-Err-clause-writer g c =

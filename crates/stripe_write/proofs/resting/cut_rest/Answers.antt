@@ -2,7 +2,9 @@ use Rattle.std.proofs.Common.{◌≡◌, ◌<◌, length, sym, subst, arith}
 use Rattle.stripe_core.specs.Stripe.{kept_in, state_in}
 use Rattle.stripe_write.specs.Writers.{IsWriterOf}
 use Rattle.stripe_write.specs.Writes.{IsReady, next_id, next_start}
+use Rattle.stripe_core.proofs.Continuing.{rests_same, rests_with}
 use Rattle.stripe_write.proofs.Gathering.{failed_leaves, left_writer}
+use Rattle.stripe_write.proofs.ToldPieces.{rests_as}
 use Rattle.stripe_write.proofs.LastCut.{cut_open, rest_cut, rest_none, rest_ready, rest_refused}
 use Rattle.stripe_write.proofs.resting.cut_rest.Goals as goal
 
@@ -44,3 +46,11 @@ returns-in-Err-clause-does g c =
     let some : 0 < length w.gathered.items = grind (arith, c.is_empty.ensures, c.if-is_empty.false) in
     rest_refused g.R.Directory.purges c.args.now (kept_in c.args.stripe.now) (kept_in c.cut.new.stripe) _ _ w
     c.in-Err.refusal some (c.in-Err.ensures.memory c.requires.unit c.requires.row) c.in-Err.ensures.does
+
+pub returns-then-is_empty-clause-rests : goal.returns-then-is_empty-clause-rests
+returns-then-is_empty-clause-rests g c = rests_with _ _ _ (rests_same c.args.stripe.now c.requires.resting)
+
+pub returns-in-Ok-clause-rests : goal.returns-in-Ok-clause-rests
+returns-in-Ok-clause-rests g c =
+    let some : 0 < length c.args.writer.now.gathered.items = grind (arith, c.is_empty.ensures, c.if-is_empty.false) in
+    rests_as _ _ _ _ (λ contents tells told. told some) c.in-Ok.ensures.rests

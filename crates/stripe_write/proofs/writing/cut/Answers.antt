@@ -1,4 +1,4 @@
-use Rattle.std.proofs.Common.{sym, ◌∙◌, ap, subst, length, refl, Ok, Err, arith}
+use Rattle.std.proofs.Common.{◌+◌, sym, ◌∙◌, ap, subst, length, refl, Ok, Err, arith}
 use Rattle.std.specs.Prelude.{MatchBool}
 use Rattle.std.proofs.lemmas.Result.{err_from_is_err_and}
 use Rattle.hex.specs.Hex.{IsBytes}
@@ -10,7 +10,12 @@ use Rattle.stripe_write.specs.Writes.{next_id, next_start}
 use Rattle.stripe_write.proofs.Cutting.{cut_quiet, cut_stops, cut_writer, cuts_behind, next_no_vector, ready_fragment, rows_behind}
 use Rattle.stripe_write.proofs.Gathering.{failed_leaves}
 use Rattle.stripe_write.proofs.Spending.{state_behind}
-use Rattle.stripe_core.proofs.Continuing.{continues_rests}
+use Rattle.tape_base.specs.declared.pieces.PieceId.{PieceId}
+use Rattle.call_laws.specs.Contents.{Contents, IsToldAs, contents_of_vectors}
+use Rattle.stripe_core.specs.Standing.{IsToldPlaced}
+use Rattle.stripe_core.proofs.Continuing.{continues_rests, continues_with_rests, rests_with}
+use Rattle.stripe_write.specs.Writes.{IsToldNext}
+use Rattle.stripe_write.proofs.ToldPieces.{continues_as, told_of_next}
 use Rattle.stripe_write.proofs.writing.cut.Goals as goal
 
 pub place_piece-requires-clause-placing : goal.place_piece-requires-clause-placing
@@ -20,6 +25,15 @@ place_piece-requires-clause-placing g c =
     let here : IsPlacing s (next_id w) w.pin (next_start w) w.gathered.items =
     subst (λ b. MatchBool b (IsVectorFor s (next_id w) (next_start w) w.gathered.items) (IsFragmentOf s (next_id w) w.pin (next_start w) w.gathered.items)) (sym (next_no_vector w)) (ready_fragment s w c.requires.resting.quiet c.requires.ready (subst IsBytes c.deref-payload.ensures.value (λ i. omega (arith, c.type_inv.payload i)))) in
     rw (c.len.ensures.len, c.total.ensures, c.deref-payload.ensures.value) here
+
+-- of a fragment no vector is told
+pub place_piece-requires-clause-spelled : goal.place_piece-requires-clause-spelled
+place_piece-requires-clause-spelled g c =
+    let s = state_in c.args.stripe.now in
+    let w = c.args.writer.now in
+    let told : IsToldAs contents_of_vectors s (next_id w) (next_start w) w.gathered.items =
+    told_of_next contents_of_vectors s (next_id w) (next_start w) w.gathered.items (next_no_vector w) tt in
+    λ tells. rw (c.len.ensures.len, c.total.ensures, c.deref-payload.ensures.value) told
 
 pub returns-clause-does : goal.returns-clause-does
 returns-clause-does g c =
@@ -31,10 +45,16 @@ pub returns-clause-rests : goal.returns-clause-rests
 returns-clause-rests g c =
     let old = kept_in c.args.stripe.now in
     let new = kept_in c.place_piece.new.self in
+    let s = state_in c.args.stripe.now in
     let w = c.args.writer.now in
     let cuts : CutsAsAsked g.R.Directory.purges c.args.now old new (seen_in c.args.stripe.now).device.past (seen_in c.place_piece.new.self).device (next_id w) w.pin (next_start w) w.gathered.items
     (Ok c.in_ok-placed.placed) = returns-clause-does g c in
-    continues_rests _ _ c.place_piece.ensures.continues
+    let id : PieceId = record { first = w.key; put = w.put; index = c.len.result + 1 } in
+    let told : (contents : Contents) → IsToldNext w w.gathered.items contents
+    → IsToldPlaced (seen_in c.place_piece.new.self).device s id c.total.result c.deref-payload.result.now contents = λ contents next tells.
+    rw (c.len.ensures.len, c.total.ensures, c.deref-payload.ensures.value)
+    (told_of_next contents s (next_id w) (next_start w) w.gathered.items (next_no_vector w) next) in
+    continues_with_rests _ _ _ (continues_as _ _ _ _ (λ contents tells next. told contents next) c.in_ok-placed.ensures.continues)
     (subst IsQuiet (sym (state_behind old new cuts.added cuts.adds)) (cut_quiet (state_in c.args.stripe.now) (next_id w) w.pin (next_start w) w.gathered.items cuts.added c.in_ok-placed.placed (next_no_vector w) cuts.shape c.requires.resting.quiet))
 
 pub returns-clause-writer : goal.returns-clause-writer
@@ -69,12 +89,13 @@ returns-in_err-placed-clause-number g c =
 pub returns-in_err-placed-clause-rests : goal.returns-in_err-placed-clause-rests
 returns-in_err-placed-clause-rests g c =
     let w = c.args.writer.now in
-    continues_rests _ _ c.place_piece.ensures.continues
+    rests_with _ _ _
+    (continues_rests _ _ c.in_err-placed.ensures.continues
     ((failed_leaves g.R.Directory.purges c.args.now (kept_in c.args.stripe.now) (kept_in c.place_piece.new.self) (seen_in c.args.stripe.now).device.past
     (seen_in c.place_piece.new.self).device (next_id w) w.pin (next_start w) w.gathered.items c.in_err-placed.field-0.0
     (cuts_behind w c.len.result c.total.result c.deref-payload.result.now c.len.ensures.len c.total.ensures c.deref-payload.ensures.value g.R.Directory.purges c.args.now
     (kept_in c.args.stripe.now) (kept_in c.place_piece.new.self) (seen_in c.args.stripe.now).device.past (seen_in c.place_piece.new.self).device
-    (Err c.in_err-placed.field-0.0) c.in_err-placed.ensures.does)).pending ∙ c.requires.resting.quiet)
+    (Err c.in_err-placed.field-0.0) c.in_err-placed.ensures.does)).pending ∙ c.requires.resting.quiet))
 
 pub returns-in_err-placed-clause-untouched : goal.returns-in_err-placed-clause-untouched
 returns-in_err-placed-clause-untouched g c =

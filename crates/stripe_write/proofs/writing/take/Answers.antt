@@ -1,4 +1,4 @@
-use Rattle.std.proofs.Common.{◌≡◌, ◌+◌, ◌<◌, ℕ, refl, sym, ◌∙◌, ap, subst, arith, length, take, Result, Err}
+use Rattle.std.proofs.Common.{◌≡◌, ◌+◌, ◌<◌, ℕ, refl, sym, ◌∙◌, ap, subst, arith, length, take, Result, Ok, Err}
 use Rattle.std.proofs.lemmas.Result.{err_from_is_err_and}
 use Rattle.cache_model.specs.Kept.{state_of}
 use Rattle.cache_model.specs.Legal.{is_writing}
@@ -11,7 +11,9 @@ use Rattle.stripe_write.specs.Writes.{gathered_with, next_id, next_start, taken_
 use Rattle.stripe_write.specs.Numbers.{StopsAtLimit}
 use Rattle.tape_base.specs.declared.geometries.Geometry.{Geometry}
 use Rattle.stripe_write.proofs.Gathering.{cut_now, few_gathered, gathered_length, is_ready, left_cut, more_writer, not_cut, same_writer, SameButGathered, back, failed_leaves, left_writer, refused_where, taken_back, writes_cut, writes_few, writes_refused, writes_wanting}
-use Rattle.stripe_core.proofs.Continuing.{continues_still, still_resting, then_rests}
+use Rattle.stripe_core.proofs.Continuing.{continues_still, rests_with, still_resting, then_rests}
+use Rattle.stripe_write.specs.Writes.{IsToldNext, IsToldWritten}
+use Rattle.stripe_write.proofs.ToldPieces.{rests_behind, told_same}
 use Rattle.stripe_write.proofs.writing.take.Goals as goal
 
 pub overflow_sub-room : goal.overflow_sub-room
@@ -90,10 +92,22 @@ returns-in_err-extend_from_slice-clause-does g c =
     writes_wanting c.args.now (kept_in c.args.stripe.now) (kept_in c.prepare.new.self) _ _ c.args.writer.now c.args.bytes.now _ _ (wanting.1 ∙ ap Err wanting.2) c.prepare.ensures.records
 
 pub returns-in-Ok-clause-rests : goal.returns-in-Ok-clause-rests
-returns-in-Ok-clause-rests g c = then_rests _ _ _ c.prepare.ensures.continues c.cut.ensures.rests
+returns-in-Ok-clause-rests g c =
+    let s = state_in c.args.stripe.now in
+    let w = c.args.writer.now in
+    let n : ℕ = c.min-taken.result in
+    let few = few_gathered s w c.requires.open c.requires.writer in
+    let fragment = ap (λ (x : Geometry). x.fragment) c.geometry.ensures in
+    let held : Writer = record { put = w.put; key = w.key; request = w.request; response = w.response; pin = w.pin; gathered = c.extend_from_slice.new.self; table = c.reserve.new.self; sealed = w.sealed } in
+    let cuts = cut_now s.geometry w n (omega (arith, few, fragment, c.len-before.ensures, c.min-taken.ensures, c.if-taken-room.false)) in
+    rests_behind (IsToldNext held held.gathered.items) (IsToldWritten s w c.args.bytes.now (Ok n)) _ _ _
+    (λ contents tells told.
+    subst (λ bytes. IsToldNext held bytes contents) (sym c.in_ok-extend_from_slice.ensures.items)
+    (told_same contents w held (gathered_with w c.args.bytes.now n) refl refl c.reserve.ensures.rows (told cuts)))
+    (continues_still _ _ c.prepare.ensures.continues c.prepare.ensures.records c.requires.resting) c.in-Ok.ensures.rests
 
 pub returns-in-Err-clause-rests : goal.returns-in-Err-clause-rests
-returns-in-Err-clause-rests g c = then_rests _ _ _ c.prepare.ensures.continues c.cut.ensures.rests
+returns-in-Err-clause-rests g c = then_rests _ _ _ c.prepare.ensures.continues c.in-Err.ensures.rests
 
 pub returns-then-taken-room-clause-does : goal.returns-then-taken-room-clause-does
 returns-then-taken-room-clause-does g c =
@@ -180,16 +194,20 @@ returns-in-Err-clause-number g c =
     subst (λ k. StopsAtLimit (state_in c.cut.new.stripe) k c.in-Err.refusal) whole c.in-Err.ensures.number
 
 pub returns-in_err-prepare-clause-rests : goal.returns-in_err-prepare-clause-rests
-returns-in_err-prepare-clause-rests g c = continues_still _ _ c.prepare.ensures.continues c.prepare.ensures.records c.requires.resting
+returns-in_err-prepare-clause-rests g c =
+    rests_with _ _ _ (continues_still _ _ c.prepare.ensures.continues c.prepare.ensures.records c.requires.resting)
 
 pub returns-in_err-reserve-clause-rests : goal.returns-in_err-reserve-clause-rests
-returns-in_err-reserve-clause-rests g c = continues_still _ _ c.prepare.ensures.continues c.prepare.ensures.records c.requires.resting
+returns-in_err-reserve-clause-rests g c =
+    rests_with _ _ _ (continues_still _ _ c.prepare.ensures.continues c.prepare.ensures.records c.requires.resting)
 
 pub returns-in_err-extend_from_slice-clause-rests : goal.returns-in_err-extend_from_slice-clause-rests
-returns-in_err-extend_from_slice-clause-rests g c = continues_still _ _ c.prepare.ensures.continues c.prepare.ensures.records c.requires.resting
+returns-in_err-extend_from_slice-clause-rests g c =
+    rests_with _ _ _ (continues_still _ _ c.prepare.ensures.continues c.prepare.ensures.records c.requires.resting)
 
 pub returns-then-taken-room-clause-rests : goal.returns-then-taken-room-clause-rests
-returns-then-taken-room-clause-rests g c = continues_still _ _ c.prepare.ensures.continues c.prepare.ensures.records c.requires.resting
+returns-then-taken-room-clause-rests g c =
+    rests_with _ _ _ (continues_still _ _ c.prepare.ensures.continues c.prepare.ensures.records c.requires.resting)
 
 pub cut-requires-clause-resting : goal.cut-requires-clause-resting
 cut-requires-clause-resting g c = still_resting c.args.stripe.now _ c.prepare.ensures.continues.stripe c.prepare.ensures.records c.requires.resting

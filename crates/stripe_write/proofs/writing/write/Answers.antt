@@ -1,5 +1,6 @@
 use Rattle.std.proofs.Common.{sym, ◌∙◌, refl}
 use Rattle.stripe_core.specs.Stripe.{kept_in, state_in}
+use Rattle.stripe_core.proofs.Continuing.{rests_same, rests_with}
 use Rattle.stripe_core.proofs.Stills.{unstopped}
 use Rattle.stripe_write.proofs.Gathering.{left_none, none_taken, writes_few, writes_none, writes_over}
 use Rattle.stripe_write.proofs.writing.write.Goals as goal
@@ -27,3 +28,10 @@ returns-then-len-eq-MAX_FRAGMENTS-clause-does g c =
 
 pub returns-then-len-eq-MAX_FRAGMENTS-clause-untouched : goal.returns-then-len-eq-MAX_FRAGMENTS-clause-untouched
 returns-then-len-eq-MAX_FRAGMENTS-clause-untouched g c = unstopped c.overflow.result _ c.overflow.ensures.still
+
+-- nothing is told where nothing was cut
+pub returns-then-is_empty-clause-rests : goal.returns-then-is_empty-clause-rests
+returns-then-is_empty-clause-rests g c = rests_with _ _ _ (rests_same c.args.stripe.now c.requires.resting)
+
+pub returns-then-len-eq-MAX_FRAGMENTS-clause-rests : goal.returns-then-len-eq-MAX_FRAGMENTS-clause-rests
+returns-then-len-eq-MAX_FRAGMENTS-clause-rests g c = rests_with _ _ _ c.overflow.ensures.rests

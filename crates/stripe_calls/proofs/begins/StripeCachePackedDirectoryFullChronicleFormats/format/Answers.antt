@@ -8,5 +8,6 @@ returns-in-Ok-clause-begins g c = record {
   holds_first = record { stripe = c.in-Ok.ensures.stripe; quiet = subst (λ k. IsQuiet (state_of k)) (sym c.in-Ok.ensures.records) refl };
   kept = c.in-Ok.ensures.records;
   device_is = c.in-Ok.ensures.device;
+  contents = c.in-Ok.ensures.contents;
   setting = refl;
 }

@@ -1,7 +1,7 @@
 use Rattle.std.proofs.Common.{refl, sym, ◌∙◌}
 use Rattle.stripe_core.specs.Stripe.{kept_in, seen_in, state_in}
 use Rattle.cache_calls.proofs.Keeping.{keeps_still}
-use Rattle.stripe_calls.proofs.Closing.{close_gives, close_serves, nothing_closed, not_open_serves, none_added, writer_closes, writer_stays}
+use Rattle.stripe_calls.proofs.Closing.{close_gives, close_serves, nothing_closed, not_open_serves, none_added, told_closed, writer_closes, writer_stays}
 use Rattle.stripe_calls.proofs.Resting.{cache_keeps}
 use Rattle.stripe_calls.proofs.Words.{put_adds, writer_is}
 use Rattle.stripe_calls.proofs.seam.StripeCacheCalls.close_write.Goals as goal
@@ -42,6 +42,10 @@ returns-clause-gives g c = rw c.closed.ensures
     (close_gives g.R.Directory.purges (kept_in c.args.self.now.stripe) (kept_in c.close_write.new.stripe)
     (seen_in c.args.self.now.stripe).device (seen_in c.close_write.new.stripe).device
     c.args.writer.now c.close_write.result (sym c.is_open.ensures ∙ c.if-not-is_open.false) c.close_write.ensures.closes c.close_write.ensures.counts)
+
+pub returns-clause-stands : goal.returns-clause-stands
+returns-clause-stands g c = λ contents told stands.
+    c.close_write.ensures.rests.contents contents (told_closed (state_in c.close_write.new.stripe) c.args.writer.now contents told) stands
 
 pub returns-clause-own : goal.returns-clause-own
 returns-clause-own g c = put_adds c.args.writer.now.put c.close_write.ensures.own

@@ -1,5 +1,5 @@
 use Rattle.stripe_core.specs.Stripe.{kept_in, seen_in, state_in}
-use Rattle.stripe_calls.proofs.Reading.{next_gives, next_goes, next_serves, next_unharmed}
+use Rattle.stripe_calls.proofs.Reading.{next_exact, next_gives, next_goes, next_serves, next_unharmed}
 use Rattle.stripe_calls.proofs.Resting.{cache_goes}
 use Rattle.stripe_calls.proofs.Words.{reader_adds, reader_is}
 use Rattle.stripe_calls.proofs.seam.StripeCacheCalls.read_next.Goals as goal
@@ -10,14 +10,20 @@ read_next-requires-clause-reader g c = reader_is (state_in c.args.self.now.strip
 pub returns-clause-serves : goal.returns-clause-serves
 returns-clause-serves g c = λ now. rw c.given.ensures
     (next_serves g.R.Directory.purges (kept_in c.args.self.now.stripe) (kept_in c.read_next.new.stripe)
-    (seen_in c.args.self.now.stripe).device (seen_in c.read_next.new.stripe).device
+    (seen_in c.args.self.now.stripe) (seen_in c.read_next.new.stripe)
     c.args.reader.now now c.read_next.new.into c.read_next.ensures.proceeds.accounted c.read_next.result c.read_next.ensures.adds c.read_next.ensures.reads c.read_next.ensures.err)
 
 pub returns-clause-gives : goal.returns-clause-gives
 returns-clause-gives g c = rw c.given.ensures
     (next_gives g.R.Directory.purges (kept_in c.args.self.now.stripe) (kept_in c.read_next.new.stripe)
-    (seen_in c.args.self.now.stripe).device (seen_in c.read_next.new.stripe).device
+    (seen_in c.args.self.now.stripe) (seen_in c.read_next.new.stripe)
     c.args.reader.now c.read_next.new.into c.read_next.result c.read_next.ensures.adds c.read_next.ensures.reads c.read_next.ensures.err)
+
+pub returns-clause-exact : goal.returns-clause-exact
+returns-clause-exact g c = rw c.given.ensures
+    (next_exact g.R.Directory.purges (kept_in c.args.self.now.stripe) (kept_in c.read_next.new.stripe)
+    (seen_in c.args.self.now.stripe) (seen_in c.read_next.new.stripe)
+    c.args.reader.now c.read_next.new.into c.read_next.result c.read_next.ensures.reads)
 
 pub returns-clause-keeps : goal.returns-clause-keeps
 returns-clause-keeps g c = cache_goes _ _ c.read_next.ensures.resting c.read_next.ensures.proceeds
@@ -25,7 +31,7 @@ returns-clause-keeps g c = cache_goes _ _ c.read_next.ensures.resting c.read_nex
 pub returns-clause-unharmed : goal.returns-clause-unharmed
 returns-clause-unharmed g c =
     next_unharmed g.R.Directory.purges (kept_in c.args.self.now.stripe) (kept_in c.read_next.new.stripe)
-    (seen_in c.args.self.now.stripe).device (seen_in c.read_next.new.stripe).device
+    (seen_in c.args.self.now.stripe) (seen_in c.read_next.new.stripe)
     c.args.reader.now c.read_next.ensures.unharmed
 
 pub returns-clause-own : goal.returns-clause-own

@@ -1,5 +1,5 @@
 use Rattle.stripe_core.specs.Stripe.{kept_in, seen_in, state_in}
-use Rattle.stripe_calls.proofs.Feeding.{write_gives, write_goes, write_owns, write_serves}
+use Rattle.stripe_calls.proofs.Feeding.{told_written, write_gives, write_goes, write_owns, write_serves}
 use Rattle.stripe_calls.proofs.Resting.{cache_keeps}
 use Rattle.stripe_calls.proofs.Words.{writer_is}
 use Rattle.stripe_calls.proofs.seam.StripeCacheCalls.write.Goals as goal
@@ -18,6 +18,11 @@ returns-clause-gives g c = rw c.unchanged.ensures
     (write_gives g.R.Directory.purges (kept_in c.args.self.now.stripe) (kept_in c.write.new.stripe)
     (seen_in c.args.self.now.stripe).device (seen_in c.write.new.stripe).device
     c.args.writer.now c.args.now c.args.bytes.now c.write.result c.write.ensures.writes c.write.ensures.number c.write.ensures.does)
+
+pub returns-clause-stands : goal.returns-clause-stands
+returns-clause-stands g c = rw c.unchanged.ensures
+    (λ contents told stands. c.write.ensures.rests.contents contents
+    (told_written (state_in c.args.self.now.stripe) c.args.writer.now c.args.bytes.now c.write.result contents told) stands)
 
 pub returns-clause-own : goal.returns-clause-own
 returns-clause-own g c =

@@ -5,8 +5,10 @@ use Rattle.cache_model.specs.State.{cursor_next, floor_next}
 use Rattle.logged_disk.proofs.Moments.{seen_image}
 use Rattle.cyclone.specs.Cyclone.{seen}
 use Rattle.stripe_core.specs.Pieces.{kept_of, seen_of, state_now}
+use Rattle.stripe_core.specs.Records.{IsWrittenOut}
 use Rattle.stripe_core.proofs.Beginning.{begun_is_held}
-use Rattle.stripe_core.proofs.Telling.{held_behind}
+use Rattle.stripe_core.proofs.Standing.{standing_begun}
+use Rattle.stripe_core.proofs.Telling.{held_behind, stands_behind}
 use Rattle.stripe_core.proofs.pieces.Pieces.begin.Goals as goal
 
 pub returns-clause-adds : goal.returns-clause-adds
@@ -16,7 +18,17 @@ pub returns-clause-pieces : goal.returns-clause-pieces
 returns-clause-pieces g c =
     let s = state_now c.args.self.now in
     let disk = c.args.self.now.cyclone.disk in
+    let old = seen_of c.args.self.now in
     let after = seen c.begin_next.new.self in
-    held_behind (kept_of c.args.self.now) (g.C.Chronicle.kept c.began.new.chronicle) (rec.Began (cursor_next s) (floor_next s) ∷ []) after (returns-clause-adds g c)
-    (begun_is_held s (seen_of c.args.self.now) after c.requires.pieces
-    (record { whole = (seen_image (g.D.Disk.state disk) (g.met.D.Disk.was_image disk) (g.met.D.Disk.is_log disk)).whole; written = c.requires.written }) c.begin_next.ensures.begins c.begin_next.ensures.turns)
+    let kept = kept_of c.args.self.now in
+    let new = g.C.Chronicle.kept c.began.new.chronicle in
+    let recs = rec.Began (cursor_next s) (floor_next s) ∷ [] in
+    let adds = returns-clause-adds g c in
+    let begins = c.begin_next.ensures.begins in
+    let image = seen_image (g.D.Disk.state disk) (g.met.D.Disk.was_image disk) (g.met.D.Disk.is_log disk) in
+    let out : IsWrittenOut old = record { whole = image.whole; written = c.requires.written } in
+    record {
+      held = held_behind kept new recs after adds (begun_is_held s old after c.requires.pieces out begins c.begin_next.ensures.turns);
+      contents = λ contents told stands.
+          stands_behind contents kept new recs after adds (standing_begun contents s old after c.requires.pieces out begins stands);
+    }

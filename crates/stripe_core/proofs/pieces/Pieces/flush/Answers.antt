@@ -1,24 +1,29 @@
 use Rattle.std.proofs.Common.{◌≡◌, ◌+◌, ◌*◌, ◌≤◌, ◌∷◌, ◌++◌, refl, sym, ◌∙◌, ap, subst, arith, true, false, [], Err, length}
 use Rattle.tape_base.specs.declared.geometries.Geometry.{Geometry}
 use Rattle.tape_base.specs.Geometry.{budget_of}
-use Rattle.logged_disk.specs.Device.{State as Device}
+use Rattle.logged_disk.specs.Device.{State as Device, TellsAll}
+use Rattle.logged_disk.proofs.GoingOn.{told_before}
 use Rattle.cyclone.specs.Cyclone.{Seen, seen}
+use Rattle.cyclone.proofs.Calls.{write_goes_on}
 use Rattle.cache_model.specs.declared.record.Rec.TheVariants as rec
 use Rattle.cache_model.specs.State.{State, after_all}
 use Rattle.cache_model.specs.Kept.{state_of, with_records}
 use Rattle.cache_model.specs.Slots.{AllFit}
 use Rattle.stripe_due.specs.Finding.{most_passed}
 use Rattle.stripe_core.specs.declared.refusal.Stop.TheVariants as stop
-use Rattle.stripe_core.specs.Copying.{AreCopyable, AreTellable, begun_behind, copies_among, done_records, told_of}
+use Rattle.stripe_core.specs.Copying.{AreCopyable, AreTellable, AreToldCopied, begun_behind, copies_among, done_records, told_of}
 use Rattle.stripe_core.specs.Covers.{Uses}
 use Rattle.stripe_core.specs.Flush.{FlushesAsAsked}
+use Rattle.stripe_core.specs.Held.{IsHeld}
+use Rattle.stripe_core.specs.Standing.{AreStanding}
 use Rattle.stripe_core.specs.Pieces.{kept_of, seen_of, state_now}
 use Rattle.stripe_core.proofs.Flushes.{can, empty_does, exhausted_does, some_filled, write_spares, with_records-nil, state_of-with_records}
 use Rattle.stripe_core.proofs.Going.{device_may_change}
 use Rattle.stripe_core.proofs.Holding.{copies_end_fits, copies_end_is}
 use Rattle.stripe_core.proofs.LiveBehind.{live_same}
-use Rattle.stripe_core.proofs.Looked.{copyable, few_entries, few_records, flush_asked, flush_uses, half_is_free, left_by_write, stop_asked, taken_by_write, tellable}
+use Rattle.stripe_core.proofs.Looked.{copyable, few_entries, few_records, flush_asked, flush_uses, half_is_free, left_by_write, stop_asked, taken_by_write, tellable, told_copied}
 use Rattle.stripe_core.proofs.Slotted.{held_fit}
+use Rattle.stripe_core.proofs.ToldCopies.{stands_out}
 use Rattle.stripe_core.proofs.Between.{effects_none}
 use Rattle.stripe_core.proofs.pieces.Pieces.flush.Goals as goal
 
@@ -114,6 +119,45 @@ stop-requires-clause-records g c =
     let room = ap (λ x. g.C.Chronicle.room x) c.look_ahead.ensures.chronicle in
     omega (arith, few, room, c.requires.records)
 
+pub returns-in-Ok-clause-pieces : goal.returns-in-Ok-clause-pieces
+returns-in-Ok-clause-pieces g c =
+    let s = state_now c.args.self.now in
+    let before = seen_of c.args.self.now in
+    let mid = seen_of c.look_ahead.new.self in
+    let out = seen c.write_out.new.self in
+    let a = c.look_ahead.new.ahead in
+    let e = c.look_ahead.ensures in
+    record {
+      held = c.go_on.ensures.pieces.held;
+      contents = λ contents any stands.
+          c.go_on.ensures.pieces.contents contents
+          (λ told.
+          let then : TellsAll mid.device = told_before mid.device out.device (write_goes_on mid out c.write_out.result c.write_out.ensures.device) told in
+          subst (λ x. AreToldCopied contents (begun_behind (state_of (g.C.Chronicle.kept x)) (told_of true a.due.items a.fates.items)) 0 a.due.items a.fates.items a.bytes.items)
+          (sym e.chronicle)
+          (told_copied c.args.now s before.device mid.device a c.requires.pieces.sound e.looks contents then (stands.written (told_before before.device mid.device e.asked.goes then))))
+          (subst (λ x. AreStanding contents (state_of (g.C.Chronicle.kept x)) out) (sym e.chronicle)
+          (stands_out contents s before mid out c.write_out.result c.requires.pieces (subst (λ x. IsHeld (state_of (g.C.Chronicle.kept x)) mid) e.chronicle e.pieces)
+          e.same e.asked e.seen c.write_out.ensures.same c.write_out.ensures.device stands));
+    }
+
+pub returns-in-Err-clause-pieces : goal.returns-in-Err-clause-pieces
+returns-in-Err-clause-pieces g c =
+    let s = state_now c.args.self.now in
+    let before = seen_of c.args.self.now in
+    let mid = seen_of c.look_ahead.new.self in
+    let out = seen c.write_out.new.self in
+    let a = c.look_ahead.new.ahead in
+    let e = c.look_ahead.ensures in
+    record {
+      held = c.stop.ensures.pieces.held;
+      contents = λ contents any stands.
+          c.stop.ensures.pieces.contents contents tt
+          (subst (λ x. AreStanding contents (state_of (g.C.Chronicle.kept x)) out) (sym e.chronicle)
+          (stands_out contents s before mid out c.write_out.result c.requires.pieces (subst (λ x. IsHeld (state_of (g.C.Chronicle.kept x)) mid) e.chronicle e.pieces)
+          e.same e.asked e.seen c.write_out.ensures.same c.write_out.ensures.device stands));
+    }
+
 pub returns-in-Ok-clause-does : goal.returns-in-Ok-clause-does
 returns-in-Ok-clause-does g c =
     let s = state_now c.args.self.now in
@@ -157,7 +201,7 @@ returns-in-Ok-clause-room g c =
     let filled = half_is_free c.args.now s _ _ a c.requires.pieces.sound c.look_ahead.ensures.looks in
     let out : (seen c.write_out.new.self).geometry ≡ c.args.self.now.cyclone.geometry =
     ap (λ (y : Seen). y.geometry) c.write_out.ensures.same ∙ ap (λ (y : Seen). y.geometry) c.look_ahead.ensures.same in
-    let geometry : (state_now c.go_on.new.self).geometry ≡ s.geometry = sym c.go_on.ensures.pieces.geometry ∙ (c.go_on.ensures.uses.same ∙ (out ∙ c.requires.pieces.geometry)) in
+    let geometry : (state_now c.go_on.new.self).geometry ≡ s.geometry = sym c.go_on.ensures.pieces.held.geometry ∙ (c.go_on.ensures.uses.same ∙ (out ∙ c.requires.pieces.geometry)) in
     let same : (state_now c.go_on.new.self).filled ≡ (after_all s recs).filled = ap (λ (t : State). t.filled) state in
     subst (λ h. (state_now c.go_on.new.self).filled ≤ budget_of h) (sym geometry) (omega (arith, same, filled))
 

@@ -1,11 +1,30 @@
-use Rattle.stripe_core.specs.Pieces.{kept_of, seen_of}
-use Rattle.stripe_core.proofs.Groups.{cuts_behind, cuts_stop, mid_new}
+use Rattle.std.proofs.Common.{length}
+use Rattle.stripe_core.specs.Pieces.{kept_of, seen_of, state_now}
+use Rattle.stripe_core.proofs.Doings.{if_ok_map}
+use Rattle.stripe_core.proofs.Groups.{cuts_behind, cuts_stop, mid_new, no_vector}
+use Rattle.stripe_core.proofs.StandingPlaced.{told_of_fragment}
 use Rattle.stripe_core.proofs.pieces.Pieces.place_fragment.Goals as goal
 
 pub place-requires-clause-new : goal.place-requires-clause-new
 place-requires-clause-new g c =
     mid_new c.args.now (kept_of c.args.self.now) (kept_of c.make_room.new.self) (seen_of c.args.self.now).device.past
     (seen_of c.make_room.new.self).device c.args.id c.args.pin c.args.start c.args.payload.now c.in-Ok.field-0 c.in-Ok.ensures.does c.requires.new
+
+pub returns-in-Ok-clause-pieces : goal.returns-in-Ok-clause-pieces
+returns-in-Ok-clause-pieces g c =
+    let id = c.args.id in
+    let kind = no_vector (length c.requires.fragment.w.cuts) id.index c.requires.fragment.next.next in
+    record {
+      held = c.place.ensures.pieces.held;
+      contents = λ contents said stands.
+          let device = (seen_of c.place.new.self).device in
+          let old = state_now c.args.self.now in
+          let mid = state_now c.make_room.new.self in
+          c.place.ensures.pieces.contents contents
+          (if_ok_map c.place.result _ _
+          (λ placed told. told_of_fragment contents device old mid id c.args.start c.args.payload.now kind told) said)
+          (c.make_room.ensures.pieces.contents contents tt stands);
+    }
 
 pub returns-in-Ok-clause-does : goal.returns-in-Ok-clause-does
 returns-in-Ok-clause-does g c =

@@ -2,7 +2,7 @@ use Rattle.std.proofs.Common.{◌+◌, ap, arith, length}
 use Rattle.cyclone.specs.Cyclone.{seen}
 use Rattle.dir_table.specs.Displacement.{Displacement, purge_of}
 use Rattle.stripe_core.specs.Pieces.{kept_of, seen_of}
-use Rattle.stripe_core.proofs.Puts.{IsPutAs, IsToldOf, few_displaced, put_adds, put_is_held, put_uses}
+use Rattle.stripe_core.proofs.Puts.{IsPutAs, IsToldOf, few_displaced, put_adds, put_is_held, put_stands, put_uses}
 use Rattle.stripe_core.proofs.pieces.Pieces.put.Goals as goal
 
 put_as : (g : _) (c : goal.After-result-1 g)
@@ -32,9 +32,20 @@ told_of g c = record {
 
 pub returns-clause-pieces : goal.returns-clause-pieces
 returns-clause-pieces g c =
-    put_is_held g.R.Directory.purges (kept_of c.args.self.now) (g.C.Chronicle.kept c.cut.new.chronicle) (g.C.Chronicle.kept c.displaced-2.new.chronicle)
-    (g.C.Chronicle.kept c.placed.new.chronicle) (seen_of c.args.self.now) (seen c.put-put.new.self) c.args.doc.now c.args.payload.now c.put-put.result.payload
-    c.put-put.result.document c.requires.pieces c.requires.new c.requires.doc c.requires.room (put_as g c) (told_of g c)
+    let purges = g.R.Directory.purges in
+    let old = kept_of c.args.self.now in
+    let cut = g.C.Chronicle.kept c.cut.new.chronicle in
+    let displaced = g.C.Chronicle.kept c.displaced-2.new.chronicle in
+    let last = g.C.Chronicle.kept c.placed.new.chronicle in
+    let before = seen_of c.args.self.now in
+    let after = seen c.put-put.new.self in
+    record {
+      held = put_is_held purges old cut displaced last before after c.args.doc.now c.args.payload.now c.put-put.result.payload c.put-put.result.document c.requires.pieces
+          c.requires.new c.requires.doc c.requires.room (put_as g c) (told_of g c);
+      contents = λ contents said stands.
+          put_stands purges old cut displaced last before after c.args.doc.now c.args.payload.now c.put-put.result.payload c.put-put.result.document c.requires.pieces
+          c.requires.new c.requires.doc c.requires.room (put_as g c) (told_of g c) contents c.requires.size said stands;
+    }
 
 pub returns-clause-puts : goal.returns-clause-puts
 returns-clause-puts g c =

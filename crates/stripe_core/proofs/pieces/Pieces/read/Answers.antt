@@ -2,13 +2,14 @@ use Rattle.std.proofs.Common.{◌*◌, sym, ◌∙◌, ap, subst, take, [], ◌�
 use Rattle.logged_disk.specs.Device.{State as Device, TellsAll}
 use Rattle.cache_model.specs.declared.record.Rec.TheVariants as rec
 use Rattle.cache_model.specs.Kept.{state_of, with_records}
-use Rattle.cyclone.specs.Cyclone.{seen}
-use Rattle.stripe_core.specs.Find.{Finds}
+use Rattle.cyclone.specs.Cyclone.{Seen, seen}
 use Rattle.stripe_core.specs.Held.{IsHeld}
+use Rattle.stripe_core.specs.Standing.{AreStanding}
 use Rattle.stripe_core.specs.Pieces.{kept_of, seen_of, state_now}
 use Rattle.stripe_core.proofs.Flushes.{fault_is_held, read_spares, state_of-with_records}
-use Rattle.stripe_core.proofs.Findings.{finds_fault, finds_no_damage, finds_read, judged_adds}
+use Rattle.stripe_core.proofs.Findings.{fault_stands, finds_fault, finds_in, finds_no_damage, finds_read, judged_adds}
 use Rattle.stripe_core.proofs.Going.{device_may_change}
+use Rattle.stripe_core.proofs.Standing.{standing_on}
 use Rattle.cyclone.proofs.Calls.{reads_go_on, reads_same}
 use Rattle.stripe_core.specs.Stripe.{IsUnwritten}
 use Rattle.stripe_core.proofs.Flushes.{read_uses, records_use}
@@ -30,17 +31,39 @@ pub returns-in-Ok-clause-finds : goal.returns-in-Ok-clause-finds
 returns-in-Ok-clause-finds g c =
     let s = state_now c.args.self.now in
     let before = seen_of c.args.self.now in
-    subst (λ d. Finds s before.device d c.args.id c.judge.result c.judge.new.into) (sym c.judge.ensures.still)
+    finds_in s before (seen c.load.new.cyclone) (seen_of c.judge.new.self) c.args.id c.judge.result c.judge.new.into c.judge.ensures.still
     (finds_read s before (seen c.load.new.cyclone) c.args.id c.args.place c.recorded-blocks.result.0 c.recorded-blocks.result.1
     (take (512 * c.recorded-blocks.result.0) c.load.new.into) c.judge.new.into c.judge.result c.requires.pieces c.recorded-blocks.ensures.recorded c.in-Ok.ensures.reads c.judge.ensures.judges)
+
+pub returns-in-Ok-clause-pieces : goal.returns-in-Ok-clause-pieces
+returns-in-Ok-clause-pieces g c =
+    let before = seen_of c.args.self.now in
+    let after = seen c.load.new.cyclone in
+    record {
+      held = c.judge.ensures.pieces.held;
+      contents = λ contents told stands.
+          c.judge.ensures.pieces.contents contents tt
+          (standing_on contents (state_now c.args.self.now) before after c.requires.pieces (ap (λ (y : Seen). y.geometry) c.load.ensures.same)
+          (ap (λ (y : Seen). y.buffer) c.load.ensures.same) (read_spares _ _ _ _ _ _ c.load.ensures.reads) stands);
+    }
 
 pub returns-in-Err-clause-pieces : goal.returns-in-Err-clause-pieces
 returns-in-Err-clause-pieces g c =
     let s = state_now c.args.self.now in
+    let before = seen_of c.args.self.now in
     let after = seen c.load.new.cyclone in
-    subst (λ t. IsHeld t after) (sym (ap state_of c.fault.ensures.kept ∙ state_of-with_records (kept_of c.args.self.now) (rec.Fault c.faults-count.result ∷ [])))
-    (fault_is_held s (seen_of c.args.self.now) after c.faults-count.result c.requires.pieces c.load.ensures.same c.load.ensures.turns (read_spares _ _ _ _ _ _ c.load.ensures.reads)
-    (c.faults-count.ensures ∙ ap (λ (d : Device). d.faults) c.disk.ensures))
+    let count = c.faults-count.result in
+    let is = sym (ap state_of c.fault.ensures.kept ∙ state_of-with_records (kept_of c.args.self.now) (rec.Fault count ∷ [])) in
+    record {
+      held = subst (λ t. IsHeld t after) is
+          (fault_is_held s before after count c.requires.pieces c.load.ensures.same c.load.ensures.turns (read_spares _ _ _ _ _ _ c.load.ensures.reads)
+          (c.faults-count.ensures ∙ ap (λ (d : Device). d.faults) c.disk.ensures));
+      contents = λ contents told stands.
+          subst (λ t. AreStanding contents t after) is
+          (fault_stands contents s after count
+          (standing_on contents s before after c.requires.pieces (ap (λ (y : Seen). y.geometry) c.load.ensures.same)
+          (ap (λ (y : Seen). y.buffer) c.load.ensures.same) (read_spares _ _ _ _ _ _ c.load.ensures.reads) stands));
+    }
 
 pub returns-in-Err-clause-finds : goal.returns-in-Err-clause-finds
 returns-in-Err-clause-finds g c =

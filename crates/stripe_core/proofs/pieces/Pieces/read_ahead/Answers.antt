@@ -5,7 +5,7 @@ use Rattle.stripe_core.specs.Pieces.{seen_of, state_now}
 use Rattle.stripe_core.proofs.Flushes.{read_spares}
 use Rattle.stripe_core.proofs.Going.{device_may_change}
 use Rattle.stripe_core.proofs.ReadAhead.{comes_of, comes_refused, has_blocks, is_stored, reads_row}
-use Rattle.cyclone.proofs.Calls.{reads_ask}
+use Rattle.cyclone.proofs.Calls.{reads_ask, reads_same}
 use Rattle.stripe_core.proofs.pieces.Pieces.read_ahead.Goals as goal
 
 pub load-requires-clause-some : goal.load-requires-clause-some
@@ -52,3 +52,9 @@ returns-in-Ok-clause-asked g c = reads_ask _ _ _ _ _ _ c.load.ensures.reads
 
 pub returns-in-Err-clause-asked : goal.returns-in-Err-clause-asked
 returns-in-Err-clause-asked g c = reads_ask _ _ _ _ _ _ c.load.ensures.reads
+
+pub returns-in-Ok-clause-seen : goal.returns-in-Ok-clause-seen
+returns-in-Ok-clause-seen g c = reads_same _ _ _ _ _ _ c.load.ensures.reads
+
+pub returns-in-Err-clause-seen : goal.returns-in-Err-clause-seen
+returns-in-Err-clause-seen g c = reads_same _ _ _ _ _ _ c.load.ensures.reads

@@ -2,6 +2,7 @@ use Rattle.std.proofs.Common.{Some, refl, sym, ◌∙◌, ap, subst, arith, [], 
 use Rattle.cache_model.specs.declared.record.Rec.TheVariants as rec
 use Rattle.cache_model.specs.State.{vector_piece}
 use Rattle.cache_model.specs.Kept.{state_of}
+use Rattle.call_laws.specs.Contents.{contents_of_vectors}
 use Rattle.stripe_actors.specs.Actors.{AreActors}
 use Rattle.stripe_core.specs.Pieces.{seen_of}
 use Rattle.stripe_core.specs.Stripe.{kept_in, seen_in, state_in}
@@ -11,6 +12,7 @@ use Rattle.stripe_core.proofs.Sparing.{made_behind, numbered_by}
 use Rattle.stripe_core.proofs.Naming.{named_behind, named_committed}
 use Rattle.stripe_core.proofs.Between.{between-tells}
 use Rattle.stripe_core.proofs.Continuing.{no_less}
+use Rattle.stripe_core.proofs.NoneDisplaced.{none_behind}
 use Rattle.stripe_core.proofs.stripe.Stripe.commit.Goals as goal
 
 pub returns-clause-continues : goal.returns-clause-continues
@@ -22,16 +24,19 @@ returns-clause-continues g c =
     let reader = reader_behind kept after told c.commit.ensures.adds in
     record {
       stripe = record {
-        pieces = c.commit.ensures.pieces;
+        pieces = c.commit.ensures.pieces.held;
         actors = subst (λ t. AreActors t c.close.new.self) (sym (ap state_of c.commit.ensures.adds ∙ state_of-with_records kept (told ∷ []))) (c.close.ensures.commits c.args.key c.length-length.result c.args.alternates s c.requires.stripe.actors);
         spared = one_less c.args.self.now.units c.args.self.now.flushes _ _ (seen_in c.args.self.now) (seen_of c.commit.new.self) c.requires.unit c.requires.stripe.spared c.commit.ensures.uses;
         named = named_behind kept _ told c.commit.ensures.adds
             (named_committed s c.args.put c.length-length.result c.args.key c.args.alternates (c.requires.committing.pending ∙ ap (λ k. Some (vector_piece k c.args.put)) c.requires.committing.key_is) c.requires.stripe.named);
         readers = omega (arith, c.requires.stripe.readers, c.close.ensures.readers);
         ahead = made_behind kept after told c.args.self.now.ahead c.commit.ensures.adds refl c.requires.stripe.ahead;
+        none = none_behind kept after told c.commit.ensures.adds refl c.requires.stripe.none;
+        vectors = c.commit.ensures.pieces.contents contents_of_vectors tt c.requires.stripe.vectors;
         numbered = numbered_by kept after (told ∷ []) 0 c.commit.ensures.adds (omega (arith, reader)) (omega arith) c.requires.stripe.numbered;
       };
       between = between-tells _ _ kept after (told ∷ []) c.commit.ensures.still c.commit.ensures.adds refl (refl, tt);
+      contents = c.commit.ensures.pieces.contents;
       later = no_less _ _ c.commit.ensures.still;
     }
 

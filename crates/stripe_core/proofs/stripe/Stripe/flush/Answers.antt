@@ -1,6 +1,7 @@
 use Rattle.std.specs.Prelude.{IfErr, nat_lt}
 use Rattle.std.proofs.Common.{◌≡◌, Err, ap, subst, sym, arith}
 use Rattle.cache_model.specs.Kept.{state_of}
+use Rattle.call_laws.specs.Contents.{contents_of_vectors}
 use Rattle.stripe_core.specs.declared.refusal.Flushed.{Flushed}
 use Rattle.stripe_core.specs.Flush.{FlushesAsAsked, StopsWith}
 use Rattle.stripe_core.specs.Pieces.{kept_of, seen_of}
@@ -9,6 +10,7 @@ use Rattle.stripe_core.proofs.Asked.{behind_unit, stop_has_memory}
 use Rattle.stripe_core.proofs.Naming.{flush_leaves, named_with}
 use Rattle.stripe_core.proofs.Sparing.{actors_with, answers_stop, flush_is_others, made_still, nothing_in_buffer, numbered_others, spent_by}
 use Rattle.stripe_core.proofs.Between.{between-adds, between-trans}
+use Rattle.stripe_core.proofs.NoneDisplaced.{flush_displaces, none_with}
 use Rattle.stripe_core.proofs.stripe.Stripe.flush.Goals as goal
 
 pub returns-in-Err-clause-does : goal.returns-in-Err-clause-does
@@ -34,18 +36,22 @@ returns-in-Ok-clause-continues g c =
     let others = flush_is_others does.added does.kinds in
     record {
       stripe = record {
-        pieces = c.flush.ensures.pieces;
+        pieces = c.flush.ensures.pieces.held;
         actors = actors_with kept _ c.take_unit.new.self.actors does.added does.adds others c.take_unit.ensures.continues.stripe.actors;
         spared = spent_by (nat_lt c.cursor.result c.next_place.result) (units_in c.take_unit.new.self) (flushes_in c.take_unit.new.self) c.one_where.result _ _ _ _ before after
             c.one_where.ensures c.in_ok-take_unit.ensures.spared c.flush.ensures.uses (omega arith) (omega arith)
             (λ none. c.flush.ensures.still (nothing_in_buffer taken before c.cursor.result c.next_place.result c.take_unit.ensures.continues.stripe.pieces c.cursor.ensures c.next_place.ensures none));
         named = named_with kept _ does.added does.adds (flush_leaves does.added does.kinds) c.take_unit.ensures.continues.stripe.named;
         readers = c.take_unit.ensures.continues.stripe.readers;
-        ahead = made_still taken _ before after c.flush.new.ahead c.take_unit.ensures.continues.stripe.pieces c.flush.ensures.pieces c.flush.ensures.uses.same c.flush.ensures.ahead;
+        ahead = made_still taken _ before after c.flush.new.ahead c.take_unit.ensures.continues.stripe.pieces c.flush.ensures.pieces.held c.flush.ensures.uses.same c.flush.ensures.ahead;
+        none = none_with kept _ does.added does.adds (flush_displaces does.added does.kinds) c.take_unit.ensures.continues.stripe.none;
+        vectors = c.flush.ensures.pieces.contents contents_of_vectors tt c.take_unit.ensures.continues.stripe.vectors;
         numbered = numbered_others kept _ does.added does.adds others c.take_unit.ensures.continues.stripe.numbered;
       };
       between = between-trans _ _ _ _ _ _ c.take_unit.ensures.continues.between
           (between-adds _ _ kept _ does.added does.adds c.flush.ensures.uses.goes does.faults does.unharmed);
+      contents = λ contents told stands.
+          c.flush.ensures.pieces.contents contents tt (c.take_unit.ensures.continues.contents contents tt stands);
       later = omega (arith, c.take_unit.ensures.continues.later, c.flush.ensures.uses.later);
     }
 
@@ -59,18 +65,22 @@ returns-in-Err-clause-continues g c =
     let others = flush_is_others does.added does.kinds in
     record {
       stripe = record {
-        pieces = c.flush.ensures.pieces;
+        pieces = c.flush.ensures.pieces.held;
         actors = actors_with kept _ c.take_unit.new.self.actors does.added does.adds others c.take_unit.ensures.continues.stripe.actors;
         spared = spent_by (nat_lt c.cursor.result c.next_place.result) (units_in c.take_unit.new.self) (flushes_in c.take_unit.new.self) c.one_where.result _ _ _ _ before after
             c.one_where.ensures c.in_ok-take_unit.ensures.spared c.flush.ensures.uses (omega arith) (omega arith)
             (λ none. c.flush.ensures.still (nothing_in_buffer taken before c.cursor.result c.next_place.result c.take_unit.ensures.continues.stripe.pieces c.cursor.ensures c.next_place.ensures none));
         named = named_with kept _ does.added does.adds (flush_leaves does.added does.kinds) c.take_unit.ensures.continues.stripe.named;
         readers = c.take_unit.ensures.continues.stripe.readers;
-        ahead = made_still taken _ before after c.flush.new.ahead c.take_unit.ensures.continues.stripe.pieces c.flush.ensures.pieces c.flush.ensures.uses.same c.flush.ensures.ahead;
+        ahead = made_still taken _ before after c.flush.new.ahead c.take_unit.ensures.continues.stripe.pieces c.flush.ensures.pieces.held c.flush.ensures.uses.same c.flush.ensures.ahead;
+        none = none_with kept _ does.added does.adds (flush_displaces does.added does.kinds) c.take_unit.ensures.continues.stripe.none;
+        vectors = c.flush.ensures.pieces.contents contents_of_vectors tt c.take_unit.ensures.continues.stripe.vectors;
         numbered = numbered_others kept _ does.added does.adds others c.take_unit.ensures.continues.stripe.numbered;
       };
       between = between-trans _ _ _ _ _ _ c.take_unit.ensures.continues.between
           (between-adds _ _ kept _ does.added does.adds c.flush.ensures.uses.goes does.faults does.unharmed);
+      contents = λ contents told stands.
+          c.flush.ensures.pieces.contents contents tt (c.take_unit.ensures.continues.contents contents tt stands);
       later = omega (arith, c.take_unit.ensures.continues.later, c.flush.ensures.uses.later);
     }
 

@@ -1,5 +1,6 @@
-use Rattle.std.proofs.Common.{sym, subst, arith}
+use Rattle.std.proofs.Common.{sym, subst, refl, arith}
 use Rattle.cache_model.specs.Kept.{state_of}
+use Rattle.call_laws.specs.Contents.{contents_of_vectors}
 use Rattle.stripe_actors.specs.Actors.{AreActors}
 use Rattle.stripe_core.proofs.stripe.Stripe.format.Goals as goal
 
@@ -11,5 +12,7 @@ returns-in-Ok-format-clause-stripe g c = record {
   named = rw c.in-Ok-format.ensures.records tt;
   readers = omega arith;
   ahead = rw c.in-Ok-format.ensures.records c.in-Ok.ensures;
+  none = rw c.in-Ok-format.ensures.records refl;
+  vectors = c.in-Ok-format.ensures.contents contents_of_vectors;
   numbered = rw c.in-Ok-format.ensures.records (omega arith);
 }

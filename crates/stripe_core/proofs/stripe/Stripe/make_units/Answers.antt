@@ -16,6 +16,7 @@ returns-in_err-prepare-clause-continues g c =
     record {
       stripe = grind (arith, common_steps);
       between = between-none _ _ (kept_of c.args.self.now.pieces) (kept_of c.prepare.new.self) c.prepare.ensures.records still.goes still.past;
+      contents = c.prepare.ensures.pieces.contents;
       later = omega (arith, still.faults);
     }
 
@@ -30,5 +31,6 @@ returns-in_ok-prepare-clause-continues g c =
     record {
       stripe = grind (arith, common_steps);
       between = between-none _ _ (kept_of c.args.self.now.pieces) (kept_of c.prepare.new.self) c.prepare.ensures.records still.goes still.past;
+      contents = c.prepare.ensures.pieces.contents;
       later = omega (arith, still.faults);
     }

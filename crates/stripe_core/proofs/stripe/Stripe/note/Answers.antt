@@ -1,13 +1,15 @@
 use Rattle.std.proofs.Common.{refl, sym, ◌∙◌, ap, subst, arith, [], ◌∷◌}
 use Rattle.cache_model.specs.Legal.{answer_record}
 use Rattle.cache_model.specs.Kept.{state_of}
+use Rattle.call_laws.specs.Contents.{contents_of_vectors}
 use Rattle.stripe_actors.specs.Actors.{AreActors}
 use Rattle.stripe_core.specs.Stripe.{kept_in, seen_in, state_in}
 use Rattle.stripe_core.proofs.Flushes.{state_of-with_records}
-use Rattle.stripe_core.proofs.Doings.{answer_keeps_readers, answer_leaves, answer_leaves_tape, held_behind, notes, one_record, reader_behind}
+use Rattle.stripe_core.proofs.Doings.{answer_keeps_readers, answer_leaves, answer_leaves_tape, held_behind, notes, one_record, reader_behind, standing_behind}
 use Rattle.stripe_core.proofs.Sparing.{made_behind, numbered_by}
 use Rattle.stripe_core.proofs.Naming.{answer_leaves_names, named_behind}
 use Rattle.stripe_core.proofs.Between.{answer_tells_no_fault, answer_tells_none, between-tells}
+use Rattle.stripe_core.proofs.NoneDisplaced.{answer_displaces, none_behind}
 use Rattle.stripe_core.proofs.stripe.Stripe.note.Goals as goal
 
 pub returns-clause-continues : goal.returns-clause-continues
@@ -26,10 +28,16 @@ returns-clause-continues g c =
         named = named_behind kept _ told c.answered.ensures.kept (answer_leaves_names s c.args.reader c.args.answer c.requires.stripe.named);
         readers = omega (arith, c.requires.stripe.readers, c.go_on.ensures.readers);
         ahead = made_behind kept _ told c.args.self.now.ahead c.answered.ensures.kept leaves.geometry c.requires.stripe.ahead;
+        none = none_behind kept (g.C.Chronicle.kept c.answered.new.chronicle) told c.answered.ensures.kept
+            (answer_displaces c.args.reader c.args.answer) c.requires.stripe.none;
+        vectors = standing_behind kept (g.C.Chronicle.kept c.answered.new.chronicle) before told c.answered.ensures.kept
+            (answer_leaves_tape c.args.reader c.args.answer) leaves c.requires.stripe.pieces contents_of_vectors tt c.requires.stripe.vectors;
         numbered = numbered_by kept (g.C.Chronicle.kept c.answered.new.chronicle) (told ∷ []) 0 c.answered.ensures.kept (omega (arith, reader)) (omega arith) c.requires.stripe.numbered;
       };
       between = between-tells before.device before.device kept (g.C.Chronicle.kept c.answered.new.chronicle) (told ∷ []) refl c.answered.ensures.kept
           (answer_tells_no_fault c.args.reader c.args.answer) (answer_tells_none c.args.reader c.args.answer, tt);
+      contents = standing_behind kept (g.C.Chronicle.kept c.answered.new.chronicle) before told c.answered.ensures.kept
+          (answer_leaves_tape c.args.reader c.args.answer) leaves c.requires.stripe.pieces;
       later = omega arith;
     }
 

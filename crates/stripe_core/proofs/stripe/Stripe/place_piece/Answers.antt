@@ -1,12 +1,16 @@
 use Rattle.std.proofs.Common.{◌≡◌, ◌<◌, sym, subst, true, false}
-use Rattle.std.specs.Prelude.{MatchBool}
+use Rattle.std.specs.Prelude.{MatchBool, OnOk}
 use Rattle.std.proofs.lemmas.Bool.{eq-eqb, ne_eqb}
 use Rattle.tape_base.specs.Piece.{is_vector}
+use Rattle.logged_disk.proofs.GoingOn.{told_before}
+use Rattle.cache_model.specs.Kept.{state_of}
+use Rattle.call_laws.specs.Contents.{IsToldAs, contents_of_vectors}
 use Rattle.stripe_core.specs.Place.{CutsAsAsked, PlacesAsAsked, PlacesVector}
-use Rattle.stripe_core.specs.Stripe.{kept_in, room_for, seen_in}
+use Rattle.stripe_core.specs.Standing.{IsToldPlaced}
+use Rattle.stripe_core.specs.Stripe.{kept_in, room_for, seen_in, state_in}
 use Rattle.stripe_core.proofs.Asked.{behind_unit}
 use Rattle.stripe_core.proofs.Sparing.{answers_map}
-use Rattle.stripe_core.proofs.Continuing.{continues_then}
+use Rattle.stripe_core.proofs.Continuing.{continues_behind}
 use Rattle.stripe_core.proofs.stripe.Stripe.place_piece.Goals as goal
 
 pub returns-then-id-eq0-clause-does : goal.returns-then-id-eq0-clause-does
@@ -52,10 +56,22 @@ returns-else-id-eq0-clause-does g c =
     (λ same. subst (λ k. new ≡ k) c.take_unit.ensures.records same) c.place_fragment.ensures.does
 
 pub returns-then-id-eq0-clause-continues : goal.returns-then-id-eq0-clause-continues
-returns-then-id-eq0-clause-continues g c = continues_then _ _ _ c.take_unit.ensures.continues c.place_vector.ensures.continues
+returns-then-id-eq0-clause-continues g c =
+    let after = (seen_in c.place_vector.new.self).device in
+    continues_behind (λ s contents. OnOk c.place_vector.result (IsToldPlaced after s c.args.id c.args.start c.args.payload.now contents)) _ _ _
+    c.take_unit.ensures.continues c.take_unit.ensures.records c.place_vector.ensures.continues
 
 pub returns-else-id-eq0-clause-continues : goal.returns-else-id-eq0-clause-continues
-returns-else-id-eq0-clause-continues g c = continues_then _ _ _ c.take_unit.ensures.continues c.place_fragment.ensures.continues
+returns-else-id-eq0-clause-continues g c =
+    let after = (seen_in c.place_fragment.new.self).device in
+    continues_behind (λ s contents. OnOk c.place_fragment.result (IsToldPlaced after s c.args.id c.args.start c.args.payload.now contents)) _ _ _
+    c.take_unit.ensures.continues c.take_unit.ensures.records c.place_fragment.ensures.continues
+
+pub place_vector-requires-clause-spelled : goal.place_vector-requires-clause-spelled
+place_vector-requires-clause-spelled g c = λ tells.
+    let before = told_before (seen_in c.args.self.now).device (seen_in c.take_unit.new.self).device c.take_unit.ensures.still.goes tells in
+    subst (λ k. IsToldAs contents_of_vectors (state_of k) c.args.id c.args.start c.args.payload.now) (sym c.take_unit.ensures.records)
+    (c.requires.spelled before)
 
 pub returns-else-id-eq0-clause-memory : goal.returns-else-id-eq0-clause-memory
 returns-else-id-eq0-clause-memory g c = λ some made.

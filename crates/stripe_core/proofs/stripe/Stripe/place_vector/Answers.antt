@@ -1,8 +1,11 @@
 use Rattle.std.proofs.Common.{◌∙◌, ap, ◌≡◌, ◌+◌, Ok, Err, sym, subst, arith, length, true}
 use Rattle.std.proofs.lemmas.Bool.{eq-eqb}
+use Rattle.logged_disk.specs.Device.{TellsAll}
+use Rattle.cache_model.specs.State.{State}
 use Rattle.cache_model.specs.Kept.{state_of}
 use Rattle.dir_table.specs.Displacement.{purge_of}
 use Rattle.tape_base.specs.Piece.{is_vector}
+use Rattle.call_laws.specs.Contents.{contents_of_vectors}
 use Rattle.stripe_core.specs.Place.{IsPlacedAs, PlacesVector}
 use Rattle.stripe_core.specs.Pieces.{kept_of, seen_of}
 use Rattle.stripe_core.specs.Stripe.{Answers, flushes_in, kept_in, seen_in, state_in, units_in}
@@ -13,6 +16,7 @@ use Rattle.stripe_core.proofs.Flushes.{state_of-with_records}
 use Rattle.stripe_core.proofs.Sparing.{actors_with, answers_stop, made_still, numbered_others, spent_calm, vector_others, vector_state}
 use Rattle.stripe_core.proofs.Naming.{begun_put, small_size, vector_named, vector_new}
 use Rattle.stripe_core.proofs.Continuing.{no_less}
+use Rattle.stripe_core.proofs.NoneDisplaced.{none_placed}
 use Rattle.stripe_core.proofs.stripe.Stripe.place_vector.Goals as goal
 
 pub returns-in-Ok-clause-continues : goal.returns-in-Ok-clause-continues
@@ -29,7 +33,7 @@ returns-in-Ok-clause-continues g c =
     let others = vector_others purges s id c.args.pin c.args.start payload (Ok c.in-Ok.placed) places.added kind are in
     record {
       stripe = record {
-        pieces = c.place.ensures.pieces;
+        pieces = c.place.ensures.pieces.held;
         actors = actors_with kept _ c.args.self.now.actors places.added places.adds others c.requires.stripe.actors;
         spared = spent_calm (units_in c.args.self.now) (flushes_in c.args.self.now) _ _
             (2 + purge_of (seen_in c.args.self.now).geometry) 1 (seen_in c.args.self.now) (seen_of c.place.new.self) c.requires.spared c.place.ensures.uses (omega arith) (omega arith);
@@ -38,13 +42,18 @@ returns-in-Ok-clause-continues g c =
             c.requires.vector.writing.found (rw c.requires.kind (omega arith))
             (ap state_of places.adds ∙ (state_of-with_records kept places.added ∙ vector_state purges s id c.args.pin c.args.start payload places.added are kind));
         readers = c.requires.stripe.readers;
-        ahead = made_still s _ (seen_in c.args.self.now) (seen_of c.place.new.self) c.args.self.now.ahead c.requires.stripe.pieces c.place.ensures.pieces
+        ahead = made_still s _ (seen_in c.args.self.now) (seen_of c.place.new.self) c.args.self.now.ahead c.requires.stripe.pieces c.place.ensures.pieces.held
             c.place.ensures.uses.same c.requires.stripe.ahead;
+        none = ap (λ (t : State). t.displaced) (ap state_of places.adds ∙ state_of-with_records kept places.added)
+            ∙ none_placed purges s id c.args.pin c.args.start payload places.added are;
+        vectors = c.in-Ok.ensures.pieces.contents contents_of_vectors
+            (λ tells. c.requires.spelled (subst TellsAll c.place.ensures.still tells)) c.requires.stripe.vectors;
         numbered = numbered_others kept _ places.added places.adds others c.requires.stripe.numbered;
       };
       between = between-tells _ _ kept _ places.added c.place.ensures.still places.adds
           (place_quiet purges s id c.args.pin c.args.start payload (Ok c.in-Ok.placed) places.added are)
           (no_damage_adds purges s id c.args.pin c.args.start payload (Ok c.in-Ok.placed) places.added are);
+      contents = c.in-Ok.ensures.pieces.contents;
       later = no_less _ _ c.place.ensures.still;
     }
 

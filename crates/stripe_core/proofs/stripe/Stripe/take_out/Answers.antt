@@ -1,5 +1,6 @@
 use Rattle.std.proofs.Common.{arith, refl, [], ◌∷◌}
 use Rattle.cache_model.specs.declared.record.Rec.TheVariants as rec
+use Rattle.call_laws.specs.Contents.{contents_of_vectors}
 use Rattle.stripe_core.specs.Pieces.{seen_of}
 use Rattle.stripe_core.specs.Stripe.{kept_in, seen_in, state_in}
 use Rattle.stripe_core.proofs.Doings.{one_less, removes}
@@ -7,6 +8,7 @@ use Rattle.stripe_core.proofs.Naming.{name_left, named_behind}
 use Rattle.stripe_core.proofs.Sparing.{actors_with, made_behind, numbered_others}
 use Rattle.stripe_core.proofs.Between.{between-tells}
 use Rattle.stripe_core.proofs.Continuing.{no_less}
+use Rattle.stripe_core.proofs.NoneDisplaced.{none_behind}
 use Rattle.stripe_core.proofs.stripe.Stripe.take_out.Goals as goal
 
 pub returns-clause-continues : goal.returns-clause-continues
@@ -16,15 +18,18 @@ returns-clause-continues g c =
     let told = rec.Removed c.remove-put.result c.args.key in
     record {
       stripe = record {
-        pieces = c.remove-put.ensures.pieces;
+        pieces = c.remove-put.ensures.pieces.held;
         actors = actors_with kept _ c.args.self.now.actors (told ∷ []) c.remove-put.ensures.adds (refl, tt) c.requires.resting.stripe.actors;
         spared = one_less c.args.self.now.units c.args.self.now.flushes _ _ (seen_in c.args.self.now) (seen_of c.remove-put.new.self) c.requires.unit c.requires.resting.stripe.spared c.remove-put.ensures.uses;
         named = named_behind kept _ told c.remove-put.ensures.adds (name_left s told refl c.requires.resting.stripe.named);
         readers = omega (arith, c.requires.resting.stripe.readers);
         ahead = made_behind kept _ told c.args.self.now.ahead c.remove-put.ensures.adds refl c.requires.resting.stripe.ahead;
+        none = none_behind kept _ told c.remove-put.ensures.adds refl c.requires.resting.stripe.none;
+        vectors = c.remove-put.ensures.pieces.contents contents_of_vectors tt c.requires.resting.stripe.vectors;
         numbered = numbered_others kept _ (told ∷ []) c.remove-put.ensures.adds (refl, tt) c.requires.resting.stripe.numbered;
       };
       between = between-tells _ _ kept _ (told ∷ []) c.remove-put.ensures.still c.remove-put.ensures.adds refl (refl, tt);
+      contents = c.remove-put.ensures.pieces.contents;
       later = no_less _ _ c.remove-put.ensures.still;
     }
 

@@ -15,8 +15,11 @@ returns-clause-continues g c =
         named = continues.stripe.named;
         readers = omega (arith, continues.stripe.readers);
         ahead = continues.stripe.ahead;
+        none = continues.stripe.none;
+        vectors = continues.stripe.vectors;
         numbered = continues.stripe.numbered;
       };
       between = continues.between;
+      contents = continues.contents;
       later = continues.later;
     }

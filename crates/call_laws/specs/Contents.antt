@@ -1,0 +1,69 @@
+-- What is told of the bytes of pieces, and pairs that are shown only where one is not sure of them.
+use Rattle.std.specs.Prelude.{ℕ, ◌≡◌, true, IfSome, IsSome, List, Option, Some, length, option_map}
+use Rattle.std.specs.List.{AllByRecursion}
+use Rattle.tape_base.specs.declared.geometries.Geometry.{Geometry}
+use Rattle.tape_base.specs.declared.pieces.PieceId.{PieceId}
+use Rattle.tape_base.specs.Blocks.{blocks_of}
+use Rattle.tape_base.specs.Piece.{is_vector}
+use Rattle.logged_disk.specs.Device.{State as Device, TellsAll}
+use Rattle.doc_header.specs.declared.documents.Doc.{Doc}
+use Rattle.doc_header.specs.Document.{digest_of_document}
+use Rattle.alternate_vector.specs.Alternates.{Stored}
+use Rattle.alternate_vector.specs.Spelling.{IsSpelling, vector_bytes}
+use Rattle.cache_model.specs.State.{Row, State, listed}
+use Rattle.cache_model.specs.Pair.{Documents}
+
+-- what a piece has: where its payload begins in the body of its put, and the payload
+pub record Content : Type 0 where
+  pub start : ℕ
+  pub payload : List ℕ
+
+-- what is told of each piece, by its name and by the alternates that the records list for it
+abbrev pub Contents : Type 0
+Contents = PieceId → Option (List Stored) → Option Content
+
+-- a vector that spells its alternates
+abbrev pub spelled_content : List Stored → Content
+spelled_content list = record { start = 0; payload = vector_bytes list }
+
+-- of vectors alone it is told what they have: each spells its alternates
+abbrev pub contents_of_vectors : Contents
+contents_of_vectors id alternates = option_map spelled_content alternates
+
+-- that is told of each vector of which anything is told
+pub record TellsVectors (contents : Contents) : Type 0 where
+  pub spell : (id : PieceId) (list : List Stored) → is_vector id ≡ true → IfSome (contents id (Some list)) (λ c. c ≡ spelled_content list)
+
+-- the document of a piece that stands at the row's place
+abbrev pub doc_of_row : Geometry → Row → ℕ → Doc
+doc_of_row g row start = record { id = row.id; place = row.place; generation = g.generation; pin = row.pin; start = start }
+
+-- a piece is recorded as the document with this content
+pub record IsRecordedWith (g : Geometry) (row : Row) (content : Content) : Type 0 where
+  pub digest : row.digest ≡ digest_of_document (doc_of_row g row content.start) content.payload
+  pub blocks : row.blocks ≡ blocks_of (length content.payload)
+
+-- where a content is told of it; and a vector lists something that can be spelled
+pub record IsRecordedAs (contents : Contents) (g : Geometry) (row : Row) : Type 0 where
+  pub content : IfSome (contents row.id row.alternates) (IsRecordedWith g row)
+  pub lists : is_vector row.id ≡ true → IsSome row.alternates
+  pub spelled : IfSome row.alternates (λ list. IsSpelling (vector_bytes list) list)
+
+-- so is each piece
+abbrev pub AreRecordedAs : Contents → State → Type 0
+AreRecordedAs contents s = AllByRecursion (IsRecordedAs contents s.geometry) s.rows
+
+-- whatever is told
+abbrev pub AnyContents : Contents → Type 0
+AnyContents contents = Unit {0}
+
+-- what is told of a piece that is placed is what it is placed with, and what a vector then lists can be spelled
+pub record IsToldAs (contents : Contents) (s : State) (id : PieceId) (start : ℕ) (payload : List ℕ) : Type 0 where
+  pub content : IfSome (contents id (listed s id)) (λ c. c ≡ record { start = start; payload = payload })
+  pub spelled : IfSome (listed s id) (λ list. IsSpelling (vector_bytes list) list)
+
+-- ---- pairs
+
+-- the documents of which a pair is shown, where the device did not tell its content up to a moment
+abbrev pub Untold : Device → Documents → Documents
+Untold device IsPlaced s row document = IsPlaced s row document × (TellsAll device → ⊥)
