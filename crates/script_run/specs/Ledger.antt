@@ -2,7 +2,7 @@
 use Rattle.std.specs.Prelude.{ℕ, ◌≡◌, ◌+◌, ◌≤◌, true, false, List, [], ◌∷◌, ◌++◌, length}
 use Rattle.device_log.specs.Calls.{Call}
 use Rattle.device_log.specs.Faults.{is_untold}
-use Rattle.logged_disk.specs.Device.{State as Device, TellsAll}
+use Rattle.logged_disk.specs.Device.{State as Device, TellsAll, has_flip, has_cut}
 use Rattle.device_bay.specs.Calls.{BayCall, gifts_of, names_of, number_behind, returned_by}
 use Rattle.device_bay.specs.declared.bay.Bay.{Ghosts as BayGhosts}
 use Rattle.script_run.specs.Run.{Harm}
@@ -59,15 +59,21 @@ AreNumbered given [] = Unit {0}
 AreNumbered given (device ∷ devices) =
     (device.number ≡ number_behind given) × AreNumbered (given + 1) devices
 
--- their switches were told nothing
-abbrev pub AreUntold : List Device → Type 0
-AreUntold [] = Unit {0}
-AreUntold (device ∷ devices) = (is_untold device.past ≡ true) × AreUntold devices
+-- nobody told the device's switch anything, cut its power, or turned a bit of it
+pub record IsLeftAlone (past : List Call) : Type 0 where
+  pub untold : is_untold past ≡ true
+  pub uncut : has_cut past ≡ false
+  pub unturned : has_flip past ≡ false
+
+-- so it was of each
+abbrev pub AreLeftAlone : List Device → Type 0
+AreLeftAlone [] = Unit {0}
+AreLeftAlone (device ∷ devices) = IsLeftAlone device.past × AreLeftAlone devices
 
 -- behind so many devices the bay gave these alone
 pub record AreLast (given : ℕ) (own : List Device) (past : List BayCall) : Type 0 where
   pub numbered : AreNumbered given own
-  pub untold : AreUntold own
+  pub alone : AreLeftAlone own
   pub all : length (gifts_of past) ≡ given + length own
 
 -- Behind so many devices these came back, in the order in which they were attached, and those that
@@ -76,7 +82,7 @@ pub record InOrder (given : ℕ) (own : List Device) (old new : List BayCall) : 
   pub devices : List Device
   pub returned : returned_by new ≡ returned_by old ++ devices
   pub numbered : AreNumbered given devices
-  pub untold : AreUntold devices
+  pub alone : AreLeftAlone devices
   pub rest : AreLast (given + length devices) own new
 
 -- so it stays, where it was so of the devices that were out
