@@ -40,7 +40,7 @@ module _ (l : Logs) (a : Account l) (lines : List (List ℕ)) (asks : Step) (sai
   abbrev Result : PieceId → Type 0
   Result piece = WasRecorded a.turns lines (rec.Displaced piece segment live)
 
-  by_line : (piece : PieceId) → IsAmong (rec.Displaced piece segment live) f.turn.added → Result piece
+  pub by_line : (piece : PieceId) → IsAmong (rec.Displaced piece segment live) f.turn.added → Result piece
   by_line piece among =
       record { earlier = lines; since = []; are = sym (append-nil lines); same_session = tt; did = did_before l a lines asks said f; recorded = among }
 
@@ -102,7 +102,7 @@ module _ (s : State) (key : Key) (segment live : ℕ) where
   by_row None h = none_told (s.dropped == 0) s.opened s.dropped h
   by_row (Some row) h = cc
 
-  by_loss : (id : PieceId) (o : Option Cause) → cause_of_loss s id ≡ o → unwrap_or o (unwrap_or (option_map (passed s) (row_of s id)) (no_record s)) ≡ Why
+  pub by_loss : (id : PieceId) (o : Option Cause) → cause_of_loss s id ≡ o → unwrap_or o (unwrap_or (option_map (passed s) (row_of s id)) (no_record s)) ≡ Why
       → IsAmong (id, Why) s.lost
   by_loss id None e h = absurd (by_row (row_of s id) h)
   by_loss id (Some why) e h = loss_found id s.lost Why (e ∙ ap Some h)

@@ -174,6 +174,8 @@ module _ (fixed : OutputIsFixed) (texts : TextsAreOutput) (spells : SpelledAreLi
             other = q.turns;
             legal = r.legal;
             legal_too = legal_too;
+            prints = wrote l c texts r;
+            prints_too = wrote_too;
             shows = other;
             made = made l c r;
             made_too = subst (λ (xs : List (List ℕ)). ComeBackFrom m (harms_of (run_after fresh xs q.turns))) (sym lines_same) (made m d q);

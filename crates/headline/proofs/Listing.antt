@@ -20,13 +20,14 @@ use Rattle.script_run.specs.Takes.{IsRun, StepTakes, run_after}
 use Rattle.script_run.specs.Own.{IsComplete, IsListedOf}
 use Rattle.script_run.proofs.Hitting.{IsHitOf, hit_listed}
 use Rattle.script_laws.proofs.Groups.{IsKept}
-use Rattle.reader_laws.specs.Along.{QuietWhere, StandsKept, StandsWhere}
 use Rattle.reader_laws.specs.Laws.{LegalIsKept}
 use Rattle.headline.specs.Account.{Account, Logs, Tells}
-use Rattle.headline.specs.Reads.{IsChosen}
+use Rattle.headline.specs.Reads.{DidBefore, IsChosen}
 use Rattle.headline.specs.Standing
-use Rattle.headline.specs.Standing.{ClosesPut, Finds, HasRecorded, IsListed}
+use Rattle.headline.specs.Standing.{ChangesVector, ClosesPut, CompletesPut, Finds, HasRecorded, HasRecordedLast, IsListed}
+use Rattle.headline.proofs.Answered.{closed_answered, put_answered}
 use Rattle.headline.proofs.Last.{ByRecord, told_last}
+use Rattle.headline.proofs.Opened.{kept_here}
 use Rattle.headline.proofs.Places.{told_line}
 use Rattle.headline.proofs.Standing.{completed}
 use Rattle.headline.proofs.Troubles.{did_before}
@@ -74,14 +75,13 @@ module _ (put : ℕ) where
   closed_one : (p : Permit) (s : State) (r : Rec) → IsKept p r → IsWrittenSo put Closed (state_after s r) → ByRecord (IsWrittenSo put Closed) (ClosesPut put) (λ told. ⊥) s r
   closed_one p s r kept h = elim (written_by put Closed (λ (e : Closed ≡ Open). cc) p s r kept h) [ inl old ↦ inl (old, λ none. none) | inr w ↦ inr (closes r w) ]
 
--- what stands behind lines
-kept_here : (law : LegalIsKept) (lines : List (List ℕ)) (turns : List Turn) (s : State) → IsRun fresh lines turns → (run_after fresh lines turns).state ≡ Some s
-    → StandsKept (run_after fresh lines turns) s × IsQuiet s
-kept_here law lines turns s legal state =
-    let k = law lines [] turns [] legal tt tt in
-    (subst (StandsWhere StandsKept (run_after fresh lines turns)) state k.0, subst QuietWhere state k.1)
+-- a put that is closed was completed by the lines
+pub closed_by : (lines : List (List ℕ)) (turns : List Turn) (s : State) → IsRun fresh lines turns → (run_after fresh lines turns).state ≡ Some s
+    → (put : ℕ) (w : PutRow) → put_of s put ≡ Some w → w.writing ≡ Closed → HasRecorded (ClosesPut put) lines turns
+closed_by lines turns s legal state put w found closed =
+    (told_last (IsWrittenSo put Closed) (ClosesPut put) (λ told. ⊥) (λ g x. none_is x.1) (closed_one put) lines turns s legal state (w, found, closed)).is
 
-closed_here : (s : State) (w : PutRow) (put : ℕ) → IsQuiet s → IsComplete s put w → w.writing ≡ Closed
+pub closed_here : (s : State) (w : PutRow) (put : ℕ) → IsQuiet s → IsComplete s put w → w.writing ≡ Closed
 closed_here s w put quiet (inl closed) = closed
 closed_here s w put quiet (inr pending) = none_is (sym quiet ∙ pending)
 
@@ -91,21 +91,25 @@ put_closed law lines turns s legal state key request put h =
     let k = kept_here law lines turns s legal state in
     let listed : IsListedOf s key h.a = hit_listed s key request put k.0.kept.alternates h in
     let found : put_of s put ≡ Some listed.w = subst (λ n. put_of s n ≡ Some listed.w) h.put_is listed.found in
-    (told_last (IsWrittenSo put Closed) (ClosesPut put) (λ told. ⊥) (λ g x. none_is x.1) (closed_one put) lines turns s legal state
-    (listed.w, found, closed_here s listed.w h.a.put k.1 listed.complete)).is
+    closed_by lines turns s legal state put listed.w found (closed_here s listed.w h.a.put k.1 listed.complete)
 
 pub found_is_listed : (law : LegalIsKept) (l : Logs) (a : Account l) (lines : List (List ℕ)) (asks : Step) (said : StepAnswer) (key : Key) (request : List Field) (put : ℕ)
-    → Finds key request put asks said → Tells a lines asks said → IsListed a.turns lines key request put
+    → Finds key request put asks said → Tells a lines asks said → IsListed a lines key request put
 found_is_listed law l a lines asks said key request put finds at =
     let f = told_line l a lines asks said at in
     let run : Run = run_after fresh lines f.earlier in
     let c : IsChosen run key request put = finds_chosen run f.turn asks said key request put finds f.takes f.is in
     let matches = hit_matches c.s key request c.alternate c.found in
     let by : Lists c.s key c.alternate = lists_it c.s key c.alternate matches.0 in
+    let did : DidBefore a.turns lines = did_before l a lines asks said f in
+    let last : HasRecordedLast (CompletesPut key by.vector) (ChangesVector key) lines f.earlier = completed lines f.earlier c.s f.legal c.state key by.vector by.last in
+    let closed : HasRecorded (ClosesPut put) lines f.earlier =
+    put_closed law lines f.earlier c.s f.legal c.state key request put (record { a = c.alternate; found = c.found; put_is = c.put_is }) in
+    let told = closed_answered l a lines asks said at did law put closed in
     record {
-      did = did_before l a lines asks said f;
+      did = did;
       vector = by.vector;
-      completed = completed lines f.earlier c.s f.legal c.state key by.vector by.last;
+      completed = last;
       s = c.s;
       state = c.state;
       row = by.row;
@@ -114,5 +118,8 @@ found_is_listed law l a lines asks said key request put finds at =
       lists = matches.0;
       put_is = c.put_is;
       fits = matches.1;
-      closed = put_closed law lines f.earlier c.s f.legal c.state key request put (record { a = c.alternate; found = c.found; put_is = c.put_is });
+      closed = closed;
+      vector_answered = put_answered l a lines asks said at did law key by.vector last.is;
+      closed_key = told.0;
+      closed_answered = told.1;
     }

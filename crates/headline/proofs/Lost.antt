@@ -33,7 +33,7 @@ module _ (loss : PieceId × Cause) where
   abbrev pub TellsLoss : Rec → Type 0
   TellsLoss r = loss_in r ≡ Some loss
 
-  lost_by : (s : State) (r : Rec) → IsLost (state_after s r) → IsLost s ⊎ TellsLoss r
+  pub lost_by : (s : State) (r : Rec) → IsLost (state_after s r) → IsLost s ⊎ TellsLoss r
   lost_by s (rec.Formatted geometry) h = absurd h
   lost_by s (rec.Opened geometry serial cursor floor next_put clean list) h = absurd h
   lost_by s (rec.Displaced piece segment live) (inl e) = inr (ap Some (sym e))

@@ -40,6 +40,11 @@ is_of_device (cause.DeviceFault count) = true
 is_of_device (cause.Damaged place kept found) = true
 is_of_device _ = false
 
+-- the cause is a device fault
+abbrev pub is_fault : Cause → Bool
+is_fault (cause.DeviceFault count) = true
+is_fault _ = false
+
 -- the cause that the state has
 abbrev pub IsCauseOf : State → Key → Cause → Type 0
 IsCauseOf s key why = (cause_of_miss s key ≡ why) ⊎ (is_of_device why ≡ true)
@@ -56,7 +61,7 @@ pub record MissedSo (s : State) (key : Key) (request : List Field) (why : Cause)
 abbrev pub IsMissed : State → Key → List Field → Cause → Type 0
 IsMissed s key request why = MissedSo s key request why ⊎ (is_of_device why ≡ true)
 
-verdict_misses : (s : State) (key : Key) (request : List Field) (why : Cause) (o : Option Stored) (f : Option PutRow) → hit s key request ≡ o → followed s key request ≡ f
+pub verdict_misses : (s : State) (key : Key) (request : List Field) (why : Cause) (o : Option Stored) (f : Option PutRow) → hit s key request ≡ o → followed s key request ≡ f
     → unwrap_or (option_map hit_answer o) (unwrap_or (option_map follow_answer f) (read.Miss (cause_of_miss s key))) ≡ read.Miss why → MissedSo s key request why
 verdict_misses s key request why (Some a) f e g h = absurd cc
 verdict_misses s key request why None (Some p) e g h = absurd cc
@@ -103,13 +108,13 @@ end_misses_none put given (Some (rec.Ended reader size)) why h = cc
 end_misses_none put given (Some (rec.Broke reader w)) why h = broken_misses_none w why h
 end_misses_none put given (Some _) why h = cc
 
-get_misses : (given : List ℕ) (told : Option Rec) (lookup : Option ReadAnswer) (why : Cause) → get_said given told lookup ≡ answer.Miss why → lookup ≡ Some (read.Miss why)
+pub get_misses : (given : List ℕ) (told : Option Rec) (lookup : Option ReadAnswer) (why : Cause) → get_said given told lookup ≡ answer.Miss why → lookup ≡ Some (read.Miss why)
 get_misses given told None why h = absurd cc
 get_misses given told (Some (read.Hit put)) why h = absurd (end_misses_none put given told why h)
 get_misses given told (Some (read.Follow put)) why h = absurd cc
 get_misses given told (Some (read.Miss w)) why h = ap (λ c. Some (read.Miss c)) (miss_is w why h)
 
-open_misses : (t : State) (reader : ℕ) (lookup : Option ReadAnswer) (why : Cause) → lookup_said t reader lookup ≡ answer.Miss why → lookup ≡ Some (read.Miss why)
+pub open_misses : (t : State) (reader : ℕ) (lookup : Option ReadAnswer) (why : Cause) → lookup_said t reader lookup ≡ answer.Miss why → lookup ≡ Some (read.Miss why)
 open_misses t reader None why h = absurd cc
 open_misses t reader (Some (read.Hit put)) why h = absurd cc
 open_misses t reader (Some (read.Follow put)) why h = absurd cc

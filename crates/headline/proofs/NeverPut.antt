@@ -35,7 +35,7 @@ use Rattle.headline.proofs.Troubles.{did_before}
 abbrev HasNeither : State → Key → Type 0
 HasNeither s key = (last_vector s key ≡ None) × (last_abort s key ≡ None)
 
-on_record : (s : State) (id : PieceId) → row_of s id ≡ None → cause_of_loss s id ≡ None → IsOnRecord s id → ⊥
+pub on_record : (s : State) (id : PieceId) → row_of s id ≡ None → cause_of_loss s id ≡ None → IsOnRecord s id → ⊥
 on_record s id none lost (inl found) = none_is (sym none ∙ found.1)
 on_record s id none lost (inr loss) = none_is (sym lost ∙ loss.1)
 

@@ -22,12 +22,14 @@ use Rattle.script_run.specs.Run.{Run, fresh}
 use Rattle.script_run.specs.Turn.{Turn}
 use Rattle.script_run.specs.Takes.{IsRun, run_after}
 use Rattle.script_laws.specs.Counts.{IsCountedWhere, RunsAreCounted}
+use Rattle.reader_laws.specs.Laws.{LegalIsKept}
 use Rattle.headline.specs.Account.{Account, Logs, Tells}
 use Rattle.headline.specs.Misses
 use Rattle.headline.specs.Misses.{Misses}
 use Rattle.headline.specs.Reads
-use Rattle.headline.specs.Reads.{AsksFor}
+use Rattle.headline.specs.Reads.{AsksFor, DidBefore}
 use Rattle.headline.specs.Standing.{BringsTo, ChangesVector, Completes, CompletesPut, FitsNone, GivesUp, HasRecorded, HasRecordedLast, IsBelow, LeavesAt, Shifts, WasGivenUp, WasPassed, WasRemoved}
+use Rattle.headline.proofs.Answered.{giving_up_answered, put_answered, removal_answered}
 use Rattle.headline.proofs.Causing.{Stands, below, dropped, lists, never, out, standing_here, stands_so, unknown, untold}
 use Rattle.headline.proofs.Keeping.{HasVector, IsAbort, IsComplete, IsLastAbort, IsRemoval, IsTakenOut, IsUnsaved, StandsAt, complete_by, formats_change_none, last_abort_by, left_at_by, stands_at_by, taken_out_by, vector_by, vector_stays}
 use Rattle.headline.proofs.Last.{told_last}
@@ -106,7 +108,7 @@ none_fits request (x ∷ list) h a (inl same) = ap (is_match request) same ∙ (
 none_fits request (x ∷ list) h a (inr later) = none_fits request list (parts (chosen request list) (is_match request x) h).0 a later
 
 -- where none is the last that matches none does
-unmatched : (request : List Field) (list : List Stored) → last_match request list ≡ None → (a : Stored) → IsAmong a list → is_match request a ≡ false
+pub unmatched : (request : List Field) (list : List Stored) → last_match request list ≡ None → (a : Stored) → IsAmong a list → is_match request a ≡ false
 unmatched request list h = none_fits request list (chosen_by request list (chosen request list) refl h)
 
 -- what such a vector is
@@ -194,22 +196,34 @@ module _ (lines : List (List ℕ)) (turns : List Turn) (s : State) (legal : IsRu
 -- ---- lines that are answered so
 
 pub removed_was_recorded : (l : Logs) (a : Account l) (lines : List (List ℕ)) (asks : Step) (said : StepAnswer) (key : Key)
-    → Misses key cause.Removed asks said → Tells a lines asks said → WasRemoved a.turns lines key
+    → Misses key cause.Removed asks said → Tells a lines asks said → WasRemoved a lines key
 removed_was_recorded l a lines asks said key misses at =
     let f = told_line l a lines asks said at in
     let run : Run = run_after fresh lines f.earlier in
     let h : MissesHere run key cause.Removed = misses_here run f.turn key cause.Removed misses f.takes f.is in
     let r = removed lines f.earlier h.s f.legal h.state key (standing_here lines f.earlier key cause.Removed f.legal h refl refl) in
-    record { did = did_before l a lines asks said f; put = r.0; removed = r.1 }
+    let did : DidBefore a.turns lines = did_before l a lines asks said f in
+    record {
+      did = did;
+      put = r.0;
+      removed = r.1;
+      answered = removal_answered l a lines asks said at did r.0 key r.1.is;
+    }
 
-pub aborted_was_last : (l : Logs) (a : Account l) (lines : List (List ℕ)) (asks : Step) (said : StepAnswer) (key : Key) (put : ℕ)
-    → Misses key (cause.Aborted put) asks said → Tells a lines asks said → WasGivenUp a.turns lines key put
-aborted_was_last l a lines asks said key put misses at =
+pub aborted_was_last : (law : LegalIsKept) (l : Logs) (a : Account l) (lines : List (List ℕ)) (asks : Step) (said : StepAnswer) (key : Key) (put : ℕ)
+    → Misses key (cause.Aborted put) asks said → Tells a lines asks said → WasGivenUp a lines key put
+aborted_was_last law l a lines asks said key put misses at =
     let f = told_line l a lines asks said at in
     let run : Run = run_after fresh lines f.earlier in
     let h : MissesHere run key (cause.Aborted put) = misses_here run f.turn key (cause.Aborted put) misses f.takes f.is in
     let g = given_up lines f.earlier h.s f.legal h.state key put (standing_here lines f.earlier key (cause.Aborted put) f.legal h refl refl) in
-    record { did = did_before l a lines asks said f; aborted = g.aborted; none = g.none }
+    let did : DidBefore a.turns lines = did_before l a lines asks said f in
+    record {
+      did = did;
+      aborted = g.aborted;
+      answered = giving_up_answered l a lines asks said at did law put key g.aborted.is;
+      none = g.none;
+    }
 
 no_match_here : (lines : List (List ℕ)) (turns : List Turn) (key : Key) (request : List Field) (count : ℕ) → IsRun fresh lines turns
     → (h : LooksHere (run_after fresh lines turns) key request (cause.NoMatch count)) → AreCounted h.s → Unfit h.s key request count
@@ -218,21 +232,24 @@ no_match_here lines turns key request count legal h counts = elim h.is [
   | inl missed ↦ unfit h.s key request count counts missed (stands_so h.s key (cause.NoMatch count) refl (no_standing_loss lines turns h.s legal h.state) missed.is)
 ]
 
-fits_none : (law : RunsAreCounted) (l : Logs) (a : Account l) (lines : List (List ℕ)) (asks : Step) (key : Key) (request : List Field) (count : ℕ)
-    → AsksFor key request asks → Tells a lines asks (answer.Miss (cause.NoMatch count)) → FitsNone a.turns lines key request count
-fits_none law l a lines asks key request count asking at =
+fits_none : (kept : LegalIsKept) (law : RunsAreCounted) (l : Logs) (a : Account l) (lines : List (List ℕ)) (asks : Step) (key : Key) (request : List Field) (count : ℕ)
+    → AsksFor key request asks → Tells a lines asks (answer.Miss (cause.NoMatch count)) → FitsNone a lines key request count
+fits_none kept law l a lines asks key request count asking at =
     let said : StepAnswer = answer.Miss (cause.NoMatch count) in
     let f = told_line l a lines asks said at in
     let run : Run = run_after fresh lines f.earlier in
     let h : LooksHere run key request (cause.NoMatch count) = looks_here run f.turn key (cause.NoMatch count) request asking f.takes f.is in
     let counts : AreCounted h.s = subst IsCountedWhere h.state (law lines f.earlier f.legal) in
     let u : Unfit h.s key request count = no_match_here lines f.earlier key request count f.legal h counts in
+    let did : DidBefore a.turns lines = did_before l a lines asks said f in
+    let last : HasRecordedLast (CompletesPut key u.unanswered.put) (ChangesVector key) lines f.earlier = completed lines f.earlier h.s f.legal h.state key u.unanswered.put u.unanswered.last in
     record {
-      did = did_before l a lines asks said f;
+      did = did;
       s = h.s;
       state = h.state;
       unanswered = u.unanswered;
-      completed = completed lines f.earlier h.s f.legal h.state key u.unanswered.put u.unanswered.last;
+      completed = last;
+      answered = put_answered l a lines asks said at did kept key u.unanswered.put last.is;
       counted = u.counted;
       none = unmatched request (alternates_of h.s key) u.unanswered.none_matches;
     }
@@ -257,20 +274,29 @@ no_removal l a lines key count at =
     let h : AbsentHere (run_after fresh lines f.earlier) key why = absent_here (run_after fresh lines f.earlier) f.turn key why f.takes f.is in
     removal_lists_none h.s key count h.none (stands_so h.s key why refl (no_standing_loss lines f.earlier h.s f.legal h.state) h.is)
 
-pub no_match_fits_none : (law : RunsAreCounted) (l : Logs) (a : Account l) (lines : List (List ℕ)) (asks : Step) (said : StepAnswer) (key : Key) (count : ℕ)
-    → Misses key (cause.NoMatch count) asks said → Tells a lines asks said → (request : List Field) × AsksFor key request asks × FitsNone a.turns lines key request count
-no_match_fits_none law l a lines asks said key count (Misses.Misses.gets request) at =
-    (request, Reads.AsksFor.gets, fits_none law l a lines (step.Get key request) key request count Reads.AsksFor.gets at)
-no_match_fits_none law l a lines asks said key count (Misses.Misses.opens name request) at =
-    (request, Reads.AsksFor.opens name, fits_none law l a lines (step.OpenRead name key request) key request count (Reads.AsksFor.opens name) at)
-no_match_fits_none law l a lines asks said key count Misses.Misses.removes at = absurd (no_removal l a lines key count at)
+pub no_match_fits_none : (kept : LegalIsKept) (law : RunsAreCounted) (l : Logs) (a : Account l) (lines : List (List ℕ)) (asks : Step) (said : StepAnswer) (key : Key) (count : ℕ)
+    → Misses key (cause.NoMatch count) asks said → Tells a lines asks said → (request : List Field) × AsksFor key request asks × FitsNone a lines key request count
+no_match_fits_none kept law l a lines asks said key count (Misses.Misses.gets request) at =
+    (request, Reads.AsksFor.gets, fits_none kept law l a lines (step.Get key request) key request count Reads.AsksFor.gets at)
+no_match_fits_none kept law l a lines asks said key count (Misses.Misses.opens name request) at =
+    (request, Reads.AsksFor.opens name, fits_none kept law l a lines (step.OpenRead name key request) key request count (Reads.AsksFor.opens name) at)
+no_match_fits_none kept law l a lines asks said key count Misses.Misses.removes at = absurd (no_removal l a lines key count at)
 
-pub passed_was_placed : (l : Logs) (a : Account l) (lines : List (List ℕ)) (asks : Step) (said : StepAnswer) (key : Key) (place floor : ℕ) (unsaved : Bool)
-    → Misses key (cause.Passed place floor unsaved) asks said → Tells a lines asks said → WasPassed a.turns lines key place floor unsaved
-passed_was_placed l a lines asks said key place floor unsaved misses at =
+pub passed_was_placed : (kept : LegalIsKept) (l : Logs) (a : Account l) (lines : List (List ℕ)) (asks : Step) (said : StepAnswer) (key : Key) (place floor : ℕ) (unsaved : Bool)
+    → Misses key (cause.Passed place floor unsaved) asks said → Tells a lines asks said → WasPassed a lines key place floor unsaved
+passed_was_placed kept l a lines asks said key place floor unsaved misses at =
     let why : Cause = cause.Passed place floor unsaved in
     let f = told_line l a lines asks said at in
     let run : Run = run_after fresh lines f.earlier in
     let h : MissesHere run key why = misses_here run f.turn key why misses f.takes f.is in
     let b = vector_below lines f.earlier h.s f.legal h.state key place floor unsaved (standing_here lines f.earlier key why f.legal h refl refl) in
-    record { did = did_before l a lines asks said f; s = h.s; state = h.state; put = b.put; completed = b.completed; passed = b.passed }
+    let did : DidBefore a.turns lines = did_before l a lines asks said f in
+    record {
+      did = did;
+      s = h.s;
+      state = h.state;
+      put = b.put;
+      completed = b.completed;
+      answered = put_answered l a lines asks said at did kept key b.put b.completed.is;
+      passed = b.passed;
+    }

@@ -125,6 +125,18 @@ pub record Account (l : Logs) : Type 0 where
 abbrev pub HonestRunsAreWhole : Type 0
 HonestRunsAreWhole = (l : Logs) → AllTell l → (a : Account l) → a.left ≡ []
 
+-- the device of a line behind these came back, and did not tell its content to the end
+pub record IsDoubtedBehind (l : Logs) (lines : List (List ℕ)) : Type 0 where
+  pub device : Device
+  pub behind : IsDeviceBehind l lines device
+  pub none_tells : (other : Device) → IsDeviceBehind l lines other → TellsAll other → ⊥
+
+-- where the legal history stops before a line, the device of the session in which that line stands did not tell its content,
+-- whatever the others did
+abbrev pub PairsAreDoubted : Type 0
+PairsAreDoubted = (l : Logs) (a : Account l) (bytes : List ℕ) (later : List (List ℕ)) → a.left ≡ bytes ∷ later
+    → IsDoubtedBehind l a.told
+
 -- a line behind these asked for this step and was answered so
 pub record IsAnsweredBehind (lines : List (List ℕ)) (answers : List (Option StepAnswer)) (before : List (List ℕ))
     (asks : Step) (said : StepAnswer) : Type 0 where

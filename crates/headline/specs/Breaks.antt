@@ -1,31 +1,21 @@
 -- Causes of breaks, in lines, that are how a piece or a put stands: what `next` is answered.
-use Rattle.std.specs.Prelude.{◌≡◌, ℕ, Bool, List, Some}
+use Rattle.std.specs.Prelude.{◌≡◌, ◌+◌, ◌<◌, ◌≤◌, ℕ, Bool, List, length, Some, None}
 use Rattle.tape_base.specs.declared.keys.Key.{Key}
 use Rattle.tape_base.specs.declared.pieces.PieceId.{PieceId}
 use Rattle.alternate_vector.specs.Field.{Field}
 use Rattle.cache_model.specs.declared.cause.Cause.TheVariants as cause
 use Rattle.cache_model.specs.declared.record.Rec.{Rec}
 use Rattle.cache_model.specs.declared.record.Rec.TheVariants as rec
-use Rattle.cache_model.specs.State.{State, ReaderRow, reader_of}
-use Rattle.cache_model.specs.Verdict.{next_piece}
+use Rattle.cache_model.specs.State.{State}
+use Rattle.cache_model.specs.Verdict.{cuts_of, next_piece}
 use Rattle.script_lang.specs.declared.step.Step.TheVariants as step
 use Rattle.script_lang.specs.declared.answer.StepAnswer.TheVariants as answer
-use Rattle.script_run.specs.Run.{fresh, reader_by}
+use Rattle.script_run.specs.Run.{fresh}
 use Rattle.script_run.specs.Turn.{Turn}
 use Rattle.script_run.specs.Takes.{run_after}
 use Rattle.headline.specs.Account.{Account, Logs, Tells}
-use Rattle.headline.specs.Reads.{DidBefore, IsChosen}
+use Rattle.headline.specs.Reads.{AreLiveBefore, DidBefore, IsChosen, ReadsOn}
 use Rattle.headline.specs.Standing.{HasRecorded, IsBelow}
-
--- the reader of the actor, behind these lines
-pub record ReadsOn (turns : List Turn) (lines : List (List ℕ)) (name : List ℕ) : Type 0 where
-  pub did : DidBefore turns lines
-  pub s : State
-  pub state : (run_after fresh lines did.earlier).state ≡ Some s
-  pub number : ℕ
-  pub held : reader_by (run_after fresh lines did.earlier) name ≡ Some number
-  pub reader : ReaderRow
-  pub reading : reader_of s number ≡ Some reader
 
 -- the piece that the reader is to be given next is passed so
 pub record BrokePassed (turns : List Turn) (lines : List (List ℕ)) (name : List ℕ) (place floor : ℕ) (unsaved : Bool) : Type 0 where
@@ -42,10 +32,13 @@ abbrev pub GivesUpPut : ℕ → Rec → Type 0
 GivesUpPut number (rec.Aborted put key) = put ≡ number
 GivesUpPut number _ = ⊥
 
--- the reader follows this put, and an earlier line of the session recorded that it was given up
+-- the reader follows this put, and was given all that was cut of it; an earlier line of the session recorded that it was
+-- given up
 pub record BrokeAborted (turns : List Turn) (lines : List (List ℕ)) (name : List ℕ) (put : ℕ) : Type 0 where
   pub at : ReadsOn turns lines name
   pub put_is : at.reader.put ≡ put
+  pub follows : at.reader.table ≡ None
+  pub given : at.reader.next ≡ length (cuts_of at.s put) + 1
   pub aborted : HasRecorded (GivesUpPut put) lines at.did.earlier
 
 -- so it is where a line that reads on is answered aborted
@@ -53,7 +46,8 @@ abbrev pub BreakWasAborted : Type 0
 BreakWasAborted = (l : Logs) (a : Account l) (lines : List (List ℕ)) (name : List ℕ) (put : ℕ)
     → Tells a lines (step.Next name) (answer.Broken (cause.Aborted put)) → BrokeAborted a.turns lines name put
 
--- a piece of the put that is hit is passed so, in the state before the line
+-- in the state before the line a fragment is passed so of those that the alternate lists which is hit, and all before it
+-- may be read
 pub record GetPassed (turns : List Turn) (lines : List (List ℕ)) (key : Key) (request : List Field) (place floor : ℕ) (unsaved : Bool) : Type 0 where
   pub did : DidBefore turns lines
   pub s : State
@@ -61,6 +55,8 @@ pub record GetPassed (turns : List Turn) (lines : List (List ℕ)) (key : Key) (
   pub piece : PieceId
   pub key_is : piece.first ≡ key
   pub chosen : IsChosen (run_after fresh lines did.earlier) key request piece.put
+  pub listed : (0 < piece.index) × (piece.index ≤ length chosen.alternate.table)
+  pub live : AreLiveBefore s key piece.put piece.index
   pub passed : IsBelow lines did.earlier s piece place floor unsaved
 
 -- so it is where a whole read is answered passed

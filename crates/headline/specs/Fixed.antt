@@ -58,13 +58,15 @@ pub record OneDisplaced (l m : Logs) (same : GiveSame l m) : Type 0 where
   pub taken : Taken (text_read same.reads) lines []
   pub displaces : HasDisplaced l lines ⊎ HasDisplaced m lines
 
--- two legal runs of these lines come to a piece for which their devices gave two documents of one SHA-256; the logs of the
--- devices of either run have the calls of its turns
+-- two legal runs of these lines, each of which prints what its sink took, come to a piece for which their devices gave two
+-- documents of one SHA-256; the logs of the devices of either run have the calls of its turns
 pub record ShowsOtherAmong (l m : Logs) (lines : List (List ℕ)) : Type 0 where
   pub one : List Turn
   pub other : List Turn
   pub legal : IsRun fresh lines one
   pub legal_too : IsRun fresh lines other
+  pub prints : taken_by l.new ≡ taken_by l.old ++ output_of fresh lines one
+  pub prints_too : taken_by m.new ≡ taken_by m.old ++ output_of fresh lines other
   pub shows : ShowsOtherAlong fresh lines one other
   pub made : ComeBackFrom l (harms_of (run_after fresh lines one))
   pub made_too : ComeBackFrom m (harms_of (run_after fresh lines other))

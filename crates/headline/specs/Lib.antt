@@ -8,3 +8,6 @@ pub mod Fixed
 pub mod Misses
 pub mod Standing
 pub mod Breaks
+pub mod Displacements
+pub mod Verdicts
+pub mod Answered

@@ -1,14 +1,14 @@
 -- Complete reads: what they gave is what the writer of one put took.
-use Rattle.std.specs.Prelude.{◌≡◌, ℕ, List, ◌∷◌, ◌++◌, length, Some}
+use Rattle.std.specs.Prelude.{◌≡◌, ◌<◌, ℕ, List, ◌∷◌, ◌++◌, length, Some}
 use Rattle.tape_base.specs.declared.keys.Key.{Key}
 use Rattle.alternate_vector.specs.Field.{Field}
 use Rattle.alternate_vector.specs.Alternates.{Stored}
-use Rattle.cache_model.specs.State.{State}
+use Rattle.cache_model.specs.State.{State, ReaderRow, Row, fragment_piece, live_row_of, reader_of}
 use Rattle.cache_model.specs.Verdict.{hit}
 use Rattle.script_lang.specs.declared.step.Step.{Step}
 use Rattle.script_lang.specs.declared.step.Step.TheVariants as step
 use Rattle.script_lang.specs.declared.answer.StepAnswer.TheVariants as answer
-use Rattle.script_run.specs.Run.{Run, fresh}
+use Rattle.script_run.specs.Run.{Run, fresh, reader_by}
 use Rattle.script_run.specs.Turn.{Turn}
 use Rattle.script_run.specs.Takes.{IsRun, run_after}
 use Rattle.reader_laws.specs.Laws.{WasPutFor}
@@ -22,6 +22,16 @@ pub record DidBefore (turns : List Turn) (lines : List (List ℕ)) : Type 0 wher
   pub turns_are : turns ≡ earlier ++ turn ∷ later
   pub legal : IsRun fresh lines earlier
 
+-- the reader of the actor, behind these lines
+pub record ReadsOn (turns : List Turn) (lines : List (List ℕ)) (name : List ℕ) : Type 0 where
+  pub did : DidBefore turns lines
+  pub s : State
+  pub state : (run_after fresh lines did.earlier).state ≡ Some s
+  pub number : ℕ
+  pub held : reader_by (run_after fresh lines did.earlier) name ≡ Some number
+  pub reader : ReaderRow
+  pub reading : reader_of s number ≡ Some reader
+
 -- in the records of the lines before, the put is the one that answers the request: of those that the key's live vector lists
 -- the last one that fits
 pub record IsChosen (run : Run) (key : Key) (request : List Field) (put : ℕ) : Type 0 where
@@ -30,6 +40,10 @@ pub record IsChosen (run : Run) (key : Key) (request : List Field) (put : ℕ) :
   pub alternate : Stored
   pub found : hit s key request ≡ Some alternate
   pub put_is : alternate.put ≡ put
+
+-- the fragments of the put before this one may be read
+abbrev pub AreLiveBefore : State → Key → (put last : ℕ) → Type 0
+AreLiveBefore s key put last = (index : ℕ) → 0 < index → index < last → (row : Row) × (live_row_of s (fragment_piece key put index) ≡ Some row)
 
 -- the bytes are all that the writer of the put took, and so many; an earlier line of the session opened the put under this
 -- key, with lines that fit the request; and it is the one that answers it

@@ -20,6 +20,7 @@ use Rattle.script_run.specs.Turn.{Turn}
 use Rattle.script_run.specs.Takes.{IsRun, run_after}
 use Rattle.reader_laws.specs.Along.{AreOfSession}
 use Rattle.headline.specs.Account.{Account, Logs, Tells}
+use Rattle.headline.specs.Answered.{WasGivenUpSo, WasPut}
 use Rattle.headline.specs.Misses.{Misses}
 use Rattle.headline.specs.Reads.{AsksFor, DidBefore}
 
@@ -94,9 +95,9 @@ pub data Finds (key : Key) (request : List Field) (put : ℕ) : Step → StepAns
 
 -- the key's vector is live, and lists the put with lines that fit the request. The vector is that of a put which an earlier
 -- line of the session completed, and no record since is of one of the key that was completed or removed; an earlier line
--- completed the put too
-pub record IsListed (turns : List Turn) (lines : List (List ℕ)) (key : Key) (request : List Field) (put : ℕ) : Type 0 where
-  pub did : DidBefore turns lines
+-- completed the put too. Each of these lines was answered so
+pub record IsListed {l : Logs} (a : Account l) (lines : List (List ℕ)) (key : Key) (request : List Field) (put : ℕ) : Type 0 where
+  pub did : DidBefore a.turns lines
   pub vector : ℕ
   pub completed : HasRecordedLast (CompletesPut key vector) (ChangesVector key) lines did.earlier
   pub s : State
@@ -108,35 +109,42 @@ pub record IsListed (turns : List Turn) (lines : List (List ℕ)) (key : Key) (r
   pub put_is : alternate.put ≡ put
   pub fits : is_match request alternate ≡ true
   pub closed : HasRecorded (ClosesPut put) lines did.earlier
+  pub vector_answered : WasPut a completed.is.before (run_after fresh completed.is.before completed.is.earlier) key vector
+  pub closed_key : Key
+  pub closed_answered : WasPut a closed.before (run_after fresh closed.before closed.earlier) closed_key put
 
 -- so it is of each put that is found
 abbrev pub FoundIsListed : Type 0
 FoundIsListed = (l : Logs) (a : Account l) (lines : List (List ℕ)) (asks : Step) (said : StepAnswer) (key : Key) (request : List Field) (put : ℕ)
-    → Finds key request put asks said → Tells a lines asks said → IsListed a.turns lines key request put
+    → Finds key request put asks said → Tells a lines asks said → IsListed a lines key request put
 
 -- ---- removed
 
--- an earlier line of the session recorded that a put of the key was removed, and no record since is of one that was completed
-pub record WasRemoved (turns : List Turn) (lines : List (List ℕ)) (key : Key) : Type 0 where
-  pub did : DidBefore turns lines
+-- an earlier line of the session recorded that a put of the key was removed, which it asked for and was answered; and no
+-- record since is of one that was completed
+pub record WasRemoved {l : Logs} (a : Account l) (lines : List (List ℕ)) (key : Key) : Type 0 where
+  pub did : DidBefore a.turns lines
   pub put : ℕ
   pub removed : HasRecordedLast (λ told. told ≡ rec.Removed put key) (Completes key) lines did.earlier
+  pub answered : Tells a removed.is.before (step.Remove key) (answer.Removed put)
 
 -- so it is where a line is answered removed
 abbrev pub RemovedWasRecorded : Type 0
 RemovedWasRecorded = (l : Logs) (a : Account l) (lines : List (List ℕ)) (asks : Step) (said : StepAnswer) (key : Key)
-    → Misses key cause.Removed asks said → Tells a lines asks said → WasRemoved a.turns lines key
+    → Misses key cause.Removed asks said → Tells a lines asks said → WasRemoved a lines key
 
 -- ---- no match
 
 -- the key's vector is live, and lists so many alternates, none of which fits the request; nor does an open writer. Its put
--- was completed by an earlier line of the session, and no record since is of one of the key that was completed or removed
-pub record FitsNone (turns : List Turn) (lines : List (List ℕ)) (key : Key) (request : List Field) (count : ℕ) : Type 0 where
-  pub did : DidBefore turns lines
+-- was completed by an earlier line of the session, which was answered so, and no record since is of one of the key that was
+-- completed or removed
+pub record FitsNone {l : Logs} (a : Account l) (lines : List (List ℕ)) (key : Key) (request : List Field) (count : ℕ) : Type 0 where
+  pub did : DidBefore a.turns lines
   pub s : State
   pub state : (run_after fresh lines did.earlier).state ≡ Some s
   pub unanswered : IsUnanswered s key request
   pub completed : HasRecordedLast (CompletesPut key unanswered.put) (ChangesVector key) lines did.earlier
+  pub answered : WasPut a completed.is.before (run_after fresh completed.is.before completed.is.earlier) key unanswered.put
   pub counted : length (alternates_of s key) ≡ count
   pub none : (alternate : Stored) → IsAmong alternate (alternates_of s key) → is_match request alternate ≡ false
 
@@ -144,21 +152,22 @@ pub record FitsNone (turns : List Turn) (lines : List (List ℕ)) (key : Key) (r
 abbrev pub NoMatchFitsNone : Type 0
 NoMatchFitsNone = (l : Logs) (a : Account l) (lines : List (List ℕ)) (asks : Step) (said : StepAnswer) (key : Key) (count : ℕ)
     → Misses key (cause.NoMatch count) asks said → Tells a lines asks said
-    → (request : List Field) × AsksFor key request asks × FitsNone a.turns lines key request count
+    → (request : List Field) × AsksFor key request asks × FitsNone a lines key request count
 
 -- ---- aborted
 
--- an earlier line of the session recorded that the put was given up, and no record since is of another one of the key that
--- was; no line of the session recorded that one was completed or removed
-pub record WasGivenUp (turns : List Turn) (lines : List (List ℕ)) (key : Key) (put : ℕ) : Type 0 where
-  pub did : DidBefore turns lines
+-- an earlier line of the session recorded that the put was given up, and was answered so; no record since is of another one
+-- of the key that was, and no line of the session recorded that one was completed or removed
+pub record WasGivenUp {l : Logs} (a : Account l) (lines : List (List ℕ)) (key : Key) (put : ℕ) : Type 0 where
+  pub did : DidBefore a.turns lines
   pub aborted : HasRecordedLast (λ told. told ≡ rec.Aborted put key) (GivesUp key) lines did.earlier
+  pub answered : WasGivenUpSo a aborted.is.before (run_after fresh aborted.is.before aborted.is.earlier) key put
   pub none : HasRecorded (ChangesVector key) lines did.earlier → ⊥
 
 -- so it is where a line is answered aborted, of a key
 abbrev pub AbortedWasLast : Type 0
 AbortedWasLast = (l : Logs) (a : Account l) (lines : List (List ℕ)) (asks : Step) (said : StepAnswer) (key : Key) (put : ℕ)
-    → Misses key (cause.Aborted put) asks said → Tells a lines asks said → WasGivenUp a.turns lines key put
+    → Misses key (cause.Aborted put) asks said → Tells a lines asks said → WasGivenUp a lines key put
 
 -- ---- passed
 
@@ -193,17 +202,18 @@ pub record IsBelow (lines : List (List ℕ)) (turns : List Turn) (s : State) (pi
   pub unsaved_is : is_unsaved s place ≡ unsaved
   pub left : unsaved ≡ true → HasRecorded (LeavesAt place) lines turns
 
--- so it is of the vector of the key's last put, which an earlier line of the session completed
-pub record WasPassed (turns : List Turn) (lines : List (List ℕ)) (key : Key) (place floor : ℕ) (unsaved : Bool) : Type 0 where
-  pub did : DidBefore turns lines
+-- so it is of the vector of the key's last put, which an earlier line of the session completed, and was answered so
+pub record WasPassed {l : Logs} (a : Account l) (lines : List (List ℕ)) (key : Key) (place floor : ℕ) (unsaved : Bool) : Type 0 where
+  pub did : DidBefore a.turns lines
   pub s : State
   pub state : (run_after fresh lines did.earlier).state ≡ Some s
   pub put : ℕ
   pub completed : HasRecordedLast (CompletesPut key put) (ChangesVector key) lines did.earlier
+  pub answered : WasPut a completed.is.before (run_after fresh completed.is.before completed.is.earlier) key put
   pub passed : IsBelow lines did.earlier s (vector_piece key put) place floor unsaved
 
 -- so it is where a line is answered passed, of a key
 abbrev pub PassedWasPlaced : Type 0
 PassedWasPlaced = (l : Logs) (a : Account l) (lines : List (List ℕ)) (asks : Step) (said : StepAnswer) (key : Key) (place floor : ℕ) (unsaved : Bool)
     → Misses key (cause.Passed place floor unsaved) asks said → Tells a lines asks said
-    → WasPassed a.turns lines key place floor unsaved
+    → WasPassed a lines key place floor unsaved

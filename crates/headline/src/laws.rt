@@ -1,20 +1,23 @@
 // The sentences of the headline. These functions do nothing when they run.
-ghost use Rattle.headline.specs.Account.{HonestRunsAreWhole};
+ghost use Rattle.headline.specs.Account.{HonestRunsAreWhole, PairsAreDoubted};
 ghost use Rattle.headline.specs.Reads.{FollowWasPut, GotIsWhole, HitIsWhole};
 ghost use Rattle.headline.specs.Readers.{EndIsRead};
 ghost use Rattle.headline.specs.Breaks.{BreakWasAborted, BreakWasPassed, GetWasPassed};
 ghost use Rattle.headline.specs.Causes.{DamageWasGiven, FaultsWereRefused};
 ghost use Rattle.headline.specs.Misses.{DisplacedWasTold, NeverPutWasNone, VectorWasLost};
+ghost use Rattle.headline.specs.Displacements.{BreakWasDisplaced, GetWasDisplaced, LostWasDisplaced};
+ghost use Rattle.headline.specs.Verdicts.{AbsencesAreCaused, BreaksAreCaused, GetsAreCaused, LossesAreCaused, MissesAreCaused};
 ghost use Rattle.headline.specs.Standing.{AbortedWasLast, FoundIsListed, NoMatchFitsNone, PassedWasPlaced, RemovedWasRecorded};
 ghost use Rattle.headline.specs.Troubles.{CountsAreReached, NoFalseDamage, NoFalseFaults};
 ghost use Rattle.headline.specs.Endings.{DoneWhereFine, EndsAreCaused, RunsAreTold};
 ghost use Rattle.headline.specs.Fixed.{SourceFixesSink};
+ghost use Rattle.headline.specs.Answered.{CompletedWasAnswered, GivingUpWasAnswered, RemovalWasAnswered};
 
 use edge_io::texts_have_lines;
-use model_laws::faults_rise;
+use model_laws::{faults_rise, numbers_follow, one_group, reader_is_closed};
 use reader_laws::{
     all_given, damage_is_given, follow_is_asked, got_is_put, hit_is_asked, legal_is_kept,
-    length_is_told, reader_is_opened,
+    length_is_told, opens_first, reader_is_opened,
 };
 use run_promise::texts_are_output;
 use script_laws::{
@@ -32,6 +35,12 @@ pub fn runs_are_told()
 /// two documents of one SHA-256.
 pub fn honest_runs_are_whole()
     ensures { HonestRunsAreWhole }
+{}
+
+/// Where the legal history of an account stops before a line, the device of that line's session did not tell its content
+/// to the end, whatever the others did.
+pub fn pairs_are_doubted()
+    ensures { PairsAreDoubted }
 {}
 
 /// Each line answered `got` gave all that the writer of one put took, which an earlier line opened under the
@@ -60,12 +69,17 @@ pub fn found_is_listed()
     legal_is_kept();
 }
 
-/// Each line answered `end` is of a reader that an earlier line of the session opened; and the pieces that the lines
-/// of its actor were answered since are, joined, all that the writer of its put took.
+/// Each line answered `end` is of a reader that an earlier line of the session opened, of a put that one completed; and
+/// the pieces that the lines of its actor were answered since are, joined, all that the writer of that put took.
 pub fn end_is_read()
     ensures { EndIsRead }
 {
     reader_is_opened();
+    opens_first();
+    legal_is_kept();
+    one_group();
+    numbers_follow();
+    reader_is_closed();
     all_given();
 }
 
@@ -124,6 +138,7 @@ pub fn removed_was_recorded()
 pub fn no_match_fits_none()
     ensures { NoMatchFitsNone }
 {
+    legal_is_kept();
     runs_are_counted();
 }
 
@@ -131,13 +146,17 @@ pub fn no_match_fits_none()
 /// removed.
 pub fn aborted_was_last()
     ensures { AbortedWasLast }
-{}
+{
+    legal_is_kept();
+}
 
 /// Where a line is answered passed, the vector of the put that the lines completed last was placed or copied there
 /// last, and the floor is above it.
 pub fn passed_was_placed()
     ensures { PassedWasPlaced }
-{}
+{
+    legal_is_kept();
+}
 
 /// Where a line that reads on is answered passed, the reader's next piece was placed or copied there last, and the
 /// floor is above it.
@@ -145,16 +164,92 @@ pub fn break_was_passed()
     ensures { BreakWasPassed }
 {}
 
-/// Where a whole read is answered passed, so it is of a piece that stood there before the line.
+/// Where a whole read is answered passed, so it is, before the line, of the first fragment that may not be read of what
+/// it hit.
 pub fn get_was_passed()
     ensures { GetWasPassed }
 {}
 
-/// Where a line that reads on is answered aborted, the reader's put is that one, which an earlier line of its session
-/// gave up.
+/// Where a line that reads on is answered aborted, its reader follows that put, and was given all that was cut of it; an
+/// earlier line of its session gave it up.
 pub fn break_was_aborted()
     ensures { BreakWasAborted }
+{
+    reader_is_opened();
+    opens_first();
+    legal_is_kept();
+    one_group();
+    numbers_follow();
+    reader_is_closed();
+}
+
+/// Where a line that reads on is answered displaced, that was recorded of the reader's next piece.
+pub fn break_was_displaced()
+    ensures { BreakWasDisplaced }
 {}
+
+/// Where a whole read is answered displaced, that was recorded of a piece of the put that it hit.
+pub fn get_was_displaced()
+    ensures { GetWasDisplaced }
+{}
+
+/// Where a line is refused for a fragment that was displaced, that was recorded of the fragment of the put that it closes.
+pub fn lost_was_displaced()
+    ensures { LostWasDisplaced }
+{}
+
+/// Where a line is answered with a miss, nothing of the key answers by the records of the lines before, and they say
+/// why; or the key's vector was read in that line, and is damaged.
+pub fn misses_are_caused()
+    ensures { MissesAreCaused }
+{
+    vectors_are_on_record();
+    runs_are_counted();
+}
+
+/// Where a removal is answered that there is nothing, the records of the lines before say why.
+pub fn absences_are_caused()
+    ensures { AbsencesAreCaused }
+{
+    vectors_are_on_record();
+}
+
+/// Where a line that reads on is answered that its reader broke, the records of the lines before say why; or the next
+/// piece was read in that line, and is not what was kept.
+pub fn breaks_are_caused()
+    ensures { BreaksAreCaused }
+{}
+
+/// Where a whole read is answered that it broke, the records of the lines before say why of a piece of what it hit; or
+/// that piece was read in that line, and is not what was kept.
+pub fn gets_are_caused()
+    ensures { GetsAreCaused }
+{}
+
+/// Where a line is refused for a lost fragment, that is the first one of the put that it closes which is missing behind
+/// the line, and the records say why.
+pub fn losses_are_caused()
+    ensures { LossesAreCaused }
+{}
+
+/// A line that recorded that a put was completed asked for that, and was answered the put, with its bytes.
+pub fn completed_was_answered()
+    ensures { CompletedWasAnswered }
+{
+    legal_is_kept();
+}
+
+/// A line that recorded that a put was removed asked for that, and was answered the put.
+pub fn removal_was_answered()
+    ensures { RemovalWasAnswered }
+{}
+
+/// A line that recorded that a put was given up asked for that, or was refused.
+pub fn giving_up_was_answered()
+    ensures { GivingUpWasAnswered }
+{
+    legal_is_kept();
+}
 
 /// No line answers a count above that with which its device came back.
 pub fn counts_are_reached()

@@ -1,5 +1,13 @@
+use Rattle.headline.proofs.Opened.{OfReaders}
 use Rattle.headline.proofs.Readers.{end_is_read}
 use Rattle.headline.proofs.laws.end_is_read.Goals as goal
 
 pub returns : goal.returns
-returns c = end_is_read c.reader_is_opened.ensures c.all_given.ensures
+returns c =
+    let laws : OfReaders = record {
+      opened = c.reader_is_opened.ensures;
+      first = c.opens_first.ensures;
+      kept = c.legal_is_kept.ensures;
+      steps = record { one_group = c.one_group.ensures; numbers_follow = c.numbers_follow.ensures; reader_is_closed = c.reader_is_closed.ensures };
+    } in
+    end_is_read laws c.all_given.ensures

@@ -2,4 +2,4 @@ use Rattle.headline.proofs.Standing.{passed_was_placed}
 use Rattle.headline.proofs.laws.passed_was_placed.Goals as goal
 
 pub returns : goal.returns
-returns c = passed_was_placed
+returns c = passed_was_placed c.legal_is_kept.ensures

@@ -1,0 +1,5 @@
+use Rattle.headline.proofs.Closing.{losses_are_caused}
+use Rattle.headline.proofs.laws.losses_are_caused.Goals as goal
+
+pub returns : goal.returns
+returns c = losses_are_caused
