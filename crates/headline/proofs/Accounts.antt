@@ -9,19 +9,19 @@ use Rattle.run_promise.specs.declared.status.Status.{Status}
 use Rattle.run_promise.specs.declared.status.Status.TheVariants as status
 use Rattle.run_promise.specs.Story.{Because, Recorded, ShownAlong, Story, Told, all_in}
 use Rattle.run_promise.specs.Top.{EachBack, EachBackOrMore, EndsEarly, ReadsFailed}
-use Rattle.headline.specs.Account.{Account, ComeBackFrom, IsConcluded, Logs}
-use Rattle.headline.specs.Endings.{AreTakeable, CameBackBy, EndsHere, EndsWith, IsOfRun, WentOutBy}
+use Rattle.headline.specs.Account.{Account, ComeBackFrom, IsConcluded, RunLogs}
+use Rattle.headline.specs.Endings.{AreTakeable, CameBackBy, EndsHere, EndsWithStatus, IsAccountOf, WentOutBy}
 use Rattle.headline.proofs.Devices.{come_back, more_back}
 use Rattle.headline.proofs.Outlines.{shown_before, shown_made}
 use Rattle.headline.proofs.Endings.{cut_short, ended_early, takeable}
 
-module _ (l : Logs) (s : Status) (held : List ℕ) (given : ℕ) (Text : (before all : List ℕ) → Type 0) (Devices : Told → Type 0) (Behind : Outline → Type 0) (Known : Run → Type 0)
+module _ (l : RunLogs) (s : Status) (held : List ℕ) (given : ℕ) (Text : (before all : List ℕ) → Type 0) (Devices : Told → Type 0) (Behind : Outline → Type 0) (Known : Run → Type 0)
     (back : (t : Told) → Devices t → ComeBackFrom l (all_in t)) (story : Story l.first l.read held given Text Devices Behind Known) (alone : (t : Told) → Devices t → CameBackBy l s story.lines held t)
     (sent : WentOutBy l s story.lines held story.answers) (ends : EndsHere l story.lines held s) where
   may_be_taken_all : AreTakeable 0 story.lines
   may_be_taken_all = takeable blank 0 story.lines story.answers refl story.outline.each
 
-  by_records : Recorded story.lines story.answers Devices Known → (a : Account l) × IsOfRun l s a
+  by_records : Recorded story.lines story.answers Devices Known → (a : Account l) × IsAccountOf l s a
   by_records r = (
     record {
       reads = story.reads;
@@ -45,7 +45,7 @@ module _ (l : Logs) (s : Status) (held : List ℕ) (given : ℕ) (Text : (before
     record { sent = sent; takeable = may_be_taken_all; ends = ends; back = alone _ story.outline.devices; alone = λ none. alone _ r.devices },
   )
 
-  by_pair : ShownAlong story.lines story.answers Devices Behind → (a : Account l) × IsOfRun l s a
+  by_pair : ShownAlong story.lines story.answers Devices Behind → (a : Account l) × IsAccountOf l s a
   by_pair p =
       let made = shown_made l story.lines story.answers Devices Behind back p in (
         record {
@@ -70,18 +70,18 @@ module _ (l : Logs) (s : Status) (held : List ℕ) (given : ℕ) (Text : (before
         record { sent = sent; takeable = may_be_taken_all; ends = ends; back = alone _ story.outline.devices; alone = λ none. absurd cc },
       )
 
-  by_either : Recorded story.lines story.answers Devices Known ⊎ ShownAlong story.lines story.answers Devices Behind → (a : Account l) × IsOfRun l s a
+  by_either : Recorded story.lines story.answers Devices Known ⊎ ShownAlong story.lines story.answers Devices Behind → (a : Account l) × IsAccountOf l s a
   by_either (inl r) = by_records r
   by_either (inr p) = by_pair p
 
-  pub account_of : (a : Account l) × IsOfRun l s a
+  pub account_of : (a : Account l) × IsAccountOf l s a
   account_of = by_either story.records
 
-module _ (l : Logs) where
+module _ (l : RunLogs) where
   each_back : (t : Told) → EachBack l.before l.now t → ComeBackFrom l (all_in t)
   each_back t each = come_back l (all_in t) each.back
 
-  ends_with : (s : Status) → (e : EndsEarly l.first l.read l.old l.new l.bay l.before l.now s) → EndsWith l s e.upto.story.lines e.upto.held e.upto.story.answers
+  ends_with : (s : Status) → (e : EndsEarly l.first l.read l.old l.new l.bay l.before l.now s) → EndsWithStatus l s e.upto.story.lines e.upto.held e.upto.story.answers
   ends_with s e =
       let story = e.upto.story in
       record {
@@ -92,10 +92,10 @@ module _ (l : Logs) where
       }
 
   early : (s : Status) → (e : EndsEarly l.first l.read l.old l.new l.bay l.before l.now s) → ReadsFailed l.first l.read s
-      → ((t : Told) → EachBack l.before l.now t → CameBackBy l s e.upto.story.lines e.upto.held t) → WentOutBy l s e.upto.story.lines e.upto.held e.upto.story.answers → (a : Account l) × IsOfRun l s a
+      → ((t : Told) → EachBack l.before l.now t → CameBackBy l s e.upto.story.lines e.upto.held t) → WentOutBy l s e.upto.story.lines e.upto.held e.upto.story.answers → (a : Account l) × IsAccountOf l s a
   early s e failed alone sent = account_of l s e.upto.held e.upto.given _ _ _ _ each_back e.upto.story alone sent (ended_early l s e failed)
 
-  pub runs_are_told : (s : Status) → IsConcluded l s → ReadsFailed l.first l.read s → s ≢ status.Usage → (a : Account l) × IsOfRun l s a
+  pub runs_are_told : (s : Status) → IsConcluded l s → ReadsFailed l.first l.read s → s ≢ status.Usage → (a : Account l) × IsAccountOf l s a
   runs_are_told status.Done c failed begun =
       account_of l status.Done c.held c.given _ _ _ _ each_back c.story (λ t each. each) c.story.text (c.story.outline.behind.ended, c.story.outline.behind.none)
   runs_are_told status.Usage c failed begun = absurd (begun refl)

@@ -26,7 +26,7 @@ use Rattle.script_run.specs.Ledger.{GoesOnFrom}
 use Rattle.script_run.proofs.Losses.{formats_lose_none, losses_stay}
 use Rattle.script_laws.specs.Damages.{DamageStays}
 use Rattle.reader_laws.proofs.Standing.{Goes, begins, goes, stays, steps, waits}
-use Rattle.headline.specs.Account.{AreBack, ComeBackFrom, IsDeviceBehind, Logs, begun_in, sessions_begun}
+use Rattle.headline.specs.Account.{AreBack, ComeBackFrom, IsDeviceBehind, RunLogs, begun_in, sessions_begun}
 use Rattle.headline.proofs.Devices.{goes_on}
 
 -- ---- sessions
@@ -145,13 +145,13 @@ module _ (law : DamageStays) (ds : List Device) where
       reading_seen run turn (reading_of bytes) is.0 (run_seen lines turns (after_line run turn bytes) is.1 h)
 
 -- the device of a line shows what was told of its session
-pub device_seen : (l : Logs) (before : List (List ℕ)) (device : Device) (ended : List Harm) (h : Harm) (ds : List Device) → l.now.returned ≡ l.before.returned ++ ds → AreSeen (ended ++ h ∷ []) ds
+pub device_seen : (l : RunLogs) (before : List (List ℕ)) (device : Device) (ended : List Harm) (h : Harm) (ds : List Device) → l.now.returned ≡ l.before.returned ++ ds → AreSeen (ended ++ h ∷ []) ds
     → IsDeviceBehind l before device → sessions_begun before ≡ length ended + 1 → IsSeen h device
 device_seen l before device ended h ds returned seen at begun =
     let same : ds ≡ at.earlier ++ device ∷ at.later = append_cancel_left l.before.returned ds (at.earlier ++ device ∷ at.later) (sym returned ∙ at.returned) in
     seen_at ended h at.earlier device at.later (subst (λ (xs : List Device). AreSeen (ended ++ h ∷ []) xs) same seen) (omega (arith, begun, at.which))
 
 -- what the devices that came back show of a run from which the others went on
-pub all_seen : (law : DamageStays) (l : Logs) (run : Run) (after : List (List ℕ)) (later : List Turn) → IsRun run after later → (come : ComeBackFrom l (harms_of (run_after run after later)))
+pub all_seen : (law : DamageStays) (l : RunLogs) (run : Run) (after : List (List ℕ)) (later : List Turn) → IsRun run after later → (come : ComeBackFrom l (harms_of (run_after run after later)))
     → AreSeen (harms_of run) come.devices
 all_seen law l run after later goes come = run_seen law come.devices after later run goes (back_seen (harms_of (run_after run after later)) come.devices come.told)

@@ -36,7 +36,7 @@ use Rattle.script_run.proofs.Listed.{is_among}
 use Rattle.script_run.proofs.Values.{value_here}
 use Rattle.reader_laws.specs.Laws.{LegalIsKept}
 use Rattle.run_promise.specs.Lines.{answers_of, reading_answer}
-use Rattle.headline.specs.Account.{Account, Logs, Tells}
+use Rattle.headline.specs.Account.{Account, HistoryTells, RunLogs}
 use Rattle.headline.specs.Answered.{AsksToComplete, GivesUpSo, IsUnclosable, ActorWrites, IsUnstorable, RecordsBehind, WasCompleted, WasGivenUpSo, WasPut}
 use Rattle.headline.specs.Reads.{DidBefore}
 use Rattle.headline.specs.Standing.{ClosesPut, CompletesPut, HasRecorded}
@@ -80,10 +80,10 @@ SaysEnd (rec.Removed put key) = Unit {0}
 SaysEnd _ = ⊥
 
 -- a step on a session, which was answered so
-pub record EndsHere {l : Logs} (a : Account l) (lines : List (List ℕ)) (run : Run) (turn : Turn) : Type 0 where
+pub record EndsHere {l : RunLogs} (a : Account l) (lines : List (List ℕ)) (run : Run) (turn : Turn) : Type 0 where
   pub asks : Step
   pub on : OnSession run turn run.state asks
-  pub tells : Tells a lines asks (session_said run on.s (after_all on.s turn.added) turn asks)
+  pub tells : HistoryTells a lines asks (session_said run on.s (after_all on.s turn.added) turn asks)
 
 module _ (told : Rec) (ends : SaysEnd told) where
   format_ends_none : (added : List Rec) (segments buckets content agg reach fragment generation alternates : ℕ) (bad : Option BadGeometry)
@@ -102,7 +102,7 @@ module _ (told : Rec) (ends : SaysEnd told) where
   session_ends run turn (Some s) _ takes among = record { s = s; state = refl; takes = takes; said = refl; next = refl }
   session_ends run turn None _ takes among = absurd takes
 
-  module _ {l : Logs} (a : Account l) (lines : List (List ℕ)) (r : RecordsBehind a lines told) where
+  module _ {l : RunLogs} (a : Account l) (lines : List (List ℕ)) (r : RecordsBehind a lines told) where
     abbrev pub Before : Run
     Before = run_after fresh lines r.did.earlier
 
@@ -254,20 +254,20 @@ removal_of s asks added e put key (Legal.DoesRemove.removes row quiet live is) a
     ]
 removal_of s asks added e put key (Legal.DoesRemove.absent quiet none is) among = absurd (subst (IsAmong (rec.Removed put key)) is among)
 
-pub removal_was_answered : (l : Logs) (a : Account l) (lines : List (List ℕ)) (put : ℕ) (key : Key) → RecordsBehind a lines (rec.Removed put key) → Tells a lines (step.Remove key) (answer.Removed put)
+pub removal_was_answered : (l : RunLogs) (a : Account l) (lines : List (List ℕ)) (put : ℕ) (key : Key) → RecordsBehind a lines (rec.Removed put key) → HistoryTells a lines (step.Remove key) (answer.Removed put)
 removal_was_answered l a lines put key r =
     let h = ends_here (rec.Removed put key) tt a lines r in
     told_by h.on h.tells (asks_none (run_after fresh lines r.did.earlier) h.on.s h.asks)
   where
     told_by : {asks : Step} (on : OnSession (run_after fresh lines r.did.earlier) r.did.turn (run_after fresh lines r.did.earlier).state asks)
-        → Tells a lines asks (session_said (run_after fresh lines r.did.earlier) on.s (after_all on.s r.did.turn.added) r.did.turn asks)
-        → Removes asks ⊎ AllByRecursion IsNoRemove (asked (run_after fresh lines r.did.earlier) on.s asks) → Tells a lines (step.Remove key) (answer.Removed put)
+        → HistoryTells a lines asks (session_said (run_after fresh lines r.did.earlier) on.s (after_all on.s r.did.turn.added) r.did.turn asks)
+        → Removes asks ⊎ AllByRecursion IsNoRemove (asked (run_after fresh lines r.did.earlier) on.s asks) → HistoryTells a lines (step.Remove key) (answer.Removed put)
     told_by on tells (inr none) =
         absurd (is_among IsNotRemoved (rec.Removed put key) r.did.turn.added (all_told IsNoRemove IsNotRemoved removes_only none on.takes.legal.grows) r.among)
     told_by on tells (inl (removes k)) =
         let does = alone r.did.turn.device on.s (Remove k) r.did.turn.added r.did.turn.refused (remove_stays_never on.s k) on.takes.legal.grows in
         let is = removal_of on.s k r.did.turn.added does.0 put key does.1 r.among in
-        subst (λ (x : Key). Tells a lines (step.Remove x) (answer.Removed put)) is.0 (subst (Tells a lines (step.Remove k)) is.1 tells)
+        subst (λ (x : Key). HistoryTells a lines (step.Remove x) (answer.Removed put)) is.0 (subst (HistoryTells a lines (step.Remove k)) is.1 tells)
 
 -- ---- lines that end a put
 
@@ -449,7 +449,7 @@ next_is_none law lines turns s legal state w found =
     let begun : w.put < s.next_put = ((kept_here law lines turns s legal state).0.kept.puts s.next_put w found).begun in
     omega (arith, begun, number_of s s.next_put w found)
 
-module _ {l : Logs} (a : Account l) (lines : List (List ℕ)) (run : Run) (s : State) (turn : Turn) (none : (w : PutRow) → put_of s s.next_put ≡ Some w → ⊥) (put : ℕ) (key : Key) (state : run.state ≡ Some s) where
+module _ {l : RunLogs} (a : Account l) (lines : List (List ℕ)) (run : Run) (s : State) (turn : Turn) (none : (w : PutRow) → put_of s s.next_put ≡ Some w → ⊥) (put : ℕ) (key : Key) (state : run.state ≡ Some s) where
   abbrev Behind : State
   Behind = after_all s turn.added
 
@@ -464,19 +464,19 @@ module _ {l : Logs} (a : Account l) (lines : List (List ℕ)) (run : Run) (s : S
   }
 
   module _ (size : ℕ) (list : List Stored) (among : IsAmong (rec.Committed put key size list) turn.added) where
-    completed_by : {asks : Step} {says : StepAnswer} → Tells a lines asks says → Puts run s turn none (rec.Committed put key size list) tt among asks says → WasCompleted a lines run key put size
+    completed_by : {asks : Step} {says : StepAnswer} → HistoryTells a lines asks says → Puts run s turn none (rec.Committed put key size list) tt among asks says → WasCompleted a lines run key put size
     completed_by tells (whole k body request response c) = record {
       asks = step.Put k body request response;
       completes = subst (λ x. AsksToComplete run x put (step.Put k body request response)) (sym c.keyed) (Answered.AsksToComplete.puts body request response);
       fragments = length (cuts_of Behind s.next_put);
-      tells = subst (Tells a lines (step.Put k body request response)) (completed_said Behind s.next_put turn.refused put size c.put_is c.allowed c.sized) tells;
+      tells = subst (HistoryTells a lines (step.Put k body request response)) (completed_said Behind s.next_put turn.refused put size c.put_is c.allowed c.sized) tells;
     }
     completed_by tells (feeds name body n writes c) = absurd c.closes
     completed_by tells (closes name n writes c) = record {
       asks = step.Close name;
       completes = Answered.AsksToComplete.closes name (writer name n writes c.put_is c.keyed);
       fragments = length (cuts_of Behind n);
-      tells = subst (Tells a lines (step.Close name)) (completed_said Behind n turn.refused put size c.put_is c.allowed c.sized) tells;
+      tells = subst (HistoryTells a lines (step.Close name)) (completed_said Behind n turn.refused put size c.put_is c.allowed c.sized) tells;
     }
     completed_by tells (aborts name n writes c) = absurd c
 
@@ -517,7 +517,7 @@ module _ {l : Logs} (a : Account l) (lines : List (List ℕ)) (run : Run) (s : S
 
 -- ---- the laws
 
-pub completed_was_answered : (law : LegalIsKept) (l : Logs) (a : Account l) (lines : List (List ℕ)) (put : ℕ) (key : Key) (size : ℕ) (list : List Stored)
+pub completed_was_answered : (law : LegalIsKept) (l : RunLogs) (a : Account l) (lines : List (List ℕ)) (put : ℕ) (key : Key) (size : ℕ) (list : List Stored)
     → (r : RecordsBehind a lines (rec.Committed put key size list)) → WasCompleted a lines (run_after fresh lines r.did.earlier) key put size
 completed_was_answered law l a lines put key size list r =
     let run : Run = run_after fresh lines r.did.earlier in
@@ -526,7 +526,7 @@ completed_was_answered law l a lines put key size list r =
     completed_by a lines run h.on.s r.did.turn none put key h.on.state size list r.among h.tells
     (puts_of run h.on.s r.did.turn none (rec.Committed put key size list) tt r.among h.asks h.on.takes.legal)
 
-pub giving_up_was_answered : (law : LegalIsKept) (l : Logs) (a : Account l) (lines : List (List ℕ)) (put : ℕ) (key : Key)
+pub giving_up_was_answered : (law : LegalIsKept) (l : RunLogs) (a : Account l) (lines : List (List ℕ)) (put : ℕ) (key : Key)
     → (r : RecordsBehind a lines (rec.Aborted put key)) → WasGivenUpSo a lines (run_after fresh lines r.did.earlier) key put
 giving_up_was_answered law l a lines put key r =
     let run : Run = run_after fresh lines r.did.earlier in
@@ -542,7 +542,7 @@ giving_up_was_answered law l a lines put key r =
 
 -- ---- a line that another law names
 
-module _ (l : Logs) (a : Account l) where
+module _ (l : RunLogs) (a : Account l) where
   given_up_told : (law : LegalIsKept) (lines : List (List ℕ)) (put : ℕ) (key : Key) (told : Rec) → told ≡ rec.Aborted put key → (r : RecordsBehind a lines told)
       → WasGivenUpSo a lines (run_after fresh lines r.did.earlier) key put
   given_up_told law lines put key told same r =
@@ -561,7 +561,7 @@ module _ (l : Logs) (a : Account l) where
   closed_told law lines put (rec.Committed n k size list) c r = (k, put_told_so law lines k put (rec.Committed n k size list) (c, refl) r)
   closed_told law lines put _ c r = absurd c
 
-  module _ (lines : List (List ℕ)) (asks : Step) (says : StepAnswer) (at : Tells a lines asks says) (did : DidBefore a.turns lines) where
+  module _ (lines : List (List ℕ)) (asks : Step) (says : StepAnswer) (at : HistoryTells a lines asks says) (did : DidBefore a.turns lines) where
     -- it recorded it, behind those before it
     abbrev recorded_behind : {Says : Rec → Type 0} (h : HasRecorded Says lines did.earlier) → RecordsBehind a h.before h.told
     recorded_behind h = record {
@@ -578,7 +578,7 @@ module _ (l : Logs) (a : Account l) where
       among = h.among;
     }
 
-    pub removal_answered : (put : ℕ) (key : Key) (h : HasRecorded (λ told. told ≡ rec.Removed put key) lines did.earlier) → Tells a h.before (step.Remove key) (answer.Removed put)
+    pub removal_answered : (put : ℕ) (key : Key) (h : HasRecorded (λ told. told ≡ rec.Removed put key) lines did.earlier) → HistoryTells a h.before (step.Remove key) (answer.Removed put)
     removal_answered put key h = removal_was_answered l a h.before put key (subst (RecordsBehind a h.before) h.tells (recorded_behind h))
 
     pub giving_up_answered : (law : LegalIsKept) (put : ℕ) (key : Key) (h : HasRecorded (λ told. told ≡ rec.Aborted put key) lines did.earlier)

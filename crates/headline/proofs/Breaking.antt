@@ -29,9 +29,9 @@ use Rattle.script_run.specs.Answers.{broken_said, next_said, step_answer, step_s
 use Rattle.script_run.specs.Takes.{IsRun, StepTakes, Takes, run_after}
 use Rattle.script_laws.specs.Causes.{is_standing}
 use Rattle.script_laws.proofs.Groups.{IsKept}
-use Rattle.headline.specs.Account.{Account, Logs, Tells}
+use Rattle.headline.specs.Account.{Account, HistoryTells, RunLogs}
 use Rattle.headline.specs.Breaks.{BrokeAborted, BrokePassed, GivesUpPut}
-use Rattle.headline.specs.Standing.{HasRecorded, IsBelow}
+use Rattle.headline.specs.Standing.{HasRecorded, IsBelowFloor}
 use Rattle.headline.proofs.Causing.{unknown}
 use Rattle.headline.proofs.Last.{ByRecord, told_last}
 use Rattle.headline.proofs.Lost.{no_standing_loss}
@@ -185,13 +185,13 @@ module _ (put : ℕ) where
 -- ---- lines that are answered so
 
 passed_by : (lines : List (List ℕ)) (turns : List Turn) (s : State) (r : ReaderRow) (place floor : ℕ) (unsaved : Bool) → IsRun fresh lines turns → (run_after fresh lines turns).state ≡ Some s
-    → Breaks s r (cause.Passed place floor unsaved) → IsBelow lines turns s (next_piece r) place floor unsaved
+    → Breaks s r (cause.Passed place floor unsaved) → IsBelowFloor lines turns s (next_piece r) place floor unsaved
 passed_by lines turns s r place floor unsaved legal state (under entry row cut dead found same) = is_below lines turns s legal state (next_piece r) row place floor unsaved dead found same
 passed_by lines turns s r place floor unsaved legal state (silent same) = no_truth (sym (unknown s (cause.Passed place floor unsaved) same))
 passed_by lines turns s r place floor unsaved legal state (over w past follows found e same) = absurd cc
 
-pub break_was_passed : (l : Logs) (a : Account l) (lines : List (List ℕ)) (name : List ℕ) (place floor : ℕ) (unsaved : Bool)
-    → Tells a lines (step.Next name) (answer.Broken (cause.Passed place floor unsaved)) → BrokePassed a.turns lines name place floor unsaved
+pub break_was_passed : (l : RunLogs) (a : Account l) (lines : List (List ℕ)) (name : List ℕ) (place floor : ℕ) (unsaved : Bool)
+    → HistoryTells a lines (step.Next name) (answer.Broken (cause.Passed place floor unsaved)) → BrokePassed a.turns lines name place floor unsaved
 break_was_passed l a lines name place floor unsaved at =
     let why : Cause = cause.Passed place floor unsaved in
     let said : StepAnswer = answer.Broken why in
@@ -235,8 +235,8 @@ aborted_by lines turns s r put legal state (over w past follows found e same) =
       aborted = (told_last (IsGivenUp put) (GivesUpPut put) (λ told. ⊥) (λ g h. none_is h.1) (given_up_one put) lines turns s legal state (w, there, e)).is;
     }
 
-pub break_was_aborted : (laws : OfReaders) (l : Logs) (a : Account l) (lines : List (List ℕ)) (name : List ℕ) (put : ℕ)
-    → Tells a lines (step.Next name) (answer.Broken (cause.Aborted put)) → BrokeAborted a.turns lines name put
+pub break_was_aborted : (laws : OfReaders) (l : RunLogs) (a : Account l) (lines : List (List ℕ)) (name : List ℕ) (put : ℕ)
+    → HistoryTells a lines (step.Next name) (answer.Broken (cause.Aborted put)) → BrokeAborted a.turns lines name put
 break_was_aborted laws l a lines name put at =
     let why : Cause = cause.Aborted put in
     let said : StepAnswer = answer.Broken why in

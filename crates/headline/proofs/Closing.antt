@@ -37,9 +37,9 @@ use Rattle.script_run.specs.Takes.{StepTakes, Takes, run_after}
 use Rattle.script_laws.proofs.Groups.{IsKept}
 use Rattle.script_laws.proofs.Walking.{walked}
 use Rattle.script_run.proofs.Changed.{changed, found_changed}
-use Rattle.headline.specs.Account.{Account, Logs, Tells}
+use Rattle.headline.specs.Account.{Account, HistoryTells, RunLogs}
 use Rattle.headline.specs.Displacements
-use Rattle.headline.specs.Displacements.{Closes, LostDisplaced}
+use Rattle.headline.specs.Displacements.{AsksToClose, LostDisplaced}
 use Rattle.headline.specs.Misses.{WasRecorded}
 use Rattle.headline.specs.Verdicts.{LossIsCaused}
 use Rattle.headline.proofs.Displaced.{by_line, by_loss, by_lost}
@@ -393,7 +393,7 @@ record LosesHere (run : Run) (turn : Turn) (asks : Step) (index : ℕ) (why : Ca
   s : State
   state : run.state ≡ Some s
   put : ℕ
-  closes : Closes run s put asks
+  closes : AsksToClose run s put asks
   is : cause_of_lost (after_all s turn.added) put index ≡ why
   lost : LostIn (after_all s turn.added) put index
   kept : AllByRecursion (IsKept turn.device) turn.added
@@ -420,7 +420,7 @@ module _ (run : Run) (turn : Turn) (index : ℕ) (why : Cause) (took : Option �
       let t : State = after_all s turn.added in
       let lost : LostOf t turn.refused index why = by_refusal t index why took None turn.refused (put_said t s.next_put) (λ x. cc) h in
       let found = same_put s _ s.next_put lost (put_finishes s.next_put s key body request response refl) legal in
-      record { s = s; state = e; put = lost.put; closes = Displacements.Closes.puts key body request response (sym found.0); is = lost.is; lost = found.1; kept = (walked legal.grows).kept }
+      record { s = s; state = e; put = lost.put; closes = Displacements.AsksToClose.puts key body request response (sym found.0); is = lost.is; lost = found.1; kept = (walked legal.grows).kept }
 
   close_loses : (s : State) (name : List ℕ) (o : Option ℕ) → run.state ≡ Some s → writer_of run name ≡ o → IsStep turn.device s (Asked.if_has o (Asked.closing run s)) turn.added turn.refused
       → SaysSo (Answers.if_has o (λ put. said (after_all s turn.added) None turn.refused (put_said (after_all s turn.added) put))) → LosesHere run turn (step.Close name) index why
@@ -429,7 +429,7 @@ module _ (run : Run) (turn : Turn) (index : ℕ) (why : Cause) (took : Option �
       let t : State = after_all s turn.added in
       let lost : LostOf t turn.refused index why = by_refusal t index why took None turn.refused (put_said t n) (λ x. cc) h in
       let found = same_put s _ n lost (close_finishes n n _ _ refl) legal in
-      record { s = s; state = e; put = lost.put; closes = Displacements.Closes.closes name (held ∙ ap (λ m. Some m) (sym found.0)); is = lost.is; lost = found.1; kept = (walked legal.grows).kept }
+      record { s = s; state = e; put = lost.put; closes = Displacements.AsksToClose.closes name (held ∙ ap (λ m. Some m) (sym found.0)); is = lost.is; lost = found.1; kept = (walked legal.grows).kept }
 
   feed_by : (s : State) (body : List ℕ) (n : ℕ) (b : Bool)
       → IsStep turn.device s (if b then [] else feed_intents s.geometry.fragment n (length (cuts_of s n)) (gathered_of run s n ++ body)) turn.added turn.refused
@@ -509,8 +509,8 @@ cause_in : (t : State) (put index : ℕ) (why : Cause) (lost : LostIn t put inde
 cause_in t put index why lost is =
     sym (ap (λ (o : Option PutRow). unwrap_or (option_map (λ (w : PutRow). cause_of_piece t (fragment_piece w.key put index)) o) cause.NeverPut) lost.found) ∙ is
 
-pub lost_was_displaced : (l : Logs) (a : Account l) (lines : List (List ℕ)) (asks : Step) (index segment live : ℕ) (took : Option ℕ)
-    → Tells a lines asks (answer.Refused (refused.Lost index (cause.Displaced segment live)) took) → LostDisplaced a.turns lines asks index segment live
+pub lost_was_displaced : (l : RunLogs) (a : Account l) (lines : List (List ℕ)) (asks : Step) (index segment live : ℕ) (took : Option ℕ)
+    → HistoryTells a lines asks (answer.Refused (refused.Lost index (cause.Displaced segment live)) took) → LostDisplaced a.turns lines asks index segment live
 lost_was_displaced l a lines asks index segment live took at =
     let why : Cause = cause.Displaced segment live in
     let said : StepAnswer = Answer index why took in
@@ -530,8 +530,8 @@ lost_was_displaced l a lines asks index segment live took at =
       told = told;
     }
 
-pub losses_are_caused : (l : Logs) (a : Account l) (lines : List (List ℕ)) (asks : Step) (index : ℕ) (why : Cause) (took : Option ℕ)
-    → Tells a lines asks (answer.Refused (refused.Lost index why) took) → LossIsCaused a.turns lines asks index why
+pub losses_are_caused : (l : RunLogs) (a : Account l) (lines : List (List ℕ)) (asks : Step) (index : ℕ) (why : Cause) (took : Option ℕ)
+    → HistoryTells a lines asks (answer.Refused (refused.Lost index why) took) → LossIsCaused a.turns lines asks index why
 losses_are_caused l a lines asks index why took at =
     let said : StepAnswer = Answer index why took in
     let f = told_line l a lines asks said at in

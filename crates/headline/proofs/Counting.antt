@@ -14,7 +14,7 @@ use Rattle.script_run.specs.Run.{Harm, loosened}
 use Rattle.script_run.specs.Ledger.{IsReached}
 use Rattle.run_promise.specs.Outline.{IsAnswered, Outline, all_told, blank, count_in, format_answer, outline_after, raised, told_of}
 use Rattle.run_promise.specs.Lines.{AreAnswered, IsReadAs, outline_of, outline_read}
-use Rattle.headline.specs.Account.{Account, Answers, AreBack, ComeBackFrom, IsDeviceBehind, Logs, sessions_begun}
+use Rattle.headline.specs.Account.{Account, AreBack, ComeBackFrom, IsDeviceBehind, RunAnswers, RunLogs, sessions_begun}
 use Rattle.headline.proofs.Devices.{come_within}
 use Rattle.headline.proofs.Outlines.{outline_length, outline_split, outline_within, split_answers}
 
@@ -27,7 +27,7 @@ device_at [] h (d ∷ earlier) device later back n = absurd (omega (arith, n))
 device_at (x ∷ xs) h [] device later back n = absurd (omega (arith, n))
 device_at (x ∷ xs) h (d ∷ earlier) device later back n = device_at xs h earlier device later back.1 (omega (arith, n))
 
-pub device_of : (l : Logs) (xs : List Harm) (h : Harm) (lines : List (List ℕ)) (device : Device) → ComeBackFrom l (xs ++ h ∷ []) → IsDeviceBehind l lines device → sessions_begun lines ≡ length xs + 1
+pub device_of : (l : RunLogs) (xs : List Harm) (h : Harm) (lines : List (List ℕ)) (device : Device) → ComeBackFrom l (xs ++ h ∷ []) → IsDeviceBehind l lines device → sessions_begun lines ≡ length xs + 1
     → IsReached (loosened h) device
 device_of l xs h lines device come at begun =
     let same : come.devices ≡ at.earlier ++ device ∷ at.later = append_cancel_left l.before.returned come.devices (at.earlier ++ device ∷ at.later) (sym come.returned ∙ at.returned) in
@@ -35,7 +35,7 @@ device_of l xs h lines device come at begun =
 
 -- ---- a line
 
-module _ (l : Logs) (lines : List (List ℕ)) (device : Device) (at : IsDeviceBehind l lines device) where
+module _ (l : RunLogs) (lines : List (List ℕ)) (device : Device) (at : IsDeviceBehind l lines device) where
   session_counts : (ended : List Harm) (session : Option Harm) (count : ℕ) → (session ≡ None → count ≡ 0) → ComeBackFrom l (ended ++ told_of (option_map (raised count) session))
       → sessions_begun lines ≡ length (ended ++ told_of session) → count ≤ device.faults
   session_counts ended None count none come begun = omega (arith, none refl)
@@ -57,7 +57,7 @@ module _ (l : Logs) (lines : List (List ℕ)) (device : Device) (at : IsDeviceBe
   step_counts o (step.Now moment) said is come begun = none_is (count_in said) (ap count_in is.fixed)
   step_counts o _ said is come begun = session_counts o.ended o.session (count_in said) is.none come begun
 
-pub counts_are_reached : (l : Logs) (a : Account l) (lines : List (List ℕ)) (asks : Step) (said : StepAnswer) (device : Device) → Answers a lines asks said → IsDeviceBehind l lines device
+pub counts_are_reached : (l : RunLogs) (a : Account l) (lines : List (List ℕ)) (asks : Step) (said : StepAnswer) (device : Device) → RunAnswers a lines asks said → IsDeviceBehind l lines device
     → count_in said ≤ device.faults
 counts_are_reached l a lines asks said device at which =
     let by_lines : AreAnswered blank (lines ++ at.bytes ∷ at.later) a.answers = subst (λ (xs : List (List ℕ)). AreAnswered blank xs a.answers) at.lines_are a.each in

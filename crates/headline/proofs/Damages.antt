@@ -28,7 +28,7 @@ use Rattle.script_laws.specs.Damages.{DamageStays}
 use Rattle.script_laws.specs.Runs.{answers_damage}
 use Rattle.reader_laws.specs.Along.{AreOfSession, KeepsSession}
 use Rattle.reader_laws.specs.Laws.{DamageIsGiven, IsOfOtherBytes}
-use Rattle.headline.specs.Account.{Account, IsDeviceBehind, Logs, Tells, begun_in, sessions_begun}
+use Rattle.headline.specs.Account.{Account, HistoryTells, IsDeviceBehind, RunLogs, begun_in, sessions_begun}
 use Rattle.headline.specs.Causes.{WasGiven}
 use Rattle.headline.proofs.Along.{AreSeen, IsSeen, device_seen, reading_seen, run_length, run_seen}
 use Rattle.headline.proofs.Lost.{LossAlong, damaged_by, loss_is_told}
@@ -55,7 +55,7 @@ damage_record place kept found (rec.Displaced piece segment live) h = absurd cc
 damage_record place kept found (rec.Fault count) h = absurd cc
 damage_record place kept found _ h = none_is h
 
-module _ (given : DamageIsGiven) (law : DamageStays) (l : Logs) (a : Account l) (lines : List (List ℕ)) (asks : Step) (said : StepAnswer) (device : Device) (which : IsDeviceBehind l lines device)
+module _ (given : DamageIsGiven) (law : DamageStays) (l : RunLogs) (a : Account l) (lines : List (List ℕ)) (asks : Step) (said : StepAnswer) (device : Device) (which : IsDeviceBehind l lines device)
     (f : Found fresh a.turns lines asks said (run_after fresh a.told a.turns)) (on : OnSession (run_after fresh lines f.earlier) f.turn (run_after fresh lines f.earlier).state asks)
     (piece : PieceId) (place : ℕ) (kept found : Digest) where
   abbrev Result : Type 0
@@ -140,7 +140,7 @@ module _ (given : DamageIsGiven) (law : DamageStays) (l : Logs) (a : Account l) 
   by_lost : IsAmong (piece, cause.Damaged place kept found) on.s.lost → Result
   by_lost h = by_earlier (loss_is_told (piece, cause.Damaged place kept found) lines f.earlier on.s f.legal on.state h)
 
-module _ (given : DamageIsGiven) (law : DamageStays) (l : Logs) (a : Account l) (lines : List (List ℕ)) (asks : Step) (said : StepAnswer) (place : ℕ) (kept found : Digest) (device : Device) (which : IsDeviceBehind l lines device)
+module _ (given : DamageIsGiven) (law : DamageStays) (l : RunLogs) (a : Account l) (lines : List (List ℕ)) (asks : Step) (said : StepAnswer) (place : ℕ) (kept found : Digest) (device : Device) (which : IsDeviceBehind l lines device)
     (f : Found fresh a.turns lines asks said (run_after fresh a.told a.turns)) (on : OnSession (run_after fresh lines f.earlier) f.turn (run_after fresh lines f.earlier).state asks) where
   by_trace : IsTraced on.s f.turn.added (cause.Damaged place kept found) → WasGiven a.turns lines device place found × (kept ≢ found)
   by_trace (Causes.IsTraced.stands e) = no_truth (sym e)
@@ -149,8 +149,8 @@ module _ (given : DamageIsGiven) (law : DamageStays) (l : Logs) (a : Account l) 
       let r = damage_record place kept found g.r g.gives in
       by_line given law l a lines asks said device which f on r.0 place kept found (subst (λ (x : Rec). IsAmong x f.turn.added) r.1 g.among)
 
-pub damage_was_given : (traced : AnswersAreTraced) (given : DamageIsGiven) (law : DamageStays) (l : Logs) (a : Account l) (lines : List (List ℕ)) (asks : Step) (said : StepAnswer) (place : ℕ) (kept found : Digest) (device : Device)
-    → Tells a lines asks said → cause_answered said ≡ Some (cause.Damaged place kept found) → IsDeviceBehind l lines device → WasGiven a.turns lines device place found × (kept ≢ found)
+pub damage_was_given : (traced : AnswersAreTraced) (given : DamageIsGiven) (law : DamageStays) (l : RunLogs) (a : Account l) (lines : List (List ℕ)) (asks : Step) (said : StepAnswer) (place : ℕ) (kept found : Digest) (device : Device)
+    → HistoryTells a lines asks said → cause_answered said ≡ Some (cause.Damaged place kept found) → IsDeviceBehind l lines device → WasGiven a.turns lines device place found × (kept ≢ found)
 damage_was_given traced given law l a lines asks said place kept found device at names which =
     let f = told_line l a lines asks said at in
     let run : Run = run_after fresh lines f.earlier in

@@ -18,8 +18,8 @@ use Rattle.script_run.specs.Turn.{Turn}
 use Rattle.script_run.specs.Takes.{run_after}
 use Rattle.script_laws.specs.Causes
 use Rattle.script_laws.specs.Causes.{AnswersAreTraced, IsTraced, cause_answered, cause_given}
-use Rattle.headline.specs.Account.{Account, Logs, Tells}
-use Rattle.headline.specs.Misses.{Misses, VectorWasDisplaced, WasRecorded}
+use Rattle.headline.specs.Account.{Account, HistoryTells, RunLogs}
+use Rattle.headline.specs.Misses.{MissesKey, VectorWasDisplaced, WasRecorded}
 use Rattle.headline.proofs.Lost.{IsLost, LossAlong, displaced_by, loss_found, loss_is_told}
 use Rattle.headline.proofs.Missing.{MissesHere, misses_here}
 use Rattle.headline.proofs.Places.{Found, OnSession, kind_of, told_line}
@@ -33,7 +33,7 @@ displacement segment live _ h = none_is h
 
 -- ---- the record
 
-module _ (l : Logs) (a : Account l) (lines : List (List ℕ)) (asks : Step) (said : StepAnswer) (segment live : ℕ) (f : Found fresh a.turns lines asks said (run_after fresh a.told a.turns)) where
+module _ (l : RunLogs) (a : Account l) (lines : List (List ℕ)) (asks : Step) (said : StepAnswer) (segment live : ℕ) (f : Found fresh a.turns lines asks said (run_after fresh a.told a.turns)) where
   abbrev Before : Run
   Before = run_after fresh lines f.earlier
 
@@ -70,8 +70,8 @@ module _ (l : Logs) (a : Account l) (lines : List (List ℕ)) (asks : Step) (sai
       let r = displacement segment live g.r g.gives in
       (r.0, by_line r.0 (subst (λ (x : Rec). IsAmong x f.turn.added) r.1 g.among))
 
-pub displaced_was_told : (traced : AnswersAreTraced) (l : Logs) (a : Account l) (lines : List (List ℕ)) (asks : Step) (said : StepAnswer) (segment live : ℕ)
-    → Tells a lines asks said → cause_answered said ≡ Some (cause.Displaced segment live) → (piece : PieceId) × WasRecorded a.turns lines (rec.Displaced piece segment live)
+pub displaced_was_told : (traced : AnswersAreTraced) (l : RunLogs) (a : Account l) (lines : List (List ℕ)) (asks : Step) (said : StepAnswer) (segment live : ℕ)
+    → HistoryTells a lines asks said → cause_answered said ≡ Some (cause.Displaced segment live) → (piece : PieceId) × WasRecorded a.turns lines (rec.Displaced piece segment live)
 displaced_was_told traced l a lines asks said segment live at names =
     let f = told_line l a lines asks said at in
     let run : Run = run_after fresh lines f.earlier in
@@ -123,8 +123,8 @@ module _ (s : State) (key : Key) (segment live : ℕ) where
   lost_last : cause_of_miss s key ≡ Why → LostLast s key Why
   lost_last h = by_last (last_vector s key) refl h
 
-pub vector_was_lost : (l : Logs) (a : Account l) (lines : List (List ℕ)) (asks : Step) (said : StepAnswer) (key : Key) (segment live : ℕ)
-    → Misses key (cause.Displaced segment live) asks said → Tells a lines asks said → VectorWasDisplaced a.turns lines key segment live
+pub vector_was_lost : (l : RunLogs) (a : Account l) (lines : List (List ℕ)) (asks : Step) (said : StepAnswer) (key : Key) (segment live : ℕ)
+    → MissesKey key (cause.Displaced segment live) asks said → HistoryTells a lines asks said → VectorWasDisplaced a.turns lines key segment live
 vector_was_lost l a lines asks said key segment live misses at =
     let f = told_line l a lines asks said at in
     let run : Run = run_after fresh lines f.earlier in

@@ -23,9 +23,9 @@ use Rattle.script_run.specs.Run.{Run, fresh}
 use Rattle.script_run.specs.Turn.{Turn}
 use Rattle.script_run.specs.Takes.{IsRun, run_after}
 use Rattle.script_laws.proofs.Groups.{IsKept}
-use Rattle.headline.specs.Account.{Account, Logs, Tells}
+use Rattle.headline.specs.Account.{Account, HistoryTells, RunLogs}
 use Rattle.headline.specs.Displacements.{BrokeDisplaced, GetDisplaced, IsDisplaced, LosesPiece}
-use Rattle.headline.specs.Reads.{AreLiveBefore, IsChosen}
+use Rattle.headline.specs.Reads.{AreLiveBefore, IsChosenPut}
 use Rattle.headline.specs.Verdicts
 use Rattle.headline.specs.Verdicts.{BreaksFor, IsGoneFor, IsMissingFor, IsReadOther}
 use Rattle.headline.proofs.Getting.{GoneHere, IsGone, IsOfPut, chosen_table, fragment_is, gone_here, is_listed}
@@ -102,8 +102,8 @@ module _ (segment live : ℕ) where
   stopped_lost p s r whole (inl verdict) = next_lost s r Why (breaks_for s whole r Why verdict) refl
   stopped_lost p s r whole (inr d) = absurd (other_displaces_none p s d.piece.row d.entry Why d.piece.other refl)
 
-pub break_was_displaced : (l : Logs) (a : Account l) (lines : List (List ℕ)) (name : List ℕ) (segment live : ℕ)
-    → Tells a lines (step.Next name) (answer.Broken (cause.Displaced segment live)) → BrokeDisplaced a.turns lines name segment live
+pub break_was_displaced : (l : RunLogs) (a : Account l) (lines : List (List ℕ)) (name : List ℕ) (segment live : ℕ)
+    → HistoryTells a lines (step.Next name) (answer.Broken (cause.Displaced segment live)) → BrokeDisplaced a.turns lines name segment live
 break_was_displaced l a lines name segment live at =
     let why : Cause = cause.Displaced segment live in
     let said : StepAnswer = answer.Broken why in
@@ -143,8 +143,8 @@ piece_lost s key put segment live table p whole (inr g) =
       lost = sym (ap (λ (x : State). cause_of_loss x (next_piece g.r)) g.same) ∙ next_lost segment live g.t g.r (cause.Displaced segment live) broken refl;
     }
 
-pub get_was_displaced : (l : Logs) (a : Account l) (lines : List (List ℕ)) (key : Key) (request : List Field) (segment live : ℕ)
-    → Tells a lines (step.Get key request) (answer.Broken (cause.Displaced segment live)) → GetDisplaced a.turns lines key request segment live
+pub get_was_displaced : (l : RunLogs) (a : Account l) (lines : List (List ℕ)) (key : Key) (request : List Field) (segment live : ℕ)
+    → HistoryTells a lines (step.Get key request) (answer.Broken (cause.Displaced segment live)) → GetDisplaced a.turns lines key request segment live
 get_was_displaced l a lines key request segment live at =
     let why : Cause = cause.Displaced segment live in
     let said : StepAnswer = answer.Broken why in
@@ -153,7 +153,7 @@ get_was_displaced l a lines key request segment live at =
     let h : GoneHere run f.turn key request why = gone_here run f.turn key request why f.takes f.is in
     let table : List TableRow = table_of_hit h.s key request in
     let b : PieceLost h.s key h.put table segment live = piece_lost h.s key h.put segment live table f.turn.device (whole_here lines f.earlier h.s f.legal h.state) h.is in
-    let chosen : IsChosen run key request b.piece.put = subst (IsChosen run key request) (sym b.put_is) (chosen_of run f.turn key request h.put 0 h.s h.state h.hits) in
+    let chosen : IsChosenPut run key request b.piece.put = subst (IsChosenPut run key request) (sym b.put_is) (chosen_of run f.turn key request h.put 0 h.s h.state h.hits) in
     record {
       did = did_before l a lines (step.Get key request) said f;
       s = h.s;

@@ -13,7 +13,7 @@ use Rattle.script_run.specs.Turn.{Turn}
 use Rattle.script_run.specs.Behind.{harm_in, harm_of, harms_of}
 use Rattle.script_run.specs.Takes.{ReadingShows, StepShows, run_after}
 use Rattle.run_promise.specs.Outline.{called}
-use Rattle.headline.specs.Account.{Account, AreBack, ComeBackFrom, IsDoubtedBehind, Logs, ShowsNext, doubted_harms, sessions_begun}
+use Rattle.headline.specs.Account.{Account, AreBack, ComeBackFrom, IsDoubtedBehind, RunLogs, ShowsNext, doubted_harms, sessions_begun}
 use Rattle.headline.proofs.Along.{run_length}
 use Rattle.headline.proofs.Counting.{device_of}
 use Rattle.headline.proofs.Honest.{doubt}
@@ -44,7 +44,7 @@ split_back (x ∷ xs) h (d ∷ ds) back =
 
 -- ---- a line that shows a pair
 
-module _ (l : Logs) (told : List (List ℕ)) (run : Run) (begun : length (harms_of run) ≡ sessions_begun told) where
+module _ (l : RunLogs) (told : List (List ℕ)) (run : Run) (begun : length (harms_of run) ≡ sessions_begun told) where
   last_doubted : (h : Harm) → sessions_begun told ≡ length run.ended + 1 → ComeBackFrom l (run.ended ++ doubt h ∷ []) → IsDoubtedBehind l told
   last_doubted h which come =
       let split = split_back run.ended (doubt h) come.devices come.told in
@@ -77,7 +77,7 @@ module _ (l : Logs) (told : List (List ℕ)) (run : Run) (begun : length (harms_
 not_none : (bytes : List ℕ) (later left : List (List ℕ)) → left ≡ bytes ∷ later → left ≡ [] → ⊥
 not_none bytes later left more none = cc
 
-pub pairs_are_doubted : (l : Logs) (a : Account l) (bytes : List ℕ) (later : List (List ℕ)) → a.left ≡ bytes ∷ later → IsDoubtedBehind l a.told
+pub pairs_are_doubted : (l : RunLogs) (a : Account l) (bytes : List ℕ) (later : List (List ℕ)) → a.left ≡ bytes ∷ later → IsDoubtedBehind l a.told
 pairs_are_doubted l a bytes later more =
     let run : Run = run_after fresh a.told a.turns in
     let counted : length (harms_of run) ≡ length (harms_of fresh) + sessions_begun a.told = run_length a.told a.turns fresh a.legal in

@@ -19,7 +19,7 @@ use Rattle.run_promise.specs.declared.status.Status.{Status}
 use Rattle.run_promise.specs.declared.status.Status.TheVariants as status
 use Rattle.run_promise.specs.Story.{Because, CutsLast, HoldsNoLine, IsBadLine, LacksCache, MeetsBayFault, Story, Told}
 use Rattle.run_promise.specs.Top.{EndsEarly, ReadsFailed, status_of}
-use Rattle.headline.specs.Account.{IsConcluded, Logs, begun_in, sessions_begun}
+use Rattle.headline.specs.Account.{IsConcluded, RunLogs, begun_in, sessions_begun}
 use Rattle.headline.specs.Endings.{AreTakeable, EndsFirst, EndsHere, GoesOnWith, HasNoSession, IsFine, LastWriteFailed, MayBeTaken}
 use Rattle.headline.proofs.Outlines.{none_begun, read_length}
 
@@ -45,7 +45,7 @@ takeable o n (bytes ∷ lines) (said ∷ answers) e are = (
 
 -- ---- what ended a run
 
-module _ (l : Logs) (lines : List (List ℕ)) (held : List ℕ) (given : ℕ) (answers : List (Option StepAnswer)) (counted : given ≡ length lines) (are : AreAnswered blank lines answers) where
+module _ (l : RunLogs) (lines : List (List ℕ)) (held : List ℕ) (given : ℕ) (answers : List (Option StepAnswer)) (counted : given ≡ length lines) (are : AreAnswered blank lines answers) where
   because_ends : (why : LastLine) → Because l.bay held given (outline_of blank lines answers) why → ReadsFailed l.first l.read (status_of why) → EndsHere l lines held (status_of why)
   because_ends last.Usage because failed = absurd because
   because_ends (last.BadScript number fault) because failed = (fault, subst (λ n. IsBadLine n held fault) counted because.1)
@@ -64,7 +64,7 @@ module _ (l : Logs) (lines : List (List ℕ)) (held : List ℕ) (given : ℕ) (a
         none = (none_begun blank lines answers are lacks.none).1;
       }
 
-module _ (l : Logs) where
+module _ (l : RunLogs) where
   ends_first : (held : List ℕ) (given : ℕ) (Text : (before all : List ℕ) → Type 0) (Devices : Told → Type 0) (Behind : Outline → Type 0) (Known : Run → Type 0) (s : Status)
       → (story : Story l.first l.read held given Text Devices Behind Known) → EndsHere l story.lines held s → EndsFirst l s
   ends_first held given Text Devices Behind Known s story ends = record {
@@ -129,7 +129,7 @@ no_write_failed old new f none =
     ap (λ (xs : List ℕ). xs ++ count ∷ []) (sym f.others) ∙ (sym (write_refused f.front count f.older) ∙ (ap refused_writes (sym f.is) ∙ none))
     )
 
-module _ (l : Logs) (read_none : NoReadFailed l.first l.read) (write_none : refused_writes l.new ≡ refused_writes l.old) (bay_none : l.bay.now ≡ l.bay.before)
+module _ (l : RunLogs) (read_none : NoReadFailed l.first l.read) (write_none : refused_writes l.new ≡ refused_writes l.old) (bay_none : l.bay.now ≡ l.bay.before)
     (fine : (reads : List SourceRead) → l.read ≡ reads ++ l.first → IsFine (text_read reads)) where
   goes_on : {s : Status} (h : EndsFirst l s) → GoesOnWith h.lines h.held
   goes_on h = fine h.reads h.since h.lines h.held h.taken.all h.taken.each h.takeable
@@ -155,7 +155,7 @@ module _ (l : Logs) (read_none : NoReadFailed l.first l.read) (write_none : refu
   only_done status.OutOfMemory h begun found = absurd (found refl)
   only_done status.TooManyLines h begun found = absurd (h.ends.more ((goes_on h).few h.ends.all))
 
-pub done_where_fine : (l : Logs) (s : Status) → IsConcluded l s → ReadsFailed l.first l.read s → s ≢ status.Usage → s ≢ status.OutOfMemory
+pub done_where_fine : (l : RunLogs) (s : Status) → IsConcluded l s → ReadsFailed l.first l.read s → s ≢ status.Usage → s ≢ status.OutOfMemory
     → NoReadFailed l.first l.read → refused_writes l.new ≡ refused_writes l.old → l.bay.now ≡ l.bay.before
     → ((reads : List SourceRead) → l.read ≡ reads ++ l.first → IsFine (text_read reads)) → s ≡ status.Done
 done_where_fine l s c failed begun memory read_none write_none bay_none fine =

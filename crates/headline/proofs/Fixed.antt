@@ -22,7 +22,7 @@ use Rattle.run_promise.specs.Lines.{TextsAreOutput, texts_of}
 use Rattle.run_promise.specs.declared.status.Status.TheVariants as status
 use Rattle.run_promise.specs.Story.{IsReadThrough, Recorded, ShownAlong, Taken, all_in}
 use Rattle.run_promise.specs.Top.{EachBack}
-use Rattle.headline.specs.Account.{ComeBackFrom, IsConcluded, Logs, OrShown}
+use Rattle.headline.specs.Account.{ComeBackFrom, IsConcluded, OrShown, RunLogs}
 use Rattle.headline.specs.Fixed.{AreSteady, GiveSame, HasDisplaced, IsSteady, OneDisplaced, ShowPair, TakeSame}
 use Rattle.headline.proofs.Devices.{come_back}
 use Rattle.headline.proofs.Honest.{no_line_shows}
@@ -80,7 +80,7 @@ displaces_or_not turns = elim (none_or_one (λ (turn : Turn). TellNoDisplacement
 
 -- ---- a run that was read to its end
 
-module _ (l : Logs) (c : IsConcluded l status.Done) where
+module _ (l : RunLogs) (c : IsConcluded l status.Done) where
   abbrev Lines : List (List ℕ)
   Lines = c.story.lines
 
@@ -137,7 +137,7 @@ module _ (l : Logs) (c : IsConcluded l status.Done) where
 
 -- ---- two of them
 
-module _ (fixed : OutputIsFixed) (texts : TextsAreOutput) (spells : SpelledAreLines) (l m : Logs) (c : IsConcluded l status.Done) (d : IsConcluded m status.Done) (same : GiveSame l m) where
+module _ (fixed : OutputIsFixed) (texts : TextsAreOutput) (spells : SpelledAreLines) (l m : RunLogs) (c : IsConcluded l status.Done) (d : IsConcluded m status.Done) (same : GiveSame l m) where
   lines_read : (lines : List (List ℕ)) → AreLines lines → lines_of (spelled lines ++ []) ≡ lines
   lines_read lines each = spells lines [] each ∙ append-nil lines
 

@@ -38,10 +38,10 @@ use Rattle.script_run.specs.Takes.{IsRun, StepTakes, Takes, run_after}
 use Rattle.script_run.proofs.Hitting.{IsAnswer, step_answers}
 use Rattle.script_run.proofs.Values.{value_here}
 use Rattle.reader_laws.proofs.Keeping.{gave_reader}
-use Rattle.headline.specs.Account.{Account, Logs, Tells}
+use Rattle.headline.specs.Account.{Account, HistoryTells, RunLogs}
 use Rattle.headline.specs.Breaks.{GetPassed}
-use Rattle.headline.specs.Reads.{AreLiveBefore, IsChosen}
-use Rattle.headline.specs.Standing.{IsBelow}
+use Rattle.headline.specs.Reads.{AreLiveBefore, IsChosenPut}
+use Rattle.headline.specs.Standing.{IsBelowFloor}
 use Rattle.headline.proofs.Breaking.{Breaks, breaks_so, broken_is, over, silent, under}
 use Rattle.headline.proofs.Causing.{unknown}
 use Rattle.headline.proofs.Lost.{no_standing_loss}
@@ -392,7 +392,7 @@ module _ (lines : List (List ℕ)) (turns : List Turn) (s : State) (legal : IsRu
     some : 0 < piece.index
     within : piece.index ≤ length table
     live : AreLiveBefore s key put piece.index
-    passed : IsBelow lines turns s piece place floor unsaved
+    passed : IsBelowFloor lines turns s piece place floor unsaved
 
   piece_by : (t : State) (r : ReaderRow) → IsOfPut s key put table r → AsBefore s t → Breaks t r Why → PieceBelow
   piece_by t r of_put same (under entry row cut dead found is) = record {
@@ -416,22 +416,22 @@ module _ (lines : List (List ℕ)) (turns : List Turn) (s : State) (legal : IsRu
       (breaks_so g.t g.r Why refl (λ id w lost. no_standing_loss lines turns s legal state id w (sym (ap (λ (x : State). cause_of_loss x id) g.same) ∙ lost)) g.verdict)
 
 -- the fragments of what is hit are those of the alternate that is chosen
-pub chosen_table : (run : Run) (s : State) (key : Key) (request : List Field) (put : ℕ) → run.state ≡ Some s → (c : IsChosen run key request put) → table_of_hit s key request ≡ c.alternate.table
+pub chosen_table : (run : Run) (s : State) (key : Key) (request : List Field) (put : ℕ) → run.state ≡ Some s → (c : IsChosenPut run key request put) → table_of_hit s key request ≡ c.alternate.table
 chosen_table run s key request put state c =
     let same : c.s ≡ s = same_some c.s s run.state c.state state in
     let found : hit s key request ≡ Some c.alternate = subst (λ (x : State). hit x key request ≡ Some c.alternate) same c.found in
     ap (λ (o : Option Stored). unwrap_or (option_map (λ (a : Stored). a.table) o) []) found
 
-pub get_was_passed : (l : Logs) (a : Account l) (lines : List (List ℕ)) (key : Key) (request : List Field) (place floor : ℕ) (unsaved : Bool)
-    → Tells a lines (step.Get key request) (answer.Broken (cause.Passed place floor unsaved)) → GetPassed a.turns lines key request place floor unsaved
+pub get_was_passed : (l : RunLogs) (a : Account l) (lines : List (List ℕ)) (key : Key) (request : List Field) (place floor : ℕ) (unsaved : Bool)
+    → HistoryTells a lines (step.Get key request) (answer.Broken (cause.Passed place floor unsaved)) → GetPassed a.turns lines key request place floor unsaved
 get_was_passed l a lines key request place floor unsaved at =
     let why : Cause = cause.Passed place floor unsaved in
     let said : StepAnswer = answer.Broken why in
     let f = told_line l a lines (step.Get key request) said at in
     let h : GoneHere (run_after fresh lines f.earlier) f.turn key request why = gone_here (run_after fresh lines f.earlier) f.turn key request why f.takes f.is in
     let b = gone_below lines f.earlier h.s f.legal h.state key h.put (table_of_hit h.s key request) f.turn.device place floor unsaved h.is in
-    let hits : IsChosen (run_after fresh lines f.earlier) key request h.put = chosen_of (run_after fresh lines f.earlier) f.turn key request h.put 0 h.s h.state h.hits in
-    let chosen : IsChosen (run_after fresh lines f.earlier) key request b.piece.put = subst (IsChosen (run_after fresh lines f.earlier) key request) (sym b.put_is) hits in
+    let hits : IsChosenPut (run_after fresh lines f.earlier) key request h.put = chosen_of (run_after fresh lines f.earlier) f.turn key request h.put 0 h.s h.state h.hits in
+    let chosen : IsChosenPut (run_after fresh lines f.earlier) key request b.piece.put = subst (IsChosenPut (run_after fresh lines f.earlier) key request) (sym b.put_is) hits in
     record {
       did = did_before l a lines (step.Get key request) said f;
       s = h.s;

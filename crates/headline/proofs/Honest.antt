@@ -14,7 +14,7 @@ use Rattle.script_run.specs.Turn.{Turn}
 use Rattle.script_run.specs.Behind.{harm_in, harm_of}
 use Rattle.script_run.specs.Takes.{LineShows, ReadingShows, StepShows, run_after}
 use Rattle.run_promise.specs.Outline.{called}
-use Rattle.headline.specs.Account.{Account, AllTell, AreBack, ComeBackFrom, Logs, ShowsNext, doubted_harms}
+use Rattle.headline.specs.Account.{Account, AllTell, AreBack, ComeBackFrom, RunLogs, ShowsNext, doubted_harms}
 
 -- what was told of a device that did not tell its content
 abbrev pub doubt : Harm → Harm
@@ -26,7 +26,7 @@ none_doubted [] h (d ∷ ds) back tell = no_truth (back.0.unharmed tell.0)
 none_doubted (x ∷ hs) h [] back tell = absurd back
 none_doubted (x ∷ hs) h (d ∷ ds) back tell = none_doubted hs h ds back.1 tell.1
 
-module _ (l : Logs) (tell : AllTell l) (run : Run) where
+module _ (l : RunLogs) (tell : AllTell l) (run : Run) where
   -- a line without a session shows nothing
   step_shows : (turn : Turn) (o : Option State) (step : Step) → StepShows run turn o step
       → ComeBackFrom l (run.ended ++ map doubt (harm_of (turn.device.events ++ run.calls) o)) → ⊥
@@ -46,7 +46,7 @@ module _ (l : Logs) (tell : AllTell l) (run : Run) where
   none_next [] shows = absurd shows
   none_next (bytes ∷ lines) shows = no_line_shows bytes shows.0 shows.1 shows.2
 
-pub honest_runs_are_whole : (l : Logs) → AllTell l → (a : Account l) → a.left ≡ []
+pub honest_runs_are_whole : (l : RunLogs) → AllTell l → (a : Account l) → a.left ≡ []
 honest_runs_are_whole l tell a = elim a.whole [
   | inl none ↦ none
   | inr shows ↦ absurd (none_next l tell (run_after fresh a.told a.turns) a.left shows)

@@ -18,7 +18,7 @@ use Rattle.cache_model.specs.Legal.{format_records}
 use Rattle.cache_model.proofs.Found.{no_truth, none_is, same_some}
 use Rattle.cache_model.proofs.Lists.{row_in-without, row_in-placed, row_in-copied}
 use Rattle.script_laws.proofs.Groups.{IsKept}
-use Rattle.headline.specs.Standing.{BringsTo, ChangesVector, Completes, CompletesPut, GivesUp, LeavesAt, Shifts}
+use Rattle.headline.specs.Standing.{BringsTo, ChangesVector, Completes, CompletesPut, GivesUpKey, LeavesAt, Shifts}
 use Rattle.headline.proofs.Last.{ByRecord}
 use Rattle.headline.proofs.Staying.{found_none, other_by}
 
@@ -88,7 +88,7 @@ module _ (key : Key) (put : ℕ) where
       inr (λ i. rec.Aborted (number i) (name i))
   abort_by_abort s n k false e h = inl (h, other_key key k e)
 
-  pub last_abort_by : (p : Permit) (s : State) (r : Rec) → IsKept p r → IsLastAbort (state_after s r) → ByRecord IsLastAbort IsAbort (GivesUp key) s r
+  pub last_abort_by : (p : Permit) (s : State) (r : Rec) → IsKept p r → IsLastAbort (state_after s r) → ByRecord IsLastAbort IsAbort (GivesUpKey key) s r
   last_abort_by p s (rec.Formatted geometry) kept h = absurd kept
   last_abort_by p s (rec.Opened geometry serial cursor floor next_put clean list) kept h = absurd kept
   last_abort_by p s (rec.Aborted n k) kept h = abort_by_abort s n k (same_key k key) refl h

@@ -21,10 +21,10 @@ use Rattle.script_run.specs.Own.{IsComplete, IsListedOf}
 use Rattle.script_run.proofs.Hitting.{IsHitOf, hit_listed}
 use Rattle.script_laws.proofs.Groups.{IsKept}
 use Rattle.reader_laws.specs.Laws.{LegalIsKept}
-use Rattle.headline.specs.Account.{Account, Logs, Tells}
-use Rattle.headline.specs.Reads.{DidBefore, IsChosen}
+use Rattle.headline.specs.Account.{Account, HistoryTells, RunLogs}
+use Rattle.headline.specs.Reads.{DidBefore, IsChosenPut}
 use Rattle.headline.specs.Standing
-use Rattle.headline.specs.Standing.{ChangesVector, ClosesPut, CompletesPut, Finds, HasRecorded, HasRecordedLast, IsListed}
+use Rattle.headline.specs.Standing.{ChangesVector, ClosesPut, CompletesPut, FindsPut, HasRecorded, HasRecordedLast, IsListedPut}
 use Rattle.headline.proofs.Answered.{closed_answered, put_answered}
 use Rattle.headline.proofs.Last.{ByRecord, told_last}
 use Rattle.headline.proofs.Opened.{kept_here}
@@ -59,10 +59,10 @@ module _ (s : State) (key : Key) (a : Stored) where
   lists_it : IsAmong a (alternates_of s key) → Lists
   lists_it among = by_last (last_vector s key) refl among
 
-finds_chosen : (run : Run) (turn : Turn) (asks : Step) (said : StepAnswer) (key : Key) (request : List Field) (put : ℕ) → Finds key request put asks said → StepTakes run turn asks
-    → said ≡ step_answer run turn asks → IsChosen run key request put
-finds_chosen run turn asks said key request put (Standing.Finds.gets size bytes) takes is = get_chosen run turn key request put size bytes run.state refl takes (sym is)
-finds_chosen run turn asks said key request put (Standing.Finds.opens name size) takes is = open_chosen run turn key request put size name run.state refl takes (sym is)
+finds_chosen : (run : Run) (turn : Turn) (asks : Step) (said : StepAnswer) (key : Key) (request : List Field) (put : ℕ) → FindsPut key request put asks said → StepTakes run turn asks
+    → said ≡ step_answer run turn asks → IsChosenPut run key request put
+finds_chosen run turn asks said key request put (Standing.FindsPut.gets size bytes) takes is = get_chosen run turn key request put size bytes run.state refl takes (sym is)
+finds_chosen run turn asks said key request put (Standing.FindsPut.opens name size) takes is = open_chosen run turn key request put size name run.state refl takes (sym is)
 
 -- ---- its put
 
@@ -93,12 +93,12 @@ put_closed law lines turns s legal state key request put h =
     let found : put_of s put ≡ Some listed.w = subst (λ n. put_of s n ≡ Some listed.w) h.put_is listed.found in
     closed_by lines turns s legal state put listed.w found (closed_here s listed.w h.a.put k.1 listed.complete)
 
-pub found_is_listed : (law : LegalIsKept) (l : Logs) (a : Account l) (lines : List (List ℕ)) (asks : Step) (said : StepAnswer) (key : Key) (request : List Field) (put : ℕ)
-    → Finds key request put asks said → Tells a lines asks said → IsListed a lines key request put
+pub found_is_listed : (law : LegalIsKept) (l : RunLogs) (a : Account l) (lines : List (List ℕ)) (asks : Step) (said : StepAnswer) (key : Key) (request : List Field) (put : ℕ)
+    → FindsPut key request put asks said → HistoryTells a lines asks said → IsListedPut a lines key request put
 found_is_listed law l a lines asks said key request put finds at =
     let f = told_line l a lines asks said at in
     let run : Run = run_after fresh lines f.earlier in
-    let c : IsChosen run key request put = finds_chosen run f.turn asks said key request put finds f.takes f.is in
+    let c : IsChosenPut run key request put = finds_chosen run f.turn asks said key request put finds f.takes f.is in
     let matches = hit_matches c.s key request c.alternate c.found in
     let by : Lists c.s key c.alternate = lists_it c.s key c.alternate matches.0 in
     let did : DidBefore a.turns lines = did_before l a lines asks said f in

@@ -30,7 +30,7 @@ use Rattle.script_run.specs.Turn.{Turn, lookup_in, told_in}
 use Rattle.script_run.specs.Answers.{broken_said, end_said, get_said, if_free, lookup_said, miss_said, remove_said, step_answer, step_said}
 use Rattle.script_run.specs.Takes.{StepTakes, Takes}
 use Rattle.headline.specs.Misses
-use Rattle.headline.specs.Misses.{Misses}
+use Rattle.headline.specs.Misses.{MissesKey}
 use Rattle.headline.specs.Reads
 use Rattle.headline.specs.Reads.{AsksFor}
 
@@ -201,10 +201,10 @@ module _ (run : Run) (turn : Turn) (key : Key) (why : Cause) where
   missed : (request : List Field) → LooksHere run key request why → MissesHere run key why
   missed request h = record { s = h.s; state = h.state; is = cause_is h.s key request why h.is }
 
-  pub misses_here : {asks : Step} {said : StepAnswer} → Misses key why asks said → StepTakes run turn asks → said ≡ step_answer run turn asks → MissesHere run key why
-  misses_here (Misses.Misses.gets request) takes said = missed request (get_here request run.state refl takes (sym said))
-  misses_here (Misses.Misses.opens name request) takes said = missed request (open_here name request run.state refl takes (sym said))
-  misses_here Misses.Misses.removes takes said = absent (absent_here takes said)
+  pub misses_here : {asks : Step} {said : StepAnswer} → MissesKey key why asks said → StepTakes run turn asks → said ≡ step_answer run turn asks → MissesHere run key why
+  misses_here (Misses.MissesKey.gets request) takes said = missed request (get_here request run.state refl takes (sym said))
+  misses_here (Misses.MissesKey.opens name request) takes said = missed request (open_here name request run.state refl takes (sym said))
+  misses_here Misses.MissesKey.removes takes said = absent (absent_here takes said)
 
   pub looks_here : (request : List Field) {asks : Step} → AsksFor key request asks → StepTakes run turn asks → answer.Miss why ≡ step_answer run turn asks → LooksHere run key request why
   looks_here request Reads.AsksFor.gets takes said = get_here request run.state refl takes (sym said)

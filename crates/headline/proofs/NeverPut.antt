@@ -20,8 +20,8 @@ use Rattle.script_run.specs.Turn.{Turn}
 use Rattle.script_run.specs.Takes.{run_after}
 use Rattle.script_laws.specs.Vectors.{AreOnRecord, AreOnRecordWhere, IsOnRecord, VectorsAreOnRecord}
 use Rattle.script_laws.proofs.Groups.{IsKept}
-use Rattle.headline.specs.Account.{Account, Logs, Tells}
-use Rattle.headline.specs.Misses.{EndsPut, HasEnded, HasEndedNone, Misses}
+use Rattle.headline.specs.Account.{Account, HistoryTells, RunLogs}
+use Rattle.headline.specs.Misses.{EndsPut, HasEnded, HasEndedNone, MissesKey}
 use Rattle.headline.specs.Standing.{HasRecorded}
 use Rattle.headline.proofs.Causing.{Stands, below, dropped, lists, never, out, standing_here, untold}
 use Rattle.headline.proofs.Missing.{MissesHere, misses_here}
@@ -93,8 +93,8 @@ module _ (key : Key) where
 
 -- ---- a line that is answered so
 
-pub never_put_was_none : (law : VectorsAreOnRecord) (l : Logs) (a : Account l) (lines : List (List ℕ)) (asks : Step) (said : StepAnswer) (key : Key)
-    → Misses key cause.NeverPut asks said → Tells a lines asks said → HasEndedNone a.turns lines key
+pub never_put_was_none : (law : VectorsAreOnRecord) (l : RunLogs) (a : Account l) (lines : List (List ℕ)) (asks : Step) (said : StepAnswer) (key : Key)
+    → MissesKey key cause.NeverPut asks said → HistoryTells a lines asks said → HasEndedNone a.turns lines key
 never_put_was_none law l a lines asks said key misses at =
     let f = told_line l a lines asks said at in
     let run : Run = run_after fresh lines f.earlier in

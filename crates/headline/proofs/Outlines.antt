@@ -18,7 +18,7 @@ use Rattle.script_run.specs.Takes.{run_after}
 use Rattle.run_promise.specs.Outline.{Outline, all_told, begun, begun_by, called, count_in, doubted, joined, outline_in, raised, told_of}
 use Rattle.run_promise.specs.Lines.{AreAnswered, IsReadAs, outline_of, outline_read}
 use Rattle.run_promise.specs.Story.{ShownAlong, Told, all_in}
-use Rattle.headline.specs.Account.{ComeBackFrom, Logs, begun_in, doubted_harms, sessions_begun}
+use Rattle.headline.specs.Account.{ComeBackFrom, RunLogs, begun_in, doubted_harms, sessions_begun}
 use Rattle.headline.proofs.Honest.{doubt}
 use Rattle.headline.proofs.Devices.{AreWithin, IsWithin, all_within_self, all_within_trans, come_within, goes_on_none, within_behind, within_front}
 
@@ -78,7 +78,7 @@ doubted_within run =
 
 -- what the records told before a pair was shown, and the calls of the turn that shows it, are told in the end; of its device
 -- what is told is doubted
-pub shown_made : (l : Logs) (lines : List (List ℕ)) (answers : List (Option StepAnswer)) (Devices : Told → Type 0) (Behind : Outline → Type 0) → ((t : Told) → Devices t → ComeBackFrom l (all_in t))
+pub shown_made : (l : RunLogs) (lines : List (List ℕ)) (answers : List (Option StepAnswer)) (Devices : Told → Type 0) (Behind : Outline → Type 0) → ((t : Told) → Devices t → ComeBackFrom l (all_in t))
     → (p : ShownAlong lines answers Devices Behind) → ComeBackFrom l (doubted_harms (called (run_after fresh p.before p.earlier) p.turn))
 shown_made l lines answers Devices Behind back p =
     let run : Run = called (run_after fresh p.before p.earlier) p.turn in
@@ -88,7 +88,7 @@ shown_made l lines answers Devices Behind back p =
     (all_within_trans (doubted_harms run) (all_told first) (all_told last) (doubted_within run) (outline_within first (p.bytes ∷ p.after) p.rest))
     (back _ p.outline.devices)
 
-pub shown_before : (l : Logs) (run : Run) (turn : Turn) → ComeBackFrom l (doubted_harms (called run turn)) → ComeBackFrom l (harms_of run)
+pub shown_before : (l : RunLogs) (run : Run) (turn : Turn) → ComeBackFrom l (doubted_harms (called run turn)) → ComeBackFrom l (harms_of run)
 shown_before l run turn come = come_within l (harms_of run) (doubted_harms (called run turn)) (called_within run turn) come
 
 -- ---- how many sessions were begun

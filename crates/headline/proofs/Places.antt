@@ -20,7 +20,7 @@ use Rattle.script_run.specs.Takes.{IsRun, ReadingTakes, SessionTakes, StepTakes,
 use Rattle.script_laws.specs.Causes.{cause_answered}
 use Rattle.script_laws.specs.Runs.{answers_damage, answers_fault}
 use Rattle.run_promise.specs.Lines.{answers_of, reading_answer}
-use Rattle.headline.specs.Account.{Account, Logs, Tells}
+use Rattle.headline.specs.Account.{Account, HistoryTells, RunLogs}
 
 -- the line behind these: its turn among the others, and the run that goes on behind it
 pub record Found (run : Run) (turns : List Turn) (before : List (List ℕ)) (asks : Step) (said : StepAnswer) (end : Run) : Type 0 where
@@ -74,7 +74,7 @@ module _ (asks : Step) (said : StepAnswer) where
       }
 
 -- a line that an account tells
-pub told_line : (l : Logs) (a : Account l) (before : List (List ℕ)) (asks : Step) (said : StepAnswer) → Tells a before asks said
+pub told_line : (l : RunLogs) (a : Account l) (before : List (List ℕ)) (asks : Step) (said : StepAnswer) → HistoryTells a before asks said
     → Found fresh a.turns before asks said (run_after fresh a.told a.turns)
 told_line l a before asks said at =
     let h = found asks said fresh before at.bytes at.later a.turns at.front at.rest

@@ -36,7 +36,7 @@ use Rattle.reader_laws.specs.Actors.{IsOpenedBy, asked_by, follows, given_by_nam
 use Rattle.reader_laws.specs.Along.{IsOfScript, StandsKept}
 use Rattle.reader_laws.specs.Given.{given_to}
 use Rattle.reader_laws.specs.Laws.{AllGiven, HasGivenAll}
-use Rattle.headline.specs.Account.{Account, Logs, Tells}
+use Rattle.headline.specs.Account.{Account, HistoryTells, RunLogs}
 use Rattle.headline.specs.Readers.{IsReadToEnd}
 use Rattle.headline.specs.Standing.{ClosesPut, HasRecorded}
 use Rattle.headline.proofs.Breaking.{never_stays}
@@ -180,7 +180,7 @@ put_by run s n r size (Some table) hit kept quiet found verdict =
     record { w = t.w; found = t.found; closed = closed_here s t.w r.put quiet t.complete }
 put_by run s n r size None none kept quiet found verdict = let c = followed_is_closed s r size none verdict in record { w = c.0; found = c.1.0; closed = c.1.1 }
 
-module _ (laws : OfReaders) (all : AllGiven) (l : Logs) (a : Account l) (lines : List (List ℕ)) (name : List ℕ) (size : ℕ) (at : Tells a lines (step.Next name) (answer.End size)) where
+module _ (laws : OfReaders) (all : AllGiven) (l : RunLogs) (a : Account l) (lines : List (List ℕ)) (name : List ℕ) (size : ℕ) (at : HistoryTells a lines (step.Next name) (answer.End size)) where
   abbrev F : Type 0
   F = Found fresh a.turns lines (step.Next name) (answer.End size) (run_after fresh a.told a.turns)
 
@@ -232,7 +232,7 @@ module _ (laws : OfReaders) (all : AllGiven) (l : Logs) (a : Account l) (lines :
         ∙ drop-append-add Front (Here ∷ (Behind ++ a.rest)) 1)
 
     tells : (said : StepAnswer) → step_answer Before o.turn (step.OpenRead o.opens.actor o.opens.key o.opens.request) ≡ said
-        → Tells a o.before (step.OpenRead name o.opens.key o.opens.request) said
+        → HistoryTells a o.before (step.OpenRead name o.opens.key o.opens.request) said
     tells said is = record {
       bytes = o.bytes;
       reading = o.opens.reading ∙ ap (λ (x : List ℕ). line.Step (step.OpenRead x o.opens.key o.opens.request)) o.actor_is;
@@ -244,7 +244,7 @@ module _ (laws : OfReaders) (all : AllGiven) (l : Logs) (a : Account l) (lines :
       as_many = as_many;
     }
 
-    said : ((n : ℕ) × Tells a o.before (step.OpenRead name o.opens.key o.opens.request) (answer.Hit o.r.put n)) ⊎ Tells a o.before (step.OpenRead name o.opens.key o.opens.request) (answer.Follow o.r.put)
+    said : ((n : ℕ) × HistoryTells a o.before (step.OpenRead name o.opens.key o.opens.request) (answer.Hit o.r.put n)) ⊎ HistoryTells a o.before (step.OpenRead name o.opens.key o.opens.request) (answer.Follow o.r.put)
     said = elim o.said [
       | hits n is ↦ inl (n, tells (answer.Hit o.r.put n) is)
       | follows is ↦ inr (tells (answer.Follow o.r.put) is)

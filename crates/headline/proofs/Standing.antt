@@ -23,12 +23,12 @@ use Rattle.script_run.specs.Turn.{Turn}
 use Rattle.script_run.specs.Takes.{IsRun, run_after}
 use Rattle.script_laws.specs.Counts.{IsCountedWhere, RunsAreCounted}
 use Rattle.reader_laws.specs.Laws.{LegalIsKept}
-use Rattle.headline.specs.Account.{Account, Logs, Tells}
+use Rattle.headline.specs.Account.{Account, HistoryTells, RunLogs}
 use Rattle.headline.specs.Misses
-use Rattle.headline.specs.Misses.{Misses}
+use Rattle.headline.specs.Misses.{MissesKey}
 use Rattle.headline.specs.Reads
 use Rattle.headline.specs.Reads.{AsksFor, DidBefore}
-use Rattle.headline.specs.Standing.{BringsTo, ChangesVector, Completes, CompletesPut, FitsNone, GivesUp, HasRecorded, HasRecordedLast, IsBelow, LeavesAt, Shifts, WasGivenUp, WasPassed, WasRemoved}
+use Rattle.headline.specs.Standing.{BringsTo, ChangesVector, Completes, CompletesPut, FitsNone, GivesUpKey, HasRecorded, HasRecordedLast, IsBelowFloor, LeavesAt, Shifts, WasGivenUp, WasPassed, WasRemoved}
 use Rattle.headline.proofs.Answered.{giving_up_answered, put_answered, removal_answered}
 use Rattle.headline.proofs.Causing.{Stands, below, dropped, lists, never, out, standing_here, stands_so, unknown, untold}
 use Rattle.headline.proofs.Keeping.{HasVector, IsAbort, IsComplete, IsLastAbort, IsRemoval, IsTakenOut, IsUnsaved, StandsAt, complete_by, formats_change_none, last_abort_by, left_at_by, stands_at_by, taken_out_by, vector_by, vector_stays}
@@ -58,7 +58,7 @@ module _ (lines : List (List ℕ)) (turns : List Turn) (s : State) (legal : IsRu
   -- ---- aborted
 
   record IsGivenUp (put : ℕ) : Type 0 where
-    aborted : HasRecordedLast (IsAbort key put) (GivesUp key) lines turns
+    aborted : HasRecordedLast (IsAbort key put) (GivesUpKey key) lines turns
     none : HasRecorded (ChangesVector key) lines turns → ⊥
 
   given_up : (put : ℕ) → Stands s key (cause.Aborted put) → IsGivenUp put
@@ -69,7 +69,7 @@ module _ (lines : List (List ℕ)) (turns : List Turn) (s : State) (legal : IsRu
   given_up put (dropped n last abort same) =
       let number : n ≡ put = cc in
       record {
-        aborted = told_last (IsLastAbort key put) (IsAbort key put) (GivesUp key) (λ g h. none_is h) (last_abort_by key put) lines turns s legal state (abort ∙ ap (λ x. Some x) number);
+        aborted = told_last (IsLastAbort key put) (IsAbort key put) (GivesUpKey key) (λ g h. none_is h) (last_abort_by key put) lines turns s legal state (abort ∙ ap (λ x. Some x) number);
         none = recorded_none (ChangesVector key) (HasVector key) (formats_change_none key) (vector_by key) (vector_stays key) lines turns s legal state (λ has. has last);
       }
   given_up put (never last abort same) = no_truth (sym (unknown s (cause.Aborted put) same))
@@ -151,7 +151,7 @@ dead_by row false h = refl
 
 -- a piece that stands, and is not live, is below the floor
 pub is_below : (lines : List (List ℕ)) (turns : List Turn) (s : State) → IsRun fresh lines turns → (run_after fresh lines turns).state ≡ Some s → (piece : PieceId) (row : Row)
-    (place floor : ℕ) (unsaved : Bool) → live_row_of s piece ≡ None → row_of s piece ≡ Some row → passed s row ≡ cause.Passed place floor unsaved → IsBelow lines turns s piece place floor unsaved
+    (place floor : ℕ) (unsaved : Bool) → live_row_of s piece ≡ None → row_of s piece ≡ Some row → passed s row ≡ cause.Passed place floor unsaved → IsBelowFloor lines turns s piece place floor unsaved
 is_below lines turns s legal state piece row place floor unsaved dead found same =
     let place_is : row.place ≡ place = ap place_in same in
     let floor_is : floor_now s ≡ floor = ap floor_in same in
@@ -179,7 +179,7 @@ module _ (lines : List (List ℕ)) (turns : List Turn) (s : State) (legal : IsRu
   record Below : Type 0 where
     put : ℕ
     completed : HasRecordedLast (CompletesPut key put) (ChangesVector key) lines turns
-    passed : IsBelow lines turns s (vector_piece key put) place floor unsaved
+    passed : IsBelowFloor lines turns s (vector_piece key put) place floor unsaved
 
   vector_below : Stands s key Why → Below
   vector_below (out put last same) = absurd cc
@@ -195,8 +195,8 @@ module _ (lines : List (List ℕ)) (turns : List Turn) (s : State) (legal : IsRu
 
 -- ---- lines that are answered so
 
-pub removed_was_recorded : (l : Logs) (a : Account l) (lines : List (List ℕ)) (asks : Step) (said : StepAnswer) (key : Key)
-    → Misses key cause.Removed asks said → Tells a lines asks said → WasRemoved a lines key
+pub removed_was_recorded : (l : RunLogs) (a : Account l) (lines : List (List ℕ)) (asks : Step) (said : StepAnswer) (key : Key)
+    → MissesKey key cause.Removed asks said → HistoryTells a lines asks said → WasRemoved a lines key
 removed_was_recorded l a lines asks said key misses at =
     let f = told_line l a lines asks said at in
     let run : Run = run_after fresh lines f.earlier in
@@ -210,8 +210,8 @@ removed_was_recorded l a lines asks said key misses at =
       answered = removal_answered l a lines asks said at did r.0 key r.1.is;
     }
 
-pub aborted_was_last : (law : LegalIsKept) (l : Logs) (a : Account l) (lines : List (List ℕ)) (asks : Step) (said : StepAnswer) (key : Key) (put : ℕ)
-    → Misses key (cause.Aborted put) asks said → Tells a lines asks said → WasGivenUp a lines key put
+pub aborted_was_last : (law : LegalIsKept) (l : RunLogs) (a : Account l) (lines : List (List ℕ)) (asks : Step) (said : StepAnswer) (key : Key) (put : ℕ)
+    → MissesKey key (cause.Aborted put) asks said → HistoryTells a lines asks said → WasGivenUp a lines key put
 aborted_was_last law l a lines asks said key put misses at =
     let f = told_line l a lines asks said at in
     let run : Run = run_after fresh lines f.earlier in
@@ -232,8 +232,8 @@ no_match_here lines turns key request count legal h counts = elim h.is [
   | inl missed ↦ unfit h.s key request count counts missed (stands_so h.s key (cause.NoMatch count) refl (no_standing_loss lines turns h.s legal h.state) missed.is)
 ]
 
-fits_none : (kept : LegalIsKept) (law : RunsAreCounted) (l : Logs) (a : Account l) (lines : List (List ℕ)) (asks : Step) (key : Key) (request : List Field) (count : ℕ)
-    → AsksFor key request asks → Tells a lines asks (answer.Miss (cause.NoMatch count)) → FitsNone a lines key request count
+fits_none : (kept : LegalIsKept) (law : RunsAreCounted) (l : RunLogs) (a : Account l) (lines : List (List ℕ)) (asks : Step) (key : Key) (request : List Field) (count : ℕ)
+    → AsksFor key request asks → HistoryTells a lines asks (answer.Miss (cause.NoMatch count)) → FitsNone a lines key request count
 fits_none kept law l a lines asks key request count asking at =
     let said : StepAnswer = answer.Miss (cause.NoMatch count) in
     let f = told_line l a lines asks said at in
@@ -267,23 +267,23 @@ removal_lists_none s key count none (untold put last gone lost same) = no_truth 
 removal_lists_none s key count none (dropped put last abort same) = cc
 removal_lists_none s key count none (never last abort same) = no_truth (sym (unknown s (cause.NoMatch count) same))
 
-no_removal : (l : Logs) (a : Account l) (lines : List (List ℕ)) (key : Key) (count : ℕ) → Tells a lines (step.Remove key) (answer.Absent (cause.NoMatch count)) → ⊥
+no_removal : (l : RunLogs) (a : Account l) (lines : List (List ℕ)) (key : Key) (count : ℕ) → HistoryTells a lines (step.Remove key) (answer.Absent (cause.NoMatch count)) → ⊥
 no_removal l a lines key count at =
     let why : Cause = cause.NoMatch count in
     let f = told_line l a lines (step.Remove key) (answer.Absent why) at in
     let h : AbsentHere (run_after fresh lines f.earlier) key why = absent_here (run_after fresh lines f.earlier) f.turn key why f.takes f.is in
     removal_lists_none h.s key count h.none (stands_so h.s key why refl (no_standing_loss lines f.earlier h.s f.legal h.state) h.is)
 
-pub no_match_fits_none : (kept : LegalIsKept) (law : RunsAreCounted) (l : Logs) (a : Account l) (lines : List (List ℕ)) (asks : Step) (said : StepAnswer) (key : Key) (count : ℕ)
-    → Misses key (cause.NoMatch count) asks said → Tells a lines asks said → (request : List Field) × AsksFor key request asks × FitsNone a lines key request count
-no_match_fits_none kept law l a lines asks said key count (Misses.Misses.gets request) at =
+pub no_match_fits_none : (kept : LegalIsKept) (law : RunsAreCounted) (l : RunLogs) (a : Account l) (lines : List (List ℕ)) (asks : Step) (said : StepAnswer) (key : Key) (count : ℕ)
+    → MissesKey key (cause.NoMatch count) asks said → HistoryTells a lines asks said → (request : List Field) × AsksFor key request asks × FitsNone a lines key request count
+no_match_fits_none kept law l a lines asks said key count (Misses.MissesKey.gets request) at =
     (request, Reads.AsksFor.gets, fits_none kept law l a lines (step.Get key request) key request count Reads.AsksFor.gets at)
-no_match_fits_none kept law l a lines asks said key count (Misses.Misses.opens name request) at =
+no_match_fits_none kept law l a lines asks said key count (Misses.MissesKey.opens name request) at =
     (request, Reads.AsksFor.opens name, fits_none kept law l a lines (step.OpenRead name key request) key request count (Reads.AsksFor.opens name) at)
-no_match_fits_none kept law l a lines asks said key count Misses.Misses.removes at = absurd (no_removal l a lines key count at)
+no_match_fits_none kept law l a lines asks said key count Misses.MissesKey.removes at = absurd (no_removal l a lines key count at)
 
-pub passed_was_placed : (kept : LegalIsKept) (l : Logs) (a : Account l) (lines : List (List ℕ)) (asks : Step) (said : StepAnswer) (key : Key) (place floor : ℕ) (unsaved : Bool)
-    → Misses key (cause.Passed place floor unsaved) asks said → Tells a lines asks said → WasPassed a lines key place floor unsaved
+pub passed_was_placed : (kept : LegalIsKept) (l : RunLogs) (a : Account l) (lines : List (List ℕ)) (asks : Step) (said : StepAnswer) (key : Key) (place floor : ℕ) (unsaved : Bool)
+    → MissesKey key (cause.Passed place floor unsaved) asks said → HistoryTells a lines asks said → WasPassed a lines key place floor unsaved
 passed_was_placed kept l a lines asks said key place floor unsaved misses at =
     let why : Cause = cause.Passed place floor unsaved in
     let f = told_line l a lines asks said at in

@@ -32,8 +32,8 @@ use Rattle.script_laws.specs.Damages.{DamageIsRecorded, DamageStays}
 use Rattle.script_laws.specs.Runs.{answers_damage, answers_fault}
 use Rattle.script_laws.specs.Troubles.{FaultIsRecorded}
 use Rattle.run_promise.specs.Outline.{count_in}
-use Rattle.headline.specs.Account.{Account, Answers, ComeBackFrom, IsDeviceBehind, Logs, Tells, sessions_begun}
-use Rattle.headline.specs.Causes.{WasRefused}
+use Rattle.headline.specs.Account.{Account, ComeBackFrom, HistoryTells, IsDeviceBehind, RunAnswers, RunLogs, sessions_begun}
+use Rattle.headline.specs.Causes.{WasRefusedInLine}
 use Rattle.headline.specs.Reads.{DidBefore}
 use Rattle.headline.proofs.Along.{AreSeen, IsSeen, all_seen, device_seen, no_loss, run_length}
 use Rattle.headline.proofs.Counting.{counts_are_reached}
@@ -41,7 +41,7 @@ use Rattle.headline.proofs.Places.{Found, OnSession, kind_of, told_line}
 
 -- ---- a line that an account tells, on a session
 
-module _ (l : Logs) (a : Account l) (lines : List (List ℕ)) (asks : Step) (said : StepAnswer) (f : Found fresh a.turns lines asks said (run_after fresh a.told a.turns)) where
+module _ (l : RunLogs) (a : Account l) (lines : List (List ℕ)) (asks : Step) (said : StepAnswer) (f : Found fresh a.turns lines asks said (run_after fresh a.told a.turns)) where
   abbrev Before : Run
   Before = run_after fresh lines f.earlier
 
@@ -136,7 +136,7 @@ module _ (recorded : FaultIsRecorded) (traced : AnswersAreTraced) (rise : Faults
       subst (λ x. 0 < count_in x) is (named_above named.0 (ap cause_answered is ∙ named.1) named.2)
 
 -- a line that is told is a line
-answers_too : (l : Logs) (a : Account l) (lines : List (List ℕ)) (asks : Step) (said : StepAnswer) → Tells a lines asks said → Answers a lines asks said
+answers_too : (l : RunLogs) (a : Account l) (lines : List (List ℕ)) (asks : Step) (said : StepAnswer) → HistoryTells a lines asks said → RunAnswers a lines asks said
 answers_too l a lines asks said at = record {
   bytes = at.bytes;
   reading = at.reading;
@@ -151,8 +151,8 @@ answers_too l a lines asks said at = record {
 none_above : (n most : ℕ) → most ≡ 0 → n ≤ most → 0 < n → ⊥
 none_above n most none within above = omega (arith, none, within, above)
 
-pub no_false_faults : (recorded : FaultIsRecorded) (traced : AnswersAreTraced) (rise : FaultsRise) (l : Logs) (a : Account l) (lines : List (List ℕ)) (asks : Step) (said : StepAnswer) (device : Device)
-    → Tells a lines asks said → IsDeviceBehind l lines device → device.faults ≡ 0 → answers_fault said ≡ false
+pub no_false_faults : (recorded : FaultIsRecorded) (traced : AnswersAreTraced) (rise : FaultsRise) (l : RunLogs) (a : Account l) (lines : List (List ℕ)) (asks : Step) (said : StepAnswer) (device : Device)
+    → HistoryTells a lines asks said → IsDeviceBehind l lines device → device.faults ≡ 0 → answers_fault said ≡ false
 no_false_faults recorded traced rise l a lines asks said device at which none =
     let f = told_line l a lines asks said at in
     let run : Run = run_after fresh lines f.earlier in
@@ -164,8 +164,8 @@ no_false_faults recorded traced rise l a lines asks said device at which none =
       | inr u ↦ ap answers_fault f.is ∙ u.no_fault
     ]
 
-pub faults_were_refused : (recorded : FaultIsRecorded) (law : DamageStays) (l : Logs) (a : Account l) (lines : List (List ℕ)) (asks : Step) (count : ℕ) (took : Option ℕ) (device : Device)
-    → Tells a lines asks (answer.DeviceFault count took) → IsDeviceBehind l lines device → WasRefused a.turns lines device count
+pub faults_were_refused : (recorded : FaultIsRecorded) (law : DamageStays) (l : RunLogs) (a : Account l) (lines : List (List ℕ)) (asks : Step) (count : ℕ) (took : Option ℕ) (device : Device)
+    → HistoryTells a lines asks (answer.DeviceFault count took) → IsDeviceBehind l lines device → WasRefusedInLine a.turns lines device count
 faults_were_refused recorded law l a lines asks count took device at which =
     let said : StepAnswer = answer.DeviceFault count took in
     let f = told_line l a lines asks said at in
@@ -185,8 +185,8 @@ faults_were_refused recorded law l a lines asks count took device at which =
 
 -- ---- damage
 
-pub no_false_damage : (recorded : DamageIsRecorded) (law : DamageStays) (l : Logs) (a : Account l) (lines : List (List ℕ)) (asks : Step) (said : StepAnswer) (device : Device)
-    → Tells a lines asks said → IsDeviceBehind l lines device → TellsAll device → answers_damage said ≡ false
+pub no_false_damage : (recorded : DamageIsRecorded) (law : DamageStays) (l : RunLogs) (a : Account l) (lines : List (List ℕ)) (asks : Step) (said : StepAnswer) (device : Device)
+    → HistoryTells a lines asks said → IsDeviceBehind l lines device → TellsAll device → answers_damage said ≡ false
 no_false_damage recorded law l a lines asks said device at which tells =
     let f = told_line l a lines asks said at in
     let run : Run = run_after fresh lines f.earlier in

@@ -42,9 +42,9 @@ use Rattle.script_run.specs.Takes.{IsRun, StepTakes, Takes, run_after}
 use Rattle.script_laws.specs.Counts.{IsCountedWhere, RunsAreCounted}
 use Rattle.script_laws.specs.Vectors.{AreOnRecord, AreOnRecordWhere, VectorsAreOnRecord}
 use Rattle.script_laws.proofs.Groups.{IsKept}
-use Rattle.headline.specs.Account.{Account, Logs, Tells}
+use Rattle.headline.specs.Account.{Account, HistoryTells, RunLogs}
 use Rattle.headline.specs.Reads
-use Rattle.headline.specs.Reads.{AreLiveBefore, AsksFor, IsChosen}
+use Rattle.headline.specs.Reads.{AreLiveBefore, AsksFor, IsChosenPut}
 use Rattle.headline.specs.Verdicts
 use Rattle.headline.specs.Verdicts.{AbsenceIsCaused, BreakIsCaused, BreaksFor, FragmentIsDamaged, HasNoneFor, GetIsCaused, IsGoneFor, IsMissingFor, IsReadOther, MissIsCaused, MissesFor, PieceIsDamaged, VectorIsDamaged}
 use Rattle.headline.proofs.Breaking.{broken_is, never_stays, verdict_breaks}
@@ -301,8 +301,8 @@ none_found test [] h x among = absurd among
 none_found test (first ∷ xs) h x (inl same) = ap test same ∙ none_first (test first) first (find test xs) h
 none_found test (first ∷ xs) h x (inr later) = none_found test xs (other_by (test first) first (find test xs) h) x later
 
-pub misses_are_caused : (on : VectorsAreOnRecord) (counts : RunsAreCounted) (l : Logs) (a : Account l) (lines : List (List ℕ)) (asks : Step) (key : Key) (request : List Field) (why : Cause)
-    → AsksFor key request asks → Tells a lines asks (answer.Miss why) → MissIsCaused a.turns lines key request why
+pub misses_are_caused : (on : VectorsAreOnRecord) (counts : RunsAreCounted) (l : RunLogs) (a : Account l) (lines : List (List ℕ)) (asks : Step) (key : Key) (request : List Field) (why : Cause)
+    → AsksFor key request asks → HistoryTells a lines asks (answer.Miss why) → MissIsCaused a.turns lines key request why
 misses_are_caused on counts l a lines asks key request why looks at =
     let f = told_line l a lines asks (answer.Miss why) at in
     let run : Run = run_after fresh lines f.earlier in
@@ -327,8 +327,8 @@ misses_are_caused on counts l a lines asks key request why looks at =
       ];
     }
 
-pub absences_are_caused : (on : VectorsAreOnRecord) (l : Logs) (a : Account l) (lines : List (List ℕ)) (key : Key) (why : Cause)
-    → Tells a lines (step.Remove key) (answer.Absent why) → AbsenceIsCaused a.turns lines key why
+pub absences_are_caused : (on : VectorsAreOnRecord) (l : RunLogs) (a : Account l) (lines : List (List ℕ)) (key : Key) (why : Cause)
+    → HistoryTells a lines (step.Remove key) (answer.Absent why) → AbsenceIsCaused a.turns lines key why
 absences_are_caused on l a lines key why at =
     let f = told_line l a lines (step.Remove key) (answer.Absent why) at in
     let run : Run = run_after fresh lines f.earlier in
@@ -433,7 +433,7 @@ module _ (run : Run) (turn : Turn) (name : List ℕ) (why : Cause) where
   pub stops_here : StepTakes run turn (step.Next name) → answer.Broken why ≡ step_answer run turn (step.Next name) → StopsHere run turn name why
   stops_here takes said = state_stops run.state refl takes (sym said)
 
-pub breaks_are_caused : (l : Logs) (a : Account l) (lines : List (List ℕ)) (name : List ℕ) (why : Cause) → Tells a lines (step.Next name) (answer.Broken why) → BreakIsCaused a.turns lines name why
+pub breaks_are_caused : (l : RunLogs) (a : Account l) (lines : List (List ℕ)) (name : List ℕ) (why : Cause) → HistoryTells a lines (step.Next name) (answer.Broken why) → BreakIsCaused a.turns lines name why
 breaks_are_caused l a lines name why at =
     let said : StepAnswer = answer.Broken why in
     let f = told_line l a lines (step.Next name) said at in
@@ -525,8 +525,8 @@ module _ (key : Key) (put : ℕ) (table : List TableRow) (p : Permit) (s : State
       let there : IsWhole g.t = subst IsWhole (sym g.same) (with_readers s whole g.t.readers g.t.next_reader) in
       by_breaks g.t g.r why g.of_put g.same (breaks_for g.t there g.r why g.verdict)
 
-pub gets_are_caused : (l : Logs) (a : Account l) (lines : List (List ℕ)) (key : Key) (request : List Field) (why : Cause)
-    → Tells a lines (step.Get key request) (answer.Broken why) → GetIsCaused a.turns lines key request why
+pub gets_are_caused : (l : RunLogs) (a : Account l) (lines : List (List ℕ)) (key : Key) (request : List Field) (why : Cause)
+    → HistoryTells a lines (step.Get key request) (answer.Broken why) → GetIsCaused a.turns lines key request why
 gets_are_caused l a lines key request why at =
     let said : StepAnswer = answer.Broken why in
     let f = told_line l a lines (step.Get key request) said at in
@@ -535,7 +535,7 @@ gets_are_caused l a lines key request why at =
     let table : List TableRow = table_of_hit h.s key request in
     let b : PieceBreaks key h.put table f.turn.device h.s why =
     piece_breaks key h.put table f.turn.device h.s why (whole_here lines f.earlier h.s f.legal h.state) h.own h.is in
-    let c : IsChosen run key request h.put = chosen_of run f.turn key request h.put 0 h.s h.state h.hits in
+    let c : IsChosenPut run key request h.put = chosen_of run f.turn key request h.put 0 h.s h.state h.hits in
     let same : c.s ≡ h.s = same_Some c.s h.s (sym c.state ∙ h.state) in
     let hits : hit h.s key request ≡ Some c.alternate = subst (λ (x : State). hit x key request ≡ Some c.alternate) same c.found in
     let tables : table ≡ c.alternate.table = ap (λ (o : Option Stored). unwrap_or (option_map (λ (x : Stored). x.table) o) []) hits in

@@ -34,7 +34,7 @@ OrShown Holds Shown = Holds ⊎ Shown
 
 -- what a run is known by: the reads of its source, the writes of its sink, the attaches that its bay refused, and what
 -- the bay tells of its devices, each before the run and behind it
-pub record Logs : Type 0 where
+pub record RunLogs : Type 0 where
   pub first : List SourceRead
   pub read : List SourceRead
   pub old : List SinkWrite
@@ -44,7 +44,7 @@ pub record Logs : Type 0 where
   pub now : Ledger
 
 -- what `cache_main` concludes of them
-abbrev pub IsConcluded : Logs → Status → Type 0
+abbrev pub IsConcluded : RunLogs → Status → Type 0
 IsConcluded l s = Concludes l.first l.read l.old l.new l.bay l.before l.now s
 
 -- ---- devices
@@ -56,7 +56,7 @@ AreBack (harm ∷ harms) [] = ⊥
 AreBack (harm ∷ harms) (device ∷ devices) = IsReached (loosened harm) device × AreBack harms devices
 
 -- devices came back since, and of the first of them so much was told
-pub record ComeBackFrom (l : Logs) (harms : List Harm) : Type 0 where
+pub record ComeBackFrom (l : RunLogs) (harms : List Harm) : Type 0 where
   pub devices : List Device
   pub returned : l.now.returned ≡ l.before.returned ++ devices
   pub told : AreBack harms devices
@@ -66,7 +66,7 @@ abbrev pub doubted_harms : Run → List Harm
 doubted_harms run = run.ended ++ map (λ (harm : Harm). record harm { damaged = true }) (harm_of run.calls run.state)
 
 -- each device that came back since told its content to the end
-abbrev pub AllTell : Logs → Type 0
+abbrev pub AllTell : RunLogs → Type 0
 AllTell l = (devices : List Device) → l.now.returned ≡ l.before.returned ++ devices → AllByRecursion TellsAll devices
 
 -- how many sessions a line begins: a format whose numbers are accepted begins one
@@ -81,7 +81,7 @@ sessions_begun [] = 0
 sessions_begun (bytes ∷ lines) = begun_in (reading_of bytes) + sessions_begun lines
 
 -- the device of a line behind these: of those that came back since, that of the session which they began last
-pub record IsDeviceBehind (l : Logs) (lines : List (List ℕ)) (device : Device) : Type 0 where
+pub record IsDeviceBehind (l : RunLogs) (lines : List (List ℕ)) (device : Device) : Type 0 where
   pub earlier : List Device
   pub later : List Device
   pub returned : l.now.returned ≡ l.before.returned ++ (earlier ++ device ∷ later)
@@ -91,12 +91,12 @@ pub record IsDeviceBehind (l : Logs) (lines : List (List ℕ)) (device : Device)
 
 -- the first of these lines shows a pair, in the run that the lines before them left; the calls of the turn that shows it are
 -- in the log of the session's device, which did not tell its content to the end
-abbrev pub ShowsNext : Logs → Run → List (List ℕ) → Type 0
+abbrev pub ShowsNext : RunLogs → Run → List (List ℕ) → Type 0
 ShowsNext l run [] = ⊥
 ShowsNext l run (bytes ∷ lines) = (turn : Turn) × LineShows run turn bytes × ComeBackFrom l (doubted_harms (called run turn))
 
 -- what a run tells
-pub record Account (l : Logs) : Type 0 where
+pub record Account (l : RunLogs) : Type 0 where
   -- its reads, the newest first
   pub reads : List SourceRead
   pub since : l.read ≡ reads ++ l.first
@@ -123,10 +123,10 @@ pub record Account (l : Logs) : Type 0 where
 
 -- where each device told its content to the end no line shows a pair: the legal history has all of them
 abbrev pub HonestRunsAreWhole : Type 0
-HonestRunsAreWhole = (l : Logs) → AllTell l → (a : Account l) → a.left ≡ []
+HonestRunsAreWhole = (l : RunLogs) → AllTell l → (a : Account l) → a.left ≡ []
 
 -- the device of a line behind these came back, and did not tell its content to the end
-pub record IsDoubtedBehind (l : Logs) (lines : List (List ℕ)) : Type 0 where
+pub record IsDoubtedBehind (l : RunLogs) (lines : List (List ℕ)) : Type 0 where
   pub device : Device
   pub behind : IsDeviceBehind l lines device
   pub none_tells : (other : Device) → IsDeviceBehind l lines other → TellsAll other → ⊥
@@ -134,7 +134,7 @@ pub record IsDoubtedBehind (l : Logs) (lines : List (List ℕ)) : Type 0 where
 -- where the legal history stops before a line, the device of the session in which that line stands did not tell its content,
 -- whatever the others did
 abbrev pub PairsAreDoubted : Type 0
-PairsAreDoubted = (l : Logs) (a : Account l) (bytes : List ℕ) (later : List (List ℕ)) → a.left ≡ bytes ∷ later
+PairsAreDoubted = (l : RunLogs) (a : Account l) (bytes : List ℕ) (later : List (List ℕ)) → a.left ≡ bytes ∷ later
     → IsDoubtedBehind l a.told
 
 -- a line behind these asked for this step and was answered so
@@ -149,11 +149,11 @@ pub record IsAnsweredBehind (lines : List (List ℕ)) (answers : List (Option St
   pub answers_are : answers ≡ front ++ Some said ∷ rest
   pub as_many : length front ≡ length before
 
-module _ {l : Logs} where
+module _ {l : RunLogs} where
   -- any line of the run
-  abbrev pub Answers : Account l → (lines : List (List ℕ)) → Step → StepAnswer → Type 0
-  Answers a lines asks said = IsAnsweredBehind a.lines a.answers lines asks said
+  abbrev pub RunAnswers : Account l → (lines : List (List ℕ)) → Step → StepAnswer → Type 0
+  RunAnswers a lines asks said = IsAnsweredBehind a.lines a.answers lines asks said
 
   -- one of those that the legal history has
-  abbrev pub Tells : Account l → (lines : List (List ℕ)) → Step → StepAnswer → Type 0
-  Tells a lines asks said = IsAnsweredBehind a.told (answers_of fresh a.told a.turns) lines asks said
+  abbrev pub HistoryTells : Account l → (lines : List (List ℕ)) → Step → StepAnswer → Type 0
+  HistoryTells a lines asks said = IsAnsweredBehind a.told (answers_of fresh a.told a.turns) lines asks said

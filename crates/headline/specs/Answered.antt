@@ -15,11 +15,11 @@ use Rattle.script_lang.specs.declared.answer.StepAnswer.{StepAnswer}
 use Rattle.script_lang.specs.declared.answer.StepAnswer.TheVariants as answer
 use Rattle.script_run.specs.Run.{Run, fresh, writer_of}
 use Rattle.script_run.specs.Takes.{run_after}
-use Rattle.headline.specs.Account.{Account, Logs, Tells}
+use Rattle.headline.specs.Account.{Account, HistoryTells, RunLogs}
 use Rattle.headline.specs.Reads.{DidBefore}
 
 -- the line behind these, one of those that the legal history has, recorded this
-pub record RecordsBehind {l : Logs} (a : Account l) (lines : List (List ℕ)) (told : Rec) : Type 0 where
+pub record RecordsBehind {l : RunLogs} (a : Account l) (lines : List (List ℕ)) (told : Rec) : Type 0 where
   pub bytes : List ℕ
   pub later : List (List ℕ)
   pub lines_are : a.told ≡ lines ++ bytes ∷ later
@@ -43,27 +43,27 @@ pub data AsksToComplete (run : Run) (key : Key) (put : ℕ) : Step → Type 0 wh
   closes : (name : List ℕ) → ActorWrites run name key put → AsksToComplete run key put (step.Close name)
 
 -- the line asked for that, and was answered the put, with so many bytes
-pub record WasCompleted {l : Logs} (a : Account l) (lines : List (List ℕ)) (run : Run) (key : Key) (put size : ℕ) : Type 0 where
+pub record WasCompleted {l : RunLogs} (a : Account l) (lines : List (List ℕ)) (run : Run) (key : Key) (put size : ℕ) : Type 0 where
   pub asks : Step
   pub completes : AsksToComplete run key put asks
   pub fragments : ℕ
-  pub tells : Tells a lines asks (answer.Put put size fragments)
+  pub tells : HistoryTells a lines asks (answer.Put put size fragments)
 
 -- so it was, with some number of bytes
-abbrev pub WasPut : {l : Logs} → Account l → (lines : List (List ℕ)) → Run → Key → (put : ℕ) → Type 0
+abbrev pub WasPut : {l : RunLogs} → Account l → (lines : List (List ℕ)) → Run → Key → (put : ℕ) → Type 0
 WasPut a lines run key put = (size : ℕ) × WasCompleted a lines run key put size
 
 -- each line that recorded that a put was completed was answered so
 abbrev pub CompletedWasAnswered : Type 0
-CompletedWasAnswered = (l : Logs) (a : Account l) (lines : List (List ℕ)) (put : ℕ) (key : Key) (size : ℕ) (alternates : List Stored)
+CompletedWasAnswered = (l : RunLogs) (a : Account l) (lines : List (List ℕ)) (put : ℕ) (key : Key) (size : ℕ) (alternates : List Stored)
     → (r : RecordsBehind a lines (rec.Committed put key size alternates)) → WasCompleted a lines (run_after fresh lines r.did.earlier) key put size
 
 -- ---- removed
 
 -- each line that recorded that a put was removed asked for that, and was answered so
 abbrev pub RemovalWasAnswered : Type 0
-RemovalWasAnswered = (l : Logs) (a : Account l) (lines : List (List ℕ)) (put : ℕ) (key : Key)
-    → RecordsBehind a lines (rec.Removed put key) → Tells a lines (step.Remove key) (answer.Removed put)
+RemovalWasAnswered = (l : RunLogs) (a : Account l) (lines : List (List ℕ)) (put : ℕ) (key : Key)
+    → RecordsBehind a lines (rec.Removed put key) → HistoryTells a lines (step.Remove key) (answer.Removed put)
 
 -- ---- given up
 
@@ -89,13 +89,13 @@ pub data GivesUpSo (run : Run) (key : Key) (put : ℕ) : Step → StepAnswer →
       → GivesUpSo run key put (step.Put key body request response) said
 
 -- the line was answered so
-pub record WasGivenUpSo {l : Logs} (a : Account l) (lines : List (List ℕ)) (run : Run) (key : Key) (put : ℕ) : Type 0 where
+pub record WasGivenUpSo {l : RunLogs} (a : Account l) (lines : List (List ℕ)) (run : Run) (key : Key) (put : ℕ) : Type 0 where
   pub asks : Step
   pub said : StepAnswer
   pub gives : GivesUpSo run key put asks said
-  pub tells : Tells a lines asks said
+  pub tells : HistoryTells a lines asks said
 
 -- each line that recorded that a put was given up was answered so
 abbrev pub GivingUpWasAnswered : Type 0
-GivingUpWasAnswered = (l : Logs) (a : Account l) (lines : List (List ℕ)) (put : ℕ) (key : Key)
+GivingUpWasAnswered = (l : RunLogs) (a : Account l) (lines : List (List ℕ)) (put : ℕ) (key : Key)
     → (r : RecordsBehind a lines (rec.Aborted put key)) → WasGivenUpSo a lines (run_after fresh lines r.did.earlier) key put

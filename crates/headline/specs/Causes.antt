@@ -15,26 +15,26 @@ use Rattle.script_run.specs.Turn.{Turn}
 use Rattle.script_run.specs.Takes.{run_after}
 use Rattle.script_laws.specs.Causes.{cause_answered}
 use Rattle.reader_laws.specs.Along.{AreOfSession}
-use Rattle.headline.specs.Account.{Account, IsDeviceBehind, Logs, Tells}
+use Rattle.headline.specs.Account.{Account, HistoryTells, IsDeviceBehind, RunLogs}
 use Rattle.headline.specs.Reads.{DidBefore}
 
 -- the log of a device has these calls in one stretch, behind those older ones
-pub record HasCalls (made older : List Call) (device : Device) : Type 0 where
+pub record LogHasCalls (made older : List Call) (device : Device) : Type 0 where
   pub newer : List Call
   pub is : device.past ≡ newer ++ (made ++ older)
 
 -- a call of the line behind these was refused, with this count behind it; the log of the device has the calls of that
 -- line, behind those of the earlier lines of its session
-pub record WasRefused (turns : List Turn) (lines : List (List ℕ)) (device : Device) (count : ℕ) : Type 0 where
+pub record WasRefusedInLine (turns : List Turn) (lines : List (List ℕ)) (device : Device) (count : ℕ) : Type 0 where
   pub did : DidBefore turns lines
-  pub made : HasCalls did.turn.device.events (run_after fresh lines did.earlier).calls device
+  pub made : LogHasCalls did.turn.device.events (run_after fresh lines did.earlier).calls device
   pub asked : Asked
   pub refused : IsAmong (RefusedCall asked count) did.turn.device.events
 
 -- where a line answers a device fault, its device refused a call in that line, with that count behind it
 abbrev pub FaultsWereRefused : Type 0
-FaultsWereRefused = (l : Logs) (a : Account l) (lines : List (List ℕ)) (asks : Step) (count : ℕ) (took : Option ℕ) (device : Device)
-    → Tells a lines asks (answer.DeviceFault count took) → IsDeviceBehind l lines device → WasRefused a.turns lines device count
+FaultsWereRefused = (l : RunLogs) (a : Account l) (lines : List (List ℕ)) (asks : Step) (count : ℕ) (took : Option ℕ) (device : Device)
+    → HistoryTells a lines asks (answer.DeviceFault count took) → IsDeviceBehind l lines device → WasRefusedInLine a.turns lines device count
 
 -- in the line behind these, where none were since, or in an earlier one of its session, the device gave a document of this
 -- digest from the block of the place on; the log of the device has the calls of that line
@@ -44,14 +44,14 @@ pub record WasGiven (turns : List Turn) (lines : List (List ℕ)) (device : Devi
   pub are : lines ≡ earlier ++ since
   pub same_session : AreOfSession since
   pub did : DidBefore turns earlier
-  pub made : HasCalls did.turn.device.events (run_after fresh earlier did.earlier).calls device
+  pub made : LogHasCalls did.turn.device.events (run_after fresh earlier did.earlier).calls device
   pub s : State
   pub session : (run_after fresh earlier did.earlier).state ≡ Some s
   pub given : IsOfGiven did.turn.device s place found
 
 -- where a line answers damage, its device gave a document of another digest than the one that was kept
 abbrev pub DamageWasGiven : Type 0
-DamageWasGiven = (l : Logs) (a : Account l) (lines : List (List ℕ)) (asks : Step) (said : StepAnswer)
+DamageWasGiven = (l : RunLogs) (a : Account l) (lines : List (List ℕ)) (asks : Step) (said : StepAnswer)
     (place : ℕ) (kept found : Digest) (device : Device)
-    → Tells a lines asks said → cause_answered said ≡ Some (cause.Damaged place kept found) → IsDeviceBehind l lines device
+    → HistoryTells a lines asks said → cause_answered said ≡ Some (cause.Damaged place kept found) → IsDeviceBehind l lines device
     → WasGiven a.turns lines device place found × (kept ≢ found)

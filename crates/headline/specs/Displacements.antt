@@ -15,9 +15,9 @@ use Rattle.script_lang.specs.declared.answer.StepAnswer.TheVariants as answer
 use Rattle.script_run.specs.Run.{Run, fresh, writer_of}
 use Rattle.script_run.specs.Turn.{Turn}
 use Rattle.script_run.specs.Takes.{run_after}
-use Rattle.headline.specs.Account.{Account, Logs, Tells}
+use Rattle.headline.specs.Account.{Account, HistoryTells, RunLogs}
 use Rattle.headline.specs.Misses.{WasRecorded}
-use Rattle.headline.specs.Reads.{AreLiveBefore, DidBefore, IsChosen, ReadsOn}
+use Rattle.headline.specs.Reads.{AreLiveBefore, DidBefore, IsChosenPut, ReadsOnBehind}
 use Rattle.headline.specs.Standing.{HasRecordedLast}
 
 -- the record tells that the piece was lost
@@ -32,13 +32,13 @@ IsDisplaced lines turns id segment live = HasRecordedLast (λ told. told ≡ rec
 
 -- the piece that the reader is to be given next was displaced so
 pub record BrokeDisplaced (turns : List Turn) (lines : List (List ℕ)) (name : List ℕ) (segment live : ℕ) : Type 0 where
-  pub at : ReadsOn turns lines name
+  pub at : ReadsOnBehind turns lines name
   pub told : IsDisplaced lines at.did.earlier (next_piece at.reader) segment live
 
 -- so it is where a line that reads on is answered displaced
 abbrev pub BreakWasDisplaced : Type 0
-BreakWasDisplaced = (l : Logs) (a : Account l) (lines : List (List ℕ)) (name : List ℕ) (segment live : ℕ)
-    → Tells a lines (step.Next name) (answer.Broken (cause.Displaced segment live)) → BrokeDisplaced a.turns lines name segment live
+BreakWasDisplaced = (l : RunLogs) (a : Account l) (lines : List (List ℕ)) (name : List ℕ) (segment live : ℕ)
+    → HistoryTells a lines (step.Next name) (answer.Broken (cause.Displaced segment live)) → BrokeDisplaced a.turns lines name segment live
 
 -- in the state before the line a fragment was displaced so of those that the alternate lists which is hit, and all before it
 -- may be read
@@ -48,22 +48,22 @@ pub record GetDisplaced (turns : List Turn) (lines : List (List ℕ)) (key : Key
   pub state : (run_after fresh lines did.earlier).state ≡ Some s
   pub piece : PieceId
   pub key_is : piece.first ≡ key
-  pub chosen : IsChosen (run_after fresh lines did.earlier) key request piece.put
+  pub chosen : IsChosenPut (run_after fresh lines did.earlier) key request piece.put
   pub listed : (0 < piece.index) × (piece.index ≤ length chosen.alternate.table)
   pub before : AreLiveBefore s key piece.put piece.index
   pub told : IsDisplaced lines did.earlier piece segment live
 
 -- so it is where a whole read is answered displaced
 abbrev pub GetWasDisplaced : Type 0
-GetWasDisplaced = (l : Logs) (a : Account l) (lines : List (List ℕ)) (key : Key) (request : List Field) (segment live : ℕ)
-    → Tells a lines (step.Get key request) (answer.Broken (cause.Displaced segment live)) → GetDisplaced a.turns lines key request segment live
+GetWasDisplaced = (l : RunLogs) (a : Account l) (lines : List (List ℕ)) (key : Key) (request : List Field) (segment live : ℕ)
+    → HistoryTells a lines (step.Get key request) (answer.Broken (cause.Displaced segment live)) → GetDisplaced a.turns lines key request segment live
 
 -- ---- a fragment that is lost to its writer
 
 -- the put that a line closes: the next one where it puts a whole body, else that of the actor's writer
-pub data Closes (run : Run) (s : State) (put : ℕ) : Step → Type 0 where
-  puts : (key : Key) (body : List ℕ) (request response : List Field) → s.next_put ≡ put → Closes run s put (step.Put key body request response)
-  closes : (name : List ℕ) → writer_of run name ≡ Some put → Closes run s put (step.Close name)
+pub data AsksToClose (run : Run) (s : State) (put : ℕ) : Step → Type 0 where
+  puts : (key : Key) (body : List ℕ) (request response : List Field) → s.next_put ≡ put → AsksToClose run s put (step.Put key body request response)
+  closes : (name : List ℕ) → writer_of run name ≡ Some put → AsksToClose run s put (step.Close name)
 
 -- the line closes this put, of which the records have this row behind it
 pub record ClosesHere (turns : List Turn) (lines : List (List ℕ)) (asks : Step) : Type 0 where
@@ -71,7 +71,7 @@ pub record ClosesHere (turns : List Turn) (lines : List (List ℕ)) (asks : Step
   pub s : State
   pub state : (run_after fresh lines did.earlier).state ≡ Some s
   pub put : ℕ
-  pub closes : Closes (run_after fresh lines did.earlier) s put asks
+  pub closes : AsksToClose (run_after fresh lines did.earlier) s put asks
   pub w : PutRow
   pub found : put_of (after_all s did.turn.added) put ≡ Some w
 
@@ -82,5 +82,5 @@ pub record LostDisplaced (turns : List Turn) (lines : List (List ℕ)) (asks : S
 
 -- so it is where a line is refused for a fragment that was displaced; it is one that closes a put
 abbrev pub LostWasDisplaced : Type 0
-LostWasDisplaced = (l : Logs) (a : Account l) (lines : List (List ℕ)) (asks : Step) (index segment live : ℕ) (took : Option ℕ)
-    → Tells a lines asks (answer.Refused (refused.Lost index (cause.Displaced segment live)) took) → LostDisplaced a.turns lines asks index segment live
+LostWasDisplaced = (l : RunLogs) (a : Account l) (lines : List (List ℕ)) (asks : Step) (index segment live : ℕ) (took : Option ℕ)
+    → HistoryTells a lines asks (answer.Refused (refused.Lost index (cause.Displaced segment live)) took) → LostDisplaced a.turns lines asks index segment live

@@ -25,7 +25,7 @@ use Rattle.run_promise.specs.declared.status.Status.TheVariants as status
 use Rattle.run_promise.specs.Story.{Because, CutsLast, HoldsNoLine, IsBadLine, IsNext, MeetsBayFault, SendsAll, SendsBefore}
 use Rattle.run_promise.specs.Story.{Taken, Told, told_by, told_in}
 use Rattle.run_promise.specs.Top.{EachBack, EachBackOrMore, ReadsFailed, WentOut, status_of}
-use Rattle.headline.specs.Account.{Account, IsConcluded, Logs, begun_in, sessions_begun}
+use Rattle.headline.specs.Account.{Account, IsConcluded, RunLogs, begun_in, sessions_begun}
 
 -- ---- lines that may be taken
 
@@ -58,7 +58,7 @@ IsFine text = (lines : List (List ℕ)) (behind : List ℕ)
 -- The status is Done where the words were the command, memory was not wanting, no read, no write and no attach was
 -- refused, and the text that was read is fine.
 abbrev pub DoneWhereFine : Type 0
-DoneWhereFine = (l : Logs) (s : Status) → IsConcluded l s → ReadsFailed l.first l.read s → s ≢ status.Usage → s ≢ status.OutOfMemory
+DoneWhereFine = (l : RunLogs) (s : Status) → IsConcluded l s → ReadsFailed l.first l.read s → s ≢ status.Usage → s ≢ status.OutOfMemory
     → NoReadFailed l.first l.read → refused_writes l.new ≡ refused_writes l.old → l.bay.now ≡ l.bay.before
     → ((reads : List SourceRead) → l.read ≡ reads ++ l.first → IsFine (text_read reads)) → s ≡ status.Done
 
@@ -79,7 +79,7 @@ pub record LastWriteFailed (old new : List SinkWrite) : Type 0 where
   pub others : refused_writes older ≡ refused_writes old
 
 -- What ends a run behind these lines, where these bytes of the text are in none.
-abbrev pub EndsHere : (l : Logs) (lines : List (List ℕ)) (held : List ℕ) → Status → Type 0
+abbrev pub EndsHere : (l : RunLogs) (lines : List (List ℕ)) (held : List ℕ) → Status → Type 0
 EndsHere l lines held status.Done = IsEnded l.read × (held ≡ [])
 EndsHere l lines held status.Usage = ⊥
 EndsHere l lines held status.BadScript = (fault : BadLine) × IsBadLine (length lines) held fault
@@ -92,7 +92,7 @@ EndsHere l lines held status.OutOfMemory = ⊤
 EndsHere l lines held status.TooManyLines = IsTooMany (length lines) held
 
 -- the lines that were taken, none of which had a cause to end the run, and what ended it behind them
-pub record EndsFirst (l : Logs) (s : Status) : Type 0 where
+pub record EndsFirst (l : RunLogs) (s : Status) : Type 0 where
   pub reads : List SourceRead
   pub since : l.read ≡ reads ++ l.first
   pub lines : List (List ℕ)
@@ -103,34 +103,34 @@ pub record EndsFirst (l : Logs) (s : Status) : Type 0 where
 
 -- each status of a run that was begun has its cause, at the first line that has one
 abbrev pub EndsAreCaused : Type 0
-EndsAreCaused = (l : Logs) (s : Status) → IsConcluded l s → ReadsFailed l.first l.read s → s ≢ status.Usage → EndsFirst l s
+EndsAreCaused = (l : RunLogs) (s : Status) → IsConcluded l s → ReadsFailed l.first l.read s → s ≢ status.Usage → EndsFirst l s
 
 -- ---- the account of a run
 
 -- the status is that of a last line, whose cause stands behind these lines; it went out behind the answers, or a front of it
-pub record EndsWith (l : Logs) (s : Status) (lines : List (List ℕ)) (held : List ℕ) (answers : List (Option StepAnswer)) : Type 0 where
+pub record EndsWithStatus (l : RunLogs) (s : Status) (lines : List (List ℕ)) (held : List ℕ) (answers : List (Option StepAnswer)) : Type 0 where
   pub why : LastLine
   pub is : s ≡ status_of why
   pub because : Because l.bay held (length lines) (outline_of blank lines answers) why
   pub out : WentOut l.old l.new (texts_of answers) (last_line why)
 
 -- what the sink took is the text of these answers, as far as the status says
-abbrev pub WentOutBy : (l : Logs) → Status → (lines : List (List ℕ)) → (held : List ℕ) → (answers : List (Option StepAnswer)) → Type 0
+abbrev pub WentOutBy : (l : RunLogs) → Status → (lines : List (List ℕ)) → (held : List ℕ) → (answers : List (Option StepAnswer)) → Type 0
 WentOutBy l status.Done lines held answers = SendsAll l.old l.new (texts_before answers) (texts_of answers)
 WentOutBy l status.Usage lines held answers = ⊥
 WentOutBy l status.WriteFault lines held answers = CutsLast l.old l.new (texts_before answers) (texts_of answers)
 WentOutBy l status.OutOfMemory lines held answers =
     SendsAll l.old l.new (texts_before answers) (texts_of answers) ⊎ SendsBefore l.old l.new (texts_before answers) (texts_of answers)
-WentOutBy l s lines held answers = EndsWith l s lines held answers
+WentOutBy l s lines held answers = EndsWithStatus l s lines held answers
 
 -- the devices that were attached came back, as was told of them, and no other; where memory was wanting, the line behind
 -- these may have made more calls, or given back one device more
-abbrev pub CameBackBy : (l : Logs) → Status → (lines : List (List ℕ)) → (held : List ℕ) → Told → Type 0
+abbrev pub CameBackBy : (l : RunLogs) → Status → (lines : List (List ℕ)) → (held : List ℕ) → Told → Type 0
 CameBackBy l status.OutOfMemory lines held t = EachBackOrMore l.before l.now held (length lines) t
 CameBackBy l s lines held t = EachBack l.before l.now t
 
 -- what ties an account to a run with this status
-pub record IsOfRun (l : Logs) (s : Status) (a : Account l) : Type 0 where
+pub record IsAccountOf (l : RunLogs) (s : Status) (a : Account l) : Type 0 where
   -- its answers went out, and its lines are all that were taken: none of them had a cause to end the run, and this one did
   pub sent : WentOutBy l s a.lines a.held a.answers
   pub takeable : AreTakeable 0 a.lines
@@ -141,5 +141,5 @@ pub record IsOfRun (l : Logs) (s : Status) (a : Account l) : Type 0 where
 
 -- whatever ends a run that was begun, what is concluded of it gives its account
 abbrev pub RunsAreTold : Type 0
-RunsAreTold = (l : Logs) (s : Status) → IsConcluded l s → ReadsFailed l.first l.read s → s ≢ status.Usage
-    → (a : Account l) × IsOfRun l s a
+RunsAreTold = (l : RunLogs) (s : Status) → IsConcluded l s → ReadsFailed l.first l.read s → s ≢ status.Usage
+    → (a : Account l) × IsAccountOf l s a

@@ -14,7 +14,7 @@ use Rattle.script_run.specs.Takes.{IsRun, output_of, run_after}
 use Rattle.script_laws.specs.Agreeing.{ShowsOtherAlong}
 use Rattle.run_promise.specs.declared.status.Status.TheVariants as status
 use Rattle.run_promise.specs.Story.{Taken}
-use Rattle.headline.specs.Account.{ComeBackFrom, IsConcluded, Logs, OrShown}
+use Rattle.headline.specs.Account.{ComeBackFrom, IsConcluded, OrShown, RunLogs}
 
 -- a device that told its content to the end, and refused nothing
 pub record IsSteady (device : Device) : Type 0 where
@@ -22,11 +22,11 @@ pub record IsSteady (device : Device) : Type 0 where
   pub unfaulted : device.faults ≡ 0
 
 -- so is each that came back since
-abbrev pub AreSteady : Logs → Type 0
+abbrev pub AreSteady : RunLogs → Type 0
 AreSteady l = (devices : List Device) → l.now.returned ≡ l.before.returned ++ devices → AllByRecursion IsSteady devices
 
 -- the sources of two runs gave the same text
-pub record GiveSame (l m : Logs) : Type 0 where
+pub record GiveSame (l m : RunLogs) : Type 0 where
   pub reads : List SourceRead
   pub others : List SourceRead
   pub since : l.read ≡ reads ++ l.first
@@ -34,14 +34,14 @@ pub record GiveSame (l m : Logs) : Type 0 where
   pub same : text_read reads ≡ text_read others
 
 -- their sinks took the same bytes
-pub record TakeSame (l m : Logs) : Type 0 where
+pub record TakeSame (l m : RunLogs) : Type 0 where
   pub output : List ℕ
   pub taken : taken_by l.new ≡ taken_by l.old ++ output
   pub taken_too : taken_by m.new ≡ taken_by m.old ++ output
 
 -- in a legal run of these lines, which print what the sink took, a line recorded that a piece was displaced; the logs of the
 -- devices of the run have the calls of its turns
-pub record HasDisplaced (l : Logs) (lines : List (List ℕ)) : Type 0 where
+pub record HasDisplaced (l : RunLogs) (lines : List (List ℕ)) : Type 0 where
   pub turns : List Turn
   pub legal : IsRun fresh lines turns
   pub prints : taken_by l.new ≡ taken_by l.old ++ output_of fresh lines turns
@@ -53,14 +53,14 @@ pub record HasDisplaced (l : Logs) (lines : List (List ℕ)) : Type 0 where
   pub tells : is_displacement told ≡ true
 
 -- the lines of the text that both sources gave displaced a piece, in the one run or the other
-pub record OneDisplaced (l m : Logs) (same : GiveSame l m) : Type 0 where
+pub record OneDisplaced (l m : RunLogs) (same : GiveSame l m) : Type 0 where
   pub lines : List (List ℕ)
   pub taken : Taken (text_read same.reads) lines []
   pub displaces : HasDisplaced l lines ⊎ HasDisplaced m lines
 
 -- two legal runs of these lines, each of which prints what its sink took, come to a piece for which their devices gave two
 -- documents of one SHA-256; the logs of the devices of either run have the calls of its turns
-pub record ShowsOtherAmong (l m : Logs) (lines : List (List ℕ)) : Type 0 where
+pub record ShowsOtherAmong (l m : RunLogs) (lines : List (List ℕ)) : Type 0 where
   pub one : List Turn
   pub other : List Turn
   pub legal : IsRun fresh lines one
@@ -72,7 +72,7 @@ pub record ShowsOtherAmong (l m : Logs) (lines : List (List ℕ)) : Type 0 where
   pub made_too : ComeBackFrom m (harms_of (run_after fresh lines other))
 
 -- the lines of the text that both sources gave do so
-pub record ShowPair (l m : Logs) (same : GiveSame l m) : Type 0 where
+pub record ShowPair (l m : RunLogs) (same : GiveSame l m) : Type 0 where
   pub lines : List (List ℕ)
   pub taken : Taken (text_read same.reads) lines []
   pub shows : ShowsOtherAmong l m lines
@@ -80,5 +80,5 @@ pub record ShowPair (l m : Logs) (same : GiveSame l m) : Type 0 where
 -- two runs that were read to their end, over sources that gave the same and devices that were steady, wrote the same, or one
 -- of them displaced a piece
 abbrev pub SourceFixesSink : Type 0
-SourceFixesSink = (l m : Logs) → IsConcluded l status.Done → IsConcluded m status.Done → (same : GiveSame l m) → AreSteady l → AreSteady m
+SourceFixesSink = (l m : RunLogs) → IsConcluded l status.Done → IsConcluded m status.Done → (same : GiveSame l m) → AreSteady l → AreSteady m
     → OrShown (TakeSame l m ⊎ OneDisplaced l m same) (ShowPair l m same)

@@ -18,14 +18,14 @@ use Rattle.script_run.specs.Turn.{Turn}
 use Rattle.script_run.specs.Takes.{IsRun, run_after}
 use Rattle.script_laws.specs.Causes.{cause_answered}
 use Rattle.reader_laws.specs.Along.{AreOfSession}
-use Rattle.headline.specs.Account.{Account, Logs, Tells}
+use Rattle.headline.specs.Account.{Account, HistoryTells, RunLogs}
 use Rattle.headline.specs.Reads.{DidBefore}
 
 -- there is nothing under the key, for this cause: so a `get`, a line that opens a reader, and a removal are answered
-pub data Misses (key : Key) (why : Cause) : Step → StepAnswer → Type 0 where
-  gets : (request : List Field) → Misses key why (step.Get key request) (answer.Miss why)
-  opens : (name : List ℕ) (request : List Field) → Misses key why (step.OpenRead name key request) (answer.Miss why)
-  removes : Misses key why (step.Remove key) (answer.Absent why)
+pub data MissesKey (key : Key) (why : Cause) : Step → StepAnswer → Type 0 where
+  gets : (request : List Field) → MissesKey key why (step.Get key request) (answer.Miss why)
+  opens : (name : List ℕ) (request : List Field) → MissesKey key why (step.OpenRead name key request) (answer.Miss why)
+  removes : MissesKey key why (step.Remove key) (answer.Absent why)
 
 -- ---- never-put
 
@@ -59,8 +59,8 @@ pub record HasEndedNone (turns : List Turn) (lines : List (List ℕ)) (key : Key
 
 -- where a line is answered never-put, no earlier line of its session completed, gave up or removed a put of the key
 abbrev pub NeverPutWasNone : Type 0
-NeverPutWasNone = (l : Logs) (a : Account l) (lines : List (List ℕ)) (asks : Step) (said : StepAnswer) (key : Key)
-    → Misses key cause.NeverPut asks said → Tells a lines asks said → HasEndedNone a.turns lines key
+NeverPutWasNone = (l : RunLogs) (a : Account l) (lines : List (List ℕ)) (asks : Step) (said : StepAnswer) (key : Key)
+    → MissesKey key cause.NeverPut asks said → HistoryTells a lines asks said → HasEndedNone a.turns lines key
 
 -- ---- displaced
 
@@ -76,8 +76,8 @@ pub record WasRecorded (turns : List Turn) (lines : List (List ℕ)) (told : Rec
 -- where a line tells a displacement as a cause, it was recorded: of which piece, with its segment, and how many pieces were
 -- live there
 abbrev pub DisplacedWasTold : Type 0
-DisplacedWasTold = (l : Logs) (a : Account l) (lines : List (List ℕ)) (asks : Step) (said : StepAnswer) (segment live : ℕ)
-    → Tells a lines asks said → cause_answered said ≡ Some (cause.Displaced segment live)
+DisplacedWasTold = (l : RunLogs) (a : Account l) (lines : List (List ℕ)) (asks : Step) (said : StepAnswer) (segment live : ℕ)
+    → HistoryTells a lines asks said → cause_answered said ≡ Some (cause.Displaced segment live)
     → (piece : PieceId) × WasRecorded a.turns lines (rec.Displaced piece segment live)
 
 -- the vector of the key's last commit, which no line removed since, was displaced
@@ -91,6 +91,6 @@ pub record VectorWasDisplaced (turns : List Turn) (lines : List (List ℕ)) (key
 
 -- and where it is why there is nothing under a key, the piece was the vector of the key's last commit
 abbrev pub VectorWasLost : Type 0
-VectorWasLost = (l : Logs) (a : Account l) (lines : List (List ℕ)) (asks : Step) (said : StepAnswer) (key : Key) (segment live : ℕ)
-    → Misses key (cause.Displaced segment live) asks said → Tells a lines asks said
+VectorWasLost = (l : RunLogs) (a : Account l) (lines : List (List ℕ)) (asks : Step) (said : StepAnswer) (key : Key) (segment live : ℕ)
+    → MissesKey key (cause.Displaced segment live) asks said → HistoryTells a lines asks said
     → VectorWasDisplaced a.turns lines key segment live

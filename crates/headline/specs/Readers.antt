@@ -10,18 +10,18 @@ use Rattle.script_run.specs.Takes.{run_after}
 use Rattle.reader_laws.specs.Actors.{pieces_told}
 use Rattle.reader_laws.specs.Along.{AreOfSession}
 use Rattle.reader_laws.specs.Laws.{WasPutFor}
-use Rattle.headline.specs.Account.{Account, Logs, Tells}
-use Rattle.headline.specs.Reads.{DidBefore, ReadsOn}
+use Rattle.headline.specs.Account.{Account, HistoryTells, RunLogs}
+use Rattle.headline.specs.Reads.{DidBefore, ReadsOnBehind}
 use Rattle.headline.specs.Standing.{ClosesPut, HasRecorded}
 
-module _ {l : Logs} where
+module _ {l : RunLogs} where
   -- the line behind these opened the reader of this number, which reads the put, for the actor of this name: it was answered
   -- that it hit the put, or follows it, which an earlier line of the session opened under the asked key, with lines that fit
   -- the request
   pub record HasOpened (a : Account l) (lines : List (List ℕ)) (name : List ℕ) (number put : ℕ) : Type 0 where
     pub key : Key
     pub request : List Field
-    pub said : ((size : ℕ) × Tells a lines (step.OpenRead name key request) (answer.Hit put size)) ⊎ Tells a lines (step.OpenRead name key request) (answer.Follow put)
+    pub said : ((size : ℕ) × HistoryTells a lines (step.OpenRead name key request) (answer.Hit put size)) ⊎ HistoryTells a lines (step.OpenRead name key request) (answer.Follow put)
     pub did : DidBefore a.turns lines
     pub put_for : WasPutFor lines did.earlier key request put
     pub s : State
@@ -35,7 +35,7 @@ module _ {l : Logs} where
   -- completed; the pieces that the lines of the actor were answered since it was opened are, joined, all that the writer of
   -- the put took, and so many bytes
   pub record IsReadToEnd (a : Account l) (lines : List (List ℕ)) (name : List ℕ) (size : ℕ) : Type 0 where
-    pub at : ReadsOn a.turns lines name
+    pub at : ReadsOnBehind a.turns lines name
     pub before : List (List ℕ)
     pub bytes : List ℕ
     pub later : List (List ℕ)
@@ -50,5 +50,5 @@ module _ {l : Logs} where
 
 -- each line answered `end` ends such a reader
 abbrev pub EndIsRead : Type 0
-EndIsRead = (l : Logs) (a : Account l) (lines : List (List ℕ)) (name : List ℕ) (size : ℕ)
-    → Tells a lines (step.Next name) (answer.End size) → IsReadToEnd a lines name size
+EndIsRead = (l : RunLogs) (a : Account l) (lines : List (List ℕ)) (name : List ℕ) (size : ℕ)
+    → HistoryTells a lines (step.Next name) (answer.End size) → IsReadToEnd a lines name size

@@ -12,7 +12,7 @@ use Rattle.script_run.specs.Run.{Run, fresh, reader_by}
 use Rattle.script_run.specs.Turn.{Turn}
 use Rattle.script_run.specs.Takes.{IsRun, run_after}
 use Rattle.reader_laws.specs.Laws.{WasPutFor}
-use Rattle.headline.specs.Account.{Account, Logs, Tells}
+use Rattle.headline.specs.Account.{Account, HistoryTells, RunLogs}
 
 -- what these lines did, and then the line behind them
 pub record DidBefore (turns : List Turn) (lines : List (List ℕ)) : Type 0 where
@@ -23,7 +23,7 @@ pub record DidBefore (turns : List Turn) (lines : List (List ℕ)) : Type 0 wher
   pub legal : IsRun fresh lines earlier
 
 -- the reader of the actor, behind these lines
-pub record ReadsOn (turns : List Turn) (lines : List (List ℕ)) (name : List ℕ) : Type 0 where
+pub record ReadsOnBehind (turns : List Turn) (lines : List (List ℕ)) (name : List ℕ) : Type 0 where
   pub did : DidBefore turns lines
   pub s : State
   pub state : (run_after fresh lines did.earlier).state ≡ Some s
@@ -34,7 +34,7 @@ pub record ReadsOn (turns : List Turn) (lines : List (List ℕ)) (name : List �
 
 -- in the records of the lines before, the put is the one that answers the request: of those that the key's live vector lists
 -- the last one that fits
-pub record IsChosen (run : Run) (key : Key) (request : List Field) (put : ℕ) : Type 0 where
+pub record IsChosenPut (run : Run) (key : Key) (request : List Field) (put : ℕ) : Type 0 where
   pub s : State
   pub state : run.state ≡ Some s
   pub alternate : Stored
@@ -47,31 +47,31 @@ AreLiveBefore s key put last = (index : ℕ) → 0 < index → index < last → 
 
 -- the bytes are all that the writer of the put took, and so many; an earlier line of the session opened the put under this
 -- key, with lines that fit the request; and it is the one that answers it
-pub record IsWhole (turns : List Turn) (lines : List (List ℕ)) (key : Key) (request : List Field)
+pub record IsWholePut (turns : List Turn) (lines : List (List ℕ)) (key : Key) (request : List Field)
     (put size : ℕ) (bytes : List ℕ) : Type 0 where
   pub did : DidBefore turns lines
   pub taken : bytes ≡ ((run_after fresh lines did.earlier).streams put).bytes
   pub sized : size ≡ length bytes
   pub put_for : WasPutFor lines did.earlier key request put
-  pub chosen : IsChosen (run_after fresh lines did.earlier) key request put
+  pub chosen : IsChosenPut (run_after fresh lines did.earlier) key request put
 
 -- each line answered `got` gave such bytes
 abbrev pub GotIsWhole : Type 0
-GotIsWhole = (l : Logs) (a : Account l) (lines : List (List ℕ)) (key : Key) (request : List Field) (put size : ℕ) (bytes : List ℕ)
-    → Tells a lines (step.Get key request) (answer.Got put size bytes) → IsWhole a.turns lines key request put size bytes
+GotIsWhole = (l : RunLogs) (a : Account l) (lines : List (List ℕ)) (key : Key) (request : List Field) (put size : ℕ) (bytes : List ℕ)
+    → HistoryTells a lines (step.Get key request) (answer.Got put size bytes) → IsWholePut a.turns lines key request put size bytes
 
 -- the writer of the put took so many bytes; an earlier line of the session opened the put under this key, with lines that
 -- fit the request; and it is the one that answers it
-pub record IsStored (turns : List Turn) (lines : List (List ℕ)) (key : Key) (request : List Field) (put size : ℕ) : Type 0 where
+pub record IsStoredPut (turns : List Turn) (lines : List (List ℕ)) (key : Key) (request : List Field) (put size : ℕ) : Type 0 where
   pub did : DidBefore turns lines
   pub sized : size ≡ length ((run_after fresh lines did.earlier).streams put).bytes
   pub put_for : WasPutFor lines did.earlier key request put
-  pub chosen : IsChosen (run_after fresh lines did.earlier) key request put
+  pub chosen : IsChosenPut (run_after fresh lines did.earlier) key request put
 
 -- each line answered `hit` tells of such a put
 abbrev pub HitIsWhole : Type 0
-HitIsWhole = (l : Logs) (a : Account l) (lines : List (List ℕ)) (name : List ℕ) (key : Key) (request : List Field) (put size : ℕ)
-    → Tells a lines (step.OpenRead name key request) (answer.Hit put size) → IsStored a.turns lines key request put size
+HitIsWhole = (l : RunLogs) (a : Account l) (lines : List (List ℕ)) (name : List ℕ) (key : Key) (request : List Field) (put size : ℕ)
+    → HistoryTells a lines (step.OpenRead name key request) (answer.Hit put size) → IsStoredPut a.turns lines key request put size
 
 -- an earlier line of the session opened the put under this key, with lines that fit the request
 pub record IsFollowed (turns : List Turn) (lines : List (List ℕ)) (key : Key) (request : List Field) (put : ℕ) : Type 0 where
@@ -85,5 +85,5 @@ pub data AsksFor (key : Key) (request : List Field) : Step → Type 0 where
 
 -- each line answered `follow` tells of such a put
 abbrev pub FollowWasPut : Type 0
-FollowWasPut = (l : Logs) (a : Account l) (lines : List (List ℕ)) (asks : Step) (key : Key) (request : List Field) (put : ℕ)
-    → AsksFor key request asks → Tells a lines asks (answer.Follow put) → IsFollowed a.turns lines key request put
+FollowWasPut = (l : RunLogs) (a : Account l) (lines : List (List ℕ)) (asks : Step) (key : Key) (request : List Field) (put : ℕ)
+    → AsksFor key request asks → HistoryTells a lines asks (answer.Follow put) → IsFollowed a.turns lines key request put

@@ -19,9 +19,9 @@ use Rattle.script_run.specs.Run.{fresh}
 use Rattle.script_run.specs.Turn.{Turn}
 use Rattle.script_run.specs.Takes.{IsRun, run_after}
 use Rattle.reader_laws.specs.Along.{AreOfSession}
-use Rattle.headline.specs.Account.{Account, Logs, Tells}
+use Rattle.headline.specs.Account.{Account, HistoryTells, RunLogs}
 use Rattle.headline.specs.Answered.{WasGivenUpSo, WasPut}
-use Rattle.headline.specs.Misses.{Misses}
+use Rattle.headline.specs.Misses.{MissesKey}
 use Rattle.headline.specs.Reads.{AsksFor, DidBefore}
 
 -- ---- what lines recorded
@@ -82,21 +82,21 @@ ChangesVector key (rec.Removed put k) = k ≡ key
 ChangesVector key _ = ⊥
 
 -- a put of the key was given up
-abbrev pub GivesUp : Key → Rec → Type 0
-GivesUp key (rec.Aborted put k) = k ≡ key
-GivesUp key _ = ⊥
+abbrev pub GivesUpKey : Key → Rec → Type 0
+GivesUpKey key (rec.Aborted put k) = k ≡ key
+GivesUpKey key _ = ⊥
 
 -- ---- what is found
 
 -- a `get`, or a line that opens a reader, is answered with this put
-pub data Finds (key : Key) (request : List Field) (put : ℕ) : Step → StepAnswer → Type 0 where
-  gets : (size : ℕ) (bytes : List ℕ) → Finds key request put (step.Get key request) (answer.Got put size bytes)
-  opens : (name : List ℕ) (size : ℕ) → Finds key request put (step.OpenRead name key request) (answer.Hit put size)
+pub data FindsPut (key : Key) (request : List Field) (put : ℕ) : Step → StepAnswer → Type 0 where
+  gets : (size : ℕ) (bytes : List ℕ) → FindsPut key request put (step.Get key request) (answer.Got put size bytes)
+  opens : (name : List ℕ) (size : ℕ) → FindsPut key request put (step.OpenRead name key request) (answer.Hit put size)
 
 -- the key's vector is live, and lists the put with lines that fit the request. The vector is that of a put which an earlier
 -- line of the session completed, and no record since is of one of the key that was completed or removed; an earlier line
 -- completed the put too. Each of these lines was answered so
-pub record IsListed {l : Logs} (a : Account l) (lines : List (List ℕ)) (key : Key) (request : List Field) (put : ℕ) : Type 0 where
+pub record IsListedPut {l : RunLogs} (a : Account l) (lines : List (List ℕ)) (key : Key) (request : List Field) (put : ℕ) : Type 0 where
   pub did : DidBefore a.turns lines
   pub vector : ℕ
   pub completed : HasRecordedLast (CompletesPut key vector) (ChangesVector key) lines did.earlier
@@ -115,30 +115,30 @@ pub record IsListed {l : Logs} (a : Account l) (lines : List (List ℕ)) (key : 
 
 -- so it is of each put that is found
 abbrev pub FoundIsListed : Type 0
-FoundIsListed = (l : Logs) (a : Account l) (lines : List (List ℕ)) (asks : Step) (said : StepAnswer) (key : Key) (request : List Field) (put : ℕ)
-    → Finds key request put asks said → Tells a lines asks said → IsListed a lines key request put
+FoundIsListed = (l : RunLogs) (a : Account l) (lines : List (List ℕ)) (asks : Step) (said : StepAnswer) (key : Key) (request : List Field) (put : ℕ)
+    → FindsPut key request put asks said → HistoryTells a lines asks said → IsListedPut a lines key request put
 
 -- ---- removed
 
 -- an earlier line of the session recorded that a put of the key was removed, which it asked for and was answered; and no
 -- record since is of one that was completed
-pub record WasRemoved {l : Logs} (a : Account l) (lines : List (List ℕ)) (key : Key) : Type 0 where
+pub record WasRemoved {l : RunLogs} (a : Account l) (lines : List (List ℕ)) (key : Key) : Type 0 where
   pub did : DidBefore a.turns lines
   pub put : ℕ
   pub removed : HasRecordedLast (λ told. told ≡ rec.Removed put key) (Completes key) lines did.earlier
-  pub answered : Tells a removed.is.before (step.Remove key) (answer.Removed put)
+  pub answered : HistoryTells a removed.is.before (step.Remove key) (answer.Removed put)
 
 -- so it is where a line is answered removed
 abbrev pub RemovedWasRecorded : Type 0
-RemovedWasRecorded = (l : Logs) (a : Account l) (lines : List (List ℕ)) (asks : Step) (said : StepAnswer) (key : Key)
-    → Misses key cause.Removed asks said → Tells a lines asks said → WasRemoved a lines key
+RemovedWasRecorded = (l : RunLogs) (a : Account l) (lines : List (List ℕ)) (asks : Step) (said : StepAnswer) (key : Key)
+    → MissesKey key cause.Removed asks said → HistoryTells a lines asks said → WasRemoved a lines key
 
 -- ---- no match
 
 -- the key's vector is live, and lists so many alternates, none of which fits the request; nor does an open writer. Its put
 -- was completed by an earlier line of the session, which was answered so, and no record since is of one of the key that was
 -- completed or removed
-pub record FitsNone {l : Logs} (a : Account l) (lines : List (List ℕ)) (key : Key) (request : List Field) (count : ℕ) : Type 0 where
+pub record FitsNone {l : RunLogs} (a : Account l) (lines : List (List ℕ)) (key : Key) (request : List Field) (count : ℕ) : Type 0 where
   pub did : DidBefore a.turns lines
   pub s : State
   pub state : (run_after fresh lines did.earlier).state ≡ Some s
@@ -150,24 +150,24 @@ pub record FitsNone {l : Logs} (a : Account l) (lines : List (List ℕ)) (key : 
 
 -- so it is where a line is answered no-match; it is one that looks for a request, and no removal
 abbrev pub NoMatchFitsNone : Type 0
-NoMatchFitsNone = (l : Logs) (a : Account l) (lines : List (List ℕ)) (asks : Step) (said : StepAnswer) (key : Key) (count : ℕ)
-    → Misses key (cause.NoMatch count) asks said → Tells a lines asks said
+NoMatchFitsNone = (l : RunLogs) (a : Account l) (lines : List (List ℕ)) (asks : Step) (said : StepAnswer) (key : Key) (count : ℕ)
+    → MissesKey key (cause.NoMatch count) asks said → HistoryTells a lines asks said
     → (request : List Field) × AsksFor key request asks × FitsNone a lines key request count
 
 -- ---- aborted
 
 -- an earlier line of the session recorded that the put was given up, and was answered so; no record since is of another one
 -- of the key that was, and no line of the session recorded that one was completed or removed
-pub record WasGivenUp {l : Logs} (a : Account l) (lines : List (List ℕ)) (key : Key) (put : ℕ) : Type 0 where
+pub record WasGivenUp {l : RunLogs} (a : Account l) (lines : List (List ℕ)) (key : Key) (put : ℕ) : Type 0 where
   pub did : DidBefore a.turns lines
-  pub aborted : HasRecordedLast (λ told. told ≡ rec.Aborted put key) (GivesUp key) lines did.earlier
+  pub aborted : HasRecordedLast (λ told. told ≡ rec.Aborted put key) (GivesUpKey key) lines did.earlier
   pub answered : WasGivenUpSo a aborted.is.before (run_after fresh aborted.is.before aborted.is.earlier) key put
   pub none : HasRecorded (ChangesVector key) lines did.earlier → ⊥
 
 -- so it is where a line is answered aborted, of a key
 abbrev pub AbortedWasLast : Type 0
-AbortedWasLast = (l : Logs) (a : Account l) (lines : List (List ℕ)) (asks : Step) (said : StepAnswer) (key : Key) (put : ℕ)
-    → Misses key (cause.Aborted put) asks said → Tells a lines asks said → WasGivenUp a lines key put
+AbortedWasLast = (l : RunLogs) (a : Account l) (lines : List (List ℕ)) (asks : Step) (said : StepAnswer) (key : Key) (put : ℕ)
+    → MissesKey key (cause.Aborted put) asks said → HistoryTells a lines asks said → WasGivenUp a lines key put
 
 -- ---- passed
 
@@ -192,7 +192,7 @@ LeavesAt there _ = ⊥
 
 -- an earlier line of the session placed or copied the piece to this place, last; the floor in this state is this one, which
 -- is above it. Where the piece is unsaved an earlier line recorded that one at the place was
-pub record IsBelow (lines : List (List ℕ)) (turns : List Turn) (s : State) (piece : PieceId) (place floor : ℕ) (unsaved : Bool) : Type 0 where
+pub record IsBelowFloor (lines : List (List ℕ)) (turns : List Turn) (s : State) (piece : PieceId) (place floor : ℕ) (unsaved : Bool) : Type 0 where
   pub brought : HasRecordedLast (BringsTo piece place) (Shifts piece) lines turns
   pub row : Row
   pub stands : row_of s piece ≡ Some row
@@ -203,17 +203,17 @@ pub record IsBelow (lines : List (List ℕ)) (turns : List Turn) (s : State) (pi
   pub left : unsaved ≡ true → HasRecorded (LeavesAt place) lines turns
 
 -- so it is of the vector of the key's last put, which an earlier line of the session completed, and was answered so
-pub record WasPassed {l : Logs} (a : Account l) (lines : List (List ℕ)) (key : Key) (place floor : ℕ) (unsaved : Bool) : Type 0 where
+pub record WasPassed {l : RunLogs} (a : Account l) (lines : List (List ℕ)) (key : Key) (place floor : ℕ) (unsaved : Bool) : Type 0 where
   pub did : DidBefore a.turns lines
   pub s : State
   pub state : (run_after fresh lines did.earlier).state ≡ Some s
   pub put : ℕ
   pub completed : HasRecordedLast (CompletesPut key put) (ChangesVector key) lines did.earlier
   pub answered : WasPut a completed.is.before (run_after fresh completed.is.before completed.is.earlier) key put
-  pub passed : IsBelow lines did.earlier s (vector_piece key put) place floor unsaved
+  pub passed : IsBelowFloor lines did.earlier s (vector_piece key put) place floor unsaved
 
 -- so it is where a line is answered passed, of a key
 abbrev pub PassedWasPlaced : Type 0
-PassedWasPlaced = (l : Logs) (a : Account l) (lines : List (List ℕ)) (asks : Step) (said : StepAnswer) (key : Key) (place floor : ℕ) (unsaved : Bool)
-    → Misses key (cause.Passed place floor unsaved) asks said → Tells a lines asks said
+PassedWasPlaced = (l : RunLogs) (a : Account l) (lines : List (List ℕ)) (asks : Step) (said : StepAnswer) (key : Key) (place floor : ℕ) (unsaved : Bool)
+    → MissesKey key (cause.Passed place floor unsaved) asks said → HistoryTells a lines asks said
     → WasPassed a lines key place floor unsaved

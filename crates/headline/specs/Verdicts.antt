@@ -21,9 +21,9 @@ use Rattle.script_lang.specs.declared.answer.StepAnswer.TheVariants as answer
 use Rattle.script_run.specs.Run.{fresh}
 use Rattle.script_run.specs.Turn.{Turn}
 use Rattle.script_run.specs.Takes.{run_after}
-use Rattle.headline.specs.Account.{Account, Logs, Tells}
+use Rattle.headline.specs.Account.{Account, HistoryTells, RunLogs}
 use Rattle.headline.specs.Displacements.{ClosesHere}
-use Rattle.headline.specs.Reads.{AreLiveBefore, AsksFor, DidBefore, IsChosen, ReadsOn}
+use Rattle.headline.specs.Reads.{AreLiveBefore, AsksFor, DidBefore, IsChosenPut, ReadsOnBehind}
 
 -- ---- how pieces and keys stand
 
@@ -84,8 +84,8 @@ pub record MissIsCaused (turns : List Turn) (lines : List (List ℕ)) (key : Key
 
 -- where a line that looks for a request is answered with a miss
 abbrev pub MissesAreCaused : Type 0
-MissesAreCaused = (l : Logs) (a : Account l) (lines : List (List ℕ)) (asks : Step) (key : Key) (request : List Field) (why : Cause)
-    → AsksFor key request asks → Tells a lines asks (answer.Miss why) → MissIsCaused a.turns lines key request why
+MissesAreCaused = (l : RunLogs) (a : Account l) (lines : List (List ℕ)) (asks : Step) (key : Key) (request : List Field) (why : Cause)
+    → AsksFor key request asks → HistoryTells a lines asks (answer.Miss why) → MissIsCaused a.turns lines key request why
 
 -- ---- what is absent
 
@@ -100,8 +100,8 @@ pub record AbsenceIsCaused (turns : List Turn) (lines : List (List ℕ)) (key : 
 
 -- where a removal is answered that there is nothing
 abbrev pub AbsencesAreCaused : Type 0
-AbsencesAreCaused = (l : Logs) (a : Account l) (lines : List (List ℕ)) (key : Key) (why : Cause)
-    → Tells a lines (step.Remove key) (answer.Absent why) → AbsenceIsCaused a.turns lines key why
+AbsencesAreCaused = (l : RunLogs) (a : Account l) (lines : List (List ℕ)) (key : Key) (why : Cause)
+    → HistoryTells a lines (step.Remove key) (answer.Absent why) → AbsenceIsCaused a.turns lines key why
 
 -- ---- breaks
 
@@ -135,13 +135,13 @@ pub record FragmentIsDamaged (p : Permit) (s : State) (r : ReaderRow) (why : Cau
 
 -- one or the other is so of the actor's reader, in the state before the line
 pub record BreakIsCaused (turns : List Turn) (lines : List (List ℕ)) (name : List ℕ) (why : Cause) : Type 0 where
-  pub at : ReadsOn turns lines name
+  pub at : ReadsOnBehind turns lines name
   pub caused : IsStopped at.s at.reader why ⊎ FragmentIsDamaged at.did.turn.device at.s at.reader why
 
 -- where a line that reads on is answered that its reader broke
 abbrev pub BreaksAreCaused : Type 0
-BreaksAreCaused = (l : Logs) (a : Account l) (lines : List (List ℕ)) (name : List ℕ) (why : Cause)
-    → Tells a lines (step.Next name) (answer.Broken why) → BreakIsCaused a.turns lines name why
+BreaksAreCaused = (l : RunLogs) (a : Account l) (lines : List (List ℕ)) (name : List ℕ) (why : Cause)
+    → HistoryTells a lines (step.Next name) (answer.Broken why) → BreakIsCaused a.turns lines name why
 
 -- a piece that the hit alternate lists is missing by the records of the lines before, or was read in this line, and is damaged;
 -- all before it may be read
@@ -151,7 +151,7 @@ pub record GetIsCaused (turns : List Turn) (lines : List (List ℕ)) (key : Key)
   pub state : (run_after fresh lines did.earlier).state ≡ Some s
   pub piece : PieceId
   pub key_is : piece.first ≡ key
-  pub chosen : IsChosen (run_after fresh lines did.earlier) key request piece.put
+  pub chosen : IsChosenPut (run_after fresh lines did.earlier) key request piece.put
   pub entry : TableRow
   pub some : 0 < piece.index
   pub listed : slice_get chosen.alternate.table (piece.index - 1) ≡ Some entry
@@ -160,8 +160,8 @@ pub record GetIsCaused (turns : List Turn) (lines : List (List ℕ)) (key : Key)
 
 -- where a whole read is answered that it broke
 abbrev pub GetsAreCaused : Type 0
-GetsAreCaused = (l : Logs) (a : Account l) (lines : List (List ℕ)) (key : Key) (request : List Field) (why : Cause)
-    → Tells a lines (step.Get key request) (answer.Broken why) → GetIsCaused a.turns lines key request why
+GetsAreCaused = (l : RunLogs) (a : Account l) (lines : List (List ℕ)) (key : Key) (request : List Field) (why : Cause)
+    → HistoryTells a lines (step.Get key request) (answer.Broken why) → GetIsCaused a.turns lines key request why
 
 -- ---- fragments that are lost to their writer
 
@@ -175,5 +175,5 @@ pub record LossIsCaused (turns : List Turn) (lines : List (List ℕ)) (asks : St
 
 -- where a line is refused for a lost fragment; it is one that closes a put
 abbrev pub LossesAreCaused : Type 0
-LossesAreCaused = (l : Logs) (a : Account l) (lines : List (List ℕ)) (asks : Step) (index : ℕ) (why : Cause) (took : Option ℕ)
-    → Tells a lines asks (answer.Refused (refused.Lost index why) took) → LossIsCaused a.turns lines asks index why
+LossesAreCaused = (l : RunLogs) (a : Account l) (lines : List (List ℕ)) (asks : Step) (index : ℕ) (why : Cause) (took : Option ℕ)
+    → HistoryTells a lines asks (answer.Refused (refused.Lost index why) took) → LossIsCaused a.turns lines asks index why
