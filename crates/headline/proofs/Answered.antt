@@ -37,10 +37,11 @@ use Rattle.script_run.proofs.Values.{value_here}
 use Rattle.reader_laws.specs.Laws.{LegalIsKept}
 use Rattle.run_promise.specs.Lines.{answers_of, reading_answer}
 use Rattle.headline.specs.Account.{Account, HistoryTells, RunLogs}
-use Rattle.headline.specs.Answered.{AsksToComplete, GivesUpSo, IsUnclosable, ActorWrites, IsUnstorable, RecordsBehind, WasCompleted, WasGivenUpSo, WasPut}
+use Rattle.headline.specs.Answered.{AsksToComplete, TakesNext, GivesUpSo, IsUnclosable, ActorWrites, IsUnstorable, RecordsBehind, WasCompleted, WasGivenUpSo, WasPut}
 use Rattle.headline.specs.Reads.{DidBefore}
 use Rattle.headline.specs.Standing.{ClosesPut, CompletesPut, HasRecorded}
 use Rattle.headline.specs.Answered
+use Rattle.headline.specs.Breaks.{GivesUpPut}
 use Rattle.headline.proofs.Opened.{kept_here}
 use Rattle.headline.proofs.Places.{OnSession}
 use Rattle.headline.proofs.PutCourse.{Asks, IsGivenUp, IsWhy, Told, all_given, close_asked, course, cuts_asked, left_over, none_given}
@@ -463,11 +464,14 @@ module _ {l : RunLogs} (a : Account l) (lines : List (List ℕ)) (run : Run) (s 
     key_is = of.2;
   }
 
+  takes_next : put ≡ s.next_put → TakesNext run put
+  takes_next same = record { s = s; state = state; next = sym same }
+
   module _ (size : ℕ) (list : List Stored) (among : IsAmong (rec.Committed put key size list) turn.added) where
     completed_by : {asks : Step} {says : StepAnswer} → HistoryTells a lines asks says → Puts run s turn none (rec.Committed put key size list) tt among asks says → WasCompleted a lines run key put size
     completed_by tells (whole k body request response c) = record {
       asks = step.Put k body request response;
-      completes = subst (λ x. AsksToComplete run x put (step.Put k body request response)) (sym c.keyed) (Answered.AsksToComplete.puts body request response);
+      completes = subst (λ x. AsksToComplete run x put (step.Put k body request response)) (sym c.keyed) (Answered.AsksToComplete.puts body request response (takes_next c.put_is));
       fragments = length (cuts_of Behind s.next_put);
       tells = subst (HistoryTells a lines (step.Put k body request response)) (completed_said Behind s.next_put turn.refused put size c.put_is c.allowed c.sized) tells;
     }
@@ -504,7 +508,7 @@ module _ {l : RunLogs} (a : Account l) (lines : List (List ℕ)) (run : Run) (s 
     given_up_by : {asks : Step} {says : StepAnswer} → Puts run s turn none (rec.Aborted put key) tt among asks says → GivesUpSo run key put asks says
     given_up_by (whole k body request response c) =
         subst (λ x. GivesUpSo run x put (step.Put k body request response) (said Behind None turn.refused (put_said Behind s.next_put))) (sym c.keyed)
-        (Answered.GivesUpSo.puts body request response _
+        (Answered.GivesUpSo.puts body request response _ (takes_next c.put_is)
         (subst (λ x. IsUnstorable (said Behind None x (put_said Behind s.next_put))) (sym c.is) (unstorable s.next_put (λ x. x ≡ k) Behind c.reason c.fits)))
     given_up_by (feeds name body n writes c) =
         subst (λ x. GivesUpSo run key put (step.Feed name body) (said Behind (Some (took_of run Behind n)) x (answer.Took (length body)))) (sym c.is)
@@ -561,6 +565,13 @@ module _ (l : RunLogs) (a : Account l) where
   closed_told law lines put (rec.Committed n k size list) c r = (k, put_told_so law lines k put (rec.Committed n k size list) (c, refl) r)
   closed_told law lines put _ c r = absurd c
 
+  gave_up_told : (law : LegalIsKept) (lines : List (List ℕ)) (put : ℕ) (told : Rec) → GivesUpPut put told → (r : RecordsBehind a lines told)
+      → (key : Key) × WasGivenUpSo a lines (run_after fresh lines r.did.earlier) key put
+  gave_up_told law lines put (rec.Aborted n k) c r =
+      let run : Run = run_after fresh lines r.did.earlier in
+      (k, subst (λ m. WasGivenUpSo a lines run k m) c (giving_up_was_answered law l a lines n k r))
+  gave_up_told law lines put _ c r = absurd c
+
   module _ (lines : List (List ℕ)) (asks : Step) (says : StepAnswer) (at : HistoryTells a lines asks says) (did : DidBefore a.turns lines) where
     -- it recorded it, behind those before it
     abbrev recorded_behind : {Says : Rec → Type 0} (h : HasRecorded Says lines did.earlier) → RecordsBehind a h.before h.told
@@ -584,6 +595,10 @@ module _ (l : RunLogs) (a : Account l) where
     pub giving_up_answered : (law : LegalIsKept) (put : ℕ) (key : Key) (h : HasRecorded (λ told. told ≡ rec.Aborted put key) lines did.earlier)
         → WasGivenUpSo a h.before (run_after fresh h.before h.earlier) key put
     giving_up_answered law put key h = given_up_told law h.before put key h.told h.tells (recorded_behind h)
+
+    pub abort_answered : (law : LegalIsKept) (put : ℕ) (h : HasRecorded (GivesUpPut put) lines did.earlier)
+        → (key : Key) × WasGivenUpSo a h.before (run_after fresh h.before h.earlier) key put
+    abort_answered law put h = gave_up_told law h.before put h.told h.tells (recorded_behind h)
 
     pub put_answered : (law : LegalIsKept) (key : Key) (put : ℕ) (h : HasRecorded (CompletesPut key put) lines did.earlier) → WasPut a h.before (run_after fresh h.before h.earlier) key put
     put_answered law key put h = put_told_so law h.before key put h.told h.tells (recorded_behind h)

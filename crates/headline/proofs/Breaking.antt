@@ -32,6 +32,7 @@ use Rattle.script_laws.proofs.Groups.{IsKept}
 use Rattle.headline.specs.Account.{Account, HistoryTells, RunLogs}
 use Rattle.headline.specs.Breaks.{BrokeAborted, BrokePassed, GivesUpPut}
 use Rattle.headline.specs.Standing.{HasRecorded, IsBelowFloor}
+use Rattle.headline.proofs.Answered.{abort_answered}
 use Rattle.headline.proofs.Causing.{unknown}
 use Rattle.headline.proofs.Last.{ByRecord, told_last}
 use Rattle.headline.proofs.Lost.{no_standing_loss}
@@ -236,7 +237,7 @@ aborted_by lines turns s r put legal state (over w past follows found e same) =
     }
 
 pub break_was_aborted : (laws : OfReaders) (l : RunLogs) (a : Account l) (lines : List (List ℕ)) (name : List ℕ) (put : ℕ)
-    → HistoryTells a lines (step.Next name) (answer.Broken (cause.Aborted put)) → BrokeAborted a.turns lines name put
+    → HistoryTells a lines (step.Next name) (answer.Broken (cause.Aborted put)) → BrokeAborted a lines name put
 break_was_aborted laws l a lines name put at =
     let why : Cause = cause.Aborted put in
     let said : StepAnswer = answer.Broken why in
@@ -250,6 +251,7 @@ break_was_aborted laws l a lines name put at =
     subst (λ (table : List TableRow). h.broke.reader.next - 1 ≤ length table) (followed_table h.s h.broke.reader put b.follows b.put_is) stays.is_open.within in
     let first : 0 < h.broke.reader.next = stays.is_open.first in
     let least : length (cuts_of h.s put) ≤ h.broke.reader.next - 1 = b.past in
+    let gone = abort_answered l a lines (step.Next name) said at (did_before l a lines (step.Next name) said f) laws.kept put b.aborted in
     record {
       at =
           record { did = did_before l a lines (step.Next name) said f; s = h.s; state = h.state; number = h.number; held = h.held; reader = h.broke.reader; reading = h.broke.reading };
@@ -257,4 +259,6 @@ break_was_aborted laws l a lines name put at =
       follows = b.follows;
       given = omega (arith, first, most, least);
       aborted = b.aborted;
+      key = gone.0;
+      answered = gone.1;
     }

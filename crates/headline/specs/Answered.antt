@@ -37,9 +37,15 @@ pub record ActorWrites (run : Run) (name : List ℕ) (key : Key) (put : ℕ) : T
   pub found : put_of s put ≡ Some row
   pub key_is : row.key ≡ key
 
--- a `put` of the key, or a `close` by the actor that writes the put
+-- the put is the one that is to be opened next
+pub record TakesNext (run : Run) (put : ℕ) : Type 0 where
+  pub s : State
+  pub state : run.state ≡ Some s
+  pub next : s.next_put ≡ put
+
+-- a `put` of the key, which takes the next number, or a `close` by the actor that writes the put
 pub data AsksToComplete (run : Run) (key : Key) (put : ℕ) : Step → Type 0 where
-  puts : (body : List ℕ) (request response : List Field) → AsksToComplete run key put (step.Put key body request response)
+  puts : (body : List ℕ) (request response : List Field) → TakesNext run put → AsksToComplete run key put (step.Put key body request response)
   closes : (name : List ℕ) → ActorWrites run name key put → AsksToComplete run key put (step.Close name)
 
 -- the line asked for that, and was answered the put, with so many bytes
@@ -79,13 +85,13 @@ pub data IsUnstorable : StepAnswer → Type 0 where
   exhausted : IsUnstorable (answer.Refused refused.Exhausted None)
   faulted : (count : ℕ) → IsUnstorable (answer.DeviceFault count None)
 
--- the actor that writes the put gives it up, or what it asks cannot be done, or a whole `put` of the key cannot
+-- the actor that writes the put gives it up, or what it asks cannot be done, or a whole `put` of the key, which takes the next number, cannot
 pub data GivesUpSo (run : Run) (key : Key) (put : ℕ) : Step → StepAnswer → Type 0 where
   aborts : (name : List ℕ) → ActorWrites run name key put → GivesUpSo run key put (step.Abort name) (answer.Aborted put)
   feeds : (name body : List ℕ) (took : ℕ) → ActorWrites run name key put
       → GivesUpSo run key put (step.Feed name body) (answer.Refused refused.TooManyFragments (Some took))
   closes : (name : List ℕ) (said : StepAnswer) → ActorWrites run name key put → IsUnclosable said → GivesUpSo run key put (step.Close name) said
-  puts : (body : List ℕ) (request response : List Field) (said : StepAnswer) → IsUnstorable said
+  puts : (body : List ℕ) (request response : List Field) (said : StepAnswer) → TakesNext run put → IsUnstorable said
       → GivesUpSo run key put (step.Put key body request response) said
 
 -- the line was answered so

@@ -14,6 +14,7 @@ use Rattle.script_run.specs.Run.{fresh}
 use Rattle.script_run.specs.Turn.{Turn}
 use Rattle.script_run.specs.Takes.{run_after}
 use Rattle.headline.specs.Account.{Account, HistoryTells, RunLogs}
+use Rattle.headline.specs.Answered.{WasGivenUpSo}
 use Rattle.headline.specs.Reads.{AreLiveBefore, DidBefore, IsChosenPut, ReadsOnBehind}
 use Rattle.headline.specs.Standing.{HasRecorded, IsBelowFloor}
 
@@ -33,18 +34,20 @@ GivesUpPut number (rec.Aborted put key) = put ≡ number
 GivesUpPut number _ = ⊥
 
 -- the reader follows this put, and was given all that was cut of it; an earlier line of the session recorded that it was
--- given up
-pub record BrokeAborted (turns : List Turn) (lines : List (List ℕ)) (name : List ℕ) (put : ℕ) : Type 0 where
-  pub at : ReadsOnBehind turns lines name
+-- given up, and was answered so
+pub record BrokeAborted {l : RunLogs} (a : Account l) (lines : List (List ℕ)) (name : List ℕ) (put : ℕ) : Type 0 where
+  pub at : ReadsOnBehind a.turns lines name
   pub put_is : at.reader.put ≡ put
   pub follows : at.reader.table ≡ None
   pub given : at.reader.next ≡ length (cuts_of at.s put) + 1
   pub aborted : HasRecorded (GivesUpPut put) lines at.did.earlier
+  pub key : Key
+  pub answered : WasGivenUpSo a aborted.before (run_after fresh aborted.before aborted.earlier) key put
 
 -- so it is where a line that reads on is answered aborted
 abbrev pub BreakWasAborted : Type 0
 BreakWasAborted = (l : RunLogs) (a : Account l) (lines : List (List ℕ)) (name : List ℕ) (put : ℕ)
-    → HistoryTells a lines (step.Next name) (answer.Broken (cause.Aborted put)) → BrokeAborted a.turns lines name put
+    → HistoryTells a lines (step.Next name) (answer.Broken (cause.Aborted put)) → BrokeAborted a lines name put
 
 -- in the state before the line a fragment is passed so of those that the alternate lists which is hit, and all before it
 -- may be read

@@ -171,7 +171,7 @@ pub fn get_was_passed()
 {}
 
 /// Where a line that reads on is answered aborted, its reader follows that put, and was given all that was cut of it; an
-/// earlier line of its session gave it up.
+/// earlier line of its session gave it up, and was answered so.
 pub fn break_was_aborted()
     ensures { BreakWasAborted }
 {
