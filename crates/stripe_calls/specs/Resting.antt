@@ -9,7 +9,7 @@ use Rattle.cache_model.specs.Vectors.{AreVectors}
 use Rattle.call_laws.specs.Contents.{AreRecordedAs, Contents}
 use Rattle.stripe_actors.specs.Actors as actors
 use Rattle.stripe_core.specs.Stripe.{seen_in, state_in}
-use Rattle.stripe_core.proofs.VectorsListed.{are_listed}
+use Rattle.stripe_pieces.proofs.VectorsListed.{are_listed}
 use Rattle.cache_calls.specs.Keeping.{FallBelow, IsAtRest, state_at}
 use Rattle.stripe_calls.specs.declared.cache.StripeCache.{StripeCache}
 use Rattle.stripe_calls.specs.Cache.{IsCache, StandsIn, at_of}

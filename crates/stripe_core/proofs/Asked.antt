@@ -2,8 +2,8 @@
 use Rattle.std.proofs.Common.{◌≡◌, List, Err, subst}
 use Rattle.device_log.specs.Calls.{Call}
 use Rattle.cache_model.specs.Kept.{Kept}
-use Rattle.stripe_core.specs.declared.refusal.Stop.{Stop}
-use Rattle.stripe_core.specs.declared.refusal.Stop.TheVariants as stop
+use Rattle.stripe_pieces.specs.declared.answer.Stop.{Stop}
+use Rattle.stripe_pieces.specs.declared.answer.Stop.TheVariants as stop
 use Rattle.stripe_core.specs.Stripe.{HasMemory, refusal_of}
 
 -- a unit that is taken leaves the records, and asks no device

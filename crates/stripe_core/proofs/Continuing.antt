@@ -12,7 +12,7 @@ use Rattle.call_laws.specs.Contents.{AnyContents, Contents}
 use Rattle.stripe_core.specs.declared.stripe.Stripe.{Stripe}
 use Rattle.stripe_core.specs.Between.{Between, Continues, ContinuesWith, IsResting, Proceeds, Rests, RestsWith}
 use Rattle.cyclone.specs.Cyclone.{Seen}
-use Rattle.stripe_core.specs.Standing.{AreStanding}
+use Rattle.stripe_pieces.specs.Standing.{AreStanding}
 use Rattle.stripe_core.specs.Stripe.{IsStripe, kept_in, seen_in, state_in}
 use Rattle.stripe_core.proofs.Between.{accounted_none, accounted_then, between-trans, between_same}
 

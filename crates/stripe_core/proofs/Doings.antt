@@ -1,6 +1,6 @@
 -- Writers and readers that come and go leave the pieces held.
-use Rattle.std.proofs.Common.{◌≡◌, ℕ, ◌+◌, ◌-◌, ◌^◌, ◌<◌, ◌≤◌, List, [], ◌∷◌, refl, sym, ◌∙◌, ap, subst, arith, Result, Ok, Err, length}
-use Rattle.std.specs.Prelude.{Option, Some, None, IfOk, IsSome, option_and_then, IfSome}
+use Rattle.std.proofs.Common.{◌≡◌, ℕ, ◌+◌, ◌-◌, ◌^◌, ◌<◌, ◌≤◌, List, [], ◌∷◌, refl, sym, ◌∙◌, ap, subst, arith, Err, length}
+use Rattle.std.specs.Prelude.{Option, Some, None, IsSome, option_and_then, IfSome}
 use Rattle.tape_base.specs.declared.actors.Actor.{Actor}
 use Rattle.tape_base.specs.declared.digests.Digest.{Digest}
 use Rattle.tape_base.specs.declared.keys.Key.{Key}
@@ -29,16 +29,16 @@ use Rattle.call_laws.specs.Contents.{AnyContents, Contents}
 use Rattle.stripe_core.specs.declared.refusal.Refusal.{Refusal}
 use Rattle.stripe_core.specs.declared.refusal.Refusal.TheVariants as refusal
 use Rattle.stripe_core.specs.Acts.{EndsReadAsAsked, IsCommitting, IsGivingUp, IsRefusedPut, LooksAsAsked, MarksAsAsked, NotesAsAsked, OpensAsAsked, RefusesAsAsked, committed_record, opened_record}
-use Rattle.stripe_core.specs.Covers.{Uses}
-use Rattle.stripe_core.specs.Held.{IsHeld}
-use Rattle.stripe_core.specs.Records.{IsAlike}
-use Rattle.stripe_core.specs.Standing.{AreStanding}
+use Rattle.stripe_pieces.specs.Covers.{Uses}
+use Rattle.stripe_pieces.specs.Held.{IsHeld}
+use Rattle.stripe_pieces.specs.Records.{IsAlike}
+use Rattle.stripe_pieces.specs.Standing.{AreStanding}
 use Rattle.stripe_core.specs.Stripe.{IsSpared}
-use Rattle.stripe_core.proofs.Candidates.{live_is}
-use Rattle.stripe_core.proofs.Flushes.{state_of-with_records}
-use Rattle.stripe_core.proofs.Going.{alike_is_held}
+use Rattle.stripe_pieces.proofs.Candidates.{live_is}
+use Rattle.stripe_pieces.proofs.Flushes.{state_of-with_records}
+use Rattle.stripe_pieces.proofs.Going.{alike_is_held}
 use Rattle.stripe_core.proofs.Sparing.{one_told, spent_calm}
-use Rattle.stripe_core.proofs.Standing.{standing_alike}
+use Rattle.stripe_pieces.proofs.Standing.{standing_alike}
 
 -- ---- records that leave the pieces
 
@@ -158,10 +158,6 @@ too_many p s who key request response pin quiet many = DoesWrite.many quiet many
 pub no_number : (p : Permit) (s : State) (who : Actor) (key : Key) (request response : List Field) (pin : ℕ) → IsQuiet s → open_writers s < most_writers → limit ≤ s.next_put + 1
     → Does p s (Write who.0 key request response pin) [] (Fails Exhausted)
 no_number p s who key request response pin quiet few above = DoesWrite.exhausted quiet few above refl
-
-pub if_ok_map : {X E : Type 0} (r : Result X E) (P Q : X → Type 0) → ((x : X) → P x → Q x) → IfOk r P → IfOk r Q
-if_ok_map (Ok x) P Q f h = f x h
-if_ok_map (Err e) P Q f h = tt
 
 pub refused_opens : (s : State) (who : Actor) (key : Key) (request response : List Field) (pin : ℕ) (why : Refusal) → IsQuiet s → IsRefusedPut s (Some why)
     → OpensAsAsked s who key request response pin (Err why)

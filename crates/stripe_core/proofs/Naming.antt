@@ -30,14 +30,16 @@ use Rattle.cache_model.proofs.Lists.{found_row}
 use Rattle.stripe_actors.specs.Actors.{AreActors, Seen as Actors}
 use Rattle.cache_model.proofs.ByNumber.{find-changed}
 use Rattle.stripe_actors.proofs.Telling.{was_given}
-use Rattle.stripe_core.specs.declared.refusal.Found.{Found}
-use Rattle.stripe_core.specs.declared.refusal.Found.TheVariants as found
-use Rattle.stripe_core.specs.Find.{cause_records, find_adds, found_records}
-use Rattle.stripe_core.specs.Flush.{AreOfFlush, IsOfFlush}
+use Rattle.stripe_pieces.specs.declared.answer.Found.{Found}
+use Rattle.stripe_pieces.specs.declared.answer.Found.TheVariants as found
+use Rattle.stripe_pieces.specs.Find.{cause_records, find_adds, found_records}
+use Rattle.stripe_pieces.specs.Flush.{AreOfFlush, IsOfFlush}
 use Rattle.stripe_core.specs.Named.{IsNamed, IsOwn, IsOwnOf, IsPieceOf}
-use Rattle.stripe_core.specs.Place.{IsFragmentOf, IsNew, IsVectorFor}
-use Rattle.stripe_core.proofs.Flushes.{state_of-with_records}
-use Rattle.stripe_core.proofs.Going.{all_left}
+use Rattle.stripe_pieces.specs.Place.{IsFragmentOf, IsNew, IsVectorFor}
+use Rattle.stripe_pieces.proofs.Flushes.{state_of-with_records}
+use Rattle.stripe_pieces.proofs.Going.{all_left}
+use Rattle.stripe_pieces.proofs.SamePuts.{SamePuts, same_puts}
+use Rattle.stripe_pieces.specs.Displaced.{AreOfDisplacement}
 
 -- ---- records that leave the names
 
@@ -318,6 +320,12 @@ pub flush_leaves : (recs : List Rec) → AreOfFlush recs → AllLeaveNames recs
 flush_leaves [] all = tt
 flush_leaves (r ∷ recs) all = (of_flush r all.0, flush_leaves recs all.1)
 
+-- records of displacements take pieces away, and so leave the names of the others
+pub displaced_leaves : (recs : List Rec) → AreOfDisplacement recs → AllLeaveNames recs
+displaced_leaves [] all = tt
+displaced_leaves (rec.Displaced piece segment live ∷ recs) all = (refl, displaced_leaves recs all.1)
+displaced_leaves (_ ∷ recs) all = absurd all.0
+
 pub answer_leaves_names : (s : State) (reader : ℕ) (answer : NextAnswer) → IsNamed s → IsNamed (state_after s (answer_record reader answer))
 answer_leaves_names s reader (next.Gave index length) h = name_left s (rec.Gave reader index length) refl h
 answer_leaves_names s reader (next.Ended length) h = h
@@ -325,29 +333,6 @@ answer_leaves_names s reader (next.Waited cut) h = h
 answer_leaves_names s reader (next.Broke why) h = h
 
 -- ---- a fragment behind the flush that it may need
-
--- the geometry and the puts are the same
-pub record SamePuts (s t : State) : Type 0 where
-  pub geometry : t.geometry ≡ s.geometry
-  pub pending : t.pending ≡ s.pending
-  pub puts : t.puts ≡ s.puts
-  pub next_put : t.next_put ≡ s.next_put
-
-puts_after : (s : State) (r : Rec) → IsOfFlush r → SamePuts s (state_after s r)
-puts_after s (rec.Began cursor floor) h = record { geometry = refl; pending = refl; puts = refl; next_put = refl }
-puts_after s (rec.Moved piece from place digest) h = record { geometry = refl; pending = refl; puts = refl; next_put = refl }
-puts_after s (rec.Unsaved piece place fault) h = record { geometry = refl; pending = refl; puts = refl; next_put = refl }
-puts_after s (rec.Damaged piece place kept found) h = record { geometry = refl; pending = refl; puts = refl; next_put = refl }
-puts_after s (rec.Fault count) h = record { geometry = refl; pending = refl; puts = refl; next_put = refl }
-puts_after s _ h = absurd h
-
--- a flush leaves them
-pub same_puts : (s : State) (recs : List Rec) → AreOfFlush recs → SamePuts s (after_all s recs)
-same_puts s [] all = record { geometry = refl; pending = refl; puts = refl; next_put = refl }
-same_puts s (r ∷ recs) all =
-    let first : SamePuts s (state_after s r) = puts_after s r all.0 in
-    let rest : SamePuts (state_after s r) (after_all (state_after s r) recs) = same_puts (state_after s r) recs all.1 in
-    record { geometry = rest.geometry ∙ first.geometry; pending = rest.pending ∙ first.pending; puts = rest.puts ∙ first.puts; next_put = rest.next_put ∙ first.next_put }
 
 pub geometry_with : (k new : Kept) (recs : List Rec) → new ≡ with_records k recs → AreOfFlush recs → (state_of new).geometry ≡ (state_of k).geometry
 geometry_with k new recs is all = ap (λ (t : State). t.geometry) (ap state_of is ∙ state_of-with_records k recs) ∙ (same_puts (state_of k) recs all).geometry

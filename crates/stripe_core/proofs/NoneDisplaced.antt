@@ -16,12 +16,12 @@ use Rattle.cache_model.specs.Legal.{answer_record}
 use Rattle.cache_model.specs.Room.{placed_record}
 use Rattle.cache_model.proofs.Steps.{after_all-append}
 use Rattle.call_laws.specs.Contents.{IsToldAs, contents_of_vectors}
-use Rattle.stripe_core.specs.declared.refusal.Found.{Found}
-use Rattle.stripe_core.specs.declared.refusal.Found.TheVariants as found
-use Rattle.stripe_core.specs.Find.{cause_records, find_adds, found_records}
-use Rattle.stripe_core.specs.Flush.{AreOfFlush, IsOfFlush}
-use Rattle.stripe_core.specs.Place.{IsPlacedAs, cut_records}
-use Rattle.stripe_core.proofs.Flushes.{state_of-with_records}
+use Rattle.stripe_pieces.specs.declared.answer.Found.{Found}
+use Rattle.stripe_pieces.specs.declared.answer.Found.TheVariants as found
+use Rattle.stripe_pieces.specs.Find.{cause_records, find_adds, found_records}
+use Rattle.stripe_pieces.specs.Flush.{AreOfFlush, IsOfFlush}
+use Rattle.stripe_pieces.specs.Place.{IsPlacedAs, cut_records}
+use Rattle.stripe_pieces.proofs.Flushes.{state_of-with_records}
 
 -- ---- records that displace nothing
 

@@ -4,8 +4,9 @@ use Rattle.logged_disk.specs.Device.{State as Device}
 use Rattle.logged_disk.proofs.GoingOn.{goes_further, stays_put}
 use Rattle.stripe_core.specs.declared.refusal.Refusal.{Refusal}
 use Rattle.stripe_core.specs.declared.refusal.Refusal.TheVariants as refusal
-use Rattle.stripe_core.specs.declared.refusal.Stop.{Stop}
-use Rattle.stripe_core.specs.Stripe.{Answers, IsStill, IsUnwritten, Unstopped, Wanting}
+use Rattle.stripe_pieces.specs.declared.answer.Stop.{Stop}
+use Rattle.stripe_pieces.specs.Still.{IsStill, IsUnwritten}
+use Rattle.stripe_core.specs.Stripe.{Answers, Unstopped, Wanting}
 
 still_put : (a : Device) → IsStill a a
 still_put a = record { goes = stays_put a; past = refl; seen = λ j. refl; faults = refl }

@@ -3,7 +3,6 @@
 use Rattle.std.specs.Prelude.{ℕ, ◌≡◌, ◌*◌, ◌<◌, ◌≤◌, false, [], Result, Ok, Err}
 use Rattle.tape_base.specs.declared.pieces.PieceId.{PieceId}
 use Rattle.tape_base.specs.Piece.{is_vector}
-use Rattle.logged_disk.specs.Device.{IsAfter, SeenStays, State as Device}
 use Rattle.logged_disk.specs.declared.device.Disk.{Ghosts as DiskGhosts}
 use Rattle.dir_table.specs.declared.directory.Directory.{Ghosts as DirectoryGhosts}
 use Rattle.cyclone.specs.Cyclone.{Seen}
@@ -14,16 +13,16 @@ use Rattle.open_directory.specs.Directory.{room_of}
 use Rattle.stripe_actors.specs.Actors.{AreActors, reader_room_of, Seen as Actors}
 use Rattle.stripe_core.specs.declared.refusal.Refusal.{Refusal}
 use Rattle.stripe_core.specs.declared.refusal.Refusal.TheVariants as refusal
-use Rattle.stripe_core.specs.declared.refusal.Stop.{Stop}
-use Rattle.stripe_core.specs.declared.refusal.Stop.TheVariants as stop
+use Rattle.stripe_pieces.specs.declared.answer.Stop.{Stop}
+use Rattle.stripe_pieces.specs.declared.answer.Stop.TheVariants as stop
 use Rattle.stripe_core.specs.declared.stripe.Stripe.{Stripe}
 use Rattle.std.specs.declared.alloc.Global.{Global}
 use Rattle.call_laws.specs.Contents.{contents_of_vectors}
-use Rattle.stripe_core.specs.Ahead.{IsMadeFor}
-use Rattle.stripe_core.specs.Standing.{AreStanding}
+use Rattle.stripe_pieces.specs.Ahead.{IsMadeFor}
+use Rattle.stripe_pieces.specs.Standing.{AreStanding}
 use Rattle.stripe_core.specs.Named.{IsNamed}
-use Rattle.stripe_core.specs.Units.{entries_of_unit, records_of_unit}
-use Rattle.stripe_core.specs.Pieces.{ArePieces, kept_of, seen_of, state_now}
+use Rattle.stripe_pieces.specs.Units.{entries_of_unit, records_of_unit}
+use Rattle.stripe_pieces.specs.Pieces.{ArePieces, kept_of, seen_of, state_now}
 
 module _ {D R C : Type 0} {d : DiskGhosts D} {r : DirectoryGhosts R} {c : ChronicleGhosts C} where
   -- the records of a stripe, as its chronicle keeps them
@@ -57,18 +56,6 @@ pub record IsSpared (units flushes room : ℕ) (c : Seen) : Type 0 where
   pub one_each : units ≤ flushes
   pub calls : flushes ≤ c.device.calls
   pub blocks : flushes * c.geometry.agg ≤ c.device.blocks
-
--- the device made no call
-pub record IsStill (old new : Device) : Type 0 where
-  pub goes : IsAfter old new
-  pub past : new.past ≡ old.past
-  pub seen : SeenStays old new
-  pub faults : new.faults ≡ old.faults
-
--- the device shows what it showed; its count of faults may have risen
-pub record IsUnwritten (old new : Device) : Type 0 where
-  pub goes : IsAfter old new
-  pub seen : SeenStays old new
 
 -- how many fragments of a put can be cut without more memory
 abbrev pub room_for : ℕ → Actors → ℕ

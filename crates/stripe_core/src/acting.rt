@@ -9,9 +9,8 @@ ghost use Rattle.stripe_actors.specs.Actors.{AreActors, reader_room_of};
 ghost use Rattle.stripe_actors.specs.Calls.{HasNumber, KeepUpWith, StayInStep};
 ghost use Rattle.stripe_core.specs.Acts.{AnswersLookup, CommitsAsAsked, EndsReadAsAsked, GivesUpAsAsked, IsCommitting, IsFollowable, IsGivable, IsGivingUp, IsRefusedPut, LooksAsAsked, MarksAsAsked, NotesAsAsked, OpensAsAsked, RefusesAsAsked, RemovesAsAsked, committed_record, opened_record};
 
-use crate::pieces::records_of;
+use crate::Stripe;
 use crate::refusal::Refusal;
-use crate::{Stripe, records};
 use alternate_vector::{Fields, Vector};
 use cache_chronicle::Chronicle;
 use cache_model::{NextAnswer, ReadAnswer};
@@ -19,12 +18,14 @@ use dir_table::Directory;
 use logged_disk::Disk;
 use std::alloc::AllocError;
 use stripe_actors::{Actors, OpenPutRefusal};
+use stripe_pieces::{records, records_of};
 use tape_base::{Actor, Digest, Key, LIMIT, MAX_WRITERS, PieceId};
 
 // How many writers may be open.
 impl<D: Disk, R: Directory + Drop, C: Chronicle> Stripe<D, R, C> {
-    ghost use Rattle.stripe_core.specs.Pieces.{live_place_of};
-    ghost use Rattle.stripe_core.specs.Stripe.{IsStill, IsStripe, kept_in, seen_in, state_in, units_in};
+    ghost use Rattle.stripe_pieces.specs.Pieces.{live_place_of};
+    ghost use Rattle.stripe_pieces.specs.Still.{IsStill};
+    ghost use Rattle.stripe_core.specs.Stripe.{IsStripe, kept_in, seen_in, state_in, units_in};
     ghost use Rattle.stripe_core.specs.Between.{Continues, IsResting, StayStanding};
     ghost use Rattle.call_laws.specs.Contents.{AnyContents};
 

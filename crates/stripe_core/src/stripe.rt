@@ -7,24 +7,23 @@ ghost use Rattle.cache_model.specs.Kept.{all_of, with_records};
 ghost use Rattle.cache_model.specs.Legal.{format_records};
 ghost use Rattle.cache_model.specs.Room.{has_room, is_flush_exhausted};
 ghost use Rattle.cache_model.specs.Verdict.{payload_of_piece};
-ghost use Rattle.stripe_core.specs.Flush.{FlushesAsAsked, StopsWith, Tells};
+ghost use Rattle.stripe_pieces.specs.Flush.{FlushesAsAsked, StopsWith, Tells};
 ghost use Rattle.cache_model.specs.Legal.{is_writing};
 ghost use Rattle.stripe_actors.specs.Actors.{reader_room_of};
 ghost use Rattle.stripe_actors.specs.Calls.{with_room_of_readers};
-ghost use Rattle.stripe_core.specs.Find.{Finds, HasRoomFor, find_adds};
+ghost use Rattle.stripe_pieces.specs.Find.{Finds, HasRoomFor, find_adds};
 ghost use Rattle.call_laws.specs.Contents.{Contents, contents_of_vectors};
-ghost use Rattle.stripe_core.specs.Standing.{IsToldPlaced};
-ghost use Rattle.stripe_core.specs.Place.{CutsAsAsked, IsFragmentOf, IsPlacing, IsVectorFor, PlacesAsAsked, PlacesVector, RoomsAsAsked};
+ghost use Rattle.stripe_pieces.specs.Standing.{IsToldPlaced};
+ghost use Rattle.stripe_pieces.specs.Place.{CutsAsAsked, IsFragmentOf, IsPlacing, IsVectorFor, PlacesAsAsked, PlacesVector, RoomsAsAsked};
 
-use crate::Pieces;
-use crate::ahead::Ahead;
-use crate::refusal::{Flushed, Found, Placed, Refusal};
+use crate::refusal::Refusal;
 use cache_chronicle::Chronicle;
 use dir_table::Directory;
 use logged_disk::Disk;
 use open_directory::OpenDirectory;
 use std::alloc::{AllocError, Global};
 use stripe_actors::Actors;
+use stripe_pieces::{Ahead, Flushed, Found, Pieces, Placed};
 use tape_base::{Digest, Geometry, PieceId, blocks_of};
 
 /// The pieces on a device, the chronicle that tells of them, and the open writers and readers.
@@ -39,8 +38,9 @@ pub struct Stripe<D: Disk, R: Directory + Drop, C: Chronicle> {
 }
 
 impl<D: Disk, R: Directory + Drop, C: Chronicle> Stripe<D, R, C> {
-    ghost use Rattle.stripe_core.specs.Pieces.{live_place_of};
-    ghost use Rattle.stripe_core.specs.Stripe.{alloc_in, Answers, flushes_in, HasMemory, IsSpared, IsStill, IsStripe, IsUnwritten, IsWanting, kept_in, room_for, RowIsMade, seen_in, state_in, units_in, Wanting};
+    ghost use Rattle.stripe_pieces.specs.Pieces.{live_place_of};
+    ghost use Rattle.stripe_pieces.specs.Still.{IsStill, IsUnwritten};
+    ghost use Rattle.stripe_core.specs.Stripe.{alloc_in, Answers, flushes_in, HasMemory, IsSpared, IsStripe, IsWanting, kept_in, room_for, RowIsMade, seen_in, state_in, units_in, Wanting};
     ghost use Rattle.stripe_core.specs.Between.{Continues, ContinuesWith, IsResting, StandIn};
 
     /// Begins a session on an empty content area. A refusal gives back the device and the chronicle.

@@ -16,11 +16,11 @@ use Rattle.cache_model.specs.Given.{IsDocumentOf, IsRead, damage_cause}
 use Rattle.cache_model.specs.Legal.{IsAsListed, IsUnlike, ReadTrouble}
 use Rattle.cache_model.proofs.Lists.{own_piece}
 use Rattle.call_laws.specs.Contents.{Contents}
-use Rattle.stripe_core.specs.declared.refusal.Found.{Found}
-use Rattle.stripe_core.specs.declared.refusal.Found.TheVariants as found
-use Rattle.stripe_core.specs.Covers.{AreSeen, Covers}
-use Rattle.stripe_core.specs.Find.{Finds, HasPayload, IsFoundAs, cause_records, find_adds, found_records}
-use Rattle.stripe_core.proofs.Candidates.{live_is}
+use Rattle.stripe_pieces.specs.declared.answer.Found.{Found}
+use Rattle.stripe_pieces.specs.declared.answer.Found.TheVariants as found
+use Rattle.stripe_pieces.specs.Covers.{AreSeen, Covers}
+use Rattle.stripe_pieces.specs.Find.{Finds, HasPayload, IsFoundAs, cause_records, find_adds, found_records}
+use Rattle.stripe_pieces.proofs.Candidates.{live_is}
 use Rattle.stripe_read.specs.declared.fetching.Unlike.{Unlike}
 use Rattle.stripe_read.specs.Fetches.{Fetches, IsCompared, IsFetched, IsOtherPiece, IsPieceAsListed, IsUnlikePiece}
 

@@ -18,14 +18,14 @@ use Rattle.cache_model.specs.Given.{IsReadWhereLive}
 use Rattle.cache_model.specs.Legal.{Does, IsAsListed, IsNextAsListed, IsQuiet, IsReading, answer_record, live_next}
 use Rattle.cache_model.proofs.Found.{end_gives_none, no_truth}
 use Rattle.call_laws.specs.Contents.{Contents}
-use Rattle.stripe_core.specs.declared.refusal.Found.{Found}
-use Rattle.stripe_core.specs.declared.refusal.Found.TheVariants as found
+use Rattle.stripe_pieces.specs.declared.answer.Found.{Found}
+use Rattle.stripe_pieces.specs.declared.answer.Found.TheVariants as found
 use Rattle.stripe_core.specs.Acts.{NotesAsAsked}
 use Rattle.stripe_core.specs.Counts.{IsCountedCause}
-use Rattle.stripe_core.specs.Covers.{AreSeen, Covers}
-use Rattle.stripe_core.proofs.Covering.{own_covers, own_permit}
-use Rattle.stripe_core.specs.Find.{HasPayload, cause_records, find_adds, found_records}
-use Rattle.stripe_core.specs.Standing.{AreStanding}
+use Rattle.stripe_pieces.specs.Covers.{AreSeen, Covers}
+use Rattle.stripe_pieces.proofs.Covering.{own_covers, own_permit}
+use Rattle.stripe_pieces.specs.Find.{HasPayload, cause_records, find_adds, found_records}
+use Rattle.stripe_pieces.specs.Standing.{AreStanding}
 use Rattle.stripe_read.specs.declared.reader.Reader.{Reader}
 use Rattle.stripe_read.specs.declared.reading.NextPiece.{NextPiece}
 use Rattle.stripe_read.specs.declared.reading.NextPiece.TheVariants as piece

@@ -199,7 +199,7 @@ module _ (s : State) (old new : Device) (key : Key) (request : List Field) where
       → IsFound p s key request (looked.Miss why) ⊎ IsKeyPair (Untold new IsVectorAs) p s key
   trouble_in p why None live h = absurd h
   trouble_in p why (Some row) live h = inl (record {
-    right = subst (λ o. IsLookup p s key request (trouble_with o (read.Miss why)) (read.Miss why)) (sym live) (IsLookup.trouble row (Rattle.stripe_core.specs.Find.cause_records row why) why live h);
+    right = subst (λ o. IsLookup p s key request (trouble_with o (read.Miss why)) (read.Miss why)) (sym live) (IsLookup.trouble row (Rattle.stripe_pieces.specs.Find.cause_records row why) why live h);
     table = tt;
   })
 

@@ -15,9 +15,9 @@ use Rattle.cache_model.specs.Legal.{IsQuiet, answer_record}
 use Rattle.cache_model.proofs.Found.{no_truth}
 use Rattle.cache_model.proofs.Steps.{after_all-append}
 use Rattle.cache_model.proofs.ByNumber.{find-changed}
-use Rattle.stripe_core.specs.declared.refusal.Found.{Found}
-use Rattle.stripe_core.specs.declared.refusal.Found.TheVariants as found
-use Rattle.stripe_core.specs.Find.{cause_records, found_records}
+use Rattle.stripe_pieces.specs.declared.answer.Found.{Found}
+use Rattle.stripe_pieces.specs.declared.answer.Found.TheVariants as found
+use Rattle.stripe_pieces.specs.Find.{cause_records, found_records}
 use Rattle.stripe_read.specs.declared.reader.Reader.{Reader}
 use Rattle.stripe_read.specs.Readers.{IsOpenReader, IsReaderOf, row_by}
 

@@ -12,12 +12,12 @@ use Rattle.cache_model.specs.Permit.{Permit}
 use Rattle.cache_model.specs.Given.{IsDocumentOf}
 use Rattle.cache_model.specs.Legal.{IsAsListed, ReadTrouble}
 use Rattle.call_laws.specs.Contents.{Contents}
-use Rattle.stripe_core.specs.declared.refusal.Found.{Found}
-use Rattle.stripe_core.specs.declared.refusal.Found.TheVariants as found
-use Rattle.stripe_core.specs.Covers.{AreSeen, Covers}
-use Rattle.stripe_core.specs.Find.{HasPayload, cause_records}
-use Rattle.stripe_core.specs.Standing.{AreStanding}
-use Rattle.stripe_core.specs.Pieces.{live_place_of}
+use Rattle.stripe_pieces.specs.declared.answer.Found.{Found}
+use Rattle.stripe_pieces.specs.declared.answer.Found.TheVariants as found
+use Rattle.stripe_pieces.specs.Covers.{AreSeen, Covers}
+use Rattle.stripe_pieces.specs.Find.{HasPayload, cause_records}
+use Rattle.stripe_pieces.specs.Standing.{AreStanding}
+use Rattle.stripe_pieces.specs.Pieces.{live_place_of}
 use Rattle.stripe_read.specs.declared.fetching.Unlike.{Unlike}
 
 -- where the records tell the digest of a live piece's payload, it is the one that is listed

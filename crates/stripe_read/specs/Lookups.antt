@@ -17,9 +17,9 @@ use Rattle.cache_model.specs.Legal.{Does, IsLookup}
 use Rattle.cache_model.specs.Pair.{IsKeyPair}
 use Rattle.cache_model.specs.Vectors.{AreVectors, IsVectorAs}
 use Rattle.call_laws.specs.Contents.{Untold}
-use Rattle.stripe_core.specs.Covers.{AreSeen, Covers}
+use Rattle.stripe_pieces.specs.Covers.{AreSeen, Covers}
 use Rattle.stripe_core.specs.Counts.{IsCountedCause}
-use Rattle.stripe_core.specs.Find.{cause_records}
+use Rattle.stripe_pieces.specs.Find.{cause_records}
 use Rattle.stripe_read.specs.declared.reader.Reader.{Reader}
 use Rattle.stripe_read.specs.declared.opening.Chosen.{Chosen}
 use Rattle.stripe_read.specs.declared.opening.Looked.{Looked}

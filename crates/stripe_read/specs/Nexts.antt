@@ -12,11 +12,11 @@ use Rattle.cache_model.specs.Verdict.{cause_of_piece, digest_in, next_piece, nex
 use Rattle.cache_model.specs.Permit.{Done, Permit, ReadOn}
 use Rattle.cache_model.specs.Legal.{Does, IsAsListed, IsUnlike, answer_record, live_next}
 use Rattle.call_laws.specs.Contents.{Contents}
-use Rattle.stripe_core.specs.Covers.{AreSeen, Covers}
+use Rattle.stripe_pieces.specs.Covers.{AreSeen, Covers}
 use Rattle.stripe_core.specs.Counts.{IsCountedCause}
 use Rattle.cache_model.specs.Given.{IsDocumentOf}
-use Rattle.stripe_core.specs.Find.{cause_records}
-use Rattle.stripe_core.specs.Standing.{AreStanding}
+use Rattle.stripe_pieces.specs.Find.{cause_records}
+use Rattle.stripe_pieces.specs.Standing.{AreStanding}
 use Rattle.stripe_read.specs.declared.reader.Reader.{Reader}
 use Rattle.stripe_read.specs.declared.reading.NextPiece.{NextPiece}
 use Rattle.stripe_read.specs.declared.reading.NextPiece.TheVariants as piece

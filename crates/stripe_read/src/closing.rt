@@ -2,7 +2,8 @@
 ghost use Rattle.std.specs.Prelude.{◌≡◌, [], ◌∷◌, IfErr, OnOk};
 ghost use Rattle.cache_model.specs.declared.record.Rec.TheVariants as rec;
 ghost use Rattle.cache_model.specs.Kept.{with_records};
-ghost use Rattle.stripe_core.specs.Stripe.{IsStill, kept_in, seen_in, state_in};
+ghost use Rattle.stripe_pieces.specs.Still.{IsStill};
+ghost use Rattle.stripe_core.specs.Stripe.{kept_in, seen_in, state_in};
 ghost use Rattle.stripe_core.specs.Between.{IsResting, Rests};
 ghost use Rattle.stripe_read.specs.Readers.{ClosesAsAsked, IsOpenReader};
 ghost use Rattle.stripe_read.specs.Others.{AddsOfReader};

@@ -16,12 +16,12 @@ use Rattle.cache_model.proofs.VectorLaws.{live_vector_is_listed}
 use Rattle.call_laws.specs.Contents.{contents_of_vectors, spelled_content}
 use Rattle.cache_model.specs.Verdict.{live_vector_of, vector_of}
 use Rattle.cache_model.specs.Permit.{Permit}
-use Rattle.stripe_core.specs.Covers.{Covers}
-use Rattle.stripe_core.specs.declared.refusal.Found.TheVariants as found
-use Rattle.stripe_core.specs.Find.{Finds, HasPayload, IsFoundAs}
-use Rattle.stripe_core.specs.Standing.{AreStanding}
+use Rattle.stripe_pieces.specs.Covers.{Covers}
+use Rattle.stripe_pieces.specs.declared.answer.Found.TheVariants as found
+use Rattle.stripe_pieces.specs.Find.{Finds, HasPayload, IsFoundAs}
+use Rattle.stripe_pieces.specs.Standing.{AreStanding}
 use Rattle.cache_model.specs.Given.{IsDocumentOf}
-use Rattle.stripe_core.proofs.Covering.{own_covers, own_permit}
+use Rattle.stripe_pieces.proofs.Covering.{own_covers, own_permit}
 use Rattle.stripe_vectors.specs.declared.reading.KeyVector.TheVariants as answer
 use Rattle.stripe_vectors.specs.Reading.{FindsVector, IsReadAs, IsVectorFound, listed_in, spelled_in}
 

@@ -4,9 +4,9 @@ use Rattle.std.specs.List.{AllByRecursion}
 use Rattle.device_log.specs.Calls.{Call, Read}
 use Rattle.device_log.proofs.Spans.{span_same}
 use Rattle.logged_disk.specs.Device.{State as Device, seen as content_of}
-use Rattle.stripe_core.specs.Covers.{AreSeen, IsSeenOn}
-use Rattle.stripe_core.specs.Stripe.{IsStill}
-use Rattle.stripe_core.proofs.Covering.{made_is}
+use Rattle.stripe_pieces.specs.Covers.{AreSeen, IsSeenOn}
+use Rattle.stripe_pieces.specs.Still.{IsStill}
+use Rattle.stripe_pieces.proofs.Covering.{made_is}
 
 -- where no call was made
 pub seen_none : (old new : Device) → new.past ≡ old.past → AreSeen old new

@@ -14,8 +14,8 @@ use Rattle.cache_model.specs.Permit.{Permit}
 use Rattle.cache_model.specs.Given.{IsGiven, IsWritten, Trouble}
 use Rattle.cache_model.specs.Pair.{IsKeyPair}
 use Rattle.cache_model.specs.Vectors.{AreVectors, IsVectorAs}
-use Rattle.stripe_core.specs.Covers.{AreSeen, Covers}
-use Rattle.stripe_core.specs.Find.{cause_records}
+use Rattle.stripe_pieces.specs.Covers.{AreSeen, Covers}
+use Rattle.stripe_pieces.specs.Find.{cause_records}
 use Rattle.stripe_vectors.specs.declared.reading.KeyVector.{KeyVector}
 use Rattle.stripe_vectors.specs.declared.reading.KeyVector.TheVariants as found
 

@@ -4,9 +4,10 @@ ghost use Rattle.alternate_vector.specs.Reading.{read_vector};
 ghost use Rattle.cache_model.specs.Kept.{with_records};
 ghost use Rattle.cache_model.specs.State.{live_row_of};
 ghost use Rattle.cache_model.specs.Verdict.{live_vector_of, vector_of};
-ghost use Rattle.stripe_core.specs.Covers.{AreSeen};
-ghost use Rattle.stripe_core.specs.Find.{HasRoomFor};
-ghost use Rattle.stripe_core.specs.Stripe.{IsStripe, IsUnwritten, kept_in, room_for, seen_in, state_in, units_in};
+ghost use Rattle.stripe_pieces.specs.Covers.{AreSeen};
+ghost use Rattle.stripe_pieces.specs.Find.{HasRoomFor};
+ghost use Rattle.stripe_pieces.specs.Still.{IsUnwritten};
+ghost use Rattle.stripe_core.specs.Stripe.{IsStripe, kept_in, room_for, seen_in, state_in, units_in};
 ghost use Rattle.stripe_core.specs.Between.{Continues};
 ghost use Rattle.stripe_vectors.specs.Reading.{FindsVector, listed_in, vector_adds};
 

@@ -22,13 +22,13 @@ use Rattle.cache_model.specs.Legal.{IsQuiet}
 use Rattle.cache_model.specs.Room.{placed_record}
 use Rattle.cache_model.proofs.Steps.{after_all-append, all_append}
 use Rattle.cache_model.proofs.ByNumber.{find-changed}
-use Rattle.stripe_core.specs.declared.refusal.Placed.{Placed}
+use Rattle.stripe_pieces.specs.declared.answer.Placed.{Placed}
 use Rattle.stripe_core.specs.declared.refusal.Refusal.{Refusal}
 use Rattle.stripe_core.specs.declared.refusal.Refusal.TheVariants as refusal
-use Rattle.stripe_core.specs.Place.{CutsAsAsked, IsCutAs, IsFragmentOf, IsPlacedAs, PlacesAsAsked, PlacesVector, ReachesLimit}
-use Rattle.stripe_core.specs.Displaced.{AreOfDisplacement}
+use Rattle.stripe_pieces.specs.Place.{CutsAsAsked, IsCutAs, IsFragmentOf, IsPlacedAs, PlacesAsAsked, PlacesVector, ReachesLimit}
+use Rattle.stripe_pieces.specs.Displaced.{AreOfDisplacement}
 use Rattle.stripe_core.specs.Stripe.{Answers}
-use Rattle.stripe_core.proofs.Displacing.{displaced_puts}
+use Rattle.stripe_pieces.proofs.Displacing.{displaced_puts}
 use Rattle.stripe_write.specs.declared.writer.Writer.{Writer}
 use Rattle.stripe_write.proofs.Ended.{own_number}
 use Rattle.stripe_write.proofs.Flushed.{LeavesActors, flush_is_own, flush_leaves}

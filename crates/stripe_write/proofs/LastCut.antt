@@ -11,14 +11,14 @@ use Rattle.cache_model.specs.Kept.{Kept, state_of}
 use Rattle.cache_model.specs.Permit.{Done, Exhausted, Fails, Faulted, Permit, Reason}
 use Rattle.cache_model.specs.Verdict.{is_open}
 use Rattle.cache_model.specs.Legal.{MayGrow, is_writing}
-use Rattle.stripe_core.specs.declared.refusal.Placed.{Placed}
+use Rattle.stripe_pieces.specs.declared.answer.Placed.{Placed}
 use Rattle.stripe_core.specs.declared.refusal.Refusal.{Refusal}
 use Rattle.stripe_core.specs.declared.refusal.Refusal.TheVariants as refusal
-use Rattle.stripe_core.specs.declared.refusal.Stop.{Stop}
-use Rattle.stripe_core.specs.declared.refusal.Stop.TheVariants as stop
-use Rattle.stripe_core.specs.Covers.{Spends}
-use Rattle.stripe_core.specs.Flush.{AreOfFlush}
-use Rattle.stripe_core.specs.Place.{CutsAsAsked, IsCutAs, IsStoppedAs}
+use Rattle.stripe_pieces.specs.declared.answer.Stop.{Stop}
+use Rattle.stripe_pieces.specs.declared.answer.Stop.TheVariants as stop
+use Rattle.stripe_pieces.specs.Covers.{Spends}
+use Rattle.stripe_pieces.specs.Flush.{AreOfFlush}
+use Rattle.stripe_pieces.specs.Place.{CutsAsAsked, IsCutAs, IsStoppedAs}
 use Rattle.stripe_core.specs.Stripe.{Answers, HasMemory}
 use Rattle.stripe_write.specs.declared.writer.Writer.{Writer}
 use Rattle.stripe_write.specs.Closing.{SpendsAll, rest_intents}

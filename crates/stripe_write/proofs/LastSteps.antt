@@ -15,13 +15,14 @@ use Rattle.cache_model.specs.Vectors.{AreTold, IsVectorAs}
 use Rattle.cache_model.proofs.Steps.{grows_on}
 use Rattle.stripe_core.specs.declared.refusal.Refusal.{Refusal}
 use Rattle.stripe_core.specs.declared.refusal.Refusal.TheVariants as refusal
-use Rattle.stripe_core.specs.declared.refusal.Stop.{Stop}
-use Rattle.stripe_core.specs.declared.refusal.Stop.TheVariants as stop
-use Rattle.stripe_core.specs.Covers.{Covers, Spends}
-use Rattle.stripe_core.specs.Flush.{stop_end}
-use Rattle.stripe_core.specs.Place.{ReachesLimit}
-use Rattle.stripe_core.specs.Stripe.{Answers, IsStill, IsUnwritten, Wanting}
-use Rattle.stripe_core.proofs.Covering.{covers_first, covers_last}
+use Rattle.stripe_pieces.specs.declared.answer.Stop.{Stop}
+use Rattle.stripe_pieces.specs.declared.answer.Stop.TheVariants as stop
+use Rattle.stripe_pieces.specs.Covers.{Covers, Spends}
+use Rattle.stripe_pieces.specs.Flush.{stop_end}
+use Rattle.stripe_pieces.specs.Place.{ReachesLimit}
+use Rattle.stripe_pieces.specs.Still.{IsStill, IsUnwritten}
+use Rattle.stripe_core.specs.Stripe.{Answers, Wanting}
+use Rattle.stripe_pieces.proofs.Covering.{covers_first, covers_last}
 use Rattle.stripe_core.proofs.Stills.{still_shows, still_then, unwritten_then}
 use Rattle.cache_model.specs.Pair.{IsKeyPair}
 use Rattle.call_laws.specs.Contents.{Untold}

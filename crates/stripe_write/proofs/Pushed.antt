@@ -10,9 +10,9 @@ use Rattle.cache_model.specs.declared.record.Rec.TheVariants as rec
 use Rattle.cache_model.specs.State.{Row, State, after_all, last_vector, live_row_of, only_live, row_in, state_after}
 use Rattle.cache_model.specs.Verdict.{live_vector_of, vector_of_last}
 use Rattle.cache_model.proofs.Lists.{row_in-without}
-use Rattle.stripe_core.specs.Displaced.{AreOfDisplacement, IsOfDisplacement}
-use Rattle.stripe_core.specs.Place.{IsPlacedAs}
-use Rattle.stripe_core.proofs.Displacing.{pushed_kinds}
+use Rattle.stripe_pieces.specs.Displaced.{AreOfDisplacement, IsOfDisplacement}
+use Rattle.stripe_pieces.specs.Place.{IsPlacedAs}
+use Rattle.stripe_pieces.proofs.Displacing.{pushed_kinds}
 use Rattle.stripe_write.specs.Others.{IsOfPut}
 
 -- all that the entry of a piece displaces is recorded as displaced

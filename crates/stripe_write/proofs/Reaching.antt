@@ -11,9 +11,9 @@ use Rattle.cache_model.specs.Legal.{vector_length}
 use Rattle.cache_model.specs.Room.{copies_end, has_room}
 use Rattle.stripe_core.specs.declared.refusal.Refusal.{Refusal}
 use Rattle.stripe_core.specs.declared.refusal.Refusal.TheVariants as refusal
-use Rattle.stripe_core.specs.declared.refusal.Stop.TheVariants as stop
-use Rattle.stripe_core.specs.Flush.{StopsWith}
-use Rattle.stripe_core.specs.Place.{PlacesAt, ReachesLimit, number_over}
+use Rattle.stripe_pieces.specs.declared.answer.Stop.TheVariants as stop
+use Rattle.stripe_pieces.specs.Flush.{StopsWith}
+use Rattle.stripe_pieces.specs.Place.{PlacesAt, ReachesLimit, number_over}
 use Rattle.stripe_write.specs.declared.finishing.Receipt.{Receipt}
 use Rattle.stripe_write.specs.declared.writer.Writer.{Writer}
 use Rattle.stripe_write.specs.Closing.{rest_rows, rows_at_close}

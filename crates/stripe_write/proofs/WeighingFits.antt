@@ -26,9 +26,9 @@ use Rattle.call_laws.specs.Contents.{Untold}
 use Rattle.call_laws.proofs.Kept.{tells_or_not}
 use Rattle.stripe_core.specs.declared.refusal.Refusal.{Refusal}
 use Rattle.stripe_core.specs.declared.refusal.Refusal.TheVariants as refusal
-use Rattle.stripe_core.specs.Covers.{AreSeen, Covers, Spends}
+use Rattle.stripe_pieces.specs.Covers.{AreSeen, Covers, Spends}
 use Rattle.stripe_core.specs.Stripe.{Wanting}
-use Rattle.stripe_core.proofs.Covering.{own_covers, own_permit}
+use Rattle.stripe_pieces.proofs.Covering.{own_covers, own_permit}
 use Rattle.stripe_vectors.specs.declared.reading.KeyVector.{KeyVector}
 use Rattle.stripe_vectors.specs.declared.reading.KeyVector.TheVariants as found
 use Rattle.stripe_vectors.specs.declared.spelling.Spelled.{Spelled}

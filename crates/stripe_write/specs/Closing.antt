@@ -17,7 +17,7 @@ use Rattle.cache_model.specs.Legal.{MayGrow}
 use Rattle.call_laws.specs.Contents.{Untold}
 use Rattle.stripe_core.specs.declared.refusal.Refusal.{Refusal}
 use Rattle.stripe_core.specs.declared.refusal.Refusal.TheVariants as refusal
-use Rattle.stripe_core.specs.Covers.{AreSeen, Covers, Spends}
+use Rattle.stripe_pieces.specs.Covers.{AreSeen, Covers, Spends}
 use Rattle.stripe_vectors.specs.declared.spelling.Spelled.{Spelled}
 use Rattle.cache_model.specs.Pair.{IsKeyPair}
 use Rattle.stripe_vectors.specs.Spelled.{IsSpelled}

@@ -12,8 +12,8 @@ use Rattle.cache_model.specs.Legal.{vector_length, vector_payload}
 use Rattle.cache_model.specs.Room.{greatest_pin, limit}
 use Rattle.stripe_core.specs.declared.refusal.Refusal.{Refusal}
 use Rattle.stripe_core.specs.declared.refusal.Refusal.TheVariants as refusal
-use Rattle.stripe_core.specs.Covers.{Covers}
-use Rattle.stripe_core.specs.Place.{ReachesLimit}
+use Rattle.stripe_pieces.specs.Covers.{Covers}
+use Rattle.stripe_pieces.specs.Place.{ReachesLimit}
 use Rattle.stripe_vectors.specs.declared.spelling.Spelled.{Spelled}
 use Rattle.stripe_write.specs.declared.finishing.Receipt.{Receipt}
 use Rattle.stripe_write.specs.declared.weighing.Vectors.{Vectors}

@@ -6,11 +6,11 @@ use Rattle.cache_model.specs.declared.record.Rec.{Rec}
 use Rattle.cache_model.specs.State.{State}
 use Rattle.cache_model.specs.Kept.{Kept, state_of, with_records}
 use Rattle.cache_model.specs.Permit.{Done, End, Permit}
-use Rattle.stripe_core.specs.declared.refusal.Placed.{Placed}
-use Rattle.stripe_core.specs.declared.refusal.Stop.{Stop}
-use Rattle.stripe_core.specs.Covers.{Covers}
-use Rattle.stripe_core.specs.Flush.{stop_end}
-use Rattle.stripe_core.specs.Place.{IsCutAs, IsStoppedAs}
+use Rattle.stripe_pieces.specs.declared.answer.Placed.{Placed}
+use Rattle.stripe_pieces.specs.declared.answer.Stop.{Stop}
+use Rattle.stripe_pieces.specs.Covers.{Covers}
+use Rattle.stripe_pieces.specs.Flush.{stop_end}
+use Rattle.stripe_pieces.specs.Place.{IsCutAs, IsStoppedAs}
 use Rattle.stripe_write.specs.declared.writer.Writer.{Writer}
 use Rattle.stripe_write.specs.Closing.{SpendsAll, rest_intents}
 use Rattle.stripe_write.specs.Writes.{next_id, next_start}

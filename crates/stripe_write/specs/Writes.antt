@@ -14,14 +14,14 @@ use Rattle.cache_model.specs.Legal.{Does, is_writing}
 use Rattle.device_log.specs.Calls.{Call}
 use Rattle.logged_disk.specs.Device.{State as Device, TellsAll}
 use Rattle.call_laws.specs.Contents.{Contents}
-use Rattle.stripe_core.specs.declared.refusal.Placed.{Placed}
+use Rattle.stripe_pieces.specs.declared.answer.Placed.{Placed}
 use Rattle.stripe_core.specs.declared.refusal.Refusal.{Refusal}
 use Rattle.stripe_core.specs.declared.refusal.Refusal.TheVariants as refusal
-use Rattle.stripe_core.specs.declared.refusal.Stop.{Stop}
-use Rattle.stripe_core.specs.declared.refusal.Stop.TheVariants as stop
-use Rattle.stripe_core.specs.Covers.{Covers, Spends}
+use Rattle.stripe_pieces.specs.declared.answer.Stop.{Stop}
+use Rattle.stripe_pieces.specs.declared.answer.Stop.TheVariants as stop
+use Rattle.stripe_pieces.specs.Covers.{Covers, Spends}
 use Rattle.cache_model.specs.Damage.{TellNoDamage}
-use Rattle.stripe_core.specs.Place.{IsFragmentAs, place_end}
+use Rattle.stripe_pieces.specs.Place.{IsFragmentAs, place_end}
 use Rattle.stripe_write.specs.declared.writer.Writer.{Writer}
 use Rattle.stripe_write.specs.Others.{IsOfPut}
 

@@ -2,7 +2,8 @@
 ghost use Rattle.std.specs.Prelude.{◌≡◌, ◌+◌, ◌≤◌, ◌<◌, true, OnOk, IfErr};
 ghost use Rattle.cache_model.specs.Legal.{is_writing};
 ghost use Rattle.stripe_core.specs.Counts.{IsCounted};
-ghost use Rattle.stripe_core.specs.Stripe.{IsStill, IsStripe, kept_in, room_for, seen_in, state_in, units_in, Wanting};
+ghost use Rattle.stripe_pieces.specs.Still.{IsStill};
+ghost use Rattle.stripe_core.specs.Stripe.{IsStripe, kept_in, room_for, seen_in, state_in, units_in, Wanting};
 ghost use Rattle.stripe_core.specs.Between.{Continues, IsResting, RestsWith};
 ghost use Rattle.stripe_write.specs.Others.{AddsOfPut};
 ghost use Rattle.stripe_write.specs.Writers.{IsWriterOf};

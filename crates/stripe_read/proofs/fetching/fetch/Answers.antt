@@ -1,9 +1,9 @@
 use Rattle.std.proofs.Common.{◌≡◌, ◌∙◌, ap, subst}
 use Rattle.cache_model.specs.State.{live_row_of}
 use Rattle.cache_model.specs.Kept.{Kept, state_of, with_records}
-use Rattle.stripe_core.specs.Find.{Finds, find_adds}
+use Rattle.stripe_pieces.specs.Find.{Finds, find_adds}
 use Rattle.stripe_core.specs.Stripe.{kept_in, seen_in, state_in}
-use Rattle.stripe_core.proofs.Fitting.{budget_has_room}
+use Rattle.stripe_pieces.proofs.Fitting.{budget_has_room}
 use Rattle.stripe_read.specs.Fetches.{IsCompared, IsOtherPiece}
 use Rattle.stripe_read.proofs.Staying.{found_same}
 use Rattle.stripe_read.proofs.Comparing.{compared, missing}

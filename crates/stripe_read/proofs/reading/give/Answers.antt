@@ -1,8 +1,8 @@
 use Rattle.std.proofs.Common.{◌≡◌, ◌≤◌, ◌∙◌, subst, refl}
 use Rattle.cache_model.specs.State.{State, live_row_of}
 use Rattle.cache_model.specs.Kept.{with_records}
-use Rattle.stripe_core.specs.declared.refusal.Found.TheVariants as found
-use Rattle.stripe_core.specs.Find.{find_adds}
+use Rattle.stripe_pieces.specs.declared.answer.Found.TheVariants as found
+use Rattle.stripe_pieces.specs.Find.{find_adds}
 use Rattle.stripe_core.specs.Stripe.{kept_in, seen_in, state_in}
 use Rattle.stripe_read.specs.Fetches.{Fetches}
 use Rattle.stripe_read.proofs.Giving.{broken_reads, other_next, piece_reads}

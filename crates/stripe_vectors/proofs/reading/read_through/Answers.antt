@@ -1,9 +1,9 @@
 use Rattle.std.proofs.Common.{subst}
-use Rattle.stripe_core.specs.Find.{Finds}
-use Rattle.stripe_core.specs.declared.refusal.Found.TheVariants as found
+use Rattle.stripe_pieces.specs.Find.{Finds}
+use Rattle.stripe_pieces.specs.declared.answer.Found.TheVariants as found
 use Rattle.logged_disk.proofs.GoingOn.{told_before}
 use Rattle.stripe_core.specs.Stripe.{seen_in, state_in}
-use Rattle.stripe_core.proofs.VectorsListed.{are_listed}
+use Rattle.stripe_pieces.proofs.VectorsListed.{are_listed}
 use Rattle.stripe_vectors.proofs.Finding.{found_fits, found_taken, found_vector, live_row, missed_vector}
 use Rattle.stripe_vectors.proofs.reading.read_through.Goals as goal
 

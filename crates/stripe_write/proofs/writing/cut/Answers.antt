@@ -3,18 +3,17 @@ use Rattle.std.specs.Prelude.{MatchBool}
 use Rattle.std.proofs.lemmas.Result.{err_from_is_err_and}
 use Rattle.hex.specs.Hex.{IsBytes}
 use Rattle.cache_model.specs.Legal.{IsQuiet}
-use Rattle.stripe_core.specs.Place.{CutsAsAsked, IsFragmentOf, IsPlacing, IsVectorFor}
+use Rattle.stripe_pieces.specs.Place.{CutsAsAsked, IsFragmentOf, IsPlacing, IsVectorFor}
 use Rattle.stripe_core.specs.Stripe.{kept_in, seen_in, state_in}
 use Rattle.stripe_core.proofs.Stills.{wanting_unstopped}
-use Rattle.stripe_write.specs.Writes.{next_id, next_start}
+use Rattle.stripe_write.specs.Writes.{next_id, next_start, IsToldNext}
 use Rattle.stripe_write.proofs.Cutting.{cut_quiet, cut_stops, cut_writer, cuts_behind, next_no_vector, ready_fragment, rows_behind}
 use Rattle.stripe_write.proofs.Gathering.{failed_leaves}
 use Rattle.stripe_write.proofs.Spending.{state_behind}
 use Rattle.tape_base.specs.declared.pieces.PieceId.{PieceId}
 use Rattle.call_laws.specs.Contents.{Contents, IsToldAs, contents_of_vectors}
-use Rattle.stripe_core.specs.Standing.{IsToldPlaced}
+use Rattle.stripe_pieces.specs.Standing.{IsToldPlaced}
 use Rattle.stripe_core.proofs.Continuing.{continues_rests, continues_with_rests, rests_with}
-use Rattle.stripe_write.specs.Writes.{IsToldNext}
 use Rattle.stripe_write.proofs.ToldPieces.{continues_as, told_of_next}
 use Rattle.stripe_write.proofs.writing.cut.Goals as goal
 

@@ -1,12 +1,12 @@
 use Rattle.std.proofs.Common.{◌++◌, sym, ◌∙◌, ap, subst, arith}
 use Rattle.cache_model.specs.Given.{effects_told}
 use Rattle.call_laws.specs.Contents.{contents_of_vectors}
-use Rattle.stripe_core.specs.Covers.{Covers}
-use Rattle.stripe_core.specs.Faults.{HasEffects}
+use Rattle.stripe_pieces.specs.Covers.{Covers}
+use Rattle.stripe_pieces.specs.Faults.{HasEffects}
 use Rattle.cache_model.specs.Kept.{state_of}
-use Rattle.stripe_core.specs.Find.{Finds, find_adds}
-use Rattle.stripe_core.specs.Pieces.{seen_of}
-use Rattle.stripe_core.specs.Standing.{AreStanding}
+use Rattle.stripe_pieces.specs.Find.{Finds, find_adds}
+use Rattle.stripe_pieces.specs.Pieces.{seen_of}
+use Rattle.stripe_pieces.specs.Standing.{AreStanding}
 use Rattle.stripe_core.specs.Stripe.{flushes_in, kept_in, seen_in, state_in, units_in}
 use Rattle.stripe_core.proofs.Sparing.{actors_with, find_are_others, made_still, numbered_others, spent_calm}
 use Rattle.stripe_core.proofs.Naming.{find_leaves, named_with}

@@ -2,9 +2,9 @@ use Rattle.std.specs.Prelude.{IfErr, nat_lt}
 use Rattle.std.proofs.Common.{◌≡◌, Err, ap, subst, sym, arith}
 use Rattle.cache_model.specs.Kept.{state_of}
 use Rattle.call_laws.specs.Contents.{contents_of_vectors}
-use Rattle.stripe_core.specs.declared.refusal.Flushed.{Flushed}
-use Rattle.stripe_core.specs.Flush.{FlushesAsAsked, StopsWith}
-use Rattle.stripe_core.specs.Pieces.{kept_of, seen_of}
+use Rattle.stripe_pieces.specs.declared.answer.Flushed.{Flushed}
+use Rattle.stripe_pieces.specs.Flush.{FlushesAsAsked, StopsWith}
+use Rattle.stripe_pieces.specs.Pieces.{kept_of, seen_of}
 use Rattle.stripe_core.specs.Stripe.{Answers, HasMemory, flushes_in, kept_in, seen_in, state_in, units_in}
 use Rattle.stripe_core.proofs.Asked.{behind_unit, stop_has_memory}
 use Rattle.stripe_core.proofs.Naming.{flush_leaves, named_with}

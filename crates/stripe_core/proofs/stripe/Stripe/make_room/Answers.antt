@@ -2,7 +2,8 @@ use Rattle.std.proofs.Common.{◌+◌, arith}
 use Rattle.std.proofs.lemmas.Bool.{le-leb, lt-leb}
 use Rattle.tape_base.specs.Blocks.{blocks_of}
 use Rattle.stripe_core.specs.Stripe.{kept_in, seen_in, state_in}
-use Rattle.stripe_core.proofs.Making.{flush_makes, refusal_makes_none, room_behind, room_stands, stops_alike}
+use Rattle.stripe_pieces.proofs.Making.{flush_makes, room_behind, room_stands}
+use Rattle.stripe_core.proofs.Making.{refusal_makes_none, stops_alike}
 use Rattle.stripe_core.proofs.Naming.{geometry_with}
 use Rattle.stripe_core.proofs.Continuing.{continues_same}
 use Rattle.stripe_core.proofs.stripe.Stripe.make_room.Goals as goal

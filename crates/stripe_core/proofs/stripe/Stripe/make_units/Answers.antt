@@ -1,7 +1,7 @@
 use Rattle.std.proofs.Common.{arith}
 use Rattle.std.proofs.lemmas.Grind.{common_steps}
-use Rattle.stripe_core.specs.Pieces.{kept_of, seen_of}
-use Rattle.stripe_core.proofs.Going.{still_of}
+use Rattle.stripe_pieces.specs.Pieces.{kept_of, seen_of}
+use Rattle.stripe_pieces.proofs.Going.{still_of}
 use Rattle.stripe_core.proofs.Between.{between-none}
 use Rattle.stripe_core.proofs.stripe.Stripe.make_units.Goals as goal
 

@@ -9,8 +9,8 @@ use Rattle.call_laws.specs.Contents.{contents_of_vectors}
 use Rattle.stripe_core.specs.Named.{IsNamed}
 use Rattle.stripe_actors.specs.Actors.{AreActors}
 use Rattle.stripe_core.specs.Stripe.{kept_in, seen_in, state_in}
-use Rattle.stripe_core.specs.Units.{records_of_unit}
-use Rattle.stripe_core.proofs.Flushes.{state_of-with_records}
+use Rattle.stripe_pieces.specs.Units.{records_of_unit}
+use Rattle.stripe_pieces.proofs.Flushes.{state_of-with_records}
 use Rattle.stripe_core.proofs.Doings.{LeavesPieces, held_behind, opens, reader_behind, standing_behind}
 use Rattle.stripe_core.proofs.Sparing.{behind_one, made_behind, numbered_by}
 use Rattle.stripe_core.proofs.Naming.{named_behind, named_opened}

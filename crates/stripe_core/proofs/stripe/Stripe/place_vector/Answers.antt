@@ -6,15 +6,15 @@ use Rattle.cache_model.specs.Kept.{state_of}
 use Rattle.dir_table.specs.Displacement.{purge_of}
 use Rattle.tape_base.specs.Piece.{is_vector}
 use Rattle.call_laws.specs.Contents.{contents_of_vectors}
-use Rattle.stripe_core.specs.Place.{IsPlacedAs, PlacesVector}
-use Rattle.stripe_core.specs.Pieces.{kept_of, seen_of}
+use Rattle.stripe_pieces.specs.Place.{IsPlacedAs, PlacesVector}
+use Rattle.stripe_pieces.specs.Pieces.{kept_of, seen_of}
 use Rattle.stripe_core.specs.Stripe.{Answers, flushes_in, kept_in, seen_in, state_in, units_in}
 use Rattle.stripe_core.proofs.Between.{between-tells}
-use Rattle.stripe_core.proofs.Groups.{no_damage_adds, place_quiet, vector_group}
-use Rattle.stripe_core.proofs.Displacing.{displaced_leaves, displaced_puts, pushed_kinds}
-use Rattle.stripe_core.proofs.Flushes.{state_of-with_records}
+use Rattle.stripe_pieces.proofs.Groups.{no_damage_adds, place_quiet, vector_group}
+use Rattle.stripe_pieces.proofs.Displacing.{displaced_puts, pushed_kinds}
+use Rattle.stripe_core.proofs.Naming.{displaced_leaves, begun_put, small_size, vector_named, vector_new}
+use Rattle.stripe_pieces.proofs.Flushes.{state_of-with_records}
 use Rattle.stripe_core.proofs.Sparing.{actors_with, answers_stop, made_still, numbered_others, spent_calm, vector_others, vector_state}
-use Rattle.stripe_core.proofs.Naming.{begun_put, small_size, vector_named, vector_new}
 use Rattle.stripe_core.proofs.Continuing.{no_less}
 use Rattle.stripe_core.proofs.NoneDisplaced.{none_placed}
 use Rattle.stripe_core.proofs.stripe.Stripe.place_vector.Goals as goal

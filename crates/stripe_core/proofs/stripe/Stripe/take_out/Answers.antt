@@ -1,7 +1,7 @@
 use Rattle.std.proofs.Common.{arith, refl, [], ◌∷◌}
 use Rattle.cache_model.specs.declared.record.Rec.TheVariants as rec
 use Rattle.call_laws.specs.Contents.{contents_of_vectors}
-use Rattle.stripe_core.specs.Pieces.{seen_of}
+use Rattle.stripe_pieces.specs.Pieces.{seen_of}
 use Rattle.stripe_core.specs.Stripe.{kept_in, seen_in, state_in}
 use Rattle.stripe_core.proofs.Doings.{one_less, removes}
 use Rattle.stripe_core.proofs.Naming.{name_left, named_behind}

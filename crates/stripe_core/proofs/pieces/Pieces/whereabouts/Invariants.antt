@@ -1,9 +1,0 @@
-use Rattle.std.proofs.Common.{length}
-use Rattle.stripe_core.specs.Pieces.{ComesTo, state_now}
-use Rattle.stripe_core.proofs.pieces.Pieces.whereabouts.Given as goal
-
-abbrev pub invariant-walks : goal.invariant-walks
-invariant-walks g l = ComesTo g.R.Directory (state_now l.self) l.id l.directory l.walk
-
-abbrev pub decreases-walks : goal.decreases-walks
-decreases-walks g l = length (g.R.Directory.rest l.directory l.walk)

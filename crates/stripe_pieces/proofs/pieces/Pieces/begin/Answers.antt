@@ -1,0 +1,34 @@
+use Rattle.std.proofs.lemmas.Grind.{common_steps}
+use Rattle.std.proofs.Common.{arith, [], ◌∷◌}
+use Rattle.cache_model.specs.declared.record.Rec.TheVariants as rec
+use Rattle.cache_model.specs.State.{cursor_next, floor_next}
+use Rattle.logged_disk.proofs.Moments.{seen_image}
+use Rattle.cyclone.specs.Cyclone.{seen}
+use Rattle.stripe_pieces.specs.Pieces.{kept_of, seen_of, state_now}
+use Rattle.stripe_pieces.specs.Records.{IsWrittenOut}
+use Rattle.stripe_pieces.proofs.Beginning.{begun_is_held}
+use Rattle.stripe_pieces.proofs.Standing.{standing_begun}
+use Rattle.stripe_pieces.proofs.Telling.{held_behind, stands_behind}
+use Rattle.stripe_pieces.proofs.pieces.Pieces.begin.Goals as goal
+
+pub returns-clause-adds : goal.returns-clause-adds
+returns-clause-adds g c = grind (arith, common_steps)
+
+pub returns-clause-pieces : goal.returns-clause-pieces
+returns-clause-pieces g c =
+    let s = state_now c.args.self.now in
+    let disk = c.args.self.now.cyclone.disk in
+    let old = seen_of c.args.self.now in
+    let after = seen c.begin_next.new.self in
+    let kept = kept_of c.args.self.now in
+    let new = g.C.Chronicle.kept c.began.new.chronicle in
+    let recs = rec.Began (cursor_next s) (floor_next s) ∷ [] in
+    let adds = returns-clause-adds g c in
+    let begins = c.begin_next.ensures.begins in
+    let image = seen_image (g.D.Disk.state disk) (g.met.D.Disk.was_image disk) (g.met.D.Disk.is_log disk) in
+    let out : IsWrittenOut old = record { whole = image.whole; written = c.requires.written } in
+    record {
+      held = held_behind kept new recs after adds (begun_is_held s old after c.requires.pieces out begins c.begin_next.ensures.turns);
+      contents = λ contents told stands.
+          stands_behind contents kept new recs after adds (standing_begun contents s old after c.requires.pieces out begins stands);
+    }

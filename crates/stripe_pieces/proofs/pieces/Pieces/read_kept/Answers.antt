@@ -1,0 +1,77 @@
+use Rattle.std.proofs.Common.{◌≡◌, ◌+◌, ◌<◌, ◌≤◌, List, refl, sym, ◌∙◌, ap, subst, arith, length, take}
+use Rattle.std.specs.Prelude.{Some, slice_get}
+use Rattle.tape_base.specs.Geometry.{budget_of}
+use Rattle.cache_model.specs.Kept.{state_of}
+use Rattle.cache_model.specs.State.{Row, State}
+use Rattle.stripe_due.specs.Finding.{candidate_of}
+use Rattle.stripe_pieces.specs.Ahead.{IsMadeFor}
+use Rattle.stripe_pieces.specs.Looks.{Looked, LooksOn, MayBeCopied, blocks_kept}
+use Rattle.stripe_pieces.specs.Pieces.{seen_of, state_now}
+use Rattle.stripe_pieces.proofs.Kept.{IsNext, choice_there, next_row, tape_on, taken_on}
+use Rattle.logged_disk.proofs.GoingOn.{asked_further, asked_nothing}
+use Rattle.stripe_pieces.proofs.OneMore.{looked_more, looked_none}
+use Rattle.stripe_pieces.proofs.pieces.Pieces.read_kept.Goals as goal
+
+pub loop-i-init : goal.loop-i-init
+loop-i-init g c =
+    let s = state_now c.args.self.now in
+    let before = seen_of c.args.self.now in
+    record {
+      pieces = c.requires.pieces;
+      chronicle = refl;
+      same = refl;
+      asked = asked_nothing before.device;
+      seen = λ j. refl;
+      made = record { due = c.requires.ahead.due; kept = c.requires.ahead.kept; fates = omega (arith, c.requires.ahead.fates, c.clear.ensures.capacity); bytes = c.requires.ahead.bytes };
+      due = refl;
+      kept = refl;
+      fates = ap length c.clear.ensures.items;
+      at = refl;
+      room = omega arith;
+      looked = λ rows of. looked_none s before.device _ c.clear.ensures.items c.requires.pieces.faults;
+    }
+
+pub look_at-at-requires-clause-choice : goal.look_at-at-requires-clause-choice
+look_at-at-requires-clause-choice g c =
+    let s = state_now c.args.self.now in
+    let inv = c.loop-i.invariant in
+    let due = c.args.ahead.now.due.items in
+    let within : c.loop-i.i < length due = omega (arith, c.loop-i-test.true, c.len-i-end.ensures) in
+    choice_there (budget_of s.geometry) (budget_of (state_now c.loop-i.self).geometry) due c.loop-i.ahead.due.items c.args.ahead.now.kept.items c.loop-i.ahead.kept.items c.loop-i.i c.loop-i.at
+    (ap (λ x. budget_of (state_of (g.C.Chronicle.kept x)).geometry) inv.chronicle) (ap (λ v. v.items) inv.due) (ap (λ v. v.items) inv.kept) c.requires.choice within inv.at
+
+pub loop-i-preserved : goal.loop-i-preserved
+loop-i-preserved g c =
+    let s = state_now c.args.self.now in
+    let inv = c.loop-i.invariant in
+    let before = seen_of c.args.self.now in
+    let mid = seen_of c.loop-i.self in
+    let after = seen_of c.look_at-at.new.self in
+    let due = c.args.ahead.now.due.items in
+    let marks = c.args.ahead.now.kept.items in
+    let e = c.look_at-at.ensures in
+    let within : c.loop-i.i < length due = omega (arith, c.loop-i-test.true, c.len-i-end.ensures) in
+    let same : state_now c.loop-i.self ≡ s = ap (λ x. state_of (g.C.Chronicle.kept x)) inv.chronicle in
+    let looks : (rows : List Row) (n : IsNext s due rows c.loop-i.i)
+    → LooksOn s mid.device after.device n.row c.loop-i.at c.look_at-at.result c.loop-i.ahead c.look_at-at.new.ahead = λ rows n.
+    let there : slice_get c.loop-i.ahead.due.items c.loop-i.i ≡ Some (candidate_of n.row) = ap (λ v. slice_get v.items c.loop-i.i) inv.due ∙ n.at in
+    subst (λ (t : State). MayBeCopied t n.row → LooksOn t mid.device after.device n.row c.loop-i.at c.look_at-at.result c.loop-i.ahead c.look_at-at.new.ahead) same (e.looks n.row there) n.may in
+    record {
+      pieces = e.pieces;
+      chronicle = e.chronicle ∙ inv.chronicle;
+      same = tape_on before mid after inv.same e.same;
+      asked = asked_further before.device mid.device after.device inv.asked e.asked;
+      seen = λ j. e.seen j ∙ inv.seen j;
+      made = subst (λ (t : State). IsMadeFor t.geometry c.look_at-at.new.ahead) same e.ahead;
+      due = e.due ∙ inv.due;
+      kept = e.kept ∙ inv.kept;
+      fates = e.fates;
+      at = taken_on due marks c.loop-i.i c.loop-i.at c.look_at-at.result within (omega (arith, c.requires.few, c.requires.ahead.kept)) inv.at
+          (e.taken ∙ (ap (λ v. c.loop-i.at + blocks_kept v.items c.loop-i.ahead.kept.items c.loop-i.i) inv.due ∙ ap (λ v. c.loop-i.at + blocks_kept due v.items c.loop-i.i) inv.kept));
+      room = subst (λ (t : State). c.look_at-at.result ≤ budget_of t.geometry) same e.room;
+      looked = λ rows of.
+          let n = next_row s due rows c.loop-i.i of within in
+          subst (λ xs. Looked s before.device after.device xs c.look_at-at.result c.look_at-at.new.ahead) (sym n.next)
+          (looked_more s before.device mid.device after.device (take c.loop-i.i rows) n.row c.loop-i.at c.look_at-at.result c.loop-i.ahead c.look_at-at.new.ahead e.asked
+          inv.seen (inv.looked rows of) (looks rows n));
+    }

@@ -1,0 +1,16 @@
+pub mod Held
+pub mod Standing
+pub mod Displaced
+pub mod Records
+pub mod Pieces
+pub mod This
+pub mod Still
+pub mod Faults
+pub mod Covers
+pub mod Ahead
+pub mod Copying
+pub mod Looks
+pub mod Flush
+pub mod Place
+pub mod Find
+pub mod Units

@@ -1,0 +1,54 @@
+-- What contracts see of the pieces of a stripe: the records, and what a cyclone holds of them.
+use Rattle.std.specs.Prelude.{ℕ, ◌≡◌, Option, Some, option_map, Contains}
+use Rattle.tape_base.specs.declared.pieces.PieceId.{PieceId}
+use Rattle.logged_disk.specs.declared.device.Disk.{Ghosts as DiskGhosts}
+use Rattle.dir_table.specs.declared.directory.Directory.{Ghosts as DirectoryGhosts}
+use Rattle.dir_table.specs.declared.rows.Walk.{Walk}
+use Rattle.cyclone.specs.Cyclone.{Seen, seen}
+use Rattle.cache_model.specs.State.{State, Row, live_row_of}
+use Rattle.cache_model.specs.Kept.{Kept, state_of}
+use Rattle.cache_chronicle.specs.declared.chronicle.Chronicle.{Ghosts as ChronicleGhosts}
+use Rattle.call_laws.specs.Contents.{AnyContents, Contents}
+use Rattle.stripe_pieces.specs.Held.{IsHeld}
+use Rattle.stripe_pieces.specs.Standing.{AreStanding}
+use Rattle.stripe_pieces.specs.declared.pieces.Pieces.{Pieces}
+
+module _ {D R C : Type 0} {d : DiskGhosts D} {r : DirectoryGhosts R} {c : ChronicleGhosts C} where
+  -- the records of the pieces, as their chronicle keeps them
+  abbrev pub kept_of : Pieces D R C d r c → Kept
+  kept_of p = c.kept p.chronicle
+
+  -- what these records stand for
+  abbrev pub state_now : Pieces D R C d r c → State
+  state_now p = state_of (kept_of p)
+
+  -- the cyclone that has the pieces, as contracts see it
+  abbrev pub seen_of : Pieces D R C d r c → Seen
+  seen_of p = seen p.cyclone
+
+  -- what holds of the pieces between calls
+  abbrev pub ArePieces : Pieces D R C d r c → Type 0
+  ArePieces p = IsHeld (state_now p) (seen_of p)
+
+  -- what is told of the pieces stands
+  abbrev pub Stand : Contents → Pieces D R C d r c → Type 0
+  Stand contents p = AreStanding contents (state_now p) (seen_of p)
+
+  -- what a call of the pieces keeps: they are held, and what is told of them goes on to stand, where it tells this of what is
+  -- placed or copied
+  pub record GoOnWith (Told : Contents → Type 0) (old new : Pieces D R C d r c) : Type 0 where
+    pub held : ArePieces new
+    pub contents : (contents : Contents) → Told contents → Stand contents old → Stand contents new
+
+  -- of one that places and copies nothing
+  abbrev pub GoOn : (old new : Pieces D R C d r c) → Type 0
+  GoOn old new = GoOnWith AnyContents old new
+
+-- the place of a live piece
+abbrev pub live_place_of : State → PieceId → Option ℕ
+live_place_of s id = option_map (λ (row : Row). row.place) (live_row_of s id)
+
+-- a walk over the places that a piece may have comes to it, where it is live
+pub record ComesTo {R : Type 0} (directory : DirectoryGhosts R) (s : State) (id : PieceId) (d : R) (walk : Walk) : Type 0 where
+  pub walks : directory.walks d walk
+  pub ahead : (row : Row) → live_row_of s id ≡ Some row → Contains (directory.rest d walk) row.place

@@ -1,0 +1,239 @@
+// What a flush copies ahead of the cursor: what was looked at before the buffer is written is told of
+// behind that, and copied into the next buffer.
+ghost use Rattle.std.specs.Prelude.{◌≡◌, ◌+◌, ◌≤◌, ◌<◌, ◌^◌, false, true, [], ◌∷◌, ◌++◌, length};
+ghost use Rattle.cyclone.specs.Cyclone.{HasBuffer, SameButRows};
+ghost use Rattle.cache_model.specs.Kept.{with_records};
+ghost use Rattle.cache_model.specs.State.{cursor_next, floor_next};
+ghost use Rattle.cache_model.specs.declared.record.Rec.TheVariants.{Began, Fault};
+ghost use Rattle.stripe_pieces.specs.Covers.{Uses};
+ghost use Rattle.logged_disk.specs.Device.{TellsAll};
+ghost use Rattle.stripe_pieces.specs.Copying.{AreCopyable, AreTellable, AreToldCopied, IsCopyable, IsCopyableWhereCopied, IsTellable, IsToldCopied, IsToldRow, begun_behind, blocks_for, copied_by, copied_of, copied_record, copies_among, copies_by, done_records, left_records, told_by, told_of};
+ghost use Rattle.stripe_pieces.specs.declared.answer.Stop.TheVariants.{DeviceFault};
+
+use crate::ahead::{Ahead, Fate};
+use crate::refusal::Stop;
+use crate::{Pieces, records};
+use cache_chronicle::Chronicle;
+use dir_table::Directory;
+use evacuator::Candidate;
+use logged_disk::Disk;
+use tape_base::BLOCK;
+
+impl<D: Disk, R: Directory + Drop, C: Chronicle> Pieces<D, R, C> {
+    ghost use Rattle.stripe_pieces.specs.Pieces.{ArePieces, GoOn, GoOnWith, kept_of, seen_of, state_now};
+
+    /// Behind a buffer that was written: tells what is not copied, begins the next buffer, and copies
+    /// what was read into it.
+    pub(crate) fn go_on(&mut self, next: u64, ahead: &Ahead)
+        requires pieces { ArePieces self.old }
+        requires next { next ≡ cursor_next (state_now self.old) }
+        requires below { next < 2 ^ 62 }
+        requires written { HasBuffer (seen_of self.old) }
+        requires told { AreTellable true (state_now self.old)
+            (seen_of self.old).device.faults ahead.now.due.items ahead.now.fates.items }
+        requires copied { AreCopyable R.purges (begun_behind (state_now self.old)
+            (told_of true ahead.now.due.items ahead.now.fates.items)) 0 ahead.now.due.items
+            ahead.now.fates.items ahead.now.bytes.items }
+        requires records { length (told_of true ahead.now.due.items ahead.now.fates.items) + 1 + copies_among ahead.now.fates.items ≤ C.room self.old.chronicle }
+        requires entries { copies_among ahead.now.fates.items ≤ (seen_of self.old).spare }
+        ensures pieces { GoOnWith (λ contents. TellsAll (seen_of self.old).device
+            → AreToldCopied contents (begun_behind (state_now self.old)
+            (told_of true ahead.now.due.items ahead.now.fates.items)) 0 ahead.now.due.items
+            ahead.now.fates.items ahead.now.bytes.items) self.old self.new }
+        ensures adds { kept_of self.new ≡ with_records (kept_of self.old)
+            (done_records (state_now self.old) ahead.now.due.items ahead.now.fates.items
+            ahead.now.bytes.items) }
+        ensures still { (seen_of self.new).device ≡ (seen_of self.old).device }
+        ensures uses { Uses (length (told_of true ahead.now.due.items ahead.now.fates.items) + 1
+            + copies_among ahead.now.fates.items) (copies_among ahead.now.fates.items) 0 0
+            (C.room self.old.chronicle) (C.room self.new.chronicle) (seen_of self.old)
+            (seen_of self.new) }
+    {
+        self.tell(ahead, true);
+        self.begin(next);
+        self.copy(ahead);
+    }
+
+    // The next buffer begins, and that is recorded.
+    fn begin(&mut self, next: u64)
+        requires pieces { ArePieces self.old }
+        requires next { next ≡ cursor_next (state_now self.old) }
+        requires below { next < 2 ^ 62 }
+        requires written { HasBuffer (seen_of self.old) }
+        requires record { 1 ≤ C.room self.old.chronicle }
+        ensures pieces { GoOn self.old self.new }
+        ensures adds { let s = state_now self.old in
+            kept_of self.new ≡ with_records (kept_of self.old)
+            (Began (cursor_next s) (floor_next s) ∷ []) }
+        ensures still { (seen_of self.new).device ≡ (seen_of self.old).device }
+        ensures uses { Uses 1 0 0 0 (C.room self.old.chronicle) (C.room self.new.chronicle)
+            (seen_of self.old) (seen_of self.new) }
+    {
+        self.cyclone.begin_next();
+        records::began(&mut self.chronicle, next, self.cyclone.floor());
+    }
+
+    /// Behind a buffer that the device refused: tells of damage and of faults, this one the last.
+    pub(crate) fn stop(&mut self, ahead: &Ahead) -> Stop
+        requires pieces { ArePieces self.old }
+        requires told { AreTellable false (state_now self.old)
+            (seen_of self.old).device.faults ahead.now.due.items ahead.now.fates.items }
+        requires records { length (told_of false ahead.now.due.items ahead.now.fates.items) + 1 ≤ C.room self.old.chronicle }
+        ensures pieces { GoOn self.old self.new }
+        ensures adds { kept_of self.new ≡ with_records (kept_of self.old)
+            (told_of false ahead.now.due.items ahead.now.fates.items ++ Fault
+            (seen_of self.old).device.faults ∷ []) }
+        ensures why { result ≡ DeviceFault (seen_of self.old).device.faults }
+        ensures still { (seen_of self.new).device ≡ (seen_of self.old).device }
+        ensures uses { Uses (length (told_of false ahead.now.due.items ahead.now.fates.items)
+            + 1) 0 0 0 (C.room self.old.chronicle) (C.room self.new.chronicle) (seen_of self.old)
+            (seen_of self.new) }
+    {
+        let count = self.cyclone.disk().faults();
+        self.tell(ahead, false);
+        records::fault(&mut self.chronicle, count);
+        Stop::DeviceFault { count }
+    }
+
+    // Records what came of each piece that is not copied; that it is not saved only of a flush that is
+    // done.
+    fn tell(&mut self, ahead: &Ahead, done: bool)
+        requires pieces { ArePieces self.old }
+        requires told { AreTellable done (state_now self.old)
+            (seen_of self.old).device.faults ahead.now.due.items ahead.now.fates.items }
+        requires records { length (told_of done ahead.now.due.items ahead.now.fates.items) ≤ C.room self.old.chronicle }
+        ensures pieces { GoOn self.old self.new }
+        ensures adds { kept_of self.new ≡ with_records (kept_of self.old)
+            (told_of done ahead.now.due.items ahead.now.fates.items) }
+        ensures rest { SameButRows (seen_of self.old) (seen_of self.new) }
+        ensures room { C.room self.old.chronicle ≤ C.room self.new.chronicle + length (told_of done ahead.now.due.items ahead.now.fates.items) }
+    {
+        for i in 0..ahead.due.len() {
+            self.tell_of(ahead.due[i], ahead.fates[i], done);
+        }
+    }
+
+    fn tell_of(&mut self, candidate: Candidate, fate: Fate, done: bool)
+        requires pieces { ArePieces self.old }
+        requires told { IsTellable (state_now self.old)
+            (seen_of self.old).device.faults candidate fate }
+        requires records { length (told_by done candidate fate) ≤ C.room self.old.chronicle }
+        ensures pieces { GoOn self.old self.new }
+        ensures adds { kept_of self.new ≡ with_records (kept_of self.old)
+            (told_by done candidate fate) }
+        ensures rest { SameButRows (seen_of self.old) (seen_of self.new) }
+        ensures room { C.room self.old.chronicle ≤ C.room self.new.chronicle + length (told_by done candidate fate) }
+    {
+        let Candidate { id, place, .. } = candidate;
+        match fate {
+            Fate::NoRoom => self.leave(candidate, false, done),
+            Fate::Copied { .. } => {}
+            Fate::Spoiled { kept, found } => self.damage(id, place, kept, found),
+            Fate::Refused { count } => {
+                records::fault(&mut self.chronicle, count);
+                self.leave(candidate, true, done);
+            }
+        }
+    }
+
+    fn leave(&mut self, candidate: Candidate, fault: bool, done: bool)
+        requires pieces { ArePieces self.old }
+        requires records { length (left_records done candidate fault) ≤ C.room self.old.chronicle }
+        ensures pieces { GoOn self.old self.new }
+        ensures adds { kept_of self.new ≡ with_records (kept_of self.old)
+            (left_records done candidate fault) }
+        ensures cyclone { self.new.cyclone ≡ self.old.cyclone }
+        ensures room { C.room self.old.chronicle ≤ C.room self.new.chronicle + length (left_records done candidate fault) }
+    {
+        if done {
+            records::unsaved(&mut self.chronicle, candidate.id, candidate.place, fault);
+        }
+    }
+
+    // Copies the documents that stand in memory into the buffer.
+    fn copy(&mut self, ahead: &Ahead)
+        requires pieces { ArePieces self.old }
+        requires copied { AreCopyable R.purges (state_now self.old) 0 ahead.now.due.items
+            ahead.now.fates.items ahead.now.bytes.items }
+        requires records { copies_among ahead.now.fates.items ≤ C.room self.old.chronicle }
+        requires entries { copies_among ahead.now.fates.items ≤ (seen_of self.old).spare }
+        ensures pieces { GoOnWith (λ contents. TellsAll (seen_of self.old).device
+            → AreToldCopied contents (state_now self.old) 0 ahead.now.due.items
+            ahead.now.fates.items ahead.now.bytes.items) self.old self.new }
+        ensures adds { kept_of self.new ≡ with_records (kept_of self.old)
+            (copied_of (state_now self.old) 0 ahead.now.due.items ahead.now.fates.items
+            ahead.now.bytes.items) }
+        ensures still { (seen_of self.new).device ≡ (seen_of self.old).device }
+        ensures uses { Uses (copies_among ahead.now.fates.items)
+            (copies_among ahead.now.fates.items) 0 0 (C.room self.old.chronicle)
+            (C.room self.new.chronicle) (seen_of self.old) (seen_of self.new) }
+    {
+        let mut at = 0;
+        for i in 0..ahead.due.len() {
+            let candidate = ahead.due[i];
+            let end = at + taken_by(candidate, ahead.fates[i]);
+            self.copy_one(
+                candidate,
+                ahead.fates[i],
+                &ahead.bytes[at * BLOCK..end * BLOCK],
+            );
+            at = end;
+        }
+    }
+
+    // Copies a piece, where its document was read and is its own.
+    fn copy_one(&mut self, candidate: Candidate, fate: Fate, bytes: &[u8])
+        requires pieces { ArePieces self.old }
+        requires copied { IsCopyableWhereCopied R.purges (state_now self.old) candidate fate bytes.now }
+        requires records { copies_by fate ≤ C.room self.old.chronicle }
+        requires entries { copies_by fate ≤ (seen_of self.old).spare }
+        ensures pieces { GoOnWith (λ contents. TellsAll (seen_of self.old).device
+            → IsToldCopied contents (state_now self.old) candidate fate bytes.now)
+            self.old self.new }
+        ensures adds { kept_of self.new ≡ with_records (kept_of self.old)
+            (copied_by (state_now self.old) candidate fate bytes.now) }
+        ensures still { (seen_of self.new).device ≡ (seen_of self.old).device }
+        ensures uses { Uses (copies_by fate) (copies_by fate) 0 0 (C.room self.old.chronicle)
+            (C.room self.new.chronicle) (seen_of self.old) (seen_of self.new) }
+    {
+        match fate {
+            Fate::Copied { pinned } => self.move_here(candidate, pinned, bytes),
+            Fate::NoRoom => {}
+            Fate::Spoiled { .. } => {}
+            Fate::Refused { .. } => {}
+        }
+    }
+
+    fn move_here(&mut self, candidate: Candidate, pinned: bool, bytes: &[u8])
+        requires pieces { ArePieces self.old }
+        requires copied { IsCopyable R.purges (state_now self.old) candidate bytes.now }
+        requires record { 1 ≤ C.room self.old.chronicle }
+        requires entry { 1 ≤ (seen_of self.old).spare }
+        ensures pieces { GoOnWith (λ contents. TellsAll (seen_of self.old).device
+            → IsToldRow contents (state_now self.old) candidate bytes.now) self.old self.new }
+        ensures adds { kept_of self.new ≡ with_records (kept_of self.old)
+            (copied_record (state_now self.old) candidate bytes.now ∷ []) }
+        ensures still { (seen_of self.new).device ≡ (seen_of self.old).device }
+        ensures uses { Uses 1 1 0 0 (C.room self.old.chronicle) (C.room self.new.chronicle)
+            (seen_of self.old) (seen_of self.new) }
+    {
+        let Candidate {
+            id,
+            place: from,
+            ..
+        } = candidate;
+        let place = self.cyclone.next_place();
+        let digest = self.cyclone.move_piece(id, from, pinned, bytes);
+        records::moved(&mut self.chronicle, id, from, place, digest);
+    }
+}
+
+// How many blocks of memory a piece takes.
+fn taken_by(candidate: Candidate, fate: Fate) -> usize
+    ensures { result ≡ blocks_for candidate fate }
+{
+    match fate {
+        Fate::NoRoom => 0,
+        _ => candidate.blocks as usize,
+    }
+}
