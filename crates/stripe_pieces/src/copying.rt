@@ -11,7 +11,7 @@ ghost use Rattle.stripe_pieces.specs.Copying.{AreCopyable, AreTellable, AreToldC
 ghost use Rattle.stripe_pieces.specs.declared.answer.Stop.TheVariants.{DeviceFault};
 
 use crate::ahead::{Ahead, Fate};
-use crate::refusal::Stop;
+use crate::answer::Stop;
 use crate::{Pieces, records};
 use cache_chronicle::Chronicle;
 use dir_table::Directory;

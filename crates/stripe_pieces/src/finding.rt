@@ -9,7 +9,7 @@ ghost use Rattle.stripe_pieces.specs.Covers.{Uses};
 ghost use Rattle.cache_model.specs.Damage.{TellNoDamage};
 ghost use Rattle.stripe_pieces.specs.Find.{Finds, HasRoomFor, IsJudged, IsRecorded, find_adds, judged_records};
 
-use crate::refusal::Found;
+use crate::answer::Found;
 use crate::{Pieces, records};
 use cache_chronicle::Chronicle;
 use cache_model::Cause;

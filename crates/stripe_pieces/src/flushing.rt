@@ -13,7 +13,7 @@ ghost use Rattle.stripe_pieces.specs.Flush.{FlushesAsAsked, StopsWith, Tells};
 ghost use Rattle.stripe_pieces.specs.Place.{RoomsAsAsked};
 
 use crate::ahead::Ahead;
-use crate::refusal::{Flushed, Stop};
+use crate::answer::{Flushed, Stop};
 use crate::{Pieces, records};
 use cache_chronicle::Chronicle;
 use dir_table::Directory;

@@ -12,7 +12,7 @@ ghost use Rattle.stripe_pieces.specs.Standing.{IsToldPlaced};
 ghost use Rattle.stripe_pieces.specs.Place.{CutsAsAsked, IsFragmentOf, IsNew, PlacesIn, PutsIn};
 
 use crate::ahead::Ahead;
-use crate::refusal::{Placed, Stop};
+use crate::answer::{Placed, Stop};
 use crate::{Pieces, records};
 use cache_chronicle::Chronicle;
 use dir_table::Directory;
