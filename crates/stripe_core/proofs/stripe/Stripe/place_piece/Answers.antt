@@ -7,7 +7,7 @@ use Rattle.cache_model.specs.Kept.{state_of}
 use Rattle.call_laws.specs.Contents.{IsToldAs, contents_of_vectors}
 use Rattle.stripe_pieces.specs.Place.{CutsAsAsked, PlacesAsAsked, PlacesVector}
 use Rattle.stripe_pieces.specs.Standing.{IsToldPlaced}
-use Rattle.stripe_core.specs.Stripe.{kept_in, room_for, seen_in, state_in}
+use Rattle.stripe_core.specs.Stripe.{kept_in, room_for, seen_in}
 use Rattle.stripe_core.proofs.Asked.{behind_unit}
 use Rattle.stripe_core.proofs.Sparing.{answers_map}
 use Rattle.stripe_core.proofs.Continuing.{continues_behind}
