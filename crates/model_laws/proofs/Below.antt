@@ -173,7 +173,7 @@ goes_below p k s added m h =
 -- ---- what a group makes of the tape
 
 -- it leaves the tape, writes the buffer out, with syncs or without, or places a piece
-data Taped (p : Permit) (s : State) (added : List Rec) : Type 0 where
+pub data Taped (p : Permit) (s : State) (added : List Rec) : Type 0 where
   leaves : AllLeaveTape added → Taped p s added
   flushes : MayFlush p s added → Taped p s added
   goes : (k : Syncing) → MaySyncBehind p k s added → Taped p s added
@@ -204,7 +204,7 @@ roomed p s bytes added e (Legal.MakesRoom.syncs f x d is) = synced (sync_splits 
 read_on : (p : Permit) (s : State) (reader : ℕ) (answer : NextAnswer) (added : List Rec) → Legal.MayReadOn p s reader answer added → Taped p s added
 read_on p s reader answer added m = left_as _ m.is (aside_leaves _ (reading_on_aside p s reader answer added m))
 
-taped : (p : Permit) (s : State) (i : Intent) (added : List Rec) (e : End) → Does p s i added e → Taped p s added
+pub taped : (p : Permit) (s : State) (i : Intent) (added : List Rec) (e : End) → Does p s i added e → Taped p s added
 taped p s Flush added e (Legal.DoesFlush.empty q f is) = none_added is
 taped p s Flush added e (Legal.DoesFlush.flushes m) = flushes m
 taped p s Flush added e (Legal.DoesFlush.stops count m) = stopped m

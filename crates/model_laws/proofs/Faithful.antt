@@ -1,32 +1,38 @@
 -- A faithful device tells no trouble, but of a payload that is not the one that is listed, which the records fix; and it
--- gives no two documents for one piece: what is asked fixes the records of a group and how it ends.
-use Rattle.std.proofs.Common.{◌≡◌, ℕ, List, [], ◌∷◌, ◌++◌, refl, sym, ◌∙◌, ap, subst, Bool, true, false, inl, inr}
-use Rattle.std.specs.Prelude.{Option, Some, None, cond, option_and_then, take}
+-- gives no two documents for one piece: what is asked fixes the records of a group and how it ends, the digests of copies too.
+use Rattle.std.proofs.Common.{◌≡◌, ◌⊎◌, ℕ, ◌+◌, ◌<◌, List, [], ◌∷◌, ◌++◌, refl, sym, ◌∙◌, ap, subst, arith, Bool, true, false, inl, inr}
+use Rattle.std.specs.Prelude.{Option, Some, None, cond, map, option_and_then}
 use Rattle.tape_base.specs.declared.digests.Digest.{Digest}
 use Rattle.tape_base.specs.declared.keys.Key.{Key}
 use Rattle.tape_base.specs.declared.pieces.PieceId.{PieceId}
 use Rattle.tape_base.specs.Geometry.{budget_of}
 use Rattle.alternate_vector.specs.Field.{Field}
-use Rattle.doc_header.specs.Reading.{extent_of}
 use Rattle.fragment_table.specs.Table.{TableRow}
 use Rattle.cache_model.specs.declared.cause.Cause.{Cause}
 use Rattle.cache_model.specs.declared.answer.ReadAnswer.{ReadAnswer}
 use Rattle.cache_model.specs.declared.answer.NextAnswer.{NextAnswer}
 use Rattle.cache_model.specs.declared.answer.NextAnswer.TheVariants as next
 use Rattle.cache_model.specs.declared.record.Rec.{Rec}
-use Rattle.cache_model.specs.State.{State, Row, ReaderRow, live_row_of, reader_of}
+use Rattle.cache_model.specs.declared.record.Rec.TheVariants as rec
+use Rattle.cache_model.specs.State.{State, Row, ReaderRow, cursor_next, floor_next, live_row_of, reader_of}
 use Rattle.cache_model.specs.Verdict.{digest_in, live_vector_of, next_piece, next_row, vector_of}
 use Rattle.cache_model.specs.Permit.{Permit, Intent, Flush, Sync, SyncBegin, SyncStep, Drain, CleanSync, Write, Fragment, Overflow, Weigh, Finish, Commit, GiveUp, Remove, Look, ReadOn, ReadAll, StopReading, End, Stays, Done}
 use Rattle.model_laws.specs.Choices.{IsFaithful}
 use Rattle.cache_model.specs.Given
-use Rattle.cache_model.specs.Given.{Trouble, damage_cause, damage_record}
+use Rattle.cache_model.specs.Given.{Trouble, buffers_begun, damage_cause, damage_record}
 use Rattle.cache_model.specs.Legal
 use Rattle.cache_model.specs.Legal.{Does, DoesReadAll, DoesReadOn, IsLookup, IsNextAsListed, IsReading, IsUnlike, MakesRoom, MayFlush, MayReadOn, ReadTrouble, answer_record, is_given}
 use Rattle.cache_model.specs.Tape.{IsSound}
-use Rattle.model_laws.specs.Agreeing.{IsOtherCopy, IsUntroubled, is_trouble}
-use Rattle.model_laws.proofs.Determined.{groups_agree, none_displaced}
+use Rattle.cache_model.specs.Due.{due_pieces}
+use Rattle.cache_model.specs.Outcomes.{flush_records, front_of}
+use Rattle.cache_model.proofs.Sound.{AllLeaveTape}
+use Rattle.model_laws.specs.Agreeing.{IsUntroubled, TellTheSame, is_trouble, without_copy_digest}
+use Rattle.model_laws.proofs.Below
+use Rattle.model_laws.proofs.Below.{Taped, taped}
+use Rattle.model_laws.proofs.Calm.{groups_agree}
+use Rattle.model_laws.proofs.Undisplaced.{none_displaced}
 use Rattle.model_laws.proofs.Alike.{reads_self}
-use Rattle.model_laws.proofs.FixedFlush.{IsLive, flush_untroubled, no_count, no_damage, same_bytes}
+use Rattle.model_laws.proofs.FixedFlush.{IsLive, flush_untroubled, no_count, no_damage, outcomes_are_fixed}
 use Rattle.cache_model.proofs.Found.{no_truth, none_is, same_some}
 use Rattle.model_laws.proofs.Unsynced.{clean_on, drain_on, never, step_on, sync_on, unmark_on}
 
@@ -181,18 +187,74 @@ group_untroubled p s (StopReading reader) added e other sound off still (Legal.D
 
 -- ---- one group at most
 
-no_other_copy : (p : Permit) (s : State) (left : ℕ) → IsFaithful p s → IsOtherCopy p p s left → ⊥
-no_other_copy p s left still shown =
-    shown.collide.differ (ap (λ bytes. take (extent_of bytes) bytes) (same_bytes p s shown.row shown.one shown.other still.once shown.one_given shown.other_given))
+-- a group that copies nothing tells what it tells without the digests of copies, and begins no buffer
+record IsPlain (added : List Rec) : Type 0 where
+  same : map without_copy_digest added ≡ added
+  begins : buffers_begun added ≡ 0
+
+plain_as : {added : List Rec} (other : List Rec) → added ≡ other → IsPlain other → IsPlain added
+plain_as other is h = subst IsPlain (sym is) h
+
+left_plain : (added : List Rec) → AllLeaveTape added → IsPlain added
+left_plain [] leave = record { same = refl; begins = refl }
+left_plain (rec.Formatted geometry ∷ added) leave = absurd leave.0
+left_plain (rec.Opened geometry serial cursor floor next_put clean list ∷ added) leave = absurd leave.0
+left_plain (rec.Began cursor floor ∷ added) leave = absurd leave.0
+left_plain (rec.Placed piece place blocks digest pin ∷ added) leave = absurd leave.0
+left_plain (rec.Moved piece from place digest ∷ added) leave = absurd leave.0
+left_plain (r ∷ added) leave = let rest = left_plain added leave.1 in record { same = ap (λ recs. r ∷ recs) rest.same; begins = rest.begins }
+
+-- so does one that places a piece where nothing is displaced; any other flushes
+inserted_plain : (displaced : List Rec) (piece : PieceId) (place blocks : ℕ) (digest : Digest) (pin : ℕ) → displaced ≡ [] → IsPlain (displaced ++ rec.Placed piece place blocks digest pin ∷ [])
+inserted_plain displaced piece place blocks digest pin none =
+    subst (λ recs. IsPlain (recs ++ rec.Placed piece place blocks digest pin ∷ [])) (sym none) (record { same = refl; begins = refl })
+
+cut_plain : (put index length : ℕ) (digest : Digest) (rest : List Rec) → IsPlain rest → IsPlain (rec.Cut put index length digest ∷ rest)
+cut_plain put index length digest rest h = record { same = ap (λ recs. rec.Cut put index length digest ∷ recs) h.same; begins = h.begins }
+
+plain_or_flushed : {p : Permit} {s : State} {added : List Rec} → p.syncs ≡ false → IsFaithful p s → Taped p s added → IsPlain added ⊎ MayFlush p s added
+plain_or_flushed {added = added} off still (Below.Taped.leaves leave) = inl (left_plain added leave)
+plain_or_flushed off still (Below.Taped.flushes m) = inr m
+plain_or_flushed off still (Below.Taped.goes k m) = never off m.can.may.syncs
+plain_or_flushed off still (Below.Taped.cuts put index payload m) =
+    inl (plain_as _ m.is (cut_plain put index _ _ _ (inserted_plain m.displaced _ _ _ _ _ (none_displaced still.displaces_nothing m.displaces))))
+plain_or_flushed off still (Below.Taped.lists put fragments m) =
+    inl (plain_as _ m.is (inserted_plain m.displaced _ _ _ _ _ (none_displaced still.displaces_nothing m.displaces)))
+
+-- the digests of copies tell of no buffer
+begun_without : (added : List Rec) → buffers_begun (map without_copy_digest added) ≡ buffers_begun added
+begun_without [] = refl
+begun_without (rec.Began cursor floor ∷ added) = ap (λ n. 1 + n) (begun_without added)
+begun_without (rec.Moved piece from place digest ∷ added) = begun_without added
+begun_without (r ∷ added) = begun_without added
+
+-- a flush begins one
+begun_behind : (before rest : List Rec) (cursor floor : ℕ) → 0 < buffers_begun (before ++ rec.Began cursor floor ∷ rest)
+begun_behind [] rest cursor floor = omega arith
+begun_behind (rec.Began c f ∷ before) rest cursor floor = omega arith
+begun_behind (r ∷ before) rest cursor floor = begun_behind before rest cursor floor
+
+not_both : {p : Permit} {s : State} {one other : List Rec} → TellTheSame one other → IsPlain one → MayFlush p s other → ⊥
+not_both {p} {s} {one} {other} same plain m =
+    let some : 0 < buffers_begun other = subst (λ recs. 0 < buffers_begun recs) (sym m.is) (begun_behind (front_of (due_pieces s p.now) m.outcomes) _ (cursor_next s) (floor_next s)) in
+    let none : buffers_begun other ≡ 0 = sym (begun_without other) ∙ (sym (ap buffers_begun same) ∙ (begun_without one ∙ plain.begins)) in
+    omega (arith, some, none)
+
+same_records : {p : Permit} {s : State} {one other : List Rec} → IsSound s → IsFaithful p s → TellTheSame one other
+    → IsPlain one ⊎ MayFlush p s one → IsPlain other ⊎ MayFlush p s other → one ≡ other
+same_records sound still same (inl plain) (inl other) = sym plain.same ∙ (same ∙ other.same)
+same_records sound still same (inl plain) (inr m) = absurd (not_both same plain m)
+same_records sound still same (inr m) (inl plain) = absurd (not_both (sym same) plain m)
+same_records {p} {s} sound still same (inr m) (inr n) =
+    m.is ∙ (ap (flush_records s (due_pieces s p.now)) (outcomes_are_fixed p s p.now (budget_of s.geometry) m.outcomes n.outcomes sound still m.are n.are) ∙ sym n.is)
 
 calm_is_fixed : (p : Permit) (s : State) (i : Intent) (one other : List Rec) (e f : End) → reads_on i ≡ false → IsSound s → p.syncs ≡ false → IsFaithful p s
     → Does p s i one e → Does p s i other f → (one ≡ other) × (e ≡ f)
 calm_is_fixed p s i one other e f reads sound off still h k =
-    elim (groups_agree p p s i one other e f (record { unsynced = off; other_unsynced = off; moment = refl })
-    (group_untroubled p s i one e reads sound off still h) (group_untroubled p s i other f reads sound off still k) h k) [
-      | inl same ↦ same
-      | inr shown ↦ absurd (no_other_copy p s (budget_of s.geometry) still shown.copy)
-    ]
+    let same : TellTheSame one other × (e ≡ f) =
+    groups_agree p p s s i one other e f (record { unsynced = off; other_unsynced = off; moment = refl }) refl
+    (group_untroubled p s i one e reads sound off still h) (group_untroubled p s i other f reads sound off still k) h k in
+    (same_records sound still same.0 (plain_or_flushed off still (taped p s i one e h)) (plain_or_flushed off still (taped p s i other f k)), same.1)
 
 pub group_is_fixed : (p : Permit) (s : State) (i : Intent) (one other : List Rec) (e f : End) → IsSound s → p.syncs ≡ false → IsFaithful p s
     → Does p s i one e → Does p s i other f → (one ≡ other) × (e ≡ f)

@@ -1,5 +1,5 @@
 -- Where the device is faithful, what is due tells no trouble, and has one list of outcomes.
-use Rattle.std.proofs.Common.{◌≡◌, ℕ, ◌-◌, List, [], ◌∷◌, ◌++◌, refl, sym, ◌∙◌, ap}
+use Rattle.std.proofs.Common.{◌≡◌, ℕ, ◌-◌, ◌≤◌, List, [], ◌∷◌, ◌++◌, refl, sym, ◌∙◌, ap, arith}
 use Rattle.std.specs.Prelude.{Some}
 use Rattle.std.specs.List.{AllByRecursion}
 use Rattle.tape_base.specs.declared.digests.Digest.{Digest}
@@ -14,7 +14,7 @@ use Rattle.cache_model.specs.Tape.{IsSound}
 use Rattle.cache_model.specs.Due.{due_pieces}
 use Rattle.cache_model.specs.Outcomes.{AreOutcomes, Copied, Copy, NoRoom, Outcome, Refused, Spoiled, copies_of, flush_records, front_of, moved_record, moved_records, records_of}
 use Rattle.model_laws.specs.Agreeing.{IsUntroubled}
-use Rattle.model_laws.proofs.AgreeingFlush.{Match, copied, matched, no_room, nothing}
+use Rattle.cache_model.proofs.Found.{no_truth}
 use Rattle.model_laws.proofs.Alike.{ReadsAlike, given_alike, reads_back, reads_self}
 use Rattle.cache_model.proofs.Live.{IsFound, due_are_live}
 
@@ -57,11 +57,24 @@ flush_untroubled p s now left outcomes sound still h =
 
 -- ---- one list
 
-match_once : {p : Permit} {s : State} {now left : ℕ} {rows : List Row} {one other : List Outcome} → GivesOnce p → Match p p s now left rows one other → one ≡ other
-match_once once nothing = refl
-match_once once (no_room m) = ap (λ outcomes. NoRoom ∷ outcomes) (match_once once m)
-match_once {p} {s} once (copied {row = row} {one = one} bytes others came came2 g k kept kept2 m) =
-    ap (λ given. Copied given ∷ one) (same_bytes p s row bytes others once g k) ∙ ap (λ outcomes. Copied others ∷ outcomes) (match_once once m)
+fixed_from : (p : Permit) (u : State) (left : ℕ) (rows : List Row) (one other : List Outcome) (rest more : List Rec) → GivesOnce p
+    → IsUntroubled (front_of rows one ++ rest) → IsUntroubled (front_of rows other ++ more) → AreOutcomes p u left rows one → AreOutcomes p u left rows other → one ≡ other
+fixed_from p u left [] [] [] rest more once calm calm2 h k = refl
+fixed_from p u left [] (a ∷ one) other rest more once calm calm2 h k = absurd h
+fixed_from p u left [] [] (b ∷ other) rest more once calm calm2 h k = absurd k
+fixed_from p u left (row ∷ rows) [] other rest more once calm calm2 h k = absurd h
+fixed_from p u left (row ∷ rows) (a ∷ one) [] rest more once calm calm2 h k = absurd k
+fixed_from p u left (row ∷ rows) (Spoiled found ∷ one) (b ∷ other) rest more once calm calm2 h k = no_truth calm.0
+fixed_from p u left (row ∷ rows) (Refused count ∷ one) (b ∷ other) rest more once calm calm2 h k = no_truth calm.0
+fixed_from p u left (row ∷ rows) (a ∷ one) (Spoiled found ∷ other) rest more once calm calm2 h k = no_truth calm2.0
+fixed_from p u left (row ∷ rows) (a ∷ one) (Refused count ∷ other) rest more once calm calm2 h k = no_truth calm2.0
+fixed_from p u left (row ∷ rows) (NoRoom ∷ one) (Copied bytes ∷ other) rest more once calm calm2 h k = let fits : row.blocks ≤ left = k.0.0 in absurd (omega (arith, h.0, fits))
+fixed_from p u left (row ∷ rows) (Copied bytes ∷ one) (NoRoom ∷ other) rest more once calm calm2 h k = let fits : row.blocks ≤ left = h.0.0 in absurd (omega (arith, k.0, fits))
+fixed_from p u left (row ∷ rows) (NoRoom ∷ one) (NoRoom ∷ other) rest more once calm calm2 h k =
+    ap (λ outcomes. NoRoom ∷ outcomes) (fixed_from p (after_all u (records_of row NoRoom)) left rows one other rest more once calm.1 calm2.1 h.1 k.1)
+fixed_from p u left (row ∷ rows) (Copied bytes ∷ one) (Copied others ∷ other) rest more once calm calm2 h k =
+    ap (λ given. Copied given ∷ one) (same_bytes p u row bytes others once h.0.1 k.0.1)
+    ∙ ap (λ outcomes. Copied others ∷ outcomes) (fixed_from p u (left - row.blocks) rows one other rest more once calm calm2 h.1 k.1)
 
 pub outcomes_are_fixed : (p : Permit) (s : State) (now left : ℕ) (one other : List Outcome) → IsSound s → IsFaithful p s
     → AreOutcomes p s left (due_pieces s now) one → AreOutcomes p s left (due_pieces s now) other → one ≡ other
@@ -69,4 +82,4 @@ outcomes_are_fixed p s now left one other sound still h k =
     let rows : List Row = due_pieces s now in
     let calm : (outcomes : List Outcome) → AreOutcomes p s left rows outcomes → IsUntroubled (front_of rows outcomes ++ []) =
     λ outcomes o. front_untroubled p s s left rows outcomes [] still (due_are_live s now sound) (reads_self s) o tt in
-    match_once still.once (matched p p s s s now left left rows one other [] [] (reads_self s) (reads_self s) (λ row c. c) (λ row c. c) (calm one h) (calm other k) h k)
+    fixed_from p s left rows one other [] [] still.once (calm one h) (calm other k) h k

@@ -18,7 +18,6 @@ mod EndSyncs
 mod Made
 mod Serials
 mod MarkedEmpty
-mod Determined
 mod Purged
 pub mod Fitting
 mod Tenths
@@ -32,9 +31,11 @@ pub mod CountedRecords
 pub mod Counted
 mod Payloads
 pub mod Alike
+pub mod Digests
+mod DigestSteps
+mod Calm
 mod Chosen
 pub mod BackedFlush
-mod AgreeingFlush
 mod FixedFlush
 mod Faithful
 mod AgreeingSteps

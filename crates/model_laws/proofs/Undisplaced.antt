@@ -1,11 +1,13 @@
 -- With a directory that displaces nothing no group of records tells of a displacement.
-use Rattle.std.proofs.Common.{◌≡◌, ◌⊎◌, ℕ, List, [], ◌∷◌, ◌++◌, length, refl, sym, ap, subst, inl, inr, false}
-use Rattle.std.specs.Prelude.{Option}
+use Rattle.std.proofs.Common.{◌≡◌, ◌⊎◌, ℕ, List, [], ◌∷◌, ◌++◌, length, refl, sym, ◌∙◌, ap, subst, inl, inr, false}
+use Rattle.std.specs.Prelude.{◌&&◌, Option, map}
+use Rattle.tape_base.specs.declared.pieces.PieceId.{PieceId}
 use Rattle.cache_model.specs.declared.answer.NextAnswer.{NextAnswer}
 use Rattle.cache_model.specs.declared.record.Rec.{Rec}
 use Rattle.cache_model.specs.declared.record.Rec.TheVariants as rec
 use Rattle.cache_model.specs.State.{State, Row, state_after}
 use Rattle.cache_model.specs.Permit.{Permit, Intent, Flush, Sync, SyncBegin, SyncStep, Drain, CleanSync, Write, Fragment, Overflow, Weigh, Finish, Commit, GiveUp, Remove, Look, ReadOn, ReadAll, StopReading, Reason, End, Work}
+use Rattle.cache_model.specs.Room.{MayDisplace, displaced_record, is_full_for, rows_of_segment, segment_of_piece}
 use Rattle.cache_model.specs.Due.{due_pieces}
 use Rattle.cache_model.specs.Outcomes.{Copy, Outcome, copies_of, flush_tail, front_of, moved_record, moved_records, stopped_records}
 use Rattle.cache_model.specs.Syncing.{AtOnce, InParts, MaySyncBehind, Syncing, WhereDue, at_first, behind_records, first_records}
@@ -16,9 +18,14 @@ use Rattle.cache_model.proofs.SoundFlush.{front_aside, stopped_aside}
 use Rattle.cache_model.proofs.Steps.{all_append, all_as}
 use Rattle.cache_model.proofs.Syncing.{behind_of, clean_aside, drain_splits, first_of, step_aside, sync_splits, syncs_aside, unmark_aside}
 use Rattle.model_laws.specs.RoomLaws.{TellNoDisplacement, is_displacement}
-use Rattle.model_laws.proofs.Determined.{none_displaced}
 
 -- ---- records
+
+-- nothing is displaced where the directory does not
+pub none_displaced : {p : Permit} {s : State} {piece : PieceId} {added : List Rec} → p.packed ≡ false → MayDisplace p s piece added → added ≡ []
+none_displaced {p} {s} {piece} loose m =
+    m.is ∙ ap (λ rows. map (displaced_record (segment_of_piece s piece) (length (rows_of_segment s (segment_of_piece s piece)))) rows)
+    (m.free (subst (λ t. (t && is_full_for s piece) ≡ false) (sym loose) refl))
 
 -- the record tells of none
 abbrev IsOther : Rec → Type 0

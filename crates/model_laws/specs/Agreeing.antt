@@ -1,18 +1,11 @@
--- What two devices make of what is asked: where neither is in trouble the same records, or two documents
--- of one SHA-256 are shown.
-use Rattle.std.specs.Prelude.{ℕ, ◌≡◌, ◌⊎◌, Bool, true, false, List, [], ◌∷◌, ◌++◌, take, Option}
+-- What two devices make of what is asked: where neither is in trouble the same records, but for the digests of copies.
+use Rattle.std.specs.Prelude.{◌≡◌, Bool, true, false, List, [], map, Option}
 use Rattle.std.specs.List.{AllByRecursion}
-use Rattle.hex.specs.Hex.{IsBytes}
-use Rattle.tape_base.specs.Digest.{Collide}
-use Rattle.tape_base.specs.Geometry.{budget_of}
-use Rattle.doc_header.specs.Reading.{document_digest, extent_of}
 use Rattle.cache_model.specs.declared.record.Rec.{Rec}
 use Rattle.cache_model.specs.declared.record.Rec.TheVariants as rec
-use Rattle.cache_model.specs.State.{State, Row, after_all}
-use Rattle.cache_model.specs.Permit.{End, Intent, Permit, Reason, Work, to_do}
-use Rattle.cache_model.specs.Given.{IsGiven}
-use Rattle.cache_model.specs.ToRead.{IsCopied, flushes_first}
-use Rattle.cache_model.specs.Legal.{CanFlush, Does, IsStep, MayGrow}
+use Rattle.cache_model.specs.State.{State, Mark, Row, after_all}
+use Rattle.cache_model.specs.Permit.{End, Intent, Permit, Reason}
+use Rattle.cache_model.specs.Legal.{Does, IsStep}
 
 -- the record of a call that the device refused, of bytes that are not those of a digest, or of a piece that was displaced
 abbrev pub is_trouble : Rec → Bool
@@ -31,54 +24,47 @@ pub record AreLike (p q : Permit) : Type 0 where
   pub other_unsynced : q.syncs ≡ false
   pub moment : p.now ≡ q.now
 
--- for a piece to which both their flushes come, with so much of the budget left, both devices gave bytes of its digest,
--- whose documents differ: two of one SHA-256
-pub record IsOtherCopy (p q : Permit) (s : State) (left : ℕ) : Type 0 where
-  pub row : Row
-  pub one : List ℕ
-  pub other : List ℕ
-  pub one_copied : IsCopied p s p.now left row
-  pub other_copied : IsCopied q s p.now left row
-  pub one_given : IsGiven p s row one
-  pub other_given : IsGiven q s row other
-  pub kept : row.digest ≡ document_digest one
-  pub collide : Collide (take (extent_of one) one) (take (extent_of other) other)
+-- ---- digests of documents
 
--- so it is of the flush with which begins what is asked
-pub record IsOtherAsked (p q : Permit) (s : State) (i : Intent) : Type 0 where
-  pub flushes : flushes_first s i ≡ true
-  pub can : CanFlush s
-  pub copy : IsOtherCopy p q s (budget_of s.geometry)
+-- a piece but for the digest of its document
+abbrev pub without_digest : Row → Row
+without_digest row = record row { digest = record { 0 = [] } }
 
--- and of what is asked next; where nothing is asked there is none
-abbrev pub IsOtherNext : Permit → Permit → State → List Intent → Type 0
-IsOtherNext p q s [] = ⊥
-IsOtherNext p q s (i ∷ intents) = IsOtherAsked p q s i
+-- what a sync holds but for these
+abbrev pub without_mark_digests : Mark → Mark
+without_mark_digests m = record m { rows = map without_digest m.rows }
 
--- both are bytes
-abbrev pub OtherCopiesAreBytes : Type 0
-OtherCopiesAreBytes = (p q : Permit) (s : State) (left : ℕ) (c : IsOtherCopy p q s left)
-    → IsBytes (take (extent_of c.one) c.one) × IsBytes (take (extent_of c.other) c.other)
+-- a session but for the digests of its documents; its records, and the payloads and tables that it knows, keep theirs
+abbrev pub without_digests : State → State
+without_digests s = record s {
+  rows = map without_digest s.rows;
+  displaced = map without_digest s.displaced;
+  marks = map without_mark_digests s.marks;
+}
 
--- two groups that tell no trouble, for what is asked in one state of like devices, are the same and end alike,
--- whatever else the devices gave and refused, or such a piece is shown
+-- a record but for the digest of a copy
+abbrev pub without_copy_digest : Rec → Rec
+without_copy_digest (rec.Moved piece from place digest) = rec.Moved piece from place (record { 0 = [] })
+without_copy_digest r = r
+
+-- two sessions hold the same but for the digests of their documents
+abbrev pub HoldTheSame : State → State → Type 0
+HoldTheSame s t = without_digests s ≡ without_digests t
+
+-- records tell the same but for the digests of copies
+abbrev pub TellTheSame : List Rec → List Rec → Type 0
+TellTheSame one other = map without_copy_digest one ≡ map without_copy_digest other
+
+-- ---- laws
+
+-- two groups that tell no trouble, for what is asked in states that hold the same of like devices, tell the same and end
+-- alike, whatever else the devices gave and refused
 abbrev pub GroupsAgree : Type 0
-GroupsAgree = (p q : Permit) (s : State) (i : Intent) (one other : List Rec) (e f : End) → AreLike p q → IsUntroubled one → IsUntroubled other
-    → Does p s i one e → Does q s i other f → ((one ≡ other) × (e ≡ f)) ⊎ IsOtherAsked p q s i
+GroupsAgree = (p q : Permit) (s t : State) (i : Intent) (one other : List Rec) (e f : End) → AreLike p q → HoldTheSame s t
+    → IsUntroubled one → IsUntroubled other → Does p s i one e → Does q t i other f → TellTheSame one other × (e ≡ f)
 
--- some way into two steps, which come to it alike, there is such a piece
-pub record ShowsOtherCopy (p q : Permit) (s : State) (intents : List Intent) (one other : List Rec) : Type 0 where
-  pub before : List Rec
-  pub rest : List Rec
-  pub other_rest : List Rec
-  pub left : Work
-  pub one_is : one ≡ before ++ rest
-  pub other_is : other ≡ before ++ other_rest
-  pub one_grows : MayGrow p s (to_do intents) before left
-  pub other_grows : MayGrow q s (to_do intents) before left
-  pub shows : IsOtherNext p q (after_all s before) left.intents
-
--- and so it is of a whole step, and of why it did less
+-- and so do whole steps, which leave what holds the same, and do less for the same reason
 abbrev pub StepsAgree : Type 0
-StepsAgree = (p q : Permit) (s : State) (intents : List Intent) (one other : List Rec) (why because : Option Reason) → AreLike p q → IsUntroubled one → IsUntroubled other
-    → IsStep p s intents one why → IsStep q s intents other because → ((one ≡ other) × (why ≡ because)) ⊎ ShowsOtherCopy p q s intents one other
+StepsAgree = (p q : Permit) (s t : State) (intents : List Intent) (one other : List Rec) (why because : Option Reason) → AreLike p q → HoldTheSame s t
+    → IsUntroubled one → IsUntroubled other → IsStep p s intents one why → IsStep q t intents other because
+    → TellTheSame one other × HoldTheSame (after_all s one) (after_all t other) × (why ≡ because)

@@ -6,7 +6,7 @@ ghost use Rattle.model_laws.specs.StepLaws.{RefusalEnds, NumbersFollow, FaultsRi
 ghost use Rattle.model_laws.specs.VerdictLaws.{HitMatches, CompleteIsHit, RemovedIsMissed, PassedIsMissed, FormattedIsEmpty, GivenIsOwn, EndIsWhole, FollowedIsClosed, WaitsForOpen};
 ghost use Rattle.model_laws.specs.TapeLaws.{LegalIsBelow, OpeningsAreSound, PlacesStayBelow, StepsAreSound, LegalIsSound, LiveIsKnown};
 ghost use Rattle.model_laws.specs.FlushLaws.{DueAreFound, FlushIsSound, FrontIsBacked, GivenAreTried, KeptAreChosen, OutcomesAreFixed, OutcomesAreFound, OutcomesAreTried, StoppedIsBacked, StoppedIsSound, WalkFinds, WalkGoesOn};
-ghost use Rattle.model_laws.specs.Agreeing.{GroupsAgree, OtherCopiesAreBytes, StepsAgree};
+ghost use Rattle.model_laws.specs.Agreeing.{GroupsAgree, StepsAgree};
 ghost use Rattle.model_laws.specs.PairLaws.{CopiedIsDueAndFits, LookupReadsItsKey, NothingAskedReadsNone, PairsAreBytes, PairsAreGiven, ReaderReadsItsNext};
 ghost use Rattle.model_laws.specs.VectorLaws.{FlushTells, StoppedTells, FormatsTell, OpeningsTell, GroupsTell, StepsTell, VectorsAreKept, MergedIsSpelled, CountIsListed, FormatsCount, GroupsCount, OpeningsCount, StepsCount, UnansweredIsCounted};
 ghost use Rattle.model_laws.specs.SyncLaws.{OpenedIsTold};
@@ -133,12 +133,12 @@ pub fn group_is_fixed()
 {}
 
 /// Where two devices tell no fault and no damage, and nothing is displaced, what is asked at one moment
-/// fixes the records of a group and how it ends, or two documents of one SHA-256 are shown.
+/// fixes the records of a group, but for the digests of copies, and how it ends.
 pub fn groups_agree()
     ensures { GroupsAgree }
 {}
 
-/// So it does of a whole step, and why it did less, or the two documents are shown some way into it.
+/// So it does of a whole step, and why it did less.
 pub fn steps_agree()
     ensures { StepsAgree }
 {}
@@ -253,7 +253,6 @@ pub fn steps_tell()
 pub fn pairs_are_given()
     ensures bytes { PairsAreBytes IsVectorAs }
     ensures given { PairsAreGiven IsVectorAs }
-    ensures copies { OtherCopiesAreBytes }
 {}
 
 /// In each legal chronicle each vector is the document that spells its alternates, or a step shows two

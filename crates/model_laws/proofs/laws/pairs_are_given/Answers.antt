@@ -5,6 +5,3 @@ returns-clause-bytes c = λ p s row pair. (pair.collide.bytes, pair.collide.othe
 
 pub returns-clause-given : goal.returns-clause-given
 returns-clause-given c = λ p s row written none pair. none pair.bytes (pair.given written).given
-
-pub returns-clause-copies : goal.returns-clause-copies
-returns-clause-copies c = λ p q s left copy. (copy.collide.bytes, copy.collide.others)
