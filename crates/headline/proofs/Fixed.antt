@@ -17,13 +17,13 @@ use Rattle.script_run.specs.Turn.{Turn}
 use Rattle.script_run.specs.Behind.{harms_of}
 use Rattle.script_run.specs.Takes.{IsRun, output_of, run_after}
 use Rattle.script_run.specs.Ledger.{AreReached}
-use Rattle.script_laws.specs.Agreeing.{NoneDisplaced, NoneHarmed, OutputIsFixed}
+use Rattle.script_laws.specs.Agreeing.{AreSame, NoneDisplaced, NoneHarmed, OutputIsFixed}
 use Rattle.run_promise.specs.Lines.{TextsAreOutput, texts_of}
 use Rattle.run_promise.specs.declared.status.Status.TheVariants as status
 use Rattle.run_promise.specs.Story.{IsReadThrough, Recorded, ShownAlong, Taken, all_in}
 use Rattle.run_promise.specs.Top.{EachBack}
-use Rattle.headline.specs.Account.{ComeBackFrom, IsConcluded, OrShown, RunLogs}
-use Rattle.headline.specs.Fixed.{AreSteady, GiveSame, HasDisplaced, IsSteady, OneDisplaced, ShowPair, TakeSame}
+use Rattle.headline.specs.Account.{ComeBackFrom, IsConcluded, RunLogs}
+use Rattle.headline.specs.Fixed.{AreSteady, GiveSame, HasDisplaced, IsSteady, OneDisplaced, TakeSame}
 use Rattle.headline.proofs.Devices.{come_back}
 use Rattle.headline.proofs.Honest.{no_line_shows}
 use Rattle.headline.proofs.Outlines.{shown_made}
@@ -148,10 +148,10 @@ module _ (fixed : OutputIsFixed) (texts : TextsAreOutput) (spells : SpelledAreLi
       sym (lines_read (Lines l c) c.story.taken.each) ∙ (ap lines_of texts_same ∙ lines_read (Lines m d) d.story.taken.each)
 
   abbrev Outcome : Type 0
-  Outcome = OrShown (TakeSame l m ⊎ OneDisplaced l m same) (ShowPair l m same)
+  Outcome = TakeSame l m ⊎ OneDisplaced l m same
 
   one_displaced : HasDisplaced l (Lines l c) ⊎ HasDisplaced m (Lines l c) → Outcome
-  one_displaced h = inl (inr (record { lines = Lines l c; taken = taken_all l c same.reads same.since; displaces = h }))
+  one_displaced h = inr (record { lines = Lines l c; taken = taken_all l c same.reads same.since; displaces = h })
 
   none_displaced : AreSteady l → AreSteady m → (r : Records l c) (q : Records m d) → NoneDisplaced r.turns → NoneDisplaced q.turns → Outcome
   none_displaced steady steady_too r q stay stay_too =
@@ -160,28 +160,12 @@ module _ (fixed : OutputIsFixed) (texts : TextsAreOutput) (spells : SpelledAreLi
       let harmless_too : NoneHarmed (run_after fresh lines q.turns) = subst (λ (xs : List (List ℕ)). NoneHarmed (run_after fresh xs q.turns)) (sym lines_same) (harmless m d steady_too q) in
       let wrote_too : taken_by m.new ≡ taken_by m.old ++ output_of fresh lines q.turns =
       subst (λ (xs : List (List ℕ)). taken_by m.new ≡ taken_by m.old ++ output_of fresh xs q.turns) (sym lines_same) (wrote m d texts q) in
-      elim (fixed fresh lines r.turns q.turns r.legal legal_too stay stay_too (harmless l c steady r) harmless_too) [
-        | inl alike ↦ inl (inl (record {
-          output = output_of fresh lines r.turns;
-          taken = wrote l c texts r;
-          taken_too = wrote_too ∙ ap (λ (xs : List ℕ). taken_by m.old ++ xs) (sym alike.output);
-        }))
-        | inr other ↦ inr (record {
-          lines = lines;
-          taken = taken_all l c same.reads same.since;
-          shows = record {
-            one = r.turns;
-            other = q.turns;
-            legal = r.legal;
-            legal_too = legal_too;
-            prints = wrote l c texts r;
-            prints_too = wrote_too;
-            shows = other;
-            made = made l c r;
-            made_too = subst (λ (xs : List (List ℕ)). ComeBackFrom m (harms_of (run_after fresh xs q.turns))) (sym lines_same) (made m d q);
-          };
-        })
-      ]
+      let alike : AreSame fresh lines r.turns q.turns = fixed fresh lines r.turns q.turns r.legal legal_too stay stay_too (harmless l c steady r) harmless_too in
+      inl (record {
+        output = output_of fresh lines r.turns;
+        taken = wrote l c texts r;
+        taken_too = wrote_too ∙ ap (λ (xs : List ℕ). taken_by m.old ++ xs) (sym alike.output);
+      })
 
   both_told : AreSteady l → AreSteady m → Records l c → Records m d → Outcome
   both_told steady steady_too r q = elim (displaces_or_not r.turns) [

@@ -11,10 +11,9 @@ use Rattle.script_run.specs.Run.{fresh}
 use Rattle.script_run.specs.Turn.{Turn}
 use Rattle.script_run.specs.Behind.{harms_of}
 use Rattle.script_run.specs.Takes.{IsRun, output_of, run_after}
-use Rattle.script_laws.specs.Agreeing.{ShowsOtherAlong}
 use Rattle.run_promise.specs.declared.status.Status.TheVariants as status
 use Rattle.run_promise.specs.Story.{Taken}
-use Rattle.headline.specs.Account.{ComeBackFrom, IsConcluded, OrShown, RunLogs}
+use Rattle.headline.specs.Account.{ComeBackFrom, IsConcluded, RunLogs}
 
 -- a device that told its content to the end, and refused nothing
 pub record IsSteady (device : Device) : Type 0 where
@@ -58,27 +57,8 @@ pub record OneDisplaced (l m : RunLogs) (same : GiveSame l m) : Type 0 where
   pub taken : Taken (text_read same.reads) lines []
   pub displaces : HasDisplaced l lines ⊎ HasDisplaced m lines
 
--- two legal runs of these lines, each of which prints what its sink took, come to a piece for which their devices gave two
--- documents of one SHA-256; the logs of the devices of either run have the calls of its turns
-pub record ShowsOtherAmong (l m : RunLogs) (lines : List (List ℕ)) : Type 0 where
-  pub one : List Turn
-  pub other : List Turn
-  pub legal : IsRun fresh lines one
-  pub legal_too : IsRun fresh lines other
-  pub prints : taken_by l.new ≡ taken_by l.old ++ output_of fresh lines one
-  pub prints_too : taken_by m.new ≡ taken_by m.old ++ output_of fresh lines other
-  pub shows : ShowsOtherAlong fresh lines one other
-  pub made : ComeBackFrom l (harms_of (run_after fresh lines one))
-  pub made_too : ComeBackFrom m (harms_of (run_after fresh lines other))
-
--- the lines of the text that both sources gave do so
-pub record ShowPair (l m : RunLogs) (same : GiveSame l m) : Type 0 where
-  pub lines : List (List ℕ)
-  pub taken : Taken (text_read same.reads) lines []
-  pub shows : ShowsOtherAmong l m lines
-
 -- two runs that were read to their end, over sources that gave the same and devices that were steady, wrote the same, or one
 -- of them displaced a piece
 abbrev pub SourceFixesSink : Type 0
-SourceFixesSink = (l m : RunLogs) → IsConcluded l status.Done → IsConcluded m status.Done → (same : GiveSame l m) → AreSteady l → AreSteady m
-    → OrShown (TakeSame l m ⊎ OneDisplaced l m same) (ShowPair l m same)
+SourceFixesSink = (l m : RunLogs) → IsConcluded l status.Done → IsConcluded m status.Done
+    → (same : GiveSame l m) → AreSteady l → AreSteady m → TakeSame l m ⊎ OneDisplaced l m same

@@ -12,7 +12,8 @@ use Rattle.model_laws.proofs.Calm.{groups_agree}
 use Rattle.model_laws.proofs.DigestSteps.{all_alike}
 use Rattle.cache_model.proofs.Steps.{all_parts, seen}
 
-advances_agree : (p q : Permit) (s t : State) (is : List Intent) (why : Option Reason) (one other : List Rec) (between after : Work) → AreLike p q → HoldTheSame s t
+advances_agree : (p q : Permit) (s t : State) (is : List Intent) (why : Option Reason) (one other : List Rec) (between after : Work)
+    → AreLike p q → HoldTheSame s t
     → IsUntroubled one → IsUntroubled other → Advances p s is why one between → Advances q t is why other after → TellTheSame one other × (between ≡ after)
 advances_agree p q s t [] why one other between after like hold calm calm2 h k = absurd h
 advances_agree p q s t (i ∷ is) why one other between after like hold calm calm2 h k =
@@ -20,7 +21,8 @@ advances_agree p q s t (i ∷ is) why one other between after like hold calm cal
     (same.0, h.2 ∙ ap (work_after i is why) same.1 ∙ sym k.2)
 
 -- where nothing is asked no group comes
-none_comes : (p : Permit) (s : State) (is : List Intent) (why : Option Reason) (added : List Rec) (after : Work) → is ≡ [] → Advances p s is why added after → ⊥
+none_comes : (p : Permit) (s : State) (is : List Intent) (why : Option Reason) (added : List Rec) (after : Work) → is ≡ []
+    → Advances p s is why added after → ⊥
 none_comes p s is why added after none h = subst (λ left. Advances p s left why added after) none h
 
 -- group after group
@@ -31,7 +33,8 @@ told_append a b c d first rest =
     ∙ ap (λ (recs : List Rec). map without_copy_digest c ++ recs) rest
     ∙ sym (map-append without_copy_digest c d)
 
-grown_agree : {p q : Permit} {s t : State} {w after last : Work} {one other : List Rec} → AreLike p q → HoldTheSame s t → IsUntroubled one → IsUntroubled other
+grown_agree : {p q : Permit} {s t : State} {w after last : Work} {one other : List Rec} → AreLike p q → HoldTheSame s t
+    → IsUntroubled one → IsUntroubled other
     → after.intents ≡ [] → last.intents ≡ [] → MayGrow p s w one after → MayGrow q t w other last → TellTheSame one other × (after ≡ last)
 grown_agree {q = q} {t = t} {w = w} like hold calm calm2 done over nothing k = elim (seen k) [
   | inl e ↦ (ap (map without_copy_digest) (sym e.0), e.1)
@@ -50,7 +53,8 @@ grown_agree {p} {q} {s} {t} {w} {after} {last} like hold calm calm2 done over (m
       (subst (TellTheSame (added ++ tail)) (sym v.is) (told_append added tail v.added v.rest same.0 rest.0), rest.1)
 ]
 
-pub steps_agree : (p q : Permit) (s t : State) (intents : List Intent) (one other : List Rec) (why because : Option Reason) → AreLike p q → HoldTheSame s t
+pub steps_agree : (p q : Permit) (s t : State) (intents : List Intent) (one other : List Rec) (why because : Option Reason) → AreLike p q
+    → HoldTheSame s t
     → IsUntroubled one → IsUntroubled other → IsStep p s intents one why → IsStep q t intents other because
     → TellTheSame one other × HoldTheSame (after_all s one) (after_all t other) × (why ≡ because)
 steps_agree p q s t intents one other why because like hold calm calm2 h k =

@@ -26,7 +26,7 @@ use Rattle.cache_model.specs.Room.{MayDisplace, displaced_record, greatest_pin, 
 use Rattle.cache_model.specs.Given
 use Rattle.cache_model.specs.Given.{Trouble}
 use Rattle.cache_model.specs.Legal
-use Rattle.cache_model.specs.Legal.{AreLiveTo, Does, DoesCommit, DoesFinish, DoesFlush, DoesFragment, DoesGiveUp, DoesLook, DoesOverflow, DoesReadAll, DoesReadOn, DoesRemove, DoesStopReading, DoesWeigh, DoesWrite, HasLost, HasNoPlace, IsLookup, IsReading, IsWriting, MakesRoom, MayFlush, MayLook, MayPlaceFragment, MayPlaceVector, MayReadOn, MayStop, ReadTrouble, aborted_record, answer_record, has_hit, is_given, is_writing, most_writers, next_fragment_of, open_writers, size_alone, vector_length, vector_payload}
+use Rattle.cache_model.specs.Legal.{AreLiveTo, Does, DoesCommit, DoesFinish, DoesFlush, DoesFragment, DoesGiveUp, DoesLook, DoesOverflow, DoesReadAll, DoesReadOn, DoesRemove, DoesStopReading, DoesWeigh, DoesWrite, IsLookup, IsReading, MakesRoom, MayFlush, MayReadOn, MayStop, ReadTrouble, aborted_record, answer_record, has_hit, is_given, is_writing, most_writers, next_fragment_of, open_writers, size_alone, vector_length, vector_payload}
 use Rattle.cache_model.specs.Due.{due_pieces}
 use Rattle.cache_model.specs.Outcomes.{AreOutcomes, Copied, Copy, NoRoom, Outcome, Refused, Spoiled, began_record, copies_of, flush_records, front_of, moved_record, moved_records, records_of, stopped_front_of}
 use Rattle.cache_model.proofs.Found.{no_truth, number_of}
@@ -50,7 +50,8 @@ told_last (r ∷ before) count calm = told_last before count calm.1
 stop_told : {p : Permit} {s : State} {count : ℕ} {added : List Rec} → MayStop p s count added → IsUntroubled added → ⊥
 stop_told {p} {s} {count} m calm = told_last (stopped_front_of (due_pieces s p.now) m.outcomes) count (subst IsUntroubled m.is calm)
 
-trouble_told : {p : Permit} {s : State} {row : Row} {before : List Rec} {why : Cause} (rest : List Rec) → Trouble p s row before why → IsUntroubled (before ++ rest) → ⊥
+trouble_told : {p : Permit} {s : State} {row : Row} {before : List Rec} {why : Cause} (rest : List Rec) → Trouble p s row before why
+    → IsUntroubled (before ++ rest) → ⊥
 trouble_told rest (Given.Trouble.faulted count written counts) calm = no_truth calm.0
 trouble_told rest (Given.Trouble.damaged found damaged) calm = no_truth calm.0
 
@@ -59,7 +60,8 @@ calm_purge : (segment live : ℕ) (purged : List Row) → IsUntroubled (map (dis
 calm_purge segment live [] calm = refl
 calm_purge segment live (row ∷ purged) calm = no_truth calm.0
 
-calm_displaced : {p : Permit} {s : State} {piece : PieceId} {added : List Rec} (rest : List Rec) → IsUntroubled (added ++ rest) → MayDisplace p s piece added → added ≡ []
+calm_displaced : {p : Permit} {s : State} {piece : PieceId} {added : List Rec} (rest : List Rec) → IsUntroubled (added ++ rest)
+    → MayDisplace p s piece added → added ≡ []
 calm_displaced {p} {s} {piece} {added} rest calm m =
     let segment : ℕ = segment_of_piece s piece in
     let live : ℕ = length (rows_of_segment s segment) in
@@ -89,9 +91,11 @@ outcomes_of left (row ∷ rows) = if nat_le row.blocks left then Copied [] ∷ o
 -- pieces and what comes of them are alike
 data AreMatched : List Row → List Row → List Outcome → List Outcome → Type 0 where
   nothing : AreMatched [] [] [] []
-  no_room : {row other : Row} {rows others : List Row} {one two : List Outcome} → without_digest row ≡ without_digest other → AreMatched rows others one two
+  no_room : {row other : Row} {rows others : List Row} {one two : List Outcome} → without_digest row ≡ without_digest other
+      → AreMatched rows others one two
       → AreMatched (row ∷ rows) (other ∷ others) (NoRoom ∷ one) (NoRoom ∷ two)
-  copied : {row other : Row} {rows others : List Row} {one two : List Outcome} (bytes more : List ℕ) → without_digest row ≡ without_digest other → AreMatched rows others one two
+  copied : {row other : Row} {rows others : List Row} {one two : List Outcome} (bytes more : List ℕ)
+      → without_digest row ≡ without_digest other → AreMatched rows others one two
       → AreMatched (row ∷ rows) (other ∷ others) (Copied bytes ∷ one) (Copied more ∷ two)
 
 skipped : (row : Row) (rows : List Row) (left : ℕ) (one : List Outcome) (b : Bool) → nat_le row.blocks left ≡ b → b ≡ false
@@ -106,7 +110,8 @@ taken : (row : Row) (rows : List Row) (left : ℕ) (bytes : List ℕ) (one : Lis
 taken row rows left bytes one true is on rest = rw is (copied bytes [] refl rest)
 taken row rows left bytes one false is on rest = no_truth (sym on)
 
-matched : (p : Permit) (s : State) (left : ℕ) (rows : List Row) (outcomes : List Outcome) (rest : List Rec) → IsUntroubled (front_of rows outcomes ++ rest) → AreOutcomes p s left rows outcomes
+matched : (p : Permit) (s : State) (left : ℕ) (rows : List Row) (outcomes : List Outcome) (rest : List Rec)
+    → IsUntroubled (front_of rows outcomes ++ rest) → AreOutcomes p s left rows outcomes
     → AreMatched rows (map without_digest rows) outcomes (outcomes_of left (map without_digest rows))
 matched p s left [] [] rest calm h = nothing
 matched p s left [] (o ∷ outcomes) rest calm h = absurd h
@@ -162,7 +167,8 @@ flushes_alike s t rows others one two same m =
     ∙ ap (λ (recs : List Rec). map without_copy_digest fore ++ began_record t ∷ recs) (copies_alike open_s open_t opened m)
     ∙ sym (map-append without_copy_digest fore (began_record t ∷ moved_records open_t (copies_of others two)))
 
-flush_calm : {p : Permit} {s : State} {added : List Rec} → IsUntroubled added → MayFlush p s added → map without_copy_digest added ≡ flushed p.now (without_digests s)
+flush_calm : {p : Permit} {s : State} {added : List Rec} → IsUntroubled added → MayFlush p s added
+    → map without_copy_digest added ≡ flushed p.now (without_digests s)
 flush_calm {p} {s} {added} calm m =
     let rows : List Row = due_pieces s p.now in
     let left : ℕ = budget_of s.geometry in
@@ -193,13 +199,16 @@ of_none {e = e} is = ap (λ (recs : List Rec). told recs e) is
 not_empty : (n : ℕ) → 0 < n → (n == 0) ≡ false
 not_empty n some = ne_eqb n 0 (λ is. omega (arith, some, is))
 
-made : {p : Permit} {s : State} {added : List Rec} (e : End) → IsUntroubled added → MayFlush p s added → told added e ≡ flush_group p.now (without_digests s) e
+made : {p : Permit} {s : State} {added : List Rec} (e : End) → IsUntroubled added → MayFlush p s added
+    → told added e ≡ flush_group p.now (without_digests s) e
 made e calm m = ap (λ (recs : List Rec). group recs e) (flush_calm calm m) ∙ sym (no _ _ m.can.below)
 
-kept_from : (now : ℕ) (s : State) {added : List Rec} (e : End) → is_flush_exhausted s ≡ true → added ≡ [] → told added (Fails Exhausted) ≡ flush_group now (without_digests s) e
+kept_from : (now : ℕ) (s : State) {added : List Rec} (e : End) → is_flush_exhausted s ≡ true → added ≡ []
+    → told added (Fails Exhausted) ≡ flush_group now (without_digests s) e
 kept_from now s e high is = of_none is ∙ sym (yes _ _ high)
 
-calm_flush : {p : Permit} {s : State} {added : List Rec} {e : End} → p.syncs ≡ false → IsUntroubled added → DoesFlush p s added e → told added e ≡ flush_or_none p.now (without_digests s)
+calm_flush : {p : Permit} {s : State} {added : List Rec} {e : End} → p.syncs ≡ false → IsUntroubled added → DoesFlush p s added e
+    → told added e ≡ flush_or_none p.now (without_digests s)
 calm_flush off calm (Legal.DoesFlush.stops count stop) = absurd (stop_told stop calm)
 calm_flush off calm (Legal.DoesFlush.syncs d) = never off (sync_on d)
 calm_flush {s = s} off calm (Legal.DoesFlush.empty quiet is none) = of_none none ∙ sym (yes _ _ (eq-eqb s.filled 0 is))
@@ -207,7 +216,8 @@ calm_flush {s = s} off calm (Legal.DoesFlush.flushes flush) = made Done calm flu
 calm_flush {p} {s = s} off calm (Legal.DoesFlush.exhausted quiet some high none) = kept_from p.now s Done high none ∙ sym (no _ _ (not_empty s.filled some))
 
 -- a piece of so many bytes that has no room
-calm_room : {p : Permit} {s : State} {bytes : ℕ} {added : List Rec} {e : End} → p.syncs ≡ false → IsUntroubled added → MakesRoom p s bytes added e
+calm_room : {p : Permit} {s : State} {bytes : ℕ} {added : List Rec} {e : End} → p.syncs ≡ false → IsUntroubled added
+    → MakesRoom p s bytes added e
     → (has_room s bytes ≡ false) × (told added e ≡ flush_group p.now (without_digests s) Stays)
 calm_room off calm (Legal.MakesRoom.stops count room stop) = absurd (stop_told stop calm)
 calm_room off calm (Legal.MakesRoom.syncs end room d is) = never off (sync_on d)
@@ -261,7 +271,8 @@ abbrev fragment_group : ℕ → State → ℕ → ℕ → List ℕ → Group
 fragment_group now s put index payload =
     of_put s put (λ w. room_group now s (length payload) (place_group s (length payload) (fragment_records s put index payload w [])))
 
-calm_fragment : {p : Permit} {s : State} {put index : ℕ} {payload : List ℕ} {added : List Rec} {e : End} → p.syncs ≡ false → IsUntroubled added
+calm_fragment : {p : Permit} {s : State} {put index : ℕ} {payload : List ℕ} {added : List Rec} {e : End} → p.syncs ≡ false
+    → IsUntroubled added
     → DoesFragment p s put index payload added e → told added e ≡ fragment_group p.now (without_digests s) put index payload
 unfolding fragment_records
 calm_fragment off calm (Legal.DoesFragment.unmarks w cut place u) = never off (unmark_on u)
@@ -283,14 +294,16 @@ abort_group w e = group (aborted_record w ∷ []) e
 aborted : {added : List Rec} {e : End} (w : PutRow) → added ≡ aborted_record w ∷ [] → told added e ≡ abort_group w e
 aborted {e = e} w is = ap (λ (recs : List Rec). told recs e) is
 
-calm_overflow : {s : State} {put : ℕ} {added : List Rec} {e : End} → DoesOverflow s put added e → told added e ≡ of_put s put (λ w. abort_group w (Fails (ManyFragments put)))
+calm_overflow : {s : State} {put : ℕ} {added : List Rec} {e : End} → DoesOverflow s put added e
+    → told added e ≡ of_put s put (λ w. abort_group w (Fails (ManyFragments put)))
 calm_overflow {s} {put} (Legal.DoesOverflow.aborts w m full is) = aborted w is ∙ sym (put_is s put _ w m.found)
 
 abbrev weigh_group : State → ℕ → ℕ → Group
 weigh_group s put rest =
     of_put s put (λ w. if nat_le (blocks_of (size_alone w rest)) (budget_of s.geometry) then group [] Done else abort_group w (Fails (TooLarge put (size_alone w rest))))
 
-calm_weigh : {p : Permit} {s : State} {put rest : ℕ} {added : List Rec} {e : End} → IsUntroubled added → DoesWeigh p s put rest added e → told added e ≡ weigh_group s put rest
+calm_weigh : {p : Permit} {s : State} {put rest : ℕ} {added : List Rec} {e : End} → IsUntroubled added → DoesWeigh p s put rest added e
+    → told added e ≡ weigh_group s put rest
 calm_weigh calm (Legal.DoesWeigh.damaged w row found m live damaged is) = absurd (told_first _ refl is calm)
 calm_weigh calm (Legal.DoesWeigh.faulted w row count m live written counts is) = absurd (told_first _ refl is calm)
 calm_weigh {s = s} {put = put} {rest = rest} calm (Legal.DoesWeigh.weighs w m read fits is) =
@@ -319,7 +332,8 @@ module _ (live : ℕ → Bool) (index : ℕ) (some : 0 < index) (dead : live ind
       let here : live (suc last) ≡ false = subst (λ n. live n ≡ false) is dead in
       rw (before, here) (ap (λ (n : ℕ). Some n) (sym is))
 
-  lost_among : (last : ℕ) (b : Bool) → nat_le index last ≡ b → index ≤ suc last → (index ≤ last → lost_to live last ≡ Some index) → lost_to live (suc last) ≡ Some index
+  lost_among : (last : ℕ) (b : Bool) → nat_le index last ≡ b → index ≤ suc last → (index ≤ last → lost_to live last ≡ Some index)
+      → lost_to live (suc last) ≡ Some index
   lost_among last true is within before = let found : lost_to live last ≡ Some index = before (leb-true index last is) in rw found refl
   lost_among last false is within before = let above = leb-false index last is in lost_here last (omega (arith, within, above))
 
@@ -339,7 +353,8 @@ has_live_by (Some row) b is = is
 live_in : (s : State) (w : PutRow) (index : ℕ) (b : Bool) → has_live s w index ≡ b → has_live (without_digests s) w index ≡ b
 live_in s w index b is = ap is_some (live_row_too s (fragment_piece w.key w.put index)) ∙ has_live_by (live_row_of s (fragment_piece w.key w.put index)) b is
 
-each_live : (s : State) (w : PutRow) (last : ℕ) → AreLiveTo s w last → (index : ℕ) → 0 < index → index ≤ last → has_live (without_digests s) w index ≡ true
+each_live : (s : State) (w : PutRow) (last : ℕ) → AreLiveTo s w last → (index : ℕ) → 0 < index → index ≤ last
+    → has_live (without_digests s) w index ≡ true
 each_live s w last all index some low = live_in s w index true (ap is_some (all index some low).1)
 
 vector_records : State → ℕ → PutRow → List Rec → List Rec
@@ -368,7 +383,8 @@ finish_is now s put fragments w found =
     ∙ ap (λ (list : List Stored). finish_with now (without_digests s) put fragments list w) (list_too s put)
 
 -- all fragments are live
-whole_is : (now : ℕ) (s : State) (put fragments : ℕ) (list : List Stored) (w : PutRow) → has_room s (vector_size list) ≡ true → AreLiveTo s w fragments
+whole_is : (now : ℕ) (s : State) (put fragments : ℕ) (list : List Stored) (w : PutRow) → has_room s (vector_size list) ≡ true
+    → AreLiveTo s w fragments
     → finish_with now (without_digests s) put fragments list w
     ≡ place_group s (vector_size list) (placed_record s (vector_piece w.key put) (greatest_pin list) 0 (vector_size list) (vector_bytes list) ∷ [])
 whole_is now s put fragments list w room all =
@@ -411,7 +427,8 @@ calm_finish {p} {s} {put} {fragments} {added} off calm (Legal.DoesFinish.exhaust
 abbrev commit_group : State → ℕ → Group
 commit_group s put = of_put s put (λ w. group (rec.Committed put w.key (total_length w.cuts) (list_of_piece s (vector_piece w.key put)) ∷ []) Done)
 
-calm_commit : {s : State} {put : ℕ} {added : List Rec} {e : End} → DoesCommit s put added e → told added e ≡ commit_group (without_digests s) put
+calm_commit : {s : State} {put : ℕ} {added : List Rec} {e : End} → DoesCommit s put added e
+    → told added e ≡ commit_group (without_digests s) put
 calm_commit {s} {put} (Legal.DoesCommit.commits w found writing pending is) =
     ap (λ (recs : List Rec). told recs Done) is
     ∙ ap (λ (list : List Stored). group (rec.Committed put w.key (total_length w.cuts) list ∷ []) Done) (sym (list_of_piece_too s (vector_piece w.key put)))
@@ -433,7 +450,8 @@ abbrev remove_group : Key → Option Row → Group
 remove_group key None = group [] Done
 remove_group key (Some row) = group (rec.Removed row.id.put key ∷ []) Done
 
-calm_remove : {s : State} {key : Key} {added : List Rec} {e : End} → DoesRemove s key added e → told added e ≡ remove_group key (live_vector_of (without_digests s) key)
+calm_remove : {s : State} {key : Key} {added : List Rec} {e : End} → DoesRemove s key added e
+    → told added e ≡ remove_group key (live_vector_of (without_digests s) key)
 calm_remove {s} {key} (Legal.DoesRemove.removes row quiet live is) =
     ap (λ (recs : List Rec). told recs Done) is ∙ sym (ap (remove_group key) (live_vector_too s key ∙ ap (option_map without_digest) live))
 calm_remove {s} {key} (Legal.DoesRemove.absent quiet none is) = of_none is ∙ sym (ap (remove_group key) (live_vector_too s key ∙ ap (option_map without_digest) none))
@@ -475,7 +493,8 @@ reading_calm rest (Legal.IsReading.trouble entry row before why next live troubl
 abbrev answer_group : ℕ → NextAnswer → End → Group
 answer_group reader answer e = group (map without_copy_digest (answer_record reader answer ∷ [])) e
 
-read_calm : {p : Permit} {s : State} {reader : ℕ} {answer : NextAnswer} {added : List Rec} (e : End) → IsUntroubled added → (m : MayReadOn p s reader answer added)
+read_calm : {p : Permit} {s : State} {reader : ℕ} {answer : NextAnswer} {added : List Rec} (e : End) → IsUntroubled added
+    → (m : MayReadOn p s reader answer added)
     → (answer ≡ reader_verdict (without_digests s) m.r) × (told added e ≡ answer_group reader answer e)
 read_calm {s = s} {reader = reader} {answer = answer} e calm m =
     let right = reading_calm _ m.right (subst IsUntroubled m.is calm) in (
@@ -486,7 +505,8 @@ read_calm {s = s} {reader = reader} {answer = answer} e calm m =
 abbrev read_on_group : State → ℕ → Group
 read_on_group s reader = of_reader s reader (λ r. answer_group reader (reader_verdict s r) Done)
 
-calm_read_on : {p : Permit} {s : State} {reader : ℕ} {added : List Rec} {e : End} → IsUntroubled added → DoesReadOn p s reader added e → told added e ≡ read_on_group (without_digests s) reader
+calm_read_on : {p : Permit} {s : State} {reader : ℕ} {added : List Rec} {e : End} → IsUntroubled added → DoesReadOn p s reader added e
+    → told added e ≡ read_on_group (without_digests s) reader
 calm_read_on {s = s} {reader = reader} calm (Legal.DoesReadOn.reads_on answer m) =
     let right = read_calm Done calm m in
     right.1 ∙ ap (λ (x : NextAnswer). answer_group reader x Done) right.0 ∙ sym (reader_is (without_digests s) reader _ m.r m.reading)
@@ -495,7 +515,8 @@ abbrev read_all_group : State → ℕ → Group
 read_all_group s reader =
     if has_hit s reader then of_reader s reader (λ r. answer_group reader (reader_verdict s r) (cond (is_given (reader_verdict s r)) Stays Done)) else group [] Done
 
-calm_read_all : {p : Permit} {s : State} {reader : ℕ} {added : List Rec} {e : End} → IsUntroubled added → DoesReadAll p s reader added e → told added e ≡ read_all_group (without_digests s) reader
+calm_read_all : {p : Permit} {s : State} {reader : ℕ} {added : List Rec} {e : End} → IsUntroubled added → DoesReadAll p s reader added e
+    → told added e ≡ read_all_group (without_digests s) reader
 calm_read_all {s = s} {reader = reader} {added = added} calm (Legal.DoesReadAll.reads_on answer hit m is) =
     let right = read_calm (cond (is_given answer) Stays Done) calm m in
     ap (told added) is ∙ right.1 ∙ ap (λ (x : NextAnswer). answer_group reader x (cond (is_given x) Stays Done)) right.0

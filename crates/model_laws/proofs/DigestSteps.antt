@@ -9,11 +9,13 @@ use Rattle.tape_base.specs.declared.digests.Digest.{Digest}
 use Rattle.tape_base.specs.Piece.{is_vector, same_piece}
 use Rattle.alternate_vector.specs.Field.{Field}
 use Rattle.alternate_vector.specs.Alternates.{Stored}
+use Rattle.cache_model.specs.declared.cause.Cause.{Cause}
+use Rattle.cache_model.specs.declared.cause.Cause.TheVariants as cause
 use Rattle.cache_model.specs.declared.answer.ReadAnswer.{ReadAnswer}
 use Rattle.cache_model.specs.declared.answer.ReadAnswer.TheVariants as read
 use Rattle.cache_model.specs.declared.record.Rec.{Rec}
 use Rattle.cache_model.specs.declared.record.Rec.TheVariants as rec
-use Rattle.cache_model.specs.State.{State, Row, Mark, LastVector, Complete, TakenOut, ReaderRow, after_all, alternates_of, blocks_of_row, is_clean_sync, last_match, last_vector, list_of_put, live_rows, low_of_sync, mark_of, moved_row, opened_reader, payload_placed, placed_row, row_of, state_after, synced_rows, table_of_hit, vector_piece, without, without_earlier}
+use Rattle.cache_model.specs.State.{State, Row, Mark, LastVector, Complete, TakenOut, ReaderRow, after_all, blocks_of_row, is_clean_sync, last_match, last_vector, list_of_put, live_rows, low_of_sync, mark_now, mark_of, moved_row, opened_reader, placed_row, row_of, state_after, synced_rows, vector_piece, without, without_earlier}
 use Rattle.model_laws.specs.Agreeing.{HoldTheSame, TellTheSame, without_copy_digest, without_digest, without_digests, without_mark_digests}
 use Rattle.model_laws.proofs.Digests.{alternates_too, filtered, list_too, live_rows_too, marks_twice, row_too, rows_twice}
 
@@ -23,7 +25,8 @@ without_too : (id : PieceId) (rows : List Row) → without id (map without_diges
 without_too id rows = filtered (λ row. not (same_piece row.id id)) (λ row. refl) rows
 
 -- what is left of rows, once more without digests
-left_twice : (id : PieceId) (rows : List Row) → map without_digest (without id (map without_digest rows)) ≡ map without_digest (without id rows)
+left_twice : (id : PieceId) (rows : List Row)
+    → map without_digest (without id (map without_digest rows)) ≡ map without_digest (without id rows)
 left_twice id rows = ap (map without_digest) (without_too id rows) ∙ rows_twice (without id rows)
 
 -- with others behind them that are alike
@@ -35,7 +38,8 @@ pushed id rows one other same =
     ∙ ap (λ (xs : List Row). map without_digest (without id (map without_digest rows)) ++ xs) same
     ∙ sym (map-append without_digest (without id (map without_digest rows)) other)
 
-listed_by : (s : State) (piece : PieceId) (b : Bool) → (if b then Some (list_of_put (without_digests s) piece.put) else None) ≡ (if b then Some (list_of_put s piece.put) else None)
+listed_by : (s : State) (piece : PieceId) (b : Bool)
+    → (if b then Some (list_of_put (without_digests s) piece.put) else None) ≡ (if b then Some (list_of_put s piece.put) else None)
 listed_by s piece true = ap (λ (list : List Stored). Some list) (list_too s piece.put)
 listed_by s piece false = refl
 
@@ -57,7 +61,8 @@ kept_by : (o : Option Row) → map without_digest (option_to_list o) ≡ map wit
 kept_by None = refl
 kept_by (Some row) = refl
 
-displaced_too : (rows : List Row) (o : Option Row) → map without_digest (rows ++ option_to_list o) ≡ map without_digest (map without_digest rows ++ option_to_list (option_map without_digest o))
+displaced_too : (rows : List Row) (o : Option Row)
+    → map without_digest (rows ++ option_to_list o) ≡ map without_digest (map without_digest rows ++ option_to_list (option_map without_digest o))
 displaced_too rows o =
     map-append without_digest rows (option_to_list o)
     ∙ ap (λ (xs : List Row). xs ++ map without_digest (option_to_list o)) (sym (rows_twice rows))
@@ -87,7 +92,8 @@ opened_too s reader actor key request (read.Miss why) = refl
 
 -- ---- syncs
 
-synced_too : (s : State) (cursor : ℕ) (clean : Bool) → map without_digest (synced_rows s cursor clean) ≡ map without_digest (synced_rows (without_digests s) cursor clean)
+synced_too : (s : State) (cursor : ℕ) (clean : Bool)
+    → map without_digest (synced_rows s cursor clean) ≡ map without_digest (synced_rows (without_digests s) cursor clean)
 synced_too s cursor clean =
     let test : Row → Bool = λ row. nat_le (low_of_sync s cursor clean) row.place in
     sym (ap (map without_digest) (ap (filter test) (live_rows_too s) ∙ filtered test (λ row. refl) (live_rows s)) ∙ rows_twice (filter test (live_rows s)))
@@ -103,7 +109,8 @@ marks_found : (serial : ℕ) (marks : List Mark)
 marks_found serial [] = refl
 marks_found serial (m ∷ marks) = mark_found serial m marks (m.serial == serial) refl (marks_found serial marks)
 
-clean_by : (o : Option Mark) → unwrap_or (option_map (λ (m : Mark). m.clean) (option_map without_mark_digests o)) false ≡ unwrap_or (option_map (λ (m : Mark). m.clean) o) false
+clean_by : (o : Option Mark)
+    → unwrap_or (option_map (λ (m : Mark). m.clean) (option_map without_mark_digests o)) false ≡ unwrap_or (option_map (λ (m : Mark). m.clean) o) false
 clean_by None = refl
 clean_by (Some m) = refl
 
@@ -126,7 +133,8 @@ digests_twice s =
 with_rows : State → List Row → State
 with_rows t rows = record t { rows = rows }
 
-after_too : (s : State) (r : Rec) → without_digests (state_after s r) ≡ without_digests (state_after (without_digests s) (without_copy_digest r))
+after_too : (s : State) (r : Rec)
+    → without_digests (state_after s r) ≡ without_digests (state_after (without_digests s) (without_copy_digest r))
 unfolding with_rows
 after_too s (rec.Formatted geometry) = refl
 after_too s (rec.Opened geometry serial cursor floor next_put clean list) = refl
@@ -158,7 +166,7 @@ after_too s (rec.Moved piece from place digest) =
     (pushed piece s.rows _ _ same)
 after_too s (rec.Unsaved piece place fault) = ap (λ (t : State). state_after t (rec.Unsaved piece place fault)) (digests_twice s)
 after_too s (rec.Displaced piece segment live) =
-    let lost = (piece, Rattle.cache_model.specs.declared.cause.Cause.TheVariants.Displaced segment live) ∷ s.lost in
+    let lost : List (PieceId × Cause) = (piece, cause.Displaced segment live) ∷ s.lost in
     ap (λ (t : State). record t {
       rows = map without_digest (without piece s.rows);
       displaced = map without_digest (s.displaced ++ option_to_list (row_of s piece));
@@ -196,7 +204,7 @@ after_too s (rec.Waited reader cut) = digests_twice s
 after_too s (rec.Broke reader why) = digests_twice s
 after_too s (rec.ReadClosed reader) = ap (λ (t : State). state_after t (rec.ReadClosed reader)) (digests_twice s)
 after_too s (rec.SyncBegun serial cursor clean in_parts) =
-    let first : List Row → Mark = λ rows. record (Rattle.cache_model.specs.State.mark_now s serial cursor clean) { rows = rows } in
+    let first : List Row → Mark = λ rows. record (mark_now s serial cursor clean) { rows = rows } in
     let begun : State → List Mark → State = λ t marks. record t {
       marks = marks;
       running = if in_parts then Some serial else s.running;
@@ -211,17 +219,20 @@ after_too s (rec.SyncDone serial) =
 after_too s (rec.Fault count) = ap (λ (t : State). state_after t (rec.Fault count)) (digests_twice s)
 
 -- records that tell alike leave alike what was alike
-pub record_alike : (s t : State) (r o : Rec) → HoldTheSame s t → without_copy_digest r ≡ without_copy_digest o → HoldTheSame (state_after s r) (state_after t o)
+pub record_alike : (s t : State) (r o : Rec) → HoldTheSame s t → without_copy_digest r ≡ without_copy_digest o
+    → HoldTheSame (state_after s r) (state_after t o)
 record_alike s t r o same told =
     after_too s r
     ∙ ap (λ (x : State). without_digests (state_after x (without_copy_digest r))) same
     ∙ ap (λ (x : Rec). without_digests (state_after (without_digests t) x)) told
     ∙ sym (after_too t o)
 
-first_told : (r o : Rec) (one other : List Rec) → TellTheSame (r ∷ one) (o ∷ other) → (without_copy_digest r ≡ without_copy_digest o) × TellTheSame one other
+first_told : (r o : Rec) (one other : List Rec) → TellTheSame (r ∷ one) (o ∷ other)
+    → (without_copy_digest r ≡ without_copy_digest o) × TellTheSame one other
 first_told r o one other same = (cc, cc)
 
-pub all_alike : (s t : State) (one other : List Rec) → HoldTheSame s t → TellTheSame one other → HoldTheSame (after_all s one) (after_all t other)
+pub all_alike : (s t : State) (one other : List Rec) → HoldTheSame s t → TellTheSame one other
+    → HoldTheSame (after_all s one) (after_all t other)
 all_alike s t [] [] same told = same
 all_alike s t [] (o ∷ other) same told = let f : [] ≡ without_copy_digest o ∷ map without_copy_digest other = told in cc
 all_alike s t (r ∷ one) [] same told = let f : without_copy_digest r ∷ map without_copy_digest one ≡ [] = told in cc

@@ -1,24 +1,22 @@
 -- What is known of a session but for the digests of its documents: what the state is asked does not go by these, and what
 -- each record makes of it neither.
 use Rattle.std.proofs.Common.{◌≡◌, ℕ, List, [], ◌∷◌, ◌++◌, refl, sym, ◌∙◌, ap, Bool, true, false}
-use Rattle.std.specs.Prelude.{Option, Some, None, cond, map, find, filter, option_map, option_and_then, unwrap_or}
+use Rattle.std.specs.Prelude.{◌&&◌, nat_lt, Option, Some, None, cond, map, find, filter, option_map, option_and_then, unwrap_or}
 use Rattle.std.proofs.lemmas.List.{map-append}
 use Rattle.tape_base.specs.declared.keys.Key.{Key}
 use Rattle.tape_base.specs.declared.pieces.PieceId.{PieceId}
 use Rattle.tape_base.specs.Piece.{same_piece}
 use Rattle.alternate_vector.specs.Field.{Field}
-use Rattle.alternate_vector.specs.Alternates.{Stored}
+use Rattle.alternate_vector.specs.Alternates.{Stored, merged}
 use Rattle.fragment_table.specs.Table.{TableRow}
 use Rattle.cache_model.specs.declared.cause.Cause.{Cause}
 use Rattle.cache_model.specs.declared.answer.ReadAnswer.{ReadAnswer}
 use Rattle.cache_model.specs.declared.answer.ReadAnswer.TheVariants as read
 use Rattle.cache_model.specs.declared.answer.NextAnswer.{NextAnswer}
 use Rattle.cache_model.specs.declared.answer.NextAnswer.TheVariants as next
-use Rattle.cache_model.specs.State.{State, Row, Mark, PutRow, ReaderRow, LastVector, Complete, TakenOut, after_all, alternates_of, blocks_of_row, is_clean_sync, is_live, last_match, last_vector, list_among, list_of_last, list_of_piece, list_of_put, list_of_row, listed, live_row_of, live_rows, mark_now, mark_of, merged_list, moved_row, only_live, opened_reader, placed_row, put_of, row_in, row_of, state_after, synced_rows, low_of_sync, table_of_hit, vector_piece, without, without_earlier}
+use Rattle.cache_model.specs.State.{State, Row, Mark, alternate_of, floor_next, most_payload, PutRow, ReaderRow, LastVector, Complete, TakenOut, alternates_of, is_live, last_match, last_vector, list_among, list_of_last, list_of_piece, list_of_put, list_of_row, listed, live_row_of, live_rows, merged_list, only_live, put_of, row_in, row_of, vector_piece}
 use Rattle.cache_model.specs.Verdict.{cause_of_last, cause_of_loss, cause_of_miss, cause_of_piece, cause_of_vector, cause_without_vector, follow_answer, followed, hit_answer, live_vector_of, lookup_verdict, next_piece, next_row, no_match, no_record, passed, reader_verdict, vector_of, verdict_at_end, verdict_of_fragment}
 use Rattle.cache_model.specs.Due.{due_pieces, is_due}
-use Rattle.cache_model.specs.State.{floor_next}
-use Rattle.std.specs.Prelude.{◌&&◌, nat_lt}
 use Rattle.model_laws.specs.Agreeing.{without_digest, without_digests, without_mark_digests}
 
 -- ---- lists of rows
@@ -35,7 +33,8 @@ marks_twice (m ∷ marks) =
 
 -- a test that does not go by digests passes the same rows
 module _ (test : Row → Bool) (blind : (row : Row) → test (without_digest row) ≡ test row) where
-  filtered_by : (row : Row) (rows : List Row) (b : Bool) → test row ≡ b → filter test (map without_digest rows) ≡ map without_digest (filter test rows)
+  filtered_by : (row : Row) (rows : List Row) (b : Bool) → test row ≡ b
+      → filter test (map without_digest rows) ≡ map without_digest (filter test rows)
       → cond (test (without_digest row)) (without_digest row ∷ filter test (map without_digest rows)) (filter test (map without_digest rows))
       ≡ map without_digest (cond (test row) (row ∷ filter test rows) (filter test rows))
   filtered_by row rows true is rest = rw (blind row, is) (ap (λ (xs : List Row). without_digest row ∷ xs) rest)
@@ -45,7 +44,8 @@ module _ (test : Row → Bool) (blind : (row : Row) → test (without_digest row
   filtered [] = refl
   filtered (row ∷ rows) = filtered_by row rows (test row) refl (filtered rows)
 
-  found_by : (row : Row) (rows : List Row) (b : Bool) → test row ≡ b → find test (map without_digest rows) ≡ option_map without_digest (find test rows)
+  found_by : (row : Row) (rows : List Row) (b : Bool) → test row ≡ b
+      → find test (map without_digest rows) ≡ option_map without_digest (find test rows)
       → cond (test (without_digest row)) (Some (without_digest row)) (find test (map without_digest rows))
       ≡ option_map without_digest (cond (test row) (Some row) (find test rows))
   found_by row rows true is rest = rw (blind row, is) refl
@@ -63,11 +63,13 @@ row_in_too rows id = found (λ row. same_piece row.id id) (λ row. refl) rows
 pub row_too : (s : State) (id : PieceId) → row_of (without_digests s) id ≡ option_map without_digest (row_of s id)
 row_too s id = row_in_too s.rows id
 
-only_live_too : (s : State) (row : Row) (b : Bool) → is_live s row ≡ b → only_live (without_digests s) (without_digest row) ≡ option_map without_digest (only_live s row)
+only_live_too : (s : State) (row : Row) (b : Bool) → is_live s row ≡ b
+    → only_live (without_digests s) (without_digest row) ≡ option_map without_digest (only_live s row)
 only_live_too s row true is = rw is refl
 only_live_too s row false is = rw is refl
 
-live_too : (s : State) (o : Option Row) → option_and_then (only_live (without_digests s)) (option_map without_digest o) ≡ option_map without_digest (option_and_then (only_live s) o)
+live_too : (s : State) (o : Option Row)
+    → option_and_then (only_live (without_digests s)) (option_map without_digest o) ≡ option_map without_digest (option_and_then (only_live s) o)
 live_too s None = refl
 live_too s (Some row) = only_live_too s row (is_live s row) refl
 
@@ -82,7 +84,8 @@ due_too s now =
     let test : Row → Bool = λ row. nat_lt row.place (floor_next s) && is_due s now row in
     ap (filter test) (live_rows_too s) ∙ filtered test (λ row. refl) (live_rows s)
 
-pub vector_too : (s : State) (o : Option PieceId) → option_and_then (live_row_of (without_digests s)) o ≡ option_map without_digest (option_and_then (live_row_of s) o)
+pub vector_too : (s : State) (o : Option PieceId)
+    → option_and_then (live_row_of (without_digests s)) o ≡ option_map without_digest (option_and_then (live_row_of s) o)
 vector_too s None = refl
 vector_too s (Some id) = live_row_too s id
 
@@ -91,18 +94,21 @@ live_vector_too s key = vector_too s (vector_of s key)
 
 -- ---- alternates
 
-listed_by : (o : Option Row) → unwrap_or (option_and_then (λ (row : Row). row.alternates) (option_map without_digest o)) [] ≡ unwrap_or (option_and_then (λ (row : Row). row.alternates) o) []
+listed_by : (o : Option Row)
+    → unwrap_or (option_and_then (λ (row : Row). row.alternates) (option_map without_digest o)) [] ≡ unwrap_or (option_and_then (λ (row : Row). row.alternates) o) []
 listed_by None = refl
 listed_by (Some row) = refl
 
 pub list_of_piece_too : (s : State) (id : PieceId) → list_of_piece (without_digests s) id ≡ list_of_piece s id
 list_of_piece_too s id = ap (λ (o : Option Row). unwrap_or (option_and_then (λ (row : Row). row.alternates) o) []) (row_too s id) ∙ listed_by (row_of s id)
 
-read_by : (s : State) (o : Option Row) → unwrap_or (option_map (list_of_row (without_digests s)) (option_map without_digest o)) [] ≡ unwrap_or (option_map (list_of_row s) o) []
+read_by : (s : State) (o : Option Row)
+    → unwrap_or (option_map (list_of_row (without_digests s)) (option_map without_digest o)) [] ≡ unwrap_or (option_map (list_of_row s) o) []
 read_by s None = refl
 read_by s (Some row) = refl
 
-last_too : (s : State) (rows : List Row) (key : Key) (last : LastVector) → list_of_last (without_digests s) (map without_digest rows) key last ≡ list_of_last s rows key last
+last_too : (s : State) (rows : List Row) (key : Key) (last : LastVector)
+    → list_of_last (without_digests s) (map without_digest rows) key last ≡ list_of_last s rows key last
 last_too s rows key (Complete put) =
     ap (λ (o : Option Row). unwrap_or (option_map (list_of_row (without_digests s)) o) []) (row_in_too rows (vector_piece key put)) ∙ read_by s (row_in rows (vector_piece key put))
 last_too s rows key (TakenOut put) = refl
@@ -121,10 +127,11 @@ alternates_too s key = among_too s s.rows key
 merged_too : (s : State) (p : PutRow) → merged_list (without_digests s) p ≡ merged_list s p
 merged_too s p =
     let listed : List Row → List Stored = λ rows. list_among (without_digests s) rows p.key in
-    ap (λ (list : List Stored). Rattle.alternate_vector.specs.Alternates.merged s.geometry.alternates (Rattle.cache_model.specs.State.most_payload s.geometry) list (Rattle.cache_model.specs.State.alternate_of p))
+    ap (λ (list : List Stored). merged s.geometry.alternates (most_payload s.geometry) list (alternate_of p))
     (ap listed (sym (map-append without_digest s.displaced s.rows)) ∙ among_too s (s.displaced ++ s.rows) p.key)
 
-list_by : (s : State) (o : Option PutRow) → unwrap_or (option_map (merged_list (without_digests s)) o) [] ≡ unwrap_or (option_map (merged_list s) o) []
+list_by : (s : State) (o : Option PutRow)
+    → unwrap_or (option_map (merged_list (without_digests s)) o) [] ≡ unwrap_or (option_map (merged_list s) o) []
 list_by s None = refl
 list_by s (Some p) = merged_too s p
 
@@ -133,7 +140,8 @@ list_too s put = list_by s (put_of s put)
 
 -- ---- causes and verdicts
 
-passed_by : (s : State) (o : Option Row) → unwrap_or (option_map (passed (without_digests s)) (option_map without_digest o)) (no_record s) ≡ unwrap_or (option_map (passed s) o) (no_record s)
+passed_by : (s : State) (o : Option Row)
+    → unwrap_or (option_map (passed (without_digests s)) (option_map without_digest o)) (no_record s) ≡ unwrap_or (option_map (passed s) o) (no_record s)
 passed_by s None = refl
 passed_by s (Some row) = refl
 
@@ -165,7 +173,8 @@ miss_by s key (Some last) = last_cause_too s key last
 pub miss_too : (s : State) (key : Key) → cause_of_miss (without_digests s) key ≡ cause_of_miss s key
 miss_too s key = miss_by s key (last_vector s key)
 
-pub lookup_too : (s : State) (key : Key) (request : List Field) → lookup_verdict (without_digests s) key request ≡ lookup_verdict s key request
+pub lookup_too : (s : State) (key : Key) (request : List Field)
+    → lookup_verdict (without_digests s) key request ≡ lookup_verdict s key request
 lookup_too s key request =
     let behind : List Stored → Cause → ReadAnswer = λ list cause.
     unwrap_or (option_map hit_answer (last_match request list)) (unwrap_or (option_map follow_answer (followed s key request)) (read.Miss cause)) in
@@ -178,7 +187,8 @@ given_by : (s : State) (r : ReaderRow) (entry : TableRow) (other : NextAnswer) (
 given_by s r entry other None = refl
 given_by s r entry other (Some row) = refl
 
-fragment_too : (s : State) (r : ReaderRow) (entry : TableRow) → verdict_of_fragment (without_digests s) r entry ≡ verdict_of_fragment s r entry
+fragment_too : (s : State) (r : ReaderRow) (entry : TableRow)
+    → verdict_of_fragment (without_digests s) r entry ≡ verdict_of_fragment s r entry
 fragment_too s r entry =
     let given : Option Row → NextAnswer → NextAnswer = λ o other. unwrap_or (option_map (λ (live : Row). next.Gave r.next entry.length) o) other in
     ap (λ (o : Option Row). given o (next.Broke (cause_of_piece (without_digests s) (next_piece r)))) (live_row_too s (next_piece r))
@@ -190,7 +200,8 @@ reader_by : (s : State) (r : ReaderRow) (o : Option TableRow)
 reader_by s r None = refl
 reader_by s r (Some entry) = fragment_too s r entry
 
-end_too : (s : State) (r : ReaderRow) (table : Option (List TableRow)) → verdict_at_end (without_digests s) r table ≡ verdict_at_end s r table
+end_too : (s : State) (r : ReaderRow) (table : Option (List TableRow))
+    → verdict_at_end (without_digests s) r table ≡ verdict_at_end s r table
 end_too s r None = refl
 end_too s r (Some table) = refl
 

@@ -32,7 +32,7 @@ pub mod Counted
 mod Payloads
 pub mod Alike
 pub mod Digests
-mod DigestSteps
+pub mod DigestSteps
 mod Calm
 mod Chosen
 pub mod BackedFlush

@@ -60,11 +60,13 @@ TellTheSame one other = map without_copy_digest one ≡ map without_copy_digest 
 -- two groups that tell no trouble, for what is asked in states that hold the same of like devices, tell the same and end
 -- alike, whatever else the devices gave and refused
 abbrev pub GroupsAgree : Type 0
-GroupsAgree = (p q : Permit) (s t : State) (i : Intent) (one other : List Rec) (e f : End) → AreLike p q → HoldTheSame s t
-    → IsUntroubled one → IsUntroubled other → Does p s i one e → Does q t i other f → TellTheSame one other × (e ≡ f)
+GroupsAgree = (p q : Permit) (s t : State) (i : Intent) (one other : List Rec) (e f : End)
+    → AreLike p q → HoldTheSame s t → IsUntroubled one → IsUntroubled other
+    → Does p s i one e → Does q t i other f → TellTheSame one other × (e ≡ f)
 
 -- and so do whole steps, which leave what holds the same, and do less for the same reason
 abbrev pub StepsAgree : Type 0
-StepsAgree = (p q : Permit) (s t : State) (intents : List Intent) (one other : List Rec) (why because : Option Reason) → AreLike p q → HoldTheSame s t
+StepsAgree = (p q : Permit) (s t : State) (intents : List Intent) (one other : List Rec) (why because : Option Reason)
+    → AreLike p q → HoldTheSame s t
     → IsUntroubled one → IsUntroubled other → IsStep p s intents one why → IsStep q t intents other because
     → TellTheSame one other × HoldTheSame (after_all s one) (after_all t other) × (why ≡ because)

@@ -11,7 +11,7 @@ mod Counts
 mod Sessions
 mod Untroubled
 mod Formats
-mod Uncalled
+mod Devices
 mod Alike
 mod Agreeing
 mod Quiet

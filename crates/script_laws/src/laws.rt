@@ -86,7 +86,7 @@ pub fn sessions_are_legal()
 {}
 
 /// Where nothing was displaced, and no fault and no damage was told, in either of two runs of a script, they print
-/// the same, or a line of it shows two documents of one SHA-256.
+/// the same.
 pub fn output_is_fixed()
     ensures { OutputIsFixed }
 {
