@@ -14,7 +14,7 @@ use Rattle.cache_model.specs.declared.answer.ReadAnswer.{ReadAnswer}
 use Rattle.cache_model.specs.declared.answer.ReadAnswer.TheVariants as read
 use Rattle.cache_model.specs.declared.answer.NextAnswer.{NextAnswer}
 use Rattle.cache_model.specs.declared.answer.NextAnswer.TheVariants as next
-use Rattle.cache_model.specs.State.{State, Row, Mark, alternate_of, floor_next, most_payload, PutRow, ReaderRow, LastVector, Complete, TakenOut, alternates_of, is_live, last_match, last_vector, list_among, list_of_last, list_of_piece, list_of_put, list_of_row, listed, live_row_of, live_rows, merged_list, only_live, put_of, row_in, row_of, vector_piece}
+use Rattle.cache_model.specs.State.{State, Row, Mark, alternate_of, floor_next, most_payload, PutRow, ReaderRow, LastVector, Complete, TakenOut, alternates_of, is_live, last_match, last_vector, list_among, list_of_last, list_of_piece, list_of_put, list_of_row, live_row_of, live_rows, merged_list, only_live, put_of, row_in, row_of, vector_piece}
 use Rattle.cache_model.specs.Verdict.{cause_of_last, cause_of_loss, cause_of_miss, cause_of_piece, cause_of_vector, cause_without_vector, follow_answer, followed, hit_answer, live_vector_of, lookup_verdict, next_piece, next_row, no_match, no_record, passed, reader_verdict, vector_of, verdict_at_end, verdict_of_fragment}
 use Rattle.cache_model.specs.Due.{due_pieces, is_due}
 use Rattle.model_laws.specs.Agreeing.{without_digest, without_digests, without_mark_digests}
