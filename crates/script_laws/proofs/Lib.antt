@@ -9,10 +9,11 @@ mod Damages
 mod Runs
 mod Counts
 mod Sessions
-mod Untroubled
+mod TurnTroubles
 mod Formats
 mod Devices
 mod Alike
+mod Parting
 mod Agreeing
 mod Quiet
 mod Recorded

@@ -20,7 +20,7 @@ use Rattle.script_lang.specs.declared.answer.StepAnswer.{StepAnswer}
 use Rattle.script_lang.specs.declared.answer.StepAnswer.TheVariants as answer
 use Rattle.script_lang.specs.Grammar.{reading_of}
 use Rattle.device_log.specs.Calls.{Call}
-use Rattle.script_run.specs.Run.{Harm, IsHarmless, Run, fresh}
+use Rattle.script_run.specs.Run.{Harm, Run, fresh}
 use Rattle.script_run.specs.Turn.{Turn}
 use Rattle.script_run.specs.Asked.{asked}
 use Rattle.script_run.specs.Answers.{format_said, session_said, step_said}
@@ -28,7 +28,6 @@ use Rattle.script_run.specs.Behind.{after_format, after_line, after_reading, beh
 use Rattle.script_run.specs.Takes.{FormatTakes, IsRun, ReadingTakes, SessionTakes, Takes, run_after}
 use Rattle.script_laws.specs.Causes.{cause_answered}
 use Rattle.script_run.specs.Losses.{NoLossIsAFault, is_fault}
-use Rattle.script_laws.specs.Agreeing.{NoneHarmed}
 use Rattle.script_laws.specs.Runs.{NoneAnswers, ReadsWithout, answers_damage, answers_fault}
 use Rattle.script_run.proofs.Losses.{formats_lose_none, losses_stay}
 use Rattle.script_laws.proofs.Walking.{fault_stays}
@@ -197,26 +196,32 @@ undamaged = record {
 pub undamaged_runs : (lines : List (List ℕ)) (turns : List Turn) → IsRun fresh lines turns → All (λ (harm : Harm). harm.damaged ≡ false) (harms_of (run_after fresh lines turns)) → NoneAnswers answers_damage fresh lines turns
 undamaged_runs = whole answers_damage (λ harm. harm.damaged ≡ false) (λ s. Unit {0}) undamaged
 
--- ---- neither of them
+-- ---- what was told before
 
 -- no answer is asked about: what was told is followed back alone
-none_harmed : IsWitnessed (λ a. false) IsHarmless (λ s. Unit {0})
-none_harmed = record {
-  formats = λ geometry. tt;
-  stays = λ run s turn step takes sound. tt;
-  before = λ run s turn step old new takes fine. record {
-    faultless = faultless.before run s turn step old new takes fine.faultless;
-    undamaged = undamaged.before run s turn step old new takes fine.undamaged;
-  };
-  without = λ run s turn step new takes sound fine. refl;
-  format = λ added bad. refl;
-  moment = λ at. refl;
-}
+module _ (Fine : Harm → Type 0) (before : (run : Run) (s : State) (turn : Turn) (step : Step) (old new : List Call) → SessionTakes run s turn step → Fine (harm_in new (after_all s turn.added)) → Fine (harm_in old s)) where
+  followed : IsWitnessed (λ a. false) Fine (λ s. Unit {0})
+  followed = record {
+    formats = λ geometry. tt;
+    stays = λ run s turn step takes sound. tt;
+    before = before;
+    without = λ run s turn step new takes sound fine. refl;
+    format = λ added bad. refl;
+    moment = λ at. refl;
+  }
 
-any_session : (o : Option State) → IsSound (λ a. false) IsHarmless (λ s. Unit {0}) none_harmed o
-any_session None = tt
-any_session (Some s) = tt
+  any_session : (o : Option State) → IsSound (λ a. false) Fine (λ s. Unit {0}) followed o
+  any_session None = tt
+  any_session (Some s) = tt
+
+  fine_before : (run : Run) (lines : List (List ℕ)) (turns : List Turn) → IsRun run lines turns → All Fine (harms_of (run_after run lines turns)) → All Fine (harms_of run)
+  fine_before run lines turns is fine = (along (λ a. false) Fine (λ s. Unit {0}) followed run lines turns is (any_session run.state) fine).1
 
 -- what was told of no device behind lines was told of none before them
-pub harmless_before : (run : Run) (lines : List (List ℕ)) (turns : List Turn) → IsRun run lines turns → NoneHarmed (run_after run lines turns) → NoneHarmed run
-harmless_before run lines turns is clean = (along (λ a. false) IsHarmless (λ s. Unit {0}) none_harmed run lines turns is (any_session run.state) clean).1
+pub faultless_before : (run : Run) (lines : List (List ℕ)) (turns : List Turn) → IsRun run lines turns
+    → All (λ (harm : Harm). harm.fault ≡ 0) (harms_of (run_after run lines turns)) → All (λ (harm : Harm). harm.fault ≡ 0) (harms_of run)
+faultless_before = fine_before (λ harm. harm.fault ≡ 0) faultless.before
+
+pub undamaged_before : (run : Run) (lines : List (List ℕ)) (turns : List Turn) → IsRun run lines turns
+    → All (λ (harm : Harm). harm.damaged ≡ false) (harms_of (run_after run lines turns)) → All (λ (harm : Harm). harm.damaged ≡ false) (harms_of run)
+undamaged_before = fine_before (λ harm. harm.damaged ≡ false) undamaged.before

@@ -6,3 +6,5 @@ pub mod Counts
 pub mod Sessions
 pub mod Vectors
 pub mod Agreeing
+pub mod TurnTroubles
+pub mod Parting

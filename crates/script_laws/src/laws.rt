@@ -1,5 +1,7 @@
 // Laws of what lines answer. These functions do nothing when they run.
 ghost use Rattle.script_laws.specs.Agreeing.{OutputIsFixed};
+ghost use Rattle.script_laws.specs.Parting.{LinesAgreeBeforeTrouble};
+ghost use Rattle.script_laws.specs.TurnTroubles.{FaultlessTurns, TurnsTellRefusals, UndamagedTurns};
 ghost use Rattle.script_laws.specs.Causes.{AnswersAreTraced, CausesAreTraced};
 ghost use Rattle.script_laws.specs.Damages.{DamageIsRecorded, DamageStays};
 ghost use Rattle.script_laws.specs.Runs.{FaultlessRuns, UndamagedRuns};
@@ -85,10 +87,33 @@ pub fn sessions_are_legal()
     ensures { SessionsAreLegal }
 {}
 
+/// Each fault that a line of a script recorded is a call that its device refused in that line.
+pub fn turns_tell_refusals()
+    ensures { TurnsTellRefusals }
+{}
+
+/// Where no fault was told of any device in the end, no line of the script recorded one.
+pub fn faultless_turns()
+    ensures { FaultlessTurns }
+{}
+
+/// Where no piece of any device was told as damaged, no line of the script recorded damage.
+pub fn undamaged_turns()
+    ensures { UndamagedTurns }
+{}
+
+/// Two runs of a script print the same up to the first line in which one of them recorded a fault, damage, or a
+/// displacement, whatever their devices did.
+pub fn lines_agree_before_trouble()
+    ensures { LinesAgreeBeforeTrouble }
+{
+    steps_agree();
+}
+
 /// Where nothing was displaced, and no fault and no damage was told, in either of two runs of a script, they print
 /// the same.
 pub fn output_is_fixed()
     ensures { OutputIsFixed }
 {
-    steps_agree();
+    lines_agree_before_trouble();
 }

@@ -1,0 +1,258 @@
+-- Two runs of the same lines are the same up to the first line that recorded trouble.
+use Rattle.std.proofs.Common.{◌≡◌, ℕ, List, [], ◌∷◌, ◌++◌, ◌⊎◌, inl, inr, Bool, true, false, refl, sym, ◌∙◌, ap, subst}
+use Rattle.std.specs.Prelude.{Option, Some, None, option_map}
+use Rattle.tape_base.specs.declared.geometries.BadGeometry.{BadGeometry}
+use Rattle.tape_base.specs.Limits.{first_refusal}
+use Rattle.cache_model.specs.declared.record.Rec.{Rec}
+use Rattle.cache_model.specs.State.{State, after_all}
+use Rattle.cache_model.specs.Permit.{Intent, IsAmong}
+use Rattle.cache_model.specs.Legal.{IsStep}
+use Rattle.model_laws.specs.Agreeing.{AreLike, HoldTheSame, IsUntroubled, StepsAgree, TellTheSame, is_trouble, without_digests}
+use Rattle.script_lang.specs.declared.step.Step.{Step}
+use Rattle.script_lang.specs.declared.step.Step.TheVariants as step
+use Rattle.script_lang.specs.declared.line.LineAnswer.{LineAnswer}
+use Rattle.script_lang.specs.declared.line.LineAnswer.TheVariants as line
+use Rattle.script_lang.specs.Grammar.{reading_of}
+use Rattle.script_lang.specs.Texts.{answer_line}
+use Rattle.script_run.specs.Run.{Run}
+use Rattle.script_run.specs.Turn.{Turn, lookup_in, no_turn, told_in}
+use Rattle.script_run.specs.Asked.{asked}
+use Rattle.script_run.specs.Answers.{format_said, session_said, step_said}
+use Rattle.script_run.specs.Behind.{after_format, after_line, after_reading, at_moment, behind, in_session}
+use Rattle.script_run.specs.Takes.{GivesOwn, IsRun, LineTakes, ReadingTakes, SessionTakes, Takes, line_text, output_of, reading_text, run_after}
+use Rattle.script_laws.specs.Agreeing.{AreSame, without_devices}
+use Rattle.script_laws.specs.Parting.{IsTroubled, IsUntroubledUpTo, LinesPart}
+use Rattle.script_laws.proofs.Formats.{same_format}
+use Rattle.script_laws.proofs.Devices.{asked_too, format_too, gives_too, leaves_too, lookup_too, moment_too, says_too, told_too, without_device}
+use Rattle.script_laws.proofs.Alike.{same_given}
+
+-- two runs print the same, and leave the same but for what the devices fix
+record IsSame (text other_text : List ℕ) (next other_next : Run) : Type 0 where
+  printed : text ≡ other_text
+  left : without_devices next ≡ without_devices other_next
+
+-- so two runs of the same lines do
+abbrev IsPlayedSame : (u v : Run) (lines : List (List ℕ)) (one other : List Turn) → Type 0
+IsPlayedSame u v lines one other = IsSame (output_of u lines one) (output_of v lines other) (run_after u lines one) (run_after v lines other)
+
+-- up to one of the lines they do, and in that one either recorded trouble for the first time
+record PartBetween (u v : Run) (lines : List (List ℕ)) (one other : List Turn) : Type 0 where
+  before : List (List ℕ)
+  bytes : List ℕ
+  after : List (List ℕ)
+  lines_are : lines ≡ before ++ bytes ∷ after
+  first : IsUntroubledUpTo u before one
+  second : IsUntroubledUpTo v before other
+  same : IsPlayedSame u v before first.earlier second.earlier
+  troubled : IsTroubled first.turn ⊎ IsTroubled second.turn
+
+-- ---- trouble
+
+trouble_first : (r : Rec) (recs : List Rec) (b : Bool) → is_trouble r ≡ b → IsUntroubled recs ⊎ ((told : Rec) × IsAmong told recs × (is_trouble told ≡ true))
+    → IsUntroubled (r ∷ recs) ⊎ ((told : Rec) × IsAmong told (r ∷ recs) × (is_trouble told ≡ true))
+trouble_first r recs true e rest = inr (r, inl refl, e)
+trouble_first r recs false e (inl none) = inl (e, none)
+trouble_first r recs false e (inr later) = inr (later.0, inr later.1, later.2)
+
+some_trouble : (recs : List Rec) → IsUntroubled recs ⊎ ((told : Rec) × IsAmong told recs × (is_trouble told ≡ true))
+some_trouble [] = inl tt
+some_trouble (r ∷ recs) = trouble_first r recs (is_trouble r) refl (some_trouble recs)
+
+troubled_or_not : (turn : Turn) → IsUntroubled turn.added ⊎ IsTroubled turn
+troubled_or_not turn = elim (some_trouble turn.added) [
+  | inl none ↦ inl none
+  | inr one ↦ inr (record { told = one.0; among = one.1; tells = one.2 })
+]
+
+-- ---- one line
+
+-- turns that are the same but for their devices
+module _ (u v : Run) (s t : State) (a b : Turn) (step : Step) (runs : without_devices u ≡ without_devices v) (states : HoldTheSame s t) where
+  asked_same : asked v t step ≡ asked u s step
+  asked_same =
+      asked_too v t step
+      ∙ ap (λ (run : Run). asked run (without_digests t) step) (sym runs)
+      ∙ ap (λ (x : State). asked (without_devices u) x step) (sym states)
+      ∙ sym (asked_too u s step)
+
+  given_same : TellTheSame a.added b.added → GivesOwn u s a step → GivesOwn v t b step → a.given ≡ b.given
+  given_same told own other_own =
+      let there : GivesOwn (without_devices u) (without_digests s) b step =
+      subst (λ (x : State). GivesOwn (without_devices u) x b step) (sym states)
+      (subst (λ (run : Run). GivesOwn run (without_digests t) b step) (sym runs) (gives_too v t b step other_own)) in
+      same_given (without_devices u) (without_digests s) a b step
+      (sym (told_too a.added) ∙ ap told_in told ∙ told_too b.added) (sym (lookup_too a.added) ∙ ap lookup_in told ∙ lookup_too b.added)
+      (gives_too u s a step own) there
+
+  turns_same : TellTheSame a.added b.added → a.refused ≡ b.refused → a.given ≡ b.given → without_device a ≡ without_device b
+  turns_same told refused given = λ i. record { added = told i; refused = refused i; device = no_turn.device; given = given i }
+
+  module _ (s2 t2 : State) (behind : HoldTheSame s2 t2) (turns : without_device a ≡ without_device b) where
+    said_same : session_said u s s2 a step ≡ session_said v t t2 b step
+    said_same =
+        says_too u s s2 a step
+        ∙ ap (λ (run : Run). session_said run (without_digests s) (without_digests s2) (without_device a) step) runs
+        ∙ ap (λ (x : State). session_said (without_devices v) x (without_digests s2) (without_device a) step) states
+        ∙ ap (λ (x : State). session_said (without_devices v) (without_digests t) x (without_device a) step) behind
+        ∙ ap (λ (turn : Turn). session_said (without_devices v) (without_digests t) (without_digests t2) turn step) turns
+        ∙ sym (says_too v t t2 b step)
+
+    left_same : without_devices (in_session u s s2 a step) ≡ without_devices (in_session v t t2 b step)
+    left_same =
+        leaves_too u s s2 a step
+        ∙ ap (λ (run : Run). without_devices (in_session run (without_digests s) (without_digests s2) (without_device a) step)) runs
+        ∙ ap (λ (x : State). without_devices (in_session (without_devices v) x (without_digests s2) (without_device a) step)) states
+        ∙ ap (λ (x : State). without_devices (in_session (without_devices v) (without_digests t) x (without_device a) step)) behind
+        ∙ ap (λ (turn : Turn). without_devices (in_session (without_devices v) (without_digests t) (without_digests t2) turn step)) turns
+        ∙ sym (leaves_too v t t2 b step)
+
+same_state : (s t : State) → Some (without_digests s) ≡ Some (without_digests t) → HoldTheSame s t
+same_state s t same = cc
+
+module _ (agree : StepsAgree) where
+  same_session : (u v : Run) (s t : State) (a b : Turn) (step : Step) → without_devices u ≡ without_devices v → HoldTheSame s t
+      → SessionTakes u s a step → SessionTakes v t b step → IsUntroubled a.added → IsUntroubled b.added
+      → IsSame (answer_line (session_said u s (after_all s a.added) a step)) (answer_line (session_said v t (after_all t b.added) b step)) (in_session u s (after_all s a.added) a step) (in_session v t (after_all t b.added) b step)
+  same_session u v s t a b step runs states takes other_takes quiet other_quiet =
+      let moment : u.now ≡ v.now = ap (λ (run : Run). run.now) runs in
+      let like : AreLike a.device b.device = record { unsynced = takes.unsynced; other_unsynced = other_takes.unsynced; moment = takes.moment ∙ moment ∙ sym other_takes.moment } in
+      let legal : IsStep b.device t (asked u s step) b.added b.refused =
+      subst (λ (intents : List Intent). IsStep b.device t intents b.added b.refused) (asked_same u v s t a b step runs states) other_takes.legal in
+      let same : TellTheSame a.added b.added × HoldTheSame (after_all s a.added) (after_all t b.added) × (a.refused ≡ b.refused) =
+      agree a.device b.device s t (asked u s step) a.added b.added a.refused b.refused like states quiet other_quiet takes.legal legal in
+      let given : a.given ≡ b.given = given_same u v s t a b step runs states same.0 takes.own other_takes.own in
+      let turns : without_device a ≡ without_device b = turns_same u v s t a b step runs states same.0 same.2 given in
+      record {
+        printed = ap answer_line (said_same u v s t a b step runs states (after_all s a.added) (after_all t b.added) same.1 turns);
+        left = left_same u v s t a b step runs states (after_all s a.added) (after_all t b.added) same.1 turns;
+      }
+
+  same_step : (u v : Run) (a b : Turn) (o p : Option State) (step : Step) → without_devices u ≡ without_devices v
+      → option_map without_digests o ≡ option_map without_digests p
+      → Takes u a o step → Takes v b p step
+      → IsUntroubled a.added → IsUntroubled b.added
+      → IsSame (answer_line (step_said u a o step)) (answer_line (step_said v b p step)) (behind u a o step) (behind v b p step)
+  same_step u v a b o p (step.Format name segments buckets content agg reach fragment generation alternates) runs states takes other_takes quiet other_quiet =
+      let bad : Option BadGeometry = first_refusal segments buckets content agg reach fragment alternates in
+      let same : a.added ≡ b.added = same_format a.added b.added segments buckets content agg reach fragment generation alternates bad takes other_takes in
+      record {
+        printed = ap (λ (added : List Rec). answer_line (format_said added bad)) same;
+        left =
+            format_too u name a.added bad
+            ∙ ap (λ (run : Run). without_devices (after_format run name a.added bad)) runs
+            ∙ ap (λ (added : List Rec). without_devices (after_format (without_devices v) name added bad)) same
+            ∙ sym (format_too v name b.added bad);
+      }
+  same_step u v a b o p (step.Now at) runs states takes other_takes quiet other_quiet =
+      record { printed = refl; left = moment_too u at ∙ ap (λ (run : Run). without_devices (at_moment run at)) runs ∙ sym (moment_too v at) }
+  same_step u v a b (Some s) (Some t) step runs states takes other_takes quiet other_quiet =
+      same_session u v s t a b step runs (same_state s t states) takes other_takes quiet other_quiet
+  same_step u v a b None p step runs states takes other_takes quiet other_quiet = absurd takes
+  same_step u v a b (Some s) None step runs states takes other_takes quiet other_quiet = absurd other_takes
+
+  same_reading : (u v : Run) (a b : Turn) (reading : LineAnswer) → without_devices u ≡ without_devices v → ReadingTakes u a reading
+      → ReadingTakes v b reading
+      → IsUntroubled a.added → IsUntroubled b.added
+      → IsSame (reading_text u a reading) (reading_text v b reading) (after_reading u a reading) (after_reading v b reading)
+  same_reading u v a b (line.Step s) runs takes other_takes quiet other_quiet =
+      same_step u v a b u.state v.state s runs (ap (λ (run : Run). run.state) runs) takes other_takes quiet other_quiet
+  same_reading u v a b line.Nothing runs takes other_takes quiet other_quiet = record { printed = refl; left = runs }
+  same_reading u v a b (line.Bad fault) runs takes other_takes quiet other_quiet = absurd takes
+
+  -- ---- all lines
+
+  -- a first line that is the same goes before the others
+  joined : (u v : Run) (bytes : List ℕ) (lines : List (List ℕ)) (a b : Turn) (one other : List Turn)
+      → IsSame (line_text u a bytes) (line_text v b bytes) (after_line u a bytes) (after_line v b bytes)
+      → IsPlayedSame (after_line u a bytes) (after_line v b bytes) lines one other
+      → IsPlayedSame u v (bytes ∷ lines) (a ∷ one) (b ∷ other)
+  joined u v bytes lines a b one other first rest = record {
+    printed =
+        ap (λ (text : List ℕ). text ++ output_of (after_line u a bytes) lines one) first.printed
+        ∙ ap (λ (output : List ℕ). line_text v b bytes ++ output) rest.printed;
+    left = rest.left;
+  }
+
+  parts_here : (u v : Run) (bytes : List ℕ) (lines : List (List ℕ)) (a b : Turn) (one other : List Turn) → without_devices u ≡ without_devices v
+      → IsTroubled a ⊎ IsTroubled b → PartBetween u v (bytes ∷ lines) (a ∷ one) (b ∷ other)
+  parts_here u v bytes lines a b one other runs troubled = record {
+    before = [];
+    bytes = bytes;
+    after = lines;
+    lines_are = refl;
+    first = record { earlier = []; turn = a; later = one; turns_are = refl; legal = tt; untroubled = tt };
+    second = record { earlier = []; turn = b; later = other; turns_are = refl; legal = tt; untroubled = tt };
+    same = record { printed = refl; left = runs };
+    troubled = troubled;
+  }
+
+  abbrev up_to_next : (u : Run) (bytes : List ℕ) (before : List (List ℕ)) (a : Turn) (one : List Turn) → LineTakes u a bytes → IsUntroubled a.added
+      → IsUntroubledUpTo (after_line u a bytes) before one → IsUntroubledUpTo u (bytes ∷ before) (a ∷ one)
+  up_to_next u bytes before a one takes quiet f = record {
+    earlier = a ∷ f.earlier;
+    turn = f.turn;
+    later = f.later;
+    turns_are = ap (λ (turns : List Turn). a ∷ turns) f.turns_are;
+    legal = (takes, f.legal);
+    untroubled = (quiet, f.untroubled);
+  }
+
+  parts_later : (u v : Run) (bytes : List ℕ) (lines : List (List ℕ)) (a b : Turn) (one other : List Turn) → LineTakes u a bytes → LineTakes v b bytes
+      → IsUntroubled a.added → IsUntroubled b.added
+      → IsSame (line_text u a bytes) (line_text v b bytes) (after_line u a bytes) (after_line v b bytes)
+      → PartBetween (after_line u a bytes) (after_line v b bytes) lines one other → PartBetween u v (bytes ∷ lines) (a ∷ one) (b ∷ other)
+  parts_later u v bytes lines a b one other takes other_takes quiet other_quiet here p = record {
+    before = bytes ∷ p.before;
+    bytes = p.bytes;
+    after = p.after;
+    lines_are = ap (λ (xs : List (List ℕ)). bytes ∷ xs) p.lines_are;
+    first = up_to_next u bytes p.before a one takes quiet p.first;
+    second = up_to_next v bytes p.before b other other_takes other_quiet p.second;
+    same = joined u v bytes p.before a b p.first.earlier p.second.earlier here p.same;
+    troubled = p.troubled;
+  }
+
+  -- where neither turn recorded trouble the line is the same, and the lines behind it go on
+  next_line : (u v : Run) (bytes : List ℕ) (lines : List (List ℕ)) (a b : Turn) (one other : List Turn) → LineTakes u a bytes → LineTakes v b bytes
+      → IsUntroubled a.added → IsUntroubled b.added
+      → IsSame (line_text u a bytes) (line_text v b bytes) (after_line u a bytes) (after_line v b bytes)
+      → IsPlayedSame (after_line u a bytes) (after_line v b bytes) lines one other ⊎ PartBetween (after_line u a bytes) (after_line v b bytes) lines one other
+      → IsPlayedSame u v (bytes ∷ lines) (a ∷ one) (b ∷ other) ⊎ PartBetween u v (bytes ∷ lines) (a ∷ one) (b ∷ other)
+  next_line u v bytes lines a b one other takes other_takes quiet other_quiet here (inl rest) = inl (joined u v bytes lines a b one other here rest)
+  next_line u v bytes lines a b one other takes other_takes quiet other_quiet here (inr p) =
+      inr (parts_later u v bytes lines a b one other takes other_takes quiet other_quiet here p)
+
+  agree_between : (u v : Run) (lines : List (List ℕ)) (one other : List Turn) → without_devices u ≡ without_devices v → IsRun u lines one
+      → IsRun v lines other → IsPlayedSame u v lines one other ⊎ PartBetween u v lines one other
+  agree_between u v [] [] [] runs legal other_legal = inl (record { printed = refl; left = runs })
+  agree_between u v [] [] (b ∷ other) runs legal other_legal = absurd other_legal
+  agree_between u v [] (a ∷ one) other runs legal other_legal = absurd legal
+  agree_between u v (bytes ∷ lines) [] other runs legal other_legal = absurd legal
+  agree_between u v (bytes ∷ lines) (a ∷ one) [] runs legal other_legal = absurd other_legal
+  agree_between u v (bytes ∷ lines) (a ∷ one) (b ∷ other) runs legal other_legal = elim (troubled_or_not a) [
+    | inr troubled ↦ inr (parts_here u v bytes lines a b one other runs (inl troubled))
+    | inl quiet ↦ elim (troubled_or_not b) [
+      | inr troubled ↦ inr (parts_here u v bytes lines a b one other runs (inr troubled))
+      | inl other_quiet ↦
+          let here : IsSame (line_text u a bytes) (line_text v b bytes) (after_line u a bytes) (after_line v b bytes) =
+          same_reading u v a b (reading_of bytes) runs legal.0 other_legal.0 quiet other_quiet in
+          next_line u v bytes lines a b one other legal.0 other_legal.0 quiet other_quiet here
+          (agree_between (after_line u a bytes) (after_line v b bytes) lines one other here.left legal.1 other_legal.1)
+    ]
+  ]
+
+  pub lines_agree_before_trouble : (run : Run) (lines : List (List ℕ)) (one other : List Turn) → IsRun run lines one → IsRun run lines other
+      → AreSame run lines one other ⊎ LinesPart run lines one other
+  lines_agree_before_trouble run lines one other legal other_legal = elim (agree_between run run lines one other refl legal other_legal) [
+    | inl same ↦ inl (record { output = same.printed; left = same.left })
+    | inr p ↦ inr (record {
+      before = p.before;
+      bytes = p.bytes;
+      after = p.after;
+      lines_are = p.lines_are;
+      first = p.first;
+      second = p.second;
+      same = record { output = p.same.printed; left = p.same.left };
+      troubled = p.troubled;
+    })
+  ]

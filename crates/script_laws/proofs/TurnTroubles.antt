@@ -1,0 +1,111 @@
+-- What turns recorded of refused calls and damage was told of their devices.
+use Rattle.std.proofs.Common.{◌≡◌, ℕ, List, [], ◌∷◌, ◌++◌, Bool, true, false, refl, sym, ◌∙◌, subst, inl, inr}
+use Rattle.std.specs.Prelude.{All, Option, Some, None}
+use Rattle.std.specs.List.{AllByRecursion}
+use Rattle.std.proofs.lemmas.Bool.{false_from_ne_true}
+use Rattle.std.proofs.lemmas.List.Elements.{All-cons, All-head, All-nil}
+use Rattle.device_log.specs.Calls.{Call}
+use Rattle.tape_base.specs.declared.geometries.BadGeometry.{BadGeometry}
+use Rattle.tape_base.specs.declared.geometries.Geometry.{Geometry}
+use Rattle.tape_base.specs.Limits.{first_refusal}
+use Rattle.cache_model.specs.declared.record.Rec.{Rec}
+use Rattle.cache_model.specs.declared.record.Rec.TheVariants as rec
+use Rattle.cache_model.specs.State.{State, after_all}
+use Rattle.cache_model.specs.Damage.{TellNoDamage, tells_damage}
+use Rattle.cache_model.specs.Legal.{format_records}
+use Rattle.cache_model.specs.Permit.{IsAmong, Permit}
+use Rattle.cache_model.proofs.Found.{no_truth}
+use Rattle.script_lang.specs.declared.line.LineAnswer.{LineAnswer}
+use Rattle.script_lang.specs.declared.line.LineAnswer.TheVariants as line
+use Rattle.script_lang.specs.declared.step.Step.{Step}
+use Rattle.script_lang.specs.declared.step.Step.TheVariants as step
+use Rattle.script_lang.specs.Grammar.{reading_of}
+use Rattle.script_run.specs.Run.{Harm, Run}
+use Rattle.script_run.specs.Turn.{Turn}
+use Rattle.script_run.specs.Behind.{after_line, after_reading, behind, harm_in, harms_of}
+use Rattle.script_run.specs.Takes.{FormatTakes, IsRun, ReadingTakes, Takes, run_after}
+use Rattle.script_run.proofs.Listed.{is_among}
+use Rattle.model_laws.specs.StepLaws.{IsRefusalCount}
+use Rattle.script_laws.specs.TurnTroubles.{TellNoFault, TellsRefusals, tells_fault}
+use Rattle.script_laws.proofs.Damages.{told_among}
+use Rattle.script_laws.proofs.Groups.{IsKept}
+use Rattle.script_laws.proofs.Runs.{all_behind, faultless_before, none_below, undamaged_before}
+use Rattle.script_laws.proofs.Walking.{told_behind, walked}
+
+-- ---- a line
+
+-- the records of each turn are such, where those of a format are, and those of a step on a session, by what was told of its device
+module _ (Are : Permit → List Rec → Type 0) (Fine : Harm → Type 0)
+    (none : (p : Permit) → Are p []) (formats : (p : Permit) (geometry : Geometry) → Are p (format_records geometry))
+    (session : (p : Permit) (calls : List Call) (s : State) (recs : List Rec) → AllByRecursion (IsKept p) recs → Fine (harm_in calls (after_all s recs)) → Are p recs)
+    (before : (run : Run) (lines : List (List ℕ)) (turns : List Turn) → IsRun run lines turns → All Fine (harms_of (run_after run lines turns)) → All Fine (harms_of run)) where
+  by_format : (turn : Turn) (segments buckets content agg reach fragment generation alternates : ℕ) (bad : Option BadGeometry)
+      → FormatTakes turn.added segments buckets content agg reach fragment generation alternates bad → Are turn.device turn.added
+  by_format turn segments buckets content agg reach fragment generation alternates (Some bad) takes = subst (Are turn.device) (sym takes) (none turn.device)
+  by_format turn segments buckets content agg reach fragment generation alternates None takes = subst (Are turn.device) (sym takes.2) (formats turn.device takes.0)
+
+  by_step : (run : Run) (turn : Turn) (o : Option State) (step : Step) → Takes run turn o step → All Fine (harms_of (behind run turn o step)) → Are turn.device turn.added
+  by_step run turn o (step.Format name segments buckets content agg reach fragment generation alternates) takes fine =
+      by_format turn segments buckets content agg reach fragment generation alternates (first_refusal segments buckets content agg reach fragment alternates) takes
+  by_step run turn o (step.Now at) takes fine = subst (λ (t : Turn). Are t.device t.added) (sym takes) (none _)
+  by_step run turn (Some s) step takes fine =
+      let calls : List Call = turn.device.events ++ run.calls in
+      let last : Harm = harm_in calls (after_all s turn.added) in
+      session turn.device calls s turn.added (walked takes.legal.grows).kept (All-head Fine last [] (all_behind Fine run.ended (last ∷ []) fine))
+  by_step run turn None step takes fine = absurd takes
+
+  by_reading : (run : Run) (turn : Turn) (reading : LineAnswer) → ReadingTakes run turn reading → All Fine (harms_of (after_reading run turn reading)) → Are turn.device turn.added
+  by_reading run turn (line.Step step) takes fine = by_step run turn run.state step takes fine
+  by_reading run turn line.Nothing takes fine = subst (λ (t : Turn). Are t.device t.added) (sym takes) (none _)
+  by_reading run turn (line.Bad fault) takes fine = absurd takes
+
+  -- ---- all lines
+
+  each_turn : (run : Run) (lines : List (List ℕ)) (turns : List Turn) → IsRun run lines turns → All Fine (harms_of (run_after run lines turns))
+      → AllByRecursion (λ (turn : Turn). Are turn.device turn.added) turns
+  each_turn run [] [] is fine = tt
+  each_turn run [] (turn ∷ turns) is fine = absurd is
+  each_turn run (bytes ∷ lines) [] is fine = absurd is
+  each_turn run (bytes ∷ lines) (turn ∷ turns) is fine =
+      let next : Run = after_line run turn bytes in
+      (by_reading run turn (reading_of bytes) is.0 (before next lines turns is.1 fine), each_turn next lines turns is.1 fine)
+
+-- ---- records that are not there
+
+none_tells : (tells : Rec → Bool) (recs : List Rec) → ((r : Rec) → IsAmong r recs → tells r ≡ true → ⊥) → AllByRecursion (λ r. tells r ≡ false) recs
+none_tells tells [] never = tt
+none_tells tells (r ∷ recs) never = (false_from_ne_true (tells r) (never r (inl refl)), none_tells tells recs (λ x among. never x (inr among)))
+
+fault_above : (p : Permit) (s : State) (recs : List Rec) (r : Rec) → AllByRecursion (IsKept p) recs → (after_all s recs).fault ≡ 0 → IsAmong r recs → tells_fault r ≡ true → ⊥
+fault_above p s recs (rec.Fault count) kept none among tells = none_below (after_all s recs).fault none (told_behind p s recs count kept among)
+fault_above p s recs r kept none among tells = no_truth (sym tells)
+
+pub faultless_turns : (run : Run) (lines : List (List ℕ)) (turns : List Turn) → IsRun run lines turns
+    → All (λ (harm : Harm). harm.fault ≡ 0) (harms_of (run_after run lines turns)) → AllByRecursion (λ (turn : Turn). TellNoFault turn.added) turns
+faultless_turns =
+    each_turn (λ p recs. TellNoFault recs) (λ harm. harm.fault ≡ 0) (λ p. tt) (λ p geometry. (refl, (refl, tt)))
+    (λ p calls s recs kept fine. none_tells tells_fault recs (λ r. fault_above p s recs r kept fine)) faultless_before
+
+pub undamaged_turns : (run : Run) (lines : List (List ℕ)) (turns : List Turn) → IsRun run lines turns
+    → All (λ (harm : Harm). harm.damaged ≡ false) (harms_of (run_after run lines turns)) → AllByRecursion (λ (turn : Turn). TellNoDamage turn.added) turns
+undamaged_turns =
+    each_turn (λ p recs. TellNoDamage recs) (λ harm. harm.damaged ≡ false) (λ p. tt) (λ p geometry. (refl, (refl, tt)))
+    (λ p calls s recs kept fine. none_tells tells_damage recs (λ r among tells. no_truth (sym (told_among p s recs r kept among tells) ∙ fine))) undamaged_before
+
+-- ---- calls
+
+any_harm : (harms : List Harm) → All (λ harm. Unit {0}) harms
+any_harm [] = All-nil (λ harm. Unit {0})
+any_harm (harm ∷ harms) = All-cons (λ harm. Unit {0}) harm harms tt (any_harm harms)
+
+no_format_fault : (geometry : Geometry) (count : ℕ) → IsAmong (rec.Fault count) (format_records geometry) → ⊥
+no_format_fault geometry count (inl same) = absurd cc
+no_format_fault geometry count (inr (inl same)) = absurd cc
+no_format_fault geometry count (inr (inr none)) = none
+
+pub turns_tell_refusals : (run : Run) (lines : List (List ℕ)) (turns : List Turn) → IsRun run lines turns → AllByRecursion TellsRefusals turns
+turns_tell_refusals run lines turns is =
+    each_turn (λ p recs. (count : ℕ) → IsAmong (rec.Fault count) recs → IsRefusalCount p count) (λ harm. Unit {0})
+    (λ p count none. absurd none) (λ p geometry count among. absurd (no_format_fault geometry count among))
+    (λ p calls s recs kept fine count among. (is_among (IsKept p) (rec.Fault count) recs kept among).0)
+    (λ before_run rest played legal fine. any_harm (harms_of before_run)) run lines turns is (any_harm (harms_of (run_after run lines turns)))

@@ -1,0 +1,46 @@
+-- Two runs of the same lines are the same up to the first line that recorded trouble, whatever their devices did.
+use Rattle.std.specs.Prelude.{ℕ, ◌≡◌, ◌⊎◌, true, List, ◌∷◌, ◌++◌}
+use Rattle.std.specs.List.{AllByRecursion}
+use Rattle.cache_model.specs.declared.record.Rec.{Rec}
+use Rattle.cache_model.specs.Permit.{IsAmong}
+use Rattle.model_laws.specs.Agreeing.{IsUntroubled, is_trouble}
+use Rattle.script_run.specs.Run.{Run}
+use Rattle.script_run.specs.Turn.{Turn}
+use Rattle.script_run.specs.Takes.{IsRun}
+use Rattle.script_laws.specs.Agreeing.{AreSame}
+
+-- the turn recorded a refused call, bytes that are not those of a digest, or that a piece was displaced
+pub record IsTroubled (turn : Turn) : Type 0 where
+  pub told : Rec
+  pub among : IsAmong told turn.added
+  pub tells : is_trouble told ≡ true
+
+-- none of these turns did
+abbrev pub AreUntroubled : List Turn → Type 0
+AreUntroubled turns = AllByRecursion (λ (turn : Turn). IsUntroubled turn.added) turns
+
+-- the turns of these lines, none of which recorded trouble, and that of the line behind them; others may follow
+pub record IsUntroubledUpTo (run : Run) (before : List (List ℕ)) (turns : List Turn) : Type 0 where
+  pub earlier : List Turn
+  pub turn : Turn
+  pub later : List Turn
+  pub turns_are : turns ≡ earlier ++ turn ∷ later
+  pub legal : IsRun run before earlier
+  pub untroubled : AreUntroubled earlier
+
+-- with either turns the lines before one of these are the same, and in that line one of the two recorded trouble, which none
+-- of those before it did
+pub record LinesPart (run : Run) (lines : List (List ℕ)) (one other : List Turn) : Type 0 where
+  pub before : List (List ℕ)
+  pub bytes : List ℕ
+  pub after : List (List ℕ)
+  pub lines_are : lines ≡ before ++ bytes ∷ after
+  pub first : IsUntroubledUpTo run before one
+  pub second : IsUntroubledUpTo run before other
+  pub same : AreSame run before first.earlier second.earlier
+  pub troubled : IsTroubled first.turn ⊎ IsTroubled second.turn
+
+-- from one run the same lines go on to be the same, or to part so
+abbrev pub LinesAgreeBeforeTrouble : Type 0
+LinesAgreeBeforeTrouble = (run : Run) (lines : List (List ℕ)) (one other : List Turn) → IsRun run lines one → IsRun run lines other
+    → AreSame run lines one other ⊎ LinesPart run lines one other
