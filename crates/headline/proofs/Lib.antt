@@ -26,6 +26,7 @@ mod Displacing
 mod Closing
 mod Endings
 mod Accounts
+mod Parting
 mod Fixed
 mod Readers
 mod Doubted

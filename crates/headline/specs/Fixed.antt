@@ -1,19 +1,19 @@
 -- Determinism: what the source gave fixes what the sink took, where nothing was displaced.
-use Rattle.std.specs.Prelude.{◌≡◌, ℕ, List, [], ◌++◌, ◌⊎◌, true}
+use Rattle.std.specs.Prelude.{◌≡◌, ℕ, List, [], ◌++◌, ◌⊎◌}
 use Rattle.std.specs.List.{AllByRecursion}
 use Rattle.device_log.specs.Streams.{SourceRead, taken_by}
 use Rattle.edge_io.specs.Text.{text_read}
 use Rattle.logged_disk.specs.Device.{State as Device, TellsAll}
-use Rattle.cache_model.specs.declared.record.Rec.{Rec}
+use Rattle.tape_base.specs.declared.pieces.PieceId.{PieceId}
+use Rattle.cache_model.specs.declared.record.Rec.TheVariants as rec
 use Rattle.cache_model.specs.Permit.{IsAmong}
-use Rattle.model_laws.specs.RoomLaws.{is_displacement}
 use Rattle.script_run.specs.Run.{fresh}
 use Rattle.script_run.specs.Turn.{Turn}
-use Rattle.script_run.specs.Behind.{harms_of}
 use Rattle.script_run.specs.Takes.{IsRun, output_of, run_after}
 use Rattle.run_promise.specs.declared.status.Status.TheVariants as status
-use Rattle.run_promise.specs.Story.{Taken}
-use Rattle.headline.specs.Account.{ComeBackFrom, IsConcluded, RunLogs}
+use Rattle.run_promise.specs.Story.{Taken, told_in}
+use Rattle.run_promise.specs.Top.{EachBack}
+use Rattle.headline.specs.Account.{IsConcluded, RunLogs}
 
 -- a device that told its content to the end, and refused nothing
 pub record IsSteady (device : Device) : Type 0 where
@@ -38,18 +38,26 @@ pub record TakeSame (l m : RunLogs) : Type 0 where
   pub taken : taken_by l.new ≡ taken_by l.old ++ output
   pub taken_too : taken_by m.new ≡ taken_by m.old ++ output
 
--- in a legal run of these lines, which print what the sink took, a line recorded that a piece was displaced; the logs of the
--- devices of the run have the calls of its turns
-pub record HasDisplaced (l : RunLogs) (lines : List (List ℕ)) : Type 0 where
+-- a legal run of these lines, which print what the sink took; the calls of its turns are all that the logs of its devices have
+pub record HasHistory (l : RunLogs) (lines : List (List ℕ)) : Type 0 where
   pub turns : List Turn
   pub legal : IsRun fresh lines turns
   pub prints : taken_by l.new ≡ taken_by l.old ++ output_of fresh lines turns
-  pub made : ComeBackFrom l (harms_of (run_after fresh lines turns))
+  pub back : EachBack l.before l.now (told_in (run_after fresh lines turns))
+
+-- the turn recorded that a piece was displaced
+pub record DisplacesPiece (turn : Turn) : Type 0 where
+  pub piece : PieceId
+  pub segment : ℕ
+  pub live : ℕ
+  pub recorded : IsAmong (rec.Displaced piece segment live) turn.added
+
+-- in such a run of these lines a turn did
+pub record HasDisplaced (l : RunLogs) (lines : List (List ℕ)) : Type 0 where
+  pub history : HasHistory l lines
   pub turn : Turn
-  pub among : IsAmong turn turns
-  pub told : Rec
-  pub recorded : IsAmong told turn.added
-  pub tells : is_displacement told ≡ true
+  pub among : IsAmong turn history.turns
+  pub displaces : DisplacesPiece turn
 
 -- the lines of the text that both sources gave displaced a piece, in the one run or the other
 pub record OneDisplaced (l m : RunLogs) (same : GiveSame l m) : Type 0 where

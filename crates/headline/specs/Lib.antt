@@ -5,6 +5,7 @@ pub mod Causes
 pub mod Troubles
 pub mod Endings
 pub mod Fixed
+pub mod Parting
 pub mod Misses
 pub mod Standing
 pub mod Breaks

@@ -11,6 +11,7 @@ ghost use Rattle.headline.specs.Standing.{AbortedWasLast, FoundIsListed, NoMatch
 ghost use Rattle.headline.specs.Troubles.{CountsAreReached, NoFalseDamage, NoFalseFaults};
 ghost use Rattle.headline.specs.Endings.{DoneWhereFine, EndsAreCaused, RunsAreTold};
 ghost use Rattle.headline.specs.Fixed.{SourceFixesSink};
+ghost use Rattle.headline.specs.Parting.{RunsAgreeBeforeTrouble};
 ghost use Rattle.headline.specs.Answered.{CompletedWasAnswered, GivingUpWasAnswered, RemovalWasAnswered};
 
 use edge_io::texts_have_lines;
@@ -21,8 +22,9 @@ use reader_laws::{
 };
 use run_promise::texts_are_output;
 use script_laws::{
-    answers_are_traced, damage_is_recorded, damage_stays, fault_is_recorded, output_is_fixed,
-    runs_are_counted, vectors_are_on_record,
+    answers_are_traced, damage_is_recorded, damage_stays, fault_is_recorded, faultless_turns,
+    lines_agree_before_trouble, runs_are_counted, turns_tell_refusals, undamaged_turns,
+    vectors_are_on_record,
 };
 
 /// What is concluded of a run that was begun gives its account: what the sink took is the text of its answers, as far
@@ -283,12 +285,23 @@ pub fn ends_are_caused()
     ensures { EndsAreCaused }
 {}
 
+/// Over devices that tell their content, two runs of one source write the same up to the first line in which a device
+/// refused a call, or a piece was displaced.
+pub fn runs_agree_before_trouble()
+    ensures { RunsAgreeBeforeTrouble }
+{
+    lines_agree_before_trouble();
+    turns_tell_refusals();
+    undamaged_turns();
+    texts_are_output();
+    texts_have_lines();
+}
+
 /// Over devices that tell their content and refuse nothing, and where nothing was displaced, what the source gave
 /// fixes what the sink took.
 pub fn source_fixes_sink()
     ensures { SourceFixesSink }
 {
-    output_is_fixed();
-    texts_are_output();
-    texts_have_lines();
+    runs_agree_before_trouble();
+    faultless_turns();
 }

@@ -11,5 +11,6 @@ pub use laws::{
     gets_are_caused, giving_up_was_answered, got_is_whole, hit_is_whole, honest_runs_are_whole,
     losses_are_caused, lost_was_displaced, misses_are_caused, never_put_was_none, no_false_damage,
     no_false_faults, no_match_fits_none, pairs_are_doubted, passed_was_placed,
-    removal_was_answered, removed_was_recorded, runs_are_told, source_fixes_sink, vector_was_lost,
+    removal_was_answered, removed_was_recorded, runs_agree_before_trouble, runs_are_told,
+    source_fixes_sink, vector_was_lost,
 };

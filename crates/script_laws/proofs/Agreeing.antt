@@ -7,6 +7,7 @@ use Rattle.cache_model.specs.declared.record.Rec.{Rec}
 use Rattle.cache_model.specs.declared.record.Rec.TheVariants as rec
 use Rattle.cache_model.specs.Damage.{TellNoDamage, tells_damage}
 use Rattle.cache_model.proofs.Found.{no_truth}
+use Rattle.cache_model.proofs.Steps.{all_parts}
 use Rattle.model_laws.specs.Agreeing.{IsUntroubled, is_trouble}
 use Rattle.model_laws.specs.RoomLaws.{TellNoDisplacement, is_displacement}
 use Rattle.script_run.specs.Run.{Harm, IsHarmless, Run}
@@ -17,7 +18,6 @@ use Rattle.script_run.proofs.Listed.{is_among}
 use Rattle.script_laws.specs.Agreeing.{AreSame, NoneDisplaced, NoneHarmed}
 use Rattle.script_laws.specs.Parting.{AreUntroubled, IsTroubled, IsUntroubledUpTo, LinesAgreeBeforeTrouble}
 use Rattle.script_laws.specs.TurnTroubles.{TellNoFault, tells_fault}
-use Rattle.script_laws.proofs.Among.{among_right}
 use Rattle.script_laws.proofs.TurnTroubles.{faultless_turns, undamaged_turns}
 
 -- ---- turns without trouble
@@ -51,8 +51,7 @@ run_untroubled run lines turns is stay clean =
 none_parts : (run : Run) (before : List (List ℕ)) (turns : List Turn) (f : IsUntroubledUpTo run before turns) → AreUntroubled turns → IsTroubled f.turn → ⊥
 none_parts run before turns f each troubled =
     let all : AreUntroubled (f.earlier ++ f.turn ∷ f.later) = subst AreUntroubled f.turns_are each in
-    let none : IsUntroubled f.turn.added =
-    is_among (λ (turn : Turn). IsUntroubled turn.added) f.turn (f.earlier ++ f.turn ∷ f.later) all (among_right f.turn f.earlier (f.turn ∷ f.later) (inl refl)) in
+    let none : IsUntroubled f.turn.added = (all_parts (λ (turn : Turn). IsUntroubled turn.added) f.earlier (f.turn ∷ f.later) all).1.0 in
     no_truth (sym troubled.tells ∙ is_among (λ r. is_trouble r ≡ false) troubled.told f.turn.added none troubled.among)
 
 pub output_is_fixed : (agree : LinesAgreeBeforeTrouble) (run : Run) (lines : List (List ℕ)) (one other : List Turn) → IsRun run lines one → IsRun run lines other

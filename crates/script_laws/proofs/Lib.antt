@@ -1,4 +1,4 @@
-mod Among
+pub mod Among
 mod Losses
 mod Standing
 pub mod Groups

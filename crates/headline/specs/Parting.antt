@@ -1,0 +1,56 @@
+-- Determinism, whatever devices refuse: two runs of one source write the same up to the first line in which a call was refused,
+-- or a piece displaced.
+use Rattle.std.specs.Prelude.{◌≡◌, ℕ, List, [], ◌∷◌, ◌++◌, ◌⊎◌}
+use Rattle.device_log.specs.Calls.{Asked, RefusedCall}
+use Rattle.device_log.specs.Streams.{taken_by}
+use Rattle.edge_io.specs.Text.{text_read}
+use Rattle.cache_model.specs.declared.record.Rec.TheVariants as rec
+use Rattle.cache_model.specs.Permit.{IsAmong}
+use Rattle.script_run.specs.Run.{fresh}
+use Rattle.script_run.specs.Turn.{Turn}
+use Rattle.script_run.specs.Takes.{output_of}
+use Rattle.script_laws.specs.Agreeing.{AreSame}
+use Rattle.script_laws.specs.Parting.{AreUntroubled}
+use Rattle.run_promise.specs.declared.status.Status.TheVariants as status
+use Rattle.run_promise.specs.Story.{Taken}
+use Rattle.headline.specs.Account.{AllTell, IsConcluded, RunLogs}
+use Rattle.headline.specs.Fixed.{DisplacesPiece, GiveSame, HasHistory, TakeSame}
+use Rattle.headline.specs.Reads.{DidBefore}
+
+-- the device refused a call of the turn, which recorded that
+pub record RefusesCall (turn : Turn) : Type 0 where
+  pub asked : Asked
+  pub count : ℕ
+  pub refused : IsAmong (RefusedCall asked count) turn.device.events
+  pub recorded : IsAmong (rec.Fault count) turn.added
+
+-- that, or a piece was displaced
+abbrev pub MeetsTrouble : Turn → Type 0
+MeetsTrouble turn = RefusesCall turn ⊎ DisplacesPiece turn
+
+-- a run comes to this line: none of the lines before it recorded trouble, and what they print the sink took first, behind what
+-- it had
+pub record ComesToLine (l : RunLogs) (before : List (List ℕ)) (bytes : List ℕ) (after : List (List ℕ)) : Type 0 where
+  pub history : HasHistory l (before ++ bytes ∷ after)
+  pub did : DidBefore history.turns before
+  pub untroubled : AreUntroubled did.earlier
+  pub rest : List ℕ
+  pub first : taken_by l.new ≡ taken_by l.old ++ (output_of fresh before did.earlier ++ rest)
+
+-- both come to one line of the text that both sources gave, and the lines before it are the same in both, but for what devices
+-- alone fix; in that line the one or the other met trouble
+pub record RunsPart (l m : RunLogs) (same : GiveSame l m) : Type 0 where
+  pub before : List (List ℕ)
+  pub bytes : List ℕ
+  pub after : List (List ℕ)
+  pub taken : Taken (text_read same.reads) (before ++ bytes ∷ after) []
+  pub one : ComesToLine l before bytes after
+  pub other : ComesToLine m before bytes after
+  pub agree : AreSame fresh before one.did.earlier other.did.earlier
+  pub troubled : MeetsTrouble one.did.turn ⊎ MeetsTrouble other.did.turn
+
+-- two runs that were read to their end, over sources that gave the same and devices that told their content, wrote the same,
+-- or they part so
+abbrev pub RunsAgreeBeforeTrouble : Type 0
+RunsAgreeBeforeTrouble = (l m : RunLogs) → IsConcluded l status.Done → IsConcluded m status.Done
+    → (same : GiveSame l m) → AllTell l → AllTell m → TakeSame l m ⊎ RunsPart l m same
