@@ -1,6 +1,6 @@
 -- Two runs of one source write the same up to the first line in which a call was refused, or a piece displaced.
 use Rattle.std.proofs.Common.{◌≡◌, ℕ, List, [], ◌∷◌, ◌++◌, ◌⊎◌, inl, inr, false, true, refl, sym, ◌∙◌, ap, subst, append-nil, append_assoc}
-use Rattle.std.specs.Prelude.{All, ⊤}
+use Rattle.std.specs.Prelude.{All, Option, ⊤}
 use Rattle.std.specs.List.{AllByRecursion}
 use Rattle.std.proofs.lemmas.List.{append_cancel_right}
 use Rattle.std.proofs.lemmas.List.Elements.{All-cons, All-nil}
@@ -16,6 +16,8 @@ use Rattle.cache_model.specs.Permit.{IsAmong}
 use Rattle.cache_model.proofs.Found.{no_truth}
 use Rattle.cache_model.proofs.Steps.{all_parts}
 use Rattle.model_laws.specs.Agreeing.{is_trouble}
+use Rattle.script_lang.specs.declared.answer.StepAnswer.{StepAnswer}
+use Rattle.script_lang.specs.Grammar.{reading_of}
 use Rattle.script_run.specs.Run.{Harm, Run, fresh}
 use Rattle.script_run.specs.Turn.{Turn}
 use Rattle.script_run.specs.Behind.{after_line, harms_of}
@@ -24,13 +26,13 @@ use Rattle.script_run.specs.Ledger.{AreReached}
 use Rattle.script_run.proofs.Listed.{is_among}
 use Rattle.script_laws.specs.Parting.{IsTroubled, IsUntroubledUpTo, LinesAgreeBeforeTrouble, LinesPart}
 use Rattle.script_laws.specs.TurnTroubles.{TellsRefusals, TurnsTellRefusals, UndamagedTurns}
-use Rattle.run_promise.specs.Lines.{TextsAreOutput, texts_of}
+use Rattle.run_promise.specs.Lines.{TextsAreOutput, answers_of, reading_answer, texts_of}
 use Rattle.run_promise.specs.declared.status.Status.TheVariants as status
 use Rattle.run_promise.specs.Story.{IsReadThrough, Recorded, ShownAlong, Taken, all_in, told_in}
 use Rattle.run_promise.specs.Top.{EachBack}
-use Rattle.headline.specs.Account.{AllTell, IsConcluded, RunLogs}
+use Rattle.headline.specs.Account.{Account, AllTell, IsConcluded, RunLogs}
 use Rattle.headline.specs.Fixed.{GiveSame, HasHistory, TakeSame}
-use Rattle.headline.specs.Parting.{ComesToLine, MeetsTrouble, RunsPart}
+use Rattle.headline.specs.Parting.{BeginAlike, ComesToLine, HistoryBegins, MeetsTrouble, RunsPart}
 use Rattle.headline.proofs.Devices.{come_back}
 use Rattle.headline.proofs.Honest.{no_line_shows}
 use Rattle.headline.proofs.Outlines.{shown_made}
@@ -182,3 +184,51 @@ module _ (agree : LinesAgreeBeforeTrouble) (refusals : TurnsTellRefusals) (undam
 
   pub runs_agree_before_trouble : TakeSame l m ⊎ RunsPart l m same
   runs_agree_before_trouble = same_or_part (history l c texts tell) (history_as m (Lines m d) (Lines l c) (sym lines_same) (history m d texts tell_too))
+
+-- ---- any two histories
+
+-- the turns of the first of these lines, and their answers
+record Front (run : Run) (lines left : List (List ℕ)) (turns : List Turn) : Type 0 where
+  earlier : List Turn
+  later : List Turn
+  turns_are : turns ≡ earlier ++ later
+  legal : IsRun run lines earlier
+  rest : List (Option StepAnswer)
+  says : answers_of run (lines ++ left) turns ≡ answers_of run lines earlier ++ rest
+
+front : (run : Run) (lines left : List (List ℕ)) (turns : List Turn) → IsRun run (lines ++ left) turns → Front run lines left turns
+front run [] left turns is = record { earlier = []; later = turns; turns_are = refl; legal = tt; rest = answers_of run left turns; says = refl }
+front run (bytes ∷ lines) left [] is = absurd is
+front run (bytes ∷ lines) left (turn ∷ turns) is =
+    let f : Front (after_line run turn bytes) lines left turns = front (after_line run turn bytes) lines left turns is.1 in
+    record {
+      earlier = turn ∷ f.earlier;
+      later = f.later;
+      turns_are = ap (λ (ts : List Turn). turn ∷ ts) f.turns_are;
+      legal = (is.0, f.legal);
+      rest = f.rest;
+      says = ap (λ (answers : List (Option StepAnswer)). reading_answer run turn (reading_of bytes) ∷ answers) f.says;
+    }
+
+begins : (l : RunLogs) (a : Account l) (lines left : List (List ℕ)) → a.told ≡ lines ++ left → HistoryBegins a lines
+begins l a lines left are =
+    let f : Front fresh lines left a.turns = front fresh lines left a.turns (subst (λ (xs : List (List ℕ)). IsRun fresh xs a.turns) are a.legal) in
+    record {
+      earlier = f.earlier;
+      later = f.later;
+      turns_are = f.turns_are;
+      legal = f.legal;
+      rest = f.rest ++ a.rest;
+      says =
+          a.says
+          ∙ ap (λ (xs : List (List ℕ)). answers_of fresh xs a.turns ++ a.rest) are
+          ∙ ap (λ (answers : List (Option StepAnswer)). answers ++ a.rest) f.says
+          ∙ append_assoc (answers_of fresh lines f.earlier) f.rest a.rest;
+    }
+
+pub histories_agree_before_trouble : (agree : LinesAgreeBeforeTrouble) (l m : RunLogs) (a : Account l) (b : Account m) (lines left more : List (List ℕ))
+    → a.told ≡ lines ++ left → b.told ≡ lines ++ more → BeginAlike a b lines
+histories_agree_before_trouble agree l m a b lines left more are others_are =
+    let one : HistoryBegins a lines = begins l a lines left are in
+    let other : HistoryBegins b lines = begins m b lines more others_are in
+    record { one = one; other = other; agree = agree fresh lines one.earlier other.earlier one.legal other.legal }

@@ -11,7 +11,7 @@ ghost use Rattle.headline.specs.Standing.{AbortedWasLast, FoundIsListed, NoMatch
 ghost use Rattle.headline.specs.Troubles.{CountsAreReached, NoFalseDamage, NoFalseFaults};
 ghost use Rattle.headline.specs.Endings.{DoneWhereFine, EndsAreCaused, RunsAreTold};
 ghost use Rattle.headline.specs.Fixed.{SourceFixesSink};
-ghost use Rattle.headline.specs.Parting.{RunsAgreeBeforeTrouble};
+ghost use Rattle.headline.specs.Parting.{HistoriesAgreeBeforeTrouble, RunsAgreeBeforeTrouble};
 ghost use Rattle.headline.specs.Answered.{CompletedWasAnswered, GivingUpWasAnswered, RemovalWasAnswered};
 
 use edge_io::texts_have_lines;
@@ -295,6 +295,14 @@ pub fn runs_agree_before_trouble()
     undamaged_turns();
     texts_are_output();
     texts_have_lines();
+}
+
+/// Whatever ended two runs, and whatever their devices told: the lines with which both legal histories begin print the
+/// same up to the first that recorded a fault, damage, or a displacement.
+pub fn histories_agree_before_trouble()
+    ensures { HistoriesAgreeBeforeTrouble }
+{
+    lines_agree_before_trouble();
 }
 
 /// Over devices that tell their content and refuse nothing, and where nothing was displaced, what the source gave
