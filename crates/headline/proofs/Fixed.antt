@@ -1,4 +1,4 @@
--- What the source gave fixes what the sink took, or a piece was displaced.
+-- What the source gave fixes what the sink took, or both runs displaced a piece.
 use Rattle.std.proofs.Common.{◌≡◌, ℕ, List, [], ◌∷◌, ◌++◌, ◌⊎◌, inl, inr, false, refl, sym, subst, arith}
 use Rattle.std.specs.Prelude.{All}
 use Rattle.std.specs.List.{AllByRecursion}
@@ -14,12 +14,13 @@ use Rattle.script_run.specs.Behind.{harms_of}
 use Rattle.script_run.specs.Takes.{run_after}
 use Rattle.script_run.specs.Ledger.{AreReached}
 use Rattle.script_run.proofs.Listed.{is_among}
+use Rattle.script_laws.specs.Parting.{DisplacesPiece}
 use Rattle.script_laws.specs.TurnTroubles.{FaultlessTurns, TellNoFault, tells_fault}
 use Rattle.script_laws.proofs.Among.{among_right}
 use Rattle.run_promise.specs.declared.status.Status.TheVariants as status
 use Rattle.headline.specs.Account.{AllTell, IsConcluded, RunLogs}
-use Rattle.headline.specs.Fixed.{AreSteady, GiveSame, HasDisplaced, HasHistory, IsSteady, OneDisplaced, TakeSame}
-use Rattle.headline.specs.Parting.{ComesToLine, MeetsTrouble, RefusesCall, RunsAgreeBeforeTrouble}
+use Rattle.headline.specs.Fixed.{AreSteady, BothDisplaced, GiveSame, HasDisplaced, HasHistory, IsSteady, TakeSame}
+use Rattle.headline.specs.Parting.{ComesToLine, RefusesCall, RunsAgreeBeforeTrouble, each_displaces, one_refuses, other_refuses}
 
 -- ---- steady devices
 
@@ -50,9 +51,8 @@ module _ (faultless : FaultlessTurns) (l : RunLogs) (steady : AreSteady l) (befo
       (all_parts (λ (turn : Turn). TellNoFault turn.added) r.did.earlier (r.did.turn ∷ r.did.later) (subst (AllByRecursion (λ (turn : Turn). TellNoFault turn.added)) r.did.turns_are none)).1.0 in
       no_truth (is_among (λ x. tells_fault x ≡ false) (rec.Fault refuses.count) r.did.turn.added here refuses.recorded)
 
-  displaced : MeetsTrouble r.did.turn → HasDisplaced l (before ++ bytes ∷ after)
-  displaced (inl refuses) = absurd (none_refused refuses)
-  displaced (inr displaces) = record {
+  displaced : DisplacesPiece r.did.turn → HasDisplaced l (before ++ bytes ∷ after)
+  displaced displaces = record {
     history = r.history;
     turn = r.did.turn;
     among = subst (IsAmong r.did.turn) (sym r.did.turns_are) (among_right r.did.turn r.did.earlier (r.did.turn ∷ r.did.later) (inl refl));
@@ -60,15 +60,17 @@ module _ (faultless : FaultlessTurns) (l : RunLogs) (steady : AreSteady l) (befo
   }
 
 pub source_fixes_sink : (agree : RunsAgreeBeforeTrouble) (faultless : FaultlessTurns) (l m : RunLogs) → IsConcluded l status.Done → IsConcluded m status.Done
-    → (same : GiveSame l m) → AreSteady l → AreSteady m → TakeSame l m ⊎ OneDisplaced l m same
+    → (same : GiveSame l m) → AreSteady l → AreSteady m → TakeSame l m ⊎ BothDisplaced l m same
 source_fixes_sink agree faultless l m c d same steady steady_too = elim (agree l m c d same (steady_tell l steady) (steady_tell m steady_too)) [
   | inl alike ↦ inl alike
-  | inr p ↦ inr (record {
-    lines = p.before ++ p.bytes ∷ p.after;
-    taken = p.taken;
-    displaces = elim p.troubled [
-      | inl troubled ↦ inl (displaced faultless l steady p.before p.bytes p.after p.one troubled)
-      | inr troubled ↦ inr (displaced faultless m steady_too p.before p.bytes p.after p.other troubled)
-    ];
-  })
+  | inr p ↦ elim p.trouble [
+    | one_refuses refuses ↦ absurd (none_refused faultless l steady p.before p.bytes p.after p.one refuses)
+    | other_refuses refuses ↦ absurd (none_refused faultless m steady_too p.before p.bytes p.after p.other refuses)
+    | each_displaces displaces displaces_too ↦ inr (record {
+      lines = p.before ++ p.bytes ∷ p.after;
+      taken = p.taken;
+      one = displaced faultless l steady p.before p.bytes p.after p.one displaces;
+      other = displaced faultless m steady_too p.before p.bytes p.after p.other displaces_too;
+    })
+  ]
 ]

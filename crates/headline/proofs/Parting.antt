@@ -1,4 +1,4 @@
--- Two runs of one source write the same up to the first line in which a call was refused, or a piece displaced.
+-- Two runs of one source write the same up to the first line in which a call was refused, or both displaced a piece.
 use Rattle.std.proofs.Common.{◌≡◌, ℕ, List, [], ◌∷◌, ◌++◌, ◌⊎◌, inl, inr, false, true, refl, sym, ◌∙◌, ap, subst, append-nil, append_assoc}
 use Rattle.std.specs.Prelude.{All, Option, ⊤}
 use Rattle.std.specs.List.{AllByRecursion}
@@ -15,7 +15,7 @@ use Rattle.cache_model.specs.Damage.{TellNoDamage, tells_damage}
 use Rattle.cache_model.specs.Permit.{IsAmong}
 use Rattle.cache_model.proofs.Found.{no_truth}
 use Rattle.cache_model.proofs.Steps.{all_parts}
-use Rattle.model_laws.specs.Agreeing.{is_trouble}
+use Rattle.model_laws.specs.Purging.{is_device_trouble}
 use Rattle.script_lang.specs.declared.answer.StepAnswer.{StepAnswer}
 use Rattle.script_lang.specs.Grammar.{reading_of}
 use Rattle.script_run.specs.Run.{Harm, Run, fresh}
@@ -24,7 +24,7 @@ use Rattle.script_run.specs.Behind.{after_line, harms_of}
 use Rattle.script_run.specs.Takes.{IsRun, line_text, output_of, run_after}
 use Rattle.script_run.specs.Ledger.{AreReached}
 use Rattle.script_run.proofs.Listed.{is_among}
-use Rattle.script_laws.specs.Parting.{IsTroubled, IsUntroubledUpTo, LinesAgreeBeforeTrouble, LinesPart}
+use Rattle.script_laws.specs.Parting.{IsUntroubledUpTo, LinesAgreeBeforeTrouble, LinesPart, MeetsDeviceTrouble, both_displace, first_in_trouble, second_in_trouble}
 use Rattle.script_laws.specs.TurnTroubles.{TellsRefusals, TurnsTellRefusals, UndamagedTurns}
 use Rattle.run_promise.specs.Lines.{TextsAreOutput, answers_of, reading_answer, texts_of}
 use Rattle.run_promise.specs.declared.status.Status.TheVariants as status
@@ -32,7 +32,7 @@ use Rattle.run_promise.specs.Story.{IsReadThrough, Recorded, ShownAlong, Taken, 
 use Rattle.run_promise.specs.Top.{EachBack}
 use Rattle.headline.specs.Account.{Account, AllTell, IsConcluded, RunLogs}
 use Rattle.headline.specs.Fixed.{GiveSame, HasHistory, TakeSame}
-use Rattle.headline.specs.Parting.{BeginAlike, ComesToLine, HistoryBegins, MeetsTrouble, RunsPart}
+use Rattle.headline.specs.Parting.{BeginAlike, ComesToLine, HistoryBegins, RefusesCall, RunsPart, each_displaces, one_refuses, other_refuses}
 use Rattle.headline.proofs.Devices.{come_back}
 use Rattle.headline.proofs.Honest.{no_line_shows}
 use Rattle.headline.proofs.Outlines.{shown_made}
@@ -107,26 +107,24 @@ none_damaged [] ds r tell = All-nil (λ harm. harm.damaged ≡ false)
 none_damaged (h ∷ hs) [] r tell = absurd r
 none_damaged (h ∷ hs) (d ∷ ds) r tell = All-cons (λ harm. harm.damaged ≡ false) h hs (r.0.unharmed tell.0) (none_damaged hs ds r.1 tell.1)
 
--- trouble that is no damage
-met : (turn : Turn) (told : Rec) → TellsRefusals turn → tells_damage told ≡ false → IsAmong told turn.added → is_trouble told ≡ true → MeetsTrouble turn
-met turn (rec.Fault count) refusals undamaged among trouble =
-    let refused = refusals count among in
-    inl (record { asked = refused.0; count = count; refused = refused.1; recorded = among })
-met turn (rec.Damaged piece place kept found) refusals undamaged among trouble = no_truth undamaged
-met turn (rec.Displaced piece segment live) refusals undamaged among trouble =
-    inr (record { piece = piece; segment = segment; live = live; recorded = among })
-met turn _ refusals undamaged among trouble = no_truth (sym trouble)
+-- trouble of a device that is no damage
+refused : (turn : Turn) (told : Rec) → TellsRefusals turn → tells_damage told ≡ false → IsAmong told turn.added → is_device_trouble told ≡ true → RefusesCall turn
+refused turn (rec.Fault count) refusals undamaged among trouble =
+    let call = refusals count among in
+    record { asked = call.0; count = count; refused = call.1; recorded = among }
+refused turn (rec.Damaged piece place kept found) refusals undamaged among trouble = no_truth undamaged
+refused turn _ refusals undamaged among trouble = no_truth (sym trouble)
 
 module _ (refusals : TurnsTellRefusals) (undamaged : UndamagedTurns) (l : RunLogs) (tell : AllTell l) (lines before : List (List ℕ)) (h : HasHistory l lines) (f : IsUntroubledUpTo fresh before h.turns) where
-  pub meets : IsTroubled f.turn → MeetsTrouble f.turn
+  meets : MeetsDeviceTrouble f.turn → RefusesCall f.turn
   meets t =
       let back = h.back.back in
       let none : AllByRecursion (λ (turn : Turn). TellNoDamage turn.added) h.turns =
       undamaged fresh lines h.turns h.legal (none_damaged (harms_of (run_after fresh lines h.turns)) back.devices back.reached (tell back.devices back.returned)) in
       let here : TellNoDamage f.turn.added =
       (all_parts (λ (turn : Turn). TellNoDamage turn.added) f.earlier (f.turn ∷ f.later) (subst (AllByRecursion (λ (turn : Turn). TellNoDamage turn.added)) f.turns_are none)).1.0 in
-      let refused : TellsRefusals f.turn = (all_parts TellsRefusals f.earlier (f.turn ∷ f.later) (subst (AllByRecursion TellsRefusals) f.turns_are (refusals fresh lines h.turns h.legal))).1.0 in
-      met f.turn t.told refused (is_among (λ r. tells_damage r ≡ false) t.told f.turn.added here t.among) t.among t.tells
+      let told : TellsRefusals f.turn = (all_parts TellsRefusals f.earlier (f.turn ∷ f.later) (subst (AllByRecursion TellsRefusals) f.turns_are (refusals fresh lines h.turns h.legal))).1.0 in
+      refused f.turn t.told told (is_among (λ r. tells_damage r ≡ false) t.told f.turn.added here t.among) t.among t.tells
 
 -- a history as it comes to a line
 abbrev comes_to : (l : RunLogs) (lines before : List (List ℕ)) (bytes : List ℕ) (after : List (List ℕ)) → lines ≡ before ++ bytes ∷ after
@@ -166,9 +164,10 @@ module _ (agree : LinesAgreeBeforeTrouble) (refusals : TurnsTellRefusals) (undam
       one = comes_to l (Lines l c) p.before p.bytes p.after p.lines_are h p.first;
       other = comes_to m (Lines l c) p.before p.bytes p.after p.lines_are k p.second;
       agree = p.same;
-      troubled = elim p.troubled [
-        | inl troubled ↦ inl (meets refusals undamaged l tell (Lines l c) p.before h p.first troubled)
-        | inr troubled ↦ inr (meets refusals undamaged m tell_too (Lines l c) p.before k p.second troubled)
+      trouble = elim p.part [
+        | first_in_trouble trouble ↦ one_refuses (meets refusals undamaged l tell (Lines l c) p.before h p.first trouble)
+        | second_in_trouble trouble ↦ other_refuses (meets refusals undamaged m tell_too (Lines l c) p.before k p.second trouble)
+        | both_displace displaces displaces_too ↦ each_displaces displaces displaces_too
       ];
     }
 

@@ -4,12 +4,11 @@ use Rattle.std.specs.List.{AllByRecursion}
 use Rattle.device_log.specs.Streams.{SourceRead, taken_by}
 use Rattle.edge_io.specs.Text.{text_read}
 use Rattle.logged_disk.specs.Device.{State as Device, TellsAll}
-use Rattle.tape_base.specs.declared.pieces.PieceId.{PieceId}
-use Rattle.cache_model.specs.declared.record.Rec.TheVariants as rec
 use Rattle.cache_model.specs.Permit.{IsAmong}
 use Rattle.script_run.specs.Run.{fresh}
 use Rattle.script_run.specs.Turn.{Turn}
 use Rattle.script_run.specs.Takes.{IsRun, output_of, run_after}
+use Rattle.script_laws.specs.Parting.{DisplacesPiece}
 use Rattle.run_promise.specs.declared.status.Status.TheVariants as status
 use Rattle.run_promise.specs.Story.{Taken, told_in}
 use Rattle.run_promise.specs.Top.{EachBack}
@@ -45,13 +44,6 @@ pub record HasHistory (l : RunLogs) (lines : List (List ℕ)) : Type 0 where
   pub prints : taken_by l.new ≡ taken_by l.old ++ output_of fresh lines turns
   pub back : EachBack l.before l.now (told_in (run_after fresh lines turns))
 
--- the turn recorded that a piece was displaced
-pub record DisplacesPiece (turn : Turn) : Type 0 where
-  pub piece : PieceId
-  pub segment : ℕ
-  pub live : ℕ
-  pub recorded : IsAmong (rec.Displaced piece segment live) turn.added
-
 -- in such a run of these lines a turn did
 pub record HasDisplaced (l : RunLogs) (lines : List (List ℕ)) : Type 0 where
   pub history : HasHistory l lines
@@ -59,14 +51,15 @@ pub record HasDisplaced (l : RunLogs) (lines : List (List ℕ)) : Type 0 where
   pub among : IsAmong turn history.turns
   pub displaces : DisplacesPiece turn
 
--- the lines of the text that both sources gave displaced a piece, in the one run or the other
-pub record OneDisplaced (l m : RunLogs) (same : GiveSame l m) : Type 0 where
+-- the lines of the text that both sources gave displaced a piece, in the one run and in the other
+pub record BothDisplaced (l m : RunLogs) (same : GiveSame l m) : Type 0 where
   pub lines : List (List ℕ)
   pub taken : Taken (text_read same.reads) lines []
-  pub displaces : HasDisplaced l lines ⊎ HasDisplaced m lines
+  pub one : HasDisplaced l lines
+  pub other : HasDisplaced m lines
 
--- two runs that were read to their end, over sources that gave the same and devices that were steady, wrote the same, or one
+-- two runs that were read to their end, over sources that gave the same and devices that were steady, wrote the same, or both
 -- of them displaced a piece
 abbrev pub SourceFixesSink : Type 0
 SourceFixesSink = (l m : RunLogs) → IsConcluded l status.Done → IsConcluded m status.Done
-    → (same : GiveSame l m) → AreSteady l → AreSteady m → TakeSame l m ⊎ OneDisplaced l m same
+    → (same : GiveSame l m) → AreSteady l → AreSteady m → TakeSame l m ⊎ BothDisplaced l m same

@@ -1,5 +1,5 @@
 -- Determinism, whatever devices refuse: two runs of one source write the same up to the first line in which a call was refused,
--- or a piece displaced.
+-- or in which both displaced a piece.
 use Rattle.std.specs.Prelude.{◌≡◌, ℕ, List, [], ◌∷◌, ◌++◌, ◌⊎◌, Option}
 use Rattle.device_log.specs.Calls.{Asked, RefusedCall}
 use Rattle.device_log.specs.Streams.{taken_by}
@@ -11,12 +11,12 @@ use Rattle.script_run.specs.Run.{fresh}
 use Rattle.script_run.specs.Turn.{Turn}
 use Rattle.script_run.specs.Takes.{IsRun, output_of}
 use Rattle.script_laws.specs.Agreeing.{AreSame}
-use Rattle.script_laws.specs.Parting.{AreUntroubled, LinesPart}
+use Rattle.script_laws.specs.Parting.{AreUntroubled, DisplacesPiece, LinesPart}
 use Rattle.run_promise.specs.Lines.{answers_of}
 use Rattle.run_promise.specs.declared.status.Status.TheVariants as status
 use Rattle.run_promise.specs.Story.{Taken}
 use Rattle.headline.specs.Account.{Account, AllTell, IsConcluded, RunLogs}
-use Rattle.headline.specs.Fixed.{DisplacesPiece, GiveSame, HasHistory, TakeSame}
+use Rattle.headline.specs.Fixed.{GiveSame, HasHistory, TakeSame}
 use Rattle.headline.specs.Reads.{DidBefore}
 
 -- ---- runs that were read to their end
@@ -28,9 +28,11 @@ pub record RefusesCall (turn : Turn) : Type 0 where
   pub refused : IsAmong (RefusedCall asked count) turn.device.events
   pub recorded : IsAmong (rec.Fault count) turn.added
 
--- that, or a piece was displaced
-abbrev pub MeetsTrouble : Turn → Type 0
-MeetsTrouble turn = RefusesCall turn ⊎ DisplacesPiece turn
+-- the device of the one turn or of the other refused a call, or both displaced a piece
+pub data MeetTrouble (one other : Turn) : Type 0 where
+  one_refuses : RefusesCall one → MeetTrouble one other
+  other_refuses : RefusesCall other → MeetTrouble one other
+  each_displaces : DisplacesPiece one → DisplacesPiece other → MeetTrouble one other
 
 -- a run comes to this line: none of the lines before it recorded trouble, and what they print the sink took first, behind what
 -- it had
@@ -42,7 +44,7 @@ pub record ComesToLine (l : RunLogs) (before : List (List ℕ)) (bytes : List �
   pub first : taken_by l.new ≡ taken_by l.old ++ (output_of fresh before did.earlier ++ rest)
 
 -- both come to one line of the text that both sources gave, and the lines before it are the same in both, but for what devices
--- alone fix; in that line the one or the other met trouble
+-- alone fix; in that line they met trouble
 pub record RunsPart (l m : RunLogs) (same : GiveSame l m) : Type 0 where
   pub before : List (List ℕ)
   pub bytes : List ℕ
@@ -51,7 +53,7 @@ pub record RunsPart (l m : RunLogs) (same : GiveSame l m) : Type 0 where
   pub one : ComesToLine l before bytes after
   pub other : ComesToLine m before bytes after
   pub agree : AreSame fresh before one.did.earlier other.did.earlier
-  pub troubled : MeetsTrouble one.did.turn ⊎ MeetsTrouble other.did.turn
+  pub trouble : MeetTrouble one.did.turn other.did.turn
 
 -- two runs that were read to their end, over sources that gave the same and devices that told their content, wrote the same,
 -- or they part so

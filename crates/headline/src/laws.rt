@@ -286,7 +286,7 @@ pub fn ends_are_caused()
 {}
 
 /// Over devices that tell their content, two runs of one source write the same up to the first line in which a device
-/// refused a call, or a piece was displaced.
+/// refused a call, or both displaced a piece.
 pub fn runs_agree_before_trouble()
     ensures { RunsAgreeBeforeTrouble }
 {
@@ -298,7 +298,7 @@ pub fn runs_agree_before_trouble()
 }
 
 /// Whatever ended two runs, and whatever their devices told: the lines with which both legal histories begin print the
-/// same up to the first that recorded a fault, damage, or a displacement.
+/// same up to the first that recorded a fault or damage in one of them, or a displacement in both.
 pub fn histories_agree_before_trouble()
     ensures { HistoriesAgreeBeforeTrouble }
 {

@@ -12,7 +12,7 @@ use Rattle.model_laws.proofs.Calm.{groups_agree}
 use Rattle.model_laws.proofs.DigestSteps.{all_alike}
 use Rattle.cache_model.proofs.Steps.{all_parts, seen}
 
-advances_agree : (p q : Permit) (s t : State) (is : List Intent) (why : Option Reason) (one other : List Rec) (between after : Work)
+pub advances_agree : (p q : Permit) (s t : State) (is : List Intent) (why : Option Reason) (one other : List Rec) (between after : Work)
     → AreLike p q → HoldTheSame s t
     → IsUntroubled one → IsUntroubled other → Advances p s is why one between → Advances q t is why other after → TellTheSame one other × (between ≡ after)
 advances_agree p q s t [] why one other between after like hold calm calm2 h k = absurd h
@@ -21,7 +21,7 @@ advances_agree p q s t (i ∷ is) why one other between after like hold calm cal
     (same.0, h.2 ∙ ap (work_after i is why) same.1 ∙ sym k.2)
 
 -- where nothing is asked no group comes
-none_comes : (p : Permit) (s : State) (is : List Intent) (why : Option Reason) (added : List Rec) (after : Work) → is ≡ []
+pub none_comes : (p : Permit) (s : State) (is : List Intent) (why : Option Reason) (added : List Rec) (after : Work) → is ≡ []
     → Advances p s is why added after → ⊥
 none_comes p s is why added after none h = subst (λ left. Advances p s left why added after) none h
 

@@ -60,13 +60,18 @@ calm_purge : (segment live : ℕ) (purged : List Row) → IsUntroubled (map (dis
 calm_purge segment live [] calm = refl
 calm_purge segment live (row ∷ purged) calm = no_truth calm.0
 
+pub calm_purged : {p : Permit} {s : State} {piece : PieceId} {added : List Rec} (rest : List Rec) → IsUntroubled (added ++ rest)
+    → (m : MayDisplace p s piece added) → m.purged ≡ []
+calm_purged {p} {s} {piece} {added} rest calm m =
+    let segment : ℕ = segment_of_piece s piece in
+    let quiet : IsUntroubled added = (all_parts (λ r. is_trouble r ≡ false) added rest calm).0 in
+    calm_purge segment (length (rows_of_segment s segment)) m.purged (subst IsUntroubled m.is quiet)
+
 calm_displaced : {p : Permit} {s : State} {piece : PieceId} {added : List Rec} (rest : List Rec) → IsUntroubled (added ++ rest)
     → MayDisplace p s piece added → added ≡ []
 calm_displaced {p} {s} {piece} {added} rest calm m =
     let segment : ℕ = segment_of_piece s piece in
-    let live : ℕ = length (rows_of_segment s segment) in
-    let quiet : IsUntroubled added = (all_parts (λ r. is_trouble r ≡ false) added rest calm).0 in
-    m.is ∙ ap (map (displaced_record segment live)) (calm_purge segment live m.purged (subst IsUntroubled m.is quiet))
+    m.is ∙ ap (map (displaced_record segment (length (rows_of_segment s segment)))) (calm_purged rest calm m)
 
 -- ---- a group
 
@@ -216,7 +221,7 @@ calm_flush {s = s} off calm (Legal.DoesFlush.flushes flush) = made Done calm flu
 calm_flush {p} {s = s} off calm (Legal.DoesFlush.exhausted quiet some high none) = kept_from p.now s Done high none ∙ sym (no _ _ (not_empty s.filled some))
 
 -- a piece of so many bytes that has no room
-calm_room : {p : Permit} {s : State} {bytes : ℕ} {added : List Rec} {e : End} → p.syncs ≡ false → IsUntroubled added
+pub calm_room : {p : Permit} {s : State} {bytes : ℕ} {added : List Rec} {e : End} → p.syncs ≡ false → IsUntroubled added
     → MakesRoom p s bytes added e
     → (has_room s bytes ≡ false) × (told added e ≡ flush_group p.now (without_digests s) Stays)
 calm_room off calm (Legal.MakesRoom.stops count room stop) = absurd (stop_told stop calm)

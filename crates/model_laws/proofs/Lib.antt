@@ -40,6 +40,7 @@ mod FixedFlush
 mod Faithful
 mod AgreeingSteps
 pub mod Undisplaced
+pub mod Purging
 pub mod TriedFlush
 pub mod ToldFlush
 mod WorkedFlush

@@ -7,6 +7,7 @@ pub mod TapeLaws
 pub mod VectorLaws
 pub mod FlushLaws
 pub mod Agreeing
+pub mod Purging
 pub mod SyncLaws
 pub mod AskLaws
 pub mod PayloadLaws

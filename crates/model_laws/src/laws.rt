@@ -7,6 +7,7 @@ ghost use Rattle.model_laws.specs.VerdictLaws.{HitMatches, CompleteIsHit, Remove
 ghost use Rattle.model_laws.specs.TapeLaws.{LegalIsBelow, OpeningsAreSound, PlacesStayBelow, StepsAreSound, LegalIsSound, LiveIsKnown};
 ghost use Rattle.model_laws.specs.FlushLaws.{DueAreFound, FlushIsSound, FrontIsBacked, GivenAreTried, KeptAreChosen, OutcomesAreFixed, OutcomesAreFound, OutcomesAreTried, StoppedIsBacked, StoppedIsSound, WalkFinds, WalkGoesOn};
 ghost use Rattle.model_laws.specs.Agreeing.{GroupsAgree, StepsAgree};
+ghost use Rattle.model_laws.specs.Purging.{DisplacementsAgree};
 ghost use Rattle.model_laws.specs.PairLaws.{CopiedIsDueAndFits, LookupReadsItsKey, NothingAskedReadsNone, PairsAreBytes, PairsAreGiven, ReaderReadsItsNext};
 ghost use Rattle.model_laws.specs.VectorLaws.{FlushTells, StoppedTells, FormatsTell, OpeningsTell, GroupsTell, StepsTell, VectorsAreKept, MergedIsSpelled, CountIsListed, FormatsCount, GroupsCount, OpeningsCount, StepsCount, UnansweredIsCounted};
 ghost use Rattle.model_laws.specs.SyncLaws.{OpenedIsTold};
@@ -141,6 +142,11 @@ pub fn groups_agree()
 /// So it does of a whole step, and why it did less.
 pub fn steps_agree()
     ensures { StepsAgree }
+{}
+
+/// Where one of two such steps tells no trouble, so does the other, unless its device refused a call or gave other bytes.
+pub fn displacements_agree()
+    ensures { DisplacementsAgree }
 {}
 
 /// On a sound tape what may be asked can be done, or is refused, whatever the device gives for what was

@@ -6,9 +6,9 @@ pub mod sync_laws;
 
 pub use laws::{
     all_is_cut_first, answered_is_tried, asked_is_answered, complete_is_hit, count_is_listed,
-    due_are_found, empty_flush, end_is_whole, faults_rise, few_are_dead, floor_is_last,
-    flush_is_sound, flush_tells, followed_is_closed, forgetting_counts, forgetting_is_sound,
-    forgetting_leaves, forgetting_tells, forgetting_twice, forgotten_is_dead,
+    displacements_agree, due_are_found, empty_flush, end_is_whole, faults_rise, few_are_dead,
+    floor_is_last, flush_is_sound, flush_tells, followed_is_closed, forgetting_counts,
+    forgetting_is_sound, forgetting_leaves, forgetting_tells, forgetting_twice, forgotten_is_dead,
     forgotten_is_unrecorded, formats_count, formats_tell, formatted_is_empty, found_is_there,
     fragment_is_cut, front_is_backed, given_are_tried, given_is_own, given_is_read, given_stays,
     greatest_are_kept, group_fits, group_is_fixed, groups_agree, groups_count, groups_tell,

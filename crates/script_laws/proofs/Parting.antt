@@ -1,13 +1,19 @@
 -- Two runs of the same lines are the same up to the first line that recorded trouble.
 use Rattle.std.proofs.Common.{◌≡◌, ℕ, List, [], ◌∷◌, ◌++◌, ◌⊎◌, inl, inr, Bool, true, false, refl, sym, ◌∙◌, ap, subst}
 use Rattle.std.specs.Prelude.{Option, Some, None, option_map}
+use Rattle.std.specs.List.{AllByRecursion}
 use Rattle.tape_base.specs.declared.geometries.BadGeometry.{BadGeometry}
 use Rattle.tape_base.specs.Limits.{first_refusal}
 use Rattle.cache_model.specs.declared.record.Rec.{Rec}
+use Rattle.cache_model.specs.declared.record.Rec.TheVariants as rec
 use Rattle.cache_model.specs.State.{State, after_all}
 use Rattle.cache_model.specs.Permit.{Intent, IsAmong}
 use Rattle.cache_model.specs.Legal.{IsStep}
+use Rattle.cache_model.proofs.Found.{no_truth}
 use Rattle.model_laws.specs.Agreeing.{AreLike, HoldTheSame, IsUntroubled, StepsAgree, TellTheSame, is_trouble, without_digests}
+use Rattle.model_laws.specs.Purging.{DisplacementsAgree, TellNoDeviceTrouble, is_device_trouble}
+use Rattle.model_laws.specs.RoomLaws.{TellNoDisplacement, is_displacement}
+use Rattle.model_laws.proofs.Purging.{all_untroubled}
 use Rattle.script_lang.specs.declared.step.Step.{Step}
 use Rattle.script_lang.specs.declared.step.Step.TheVariants as step
 use Rattle.script_lang.specs.declared.line.LineAnswer.{LineAnswer}
@@ -19,9 +25,10 @@ use Rattle.script_run.specs.Turn.{Turn, lookup_in, no_turn, told_in}
 use Rattle.script_run.specs.Asked.{asked}
 use Rattle.script_run.specs.Answers.{format_said, session_said, step_said}
 use Rattle.script_run.specs.Behind.{after_format, after_line, after_reading, at_moment, behind, in_session}
+use Rattle.script_run.proofs.Listed.{is_among}
 use Rattle.script_run.specs.Takes.{GivesOwn, IsRun, LineTakes, ReadingTakes, SessionTakes, Takes, line_text, output_of, reading_text, run_after}
 use Rattle.script_laws.specs.Agreeing.{AreSame, without_devices}
-use Rattle.script_laws.specs.Parting.{IsTroubled, IsUntroubledUpTo, LinesPart}
+use Rattle.script_laws.specs.Parting.{DisplacesPiece, IsUntroubledUpTo, LinesPart, MeetsDeviceTrouble, TurnsPart, both_displace, first_in_trouble, second_in_trouble}
 use Rattle.script_laws.proofs.Formats.{same_format}
 use Rattle.script_laws.proofs.Devices.{asked_too, format_too, gives_too, leaves_too, lookup_too, moment_too, says_too, told_too, without_device}
 use Rattle.script_laws.proofs.Alike.{same_given}
@@ -35,7 +42,7 @@ record IsSame (text other_text : List ℕ) (next other_next : Run) : Type 0 wher
 abbrev IsPlayedSame : (u v : Run) (lines : List (List ℕ)) (one other : List Turn) → Type 0
 IsPlayedSame u v lines one other = IsSame (output_of u lines one) (output_of v lines other) (run_after u lines one) (run_after v lines other)
 
--- up to one of the lines they do, and in that one either recorded trouble for the first time
+-- up to one of the lines they do, and in that one they part
 record PartBetween (u v : Run) (lines : List (List ℕ)) (one other : List Turn) : Type 0 where
   before : List (List ℕ)
   bytes : List ℕ
@@ -44,25 +51,38 @@ record PartBetween (u v : Run) (lines : List (List ℕ)) (one other : List Turn)
   first : IsUntroubledUpTo u before one
   second : IsUntroubledUpTo v before other
   same : IsPlayedSame u v before first.earlier second.earlier
-  troubled : IsTroubled first.turn ⊎ IsTroubled second.turn
+  part : TurnsPart first.turn second.turn
 
 -- ---- trouble
 
-trouble_first : (r : Rec) (recs : List Rec) (b : Bool) → is_trouble r ≡ b → IsUntroubled recs ⊎ ((told : Rec) × IsAmong told recs × (is_trouble told ≡ true))
-    → IsUntroubled (r ∷ recs) ⊎ ((told : Rec) × IsAmong told (r ∷ recs) × (is_trouble told ≡ true))
-trouble_first r recs true e rest = inr (r, inl refl, e)
-trouble_first r recs false e (inl none) = inl (e, none)
-trouble_first r recs false e (inr later) = inr (later.0, inr later.1, later.2)
+-- a test passes none of these records, or one
+abbrev NoneOrOne : (Rec → Bool) → List Rec → Type 0
+NoneOrOne test recs = AllByRecursion (λ r. test r ≡ false) recs ⊎ ((told : Rec) × IsAmong told recs × (test told ≡ true))
 
-some_trouble : (recs : List Rec) → IsUntroubled recs ⊎ ((told : Rec) × IsAmong told recs × (is_trouble told ≡ true))
-some_trouble [] = inl tt
-some_trouble (r ∷ recs) = trouble_first r recs (is_trouble r) refl (some_trouble recs)
+first_or_later : (test : Rec → Bool) (r : Rec) (recs : List Rec) (b : Bool) → test r ≡ b → NoneOrOne test recs → NoneOrOne test (r ∷ recs)
+first_or_later test r recs true e rest = inr (r, inl refl, e)
+first_or_later test r recs false e (inl none) = inl (e, none)
+first_or_later test r recs false e (inr later) = inr (later.0, inr later.1, later.2)
 
-troubled_or_not : (turn : Turn) → IsUntroubled turn.added ⊎ IsTroubled turn
-troubled_or_not turn = elim (some_trouble turn.added) [
+none_or_one : (test : Rec → Bool) (recs : List Rec) → NoneOrOne test recs
+none_or_one test [] = inl tt
+none_or_one test (r ∷ recs) = first_or_later test r recs (test r) refl (none_or_one test recs)
+
+trouble_or_not : (turn : Turn) → TellNoDeviceTrouble turn.added ⊎ MeetsDeviceTrouble turn
+trouble_or_not turn = elim (none_or_one is_device_trouble turn.added) [
   | inl none ↦ inl none
   | inr one ↦ inr (record { told = one.0; among = one.1; tells = one.2 })
 ]
+
+piece_of : (turn : Turn) (told : Rec) → IsAmong told turn.added → is_displacement told ≡ true → DisplacesPiece turn
+piece_of turn (rec.Displaced piece segment live) among tells = record { piece = piece; segment = segment; live = live; recorded = among }
+piece_of turn told among tells = no_truth (sym tells)
+
+displaces_or_not : (turn : Turn) → TellNoDisplacement turn.added ⊎ DisplacesPiece turn
+displaces_or_not turn = elim (none_or_one is_displacement turn.added) [ inl none ↦ inl none | inr one ↦ inr (piece_of turn one.0 one.1 one.2) ]
+
+displaces_none : (turn : Turn) → IsUntroubled turn.added → DisplacesPiece turn → ⊥
+displaces_none turn none d = no_truth (is_among (λ r. is_trouble r ≡ false) (rec.Displaced d.piece d.segment d.live) turn.added none d.recorded)
 
 -- ---- one line
 
@@ -106,58 +126,90 @@ module _ (u v : Run) (s t : State) (a b : Turn) (step : Step) (runs : without_de
         ∙ ap (λ (turn : Turn). without_devices (in_session (without_devices v) (without_digests t) (without_digests t2) turn step)) turns
         ∙ sym (leaves_too v t t2 b step)
 
+-- a line that does nothing tells nothing
+nothing_told : (turn : Turn) → turn ≡ no_turn → IsUntroubled turn.added
+nothing_told turn is = subst (λ (x : Turn). IsUntroubled x.added) (sym is) tt
+
 same_state : (s t : State) → Some (without_digests s) ≡ Some (without_digests t) → HoldTheSame s t
 same_state s t same = cc
 
-module _ (agree : StepsAgree) where
+module _ (agree : StepsAgree) (displace : DisplacementsAgree) where
   same_session : (u v : Run) (s t : State) (a b : Turn) (step : Step) → without_devices u ≡ without_devices v → HoldTheSame s t
-      → SessionTakes u s a step → SessionTakes v t b step → IsUntroubled a.added → IsUntroubled b.added
-      → IsSame (answer_line (session_said u s (after_all s a.added) a step)) (answer_line (session_said v t (after_all t b.added) b step)) (in_session u s (after_all s a.added) a step) (in_session v t (after_all t b.added) b step)
-  same_session u v s t a b step runs states takes other_takes quiet other_quiet =
+      → SessionTakes u s a step → SessionTakes v t b step → IsUntroubled a.added → TellNoDeviceTrouble b.added
+      → IsUntroubled b.added × IsSame (answer_line (session_said u s (after_all s a.added) a step)) (answer_line (session_said v t (after_all t b.added) b step)) (in_session u s (after_all s a.added) a step) (in_session v t (after_all t b.added) b step)
+  same_session u v s t a b step runs states takes other_takes calm quiet =
       let moment : u.now ≡ v.now = ap (λ (run : Run). run.now) runs in
       let like : AreLike a.device b.device = record { unsynced = takes.unsynced; other_unsynced = other_takes.unsynced; moment = takes.moment ∙ moment ∙ sym other_takes.moment } in
       let legal : IsStep b.device t (asked u s step) b.added b.refused =
       subst (λ (intents : List Intent). IsStep b.device t intents b.added b.refused) (asked_same u v s t a b step runs states) other_takes.legal in
+      let other_calm : IsUntroubled b.added =
+      displace a.device b.device s t (asked u s step) a.added b.added a.refused b.refused like (takes.packs ∙ sym other_takes.packs) states calm quiet takes.legal legal in
       let same : TellTheSame a.added b.added × HoldTheSame (after_all s a.added) (after_all t b.added) × (a.refused ≡ b.refused) =
-      agree a.device b.device s t (asked u s step) a.added b.added a.refused b.refused like states quiet other_quiet takes.legal legal in
+      agree a.device b.device s t (asked u s step) a.added b.added a.refused b.refused like states calm other_calm takes.legal legal in
       let given : a.given ≡ b.given = given_same u v s t a b step runs states same.0 takes.own other_takes.own in
-      let turns : without_device a ≡ without_device b = turns_same u v s t a b step runs states same.0 same.2 given in
-      record {
-        printed = ap answer_line (said_same u v s t a b step runs states (after_all s a.added) (after_all t b.added) same.1 turns);
-        left = left_same u v s t a b step runs states (after_all s a.added) (after_all t b.added) same.1 turns;
-      }
+      let turns : without_device a ≡ without_device b = turns_same u v s t a b step runs states same.0 same.2 given in (
+        other_calm,
+        record {
+          printed = ap answer_line (said_same u v s t a b step runs states (after_all s a.added) (after_all t b.added) same.1 turns);
+          left = left_same u v s t a b step runs states (after_all s a.added) (after_all t b.added) same.1 turns;
+        },
+      )
 
   same_step : (u v : Run) (a b : Turn) (o p : Option State) (step : Step) → without_devices u ≡ without_devices v
       → option_map without_digests o ≡ option_map without_digests p
       → Takes u a o step → Takes v b p step
-      → IsUntroubled a.added → IsUntroubled b.added
-      → IsSame (answer_line (step_said u a o step)) (answer_line (step_said v b p step)) (behind u a o step) (behind v b p step)
-  same_step u v a b o p (step.Format name segments buckets content agg reach fragment generation alternates) runs states takes other_takes quiet other_quiet =
+      → IsUntroubled a.added → TellNoDeviceTrouble b.added
+      → IsUntroubled b.added × IsSame (answer_line (step_said u a o step)) (answer_line (step_said v b p step)) (behind u a o step) (behind v b p step)
+  same_step u v a b o p (step.Format name segments buckets content agg reach fragment generation alternates) runs states takes other_takes calm quiet =
       let bad : Option BadGeometry = first_refusal segments buckets content agg reach fragment alternates in
-      let same : a.added ≡ b.added = same_format a.added b.added segments buckets content agg reach fragment generation alternates bad takes other_takes in
-      record {
-        printed = ap (λ (added : List Rec). answer_line (format_said added bad)) same;
-        left =
-            format_too u name a.added bad
-            ∙ ap (λ (run : Run). without_devices (after_format run name a.added bad)) runs
-            ∙ ap (λ (added : List Rec). without_devices (after_format (without_devices v) name added bad)) same
-            ∙ sym (format_too v name b.added bad);
-      }
-  same_step u v a b o p (step.Now at) runs states takes other_takes quiet other_quiet =
-      record { printed = refl; left = moment_too u at ∙ ap (λ (run : Run). without_devices (at_moment run at)) runs ∙ sym (moment_too v at) }
-  same_step u v a b (Some s) (Some t) step runs states takes other_takes quiet other_quiet =
-      same_session u v s t a b step runs (same_state s t states) takes other_takes quiet other_quiet
-  same_step u v a b None p step runs states takes other_takes quiet other_quiet = absurd takes
-  same_step u v a b (Some s) None step runs states takes other_takes quiet other_quiet = absurd other_takes
+      let same : a.added ≡ b.added = same_format a.added b.added segments buckets content agg reach fragment generation alternates bad takes other_takes in (
+        subst IsUntroubled same calm,
+        record {
+          printed = ap (λ (added : List Rec). answer_line (format_said added bad)) same;
+          left =
+              format_too u name a.added bad
+              ∙ ap (λ (run : Run). without_devices (after_format run name a.added bad)) runs
+              ∙ ap (λ (added : List Rec). without_devices (after_format (without_devices v) name added bad)) same
+              ∙ sym (format_too v name b.added bad);
+        },
+      )
+  same_step u v a b o p (step.Now at) runs states takes other_takes calm quiet =
+      (nothing_told b other_takes, record { printed = refl; left = moment_too u at ∙ ap (λ (run : Run). without_devices (at_moment run at)) runs ∙ sym (moment_too v at) })
+  same_step u v a b (Some s) (Some t) step runs states takes other_takes calm quiet =
+      same_session u v s t a b step runs (same_state s t states) takes other_takes calm quiet
+  same_step u v a b None p step runs states takes other_takes calm quiet = absurd takes
+  same_step u v a b (Some s) None step runs states takes other_takes calm quiet = absurd other_takes
 
   same_reading : (u v : Run) (a b : Turn) (reading : LineAnswer) → without_devices u ≡ without_devices v → ReadingTakes u a reading
       → ReadingTakes v b reading
-      → IsUntroubled a.added → IsUntroubled b.added
-      → IsSame (reading_text u a reading) (reading_text v b reading) (after_reading u a reading) (after_reading v b reading)
-  same_reading u v a b (line.Step s) runs takes other_takes quiet other_quiet =
-      same_step u v a b u.state v.state s runs (ap (λ (run : Run). run.state) runs) takes other_takes quiet other_quiet
-  same_reading u v a b line.Nothing runs takes other_takes quiet other_quiet = record { printed = refl; left = runs }
-  same_reading u v a b (line.Bad fault) runs takes other_takes quiet other_quiet = absurd takes
+      → IsUntroubled a.added → TellNoDeviceTrouble b.added
+      → IsUntroubled b.added × IsSame (reading_text u a reading) (reading_text v b reading) (after_reading u a reading) (after_reading v b reading)
+  same_reading u v a b (line.Step s) runs takes other_takes calm quiet =
+      same_step u v a b u.state v.state s runs (ap (λ (run : Run). run.state) runs) takes other_takes calm quiet
+  same_reading u v a b line.Nothing runs takes other_takes calm quiet = (nothing_told b other_takes, record { printed = refl; left = runs })
+  same_reading u v a b (line.Bad fault) runs takes other_takes calm quiet = absurd takes
+
+  -- where neither device is in trouble the turns of a line are the same, or both displace a piece
+  line_parts : (u v : Run) (bytes : List ℕ) (a b : Turn) → without_devices u ≡ without_devices v → LineTakes u a bytes → LineTakes v b bytes
+      → TurnsPart a b ⊎ (IsUntroubled a.added × IsUntroubled b.added × IsSame (line_text u a bytes) (line_text v b bytes) (after_line u a bytes) (after_line v b bytes))
+  line_parts u v bytes a b runs takes other_takes = elim (trouble_or_not a) [
+    | inr t ↦ inl (first_in_trouble t)
+    | inl quiet ↦ elim (trouble_or_not b) [
+      | inr t ↦ inl (second_in_trouble t)
+      | inl other_quiet ↦ elim (displaces_or_not a) [
+        | inl stays ↦
+            let calm : IsUntroubled a.added = all_untroubled a.added stays quiet in
+            let same = same_reading u v a b (reading_of bytes) runs takes other_takes calm other_quiet in
+            inr (calm, same.0, same.1)
+        | inr d ↦ elim (displaces_or_not b) [
+          | inr f ↦ inl (both_displace d f)
+          | inl stays ↦
+              let calm : IsUntroubled b.added = all_untroubled b.added stays other_quiet in
+              absurd (displaces_none a (same_reading v u b a (reading_of bytes) (sym runs) other_takes takes calm quiet).0 d)
+        ]
+      ]
+    ]
+  ]
 
   -- ---- all lines
 
@@ -174,8 +226,8 @@ module _ (agree : StepsAgree) where
   }
 
   parts_here : (u v : Run) (bytes : List ℕ) (lines : List (List ℕ)) (a b : Turn) (one other : List Turn) → without_devices u ≡ without_devices v
-      → IsTroubled a ⊎ IsTroubled b → PartBetween u v (bytes ∷ lines) (a ∷ one) (b ∷ other)
-  parts_here u v bytes lines a b one other runs troubled = record {
+      → TurnsPart a b → PartBetween u v (bytes ∷ lines) (a ∷ one) (b ∷ other)
+  parts_here u v bytes lines a b one other runs part = record {
     before = [];
     bytes = bytes;
     after = lines;
@@ -183,7 +235,7 @@ module _ (agree : StepsAgree) where
     first = record { earlier = []; turn = a; later = one; turns_are = refl; legal = tt; untroubled = tt };
     second = record { earlier = []; turn = b; later = other; turns_are = refl; legal = tt; untroubled = tt };
     same = record { printed = refl; left = runs };
-    troubled = troubled;
+    part = part;
   }
 
   abbrev up_to_next : (u : Run) (bytes : List ℕ) (before : List (List ℕ)) (a : Turn) (one : List Turn) → LineTakes u a bytes → IsUntroubled a.added
@@ -209,7 +261,7 @@ module _ (agree : StepsAgree) where
     first = up_to_next u bytes p.before a one takes quiet p.first;
     second = up_to_next v bytes p.before b other other_takes other_quiet p.second;
     same = joined u v bytes p.before a b p.first.earlier p.second.earlier here p.same;
-    troubled = p.troubled;
+    part = p.part;
   }
 
   -- where neither turn recorded trouble the line is the same, and the lines behind it go on
@@ -229,16 +281,10 @@ module _ (agree : StepsAgree) where
   agree_between u v [] (a ∷ one) other runs legal other_legal = absurd legal
   agree_between u v (bytes ∷ lines) [] other runs legal other_legal = absurd legal
   agree_between u v (bytes ∷ lines) (a ∷ one) [] runs legal other_legal = absurd other_legal
-  agree_between u v (bytes ∷ lines) (a ∷ one) (b ∷ other) runs legal other_legal = elim (troubled_or_not a) [
-    | inr troubled ↦ inr (parts_here u v bytes lines a b one other runs (inl troubled))
-    | inl quiet ↦ elim (troubled_or_not b) [
-      | inr troubled ↦ inr (parts_here u v bytes lines a b one other runs (inr troubled))
-      | inl other_quiet ↦
-          let here : IsSame (line_text u a bytes) (line_text v b bytes) (after_line u a bytes) (after_line v b bytes) =
-          same_reading u v a b (reading_of bytes) runs legal.0 other_legal.0 quiet other_quiet in
-          next_line u v bytes lines a b one other legal.0 other_legal.0 quiet other_quiet here
-          (agree_between (after_line u a bytes) (after_line v b bytes) lines one other here.left legal.1 other_legal.1)
-    ]
+  agree_between u v (bytes ∷ lines) (a ∷ one) (b ∷ other) runs legal other_legal = elim (line_parts u v bytes a b runs legal.0 other_legal.0) [
+    | inl part ↦ inr (parts_here u v bytes lines a b one other runs part)
+    | inr same ↦ next_line u v bytes lines a b one other legal.0 other_legal.0 same.0 same.1 same.2
+        (agree_between (after_line u a bytes) (after_line v b bytes) lines one other same.2.left legal.1 other_legal.1)
   ]
 
   pub lines_agree_before_trouble : (run : Run) (lines : List (List ℕ)) (one other : List Turn) → IsRun run lines one → IsRun run lines other
@@ -253,6 +299,6 @@ module _ (agree : StepsAgree) where
       first = p.first;
       second = p.second;
       same = record { output = p.same.printed; left = p.same.left };
-      troubled = p.troubled;
+      part = p.part;
     })
   ]

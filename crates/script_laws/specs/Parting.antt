@@ -1,21 +1,37 @@
 -- Two runs of the same lines are the same up to the first line that recorded trouble, whatever their devices did.
 use Rattle.std.specs.Prelude.{ℕ, ◌≡◌, ◌⊎◌, true, List, ◌∷◌, ◌++◌}
 use Rattle.std.specs.List.{AllByRecursion}
+use Rattle.tape_base.specs.declared.pieces.PieceId.{PieceId}
 use Rattle.cache_model.specs.declared.record.Rec.{Rec}
+use Rattle.cache_model.specs.declared.record.Rec.TheVariants as rec
 use Rattle.cache_model.specs.Permit.{IsAmong}
-use Rattle.model_laws.specs.Agreeing.{IsUntroubled, is_trouble}
+use Rattle.model_laws.specs.Agreeing.{IsUntroubled}
+use Rattle.model_laws.specs.Purging.{is_device_trouble}
 use Rattle.script_run.specs.Run.{Run}
 use Rattle.script_run.specs.Turn.{Turn}
 use Rattle.script_run.specs.Takes.{IsRun}
 use Rattle.script_laws.specs.Agreeing.{AreSame}
 
--- the turn recorded a refused call, bytes that are not those of a digest, or that a piece was displaced
-pub record IsTroubled (turn : Turn) : Type 0 where
+-- the turn recorded a refused call, or bytes that are not those of a digest
+pub record MeetsDeviceTrouble (turn : Turn) : Type 0 where
   pub told : Rec
   pub among : IsAmong told turn.added
-  pub tells : is_trouble told ≡ true
+  pub tells : is_device_trouble told ≡ true
 
--- none of these turns did
+-- it recorded that a piece was displaced
+pub record DisplacesPiece (turn : Turn) : Type 0 where
+  pub piece : PieceId
+  pub segment : ℕ
+  pub live : ℕ
+  pub recorded : IsAmong (rec.Displaced piece segment live) turn.added
+
+-- two turns of one line part where the device of the one or the other was in trouble, or both displaced a piece
+pub data TurnsPart (one other : Turn) : Type 0 where
+  first_in_trouble : MeetsDeviceTrouble one → TurnsPart one other
+  second_in_trouble : MeetsDeviceTrouble other → TurnsPart one other
+  both_displace : DisplacesPiece one → DisplacesPiece other → TurnsPart one other
+
+-- none of these turns recorded any of that
 abbrev pub AreUntroubled : List Turn → Type 0
 AreUntroubled turns = AllByRecursion (λ (turn : Turn). IsUntroubled turn.added) turns
 
@@ -28,8 +44,7 @@ pub record IsUntroubledUpTo (run : Run) (before : List (List ℕ)) (turns : List
   pub legal : IsRun run before earlier
   pub untroubled : AreUntroubled earlier
 
--- with either turns the lines before one of these are the same, and in that line one of the two recorded trouble, which none
--- of those before it did
+-- with either turns the lines before one of these are the same, and recorded no trouble; in that line the two part
 pub record LinesPart (run : Run) (lines : List (List ℕ)) (one other : List Turn) : Type 0 where
   pub before : List (List ℕ)
   pub bytes : List ℕ
@@ -38,7 +53,7 @@ pub record LinesPart (run : Run) (lines : List (List ℕ)) (one other : List Tur
   pub first : IsUntroubledUpTo run before one
   pub second : IsUntroubledUpTo run before other
   pub same : AreSame run before first.earlier second.earlier
-  pub troubled : IsTroubled first.turn ⊎ IsTroubled second.turn
+  pub part : TurnsPart first.turn second.turn
 
 -- from one run the same lines go on to be the same, or to part so
 abbrev pub LinesAgreeBeforeTrouble : Type 0

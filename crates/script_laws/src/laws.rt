@@ -11,7 +11,7 @@ ghost use Rattle.script_laws.specs.Vectors.{VectorsAreOnRecord};
 ghost use Rattle.script_run.specs.Losses.{FormatsLoseNone, LossesStay};
 ghost use Rattle.script_laws.specs.Troubles.{FaultIsRecorded, FaultStays, RefusalIsRecorded};
 
-use model_laws::steps_agree;
+use model_laws::{displacements_agree, steps_agree};
 
 /// Each cause that a step tells to those who read is how things stand, or that of a piece that was lost
 /// before, or that of a record of the step.
@@ -102,12 +102,13 @@ pub fn undamaged_turns()
     ensures { UndamagedTurns }
 {}
 
-/// Two runs of a script print the same up to the first line in which one of them recorded a fault, damage, or a
+/// Two runs of a script print the same up to the first line in which one of them recorded a fault or damage, or both a
 /// displacement, whatever their devices did.
 pub fn lines_agree_before_trouble()
     ensures { LinesAgreeBeforeTrouble }
 {
     steps_agree();
+    displacements_agree();
 }
 
 /// Where nothing was displaced, and no fault and no damage was told, in either of two runs of a script, they print
