@@ -31,14 +31,16 @@ all_tell (d ∷ ds) s = (s.0.tells, all_tell ds s.1)
 steady_tell : (l : RunLogs) → AreSteady l → AllTell l
 steady_tell l steady = λ ds returned. all_tell ds (steady ds returned)
 
-none_faulted : (hs : List Harm) (ds : List Device) → AreReached hs ds → AllByRecursion IsSteady ds → All (λ (harm : Harm). harm.fault ≡ 0) hs
+none_faulted : (hs : List Harm) (ds : List Device) → AreReached hs ds → AllByRecursion IsSteady ds
+    → All (λ (harm : Harm). harm.fault ≡ 0) hs
 none_faulted [] ds r s = All-nil (λ harm. harm.fault ≡ 0)
 none_faulted (h ∷ hs) [] r s = absurd r
 none_faulted (h ∷ hs) (d ∷ ds) r s = All-cons (λ harm. harm.fault ≡ 0) h hs (omega (arith, r.0.counted, s.0.unfaulted)) (none_faulted hs ds r.1 s.1)
 
 -- ---- a run in which a line met trouble
 
-module _ (faultless : FaultlessTurns) (l : RunLogs) (steady : AreSteady l) (before : List (List ℕ)) (bytes : List ℕ) (after : List (List ℕ)) (r : ComesToLine l before bytes after) where
+module _ (faultless : FaultlessTurns) (l : RunLogs) (steady : AreSteady l) (before : List (List ℕ)) (bytes : List ℕ) (after : List (List ℕ))
+    (r : ComesToLine l before bytes after) where
   -- no call was refused
   none_refused : RefusesCall r.did.turn → ⊥
   none_refused refuses =
@@ -59,7 +61,8 @@ module _ (faultless : FaultlessTurns) (l : RunLogs) (steady : AreSteady l) (befo
     displaces = displaces;
   }
 
-pub source_fixes_sink : (agree : RunsAgreeBeforeTrouble) (faultless : FaultlessTurns) (l m : RunLogs) → IsConcluded l status.Done → IsConcluded m status.Done
+pub source_fixes_sink : (agree : RunsAgreeBeforeTrouble) (faultless : FaultlessTurns) (l m : RunLogs) → IsConcluded l status.Done
+    → IsConcluded m status.Done
     → (same : GiveSame l m) → AreSteady l → AreSteady m → TakeSame l m ⊎ BothDisplaced l m same
 source_fixes_sink agree faultless l m c d same steady steady_too = elim (agree l m c d same (steady_tell l steady) (steady_tell m steady_too)) [
   | inl alike ↦ inl alike

@@ -91,7 +91,8 @@ history_as l lines others e h = record {
 }
 
 -- the lines before one print first
-output_append : (run : Run) (before : List (List ℕ)) (earlier : List Turn) (lines : List (List ℕ)) (turns : List Turn) → IsRun run before earlier
+output_append : (run : Run) (before : List (List ℕ)) (earlier : List Turn) (lines : List (List ℕ)) (turns : List Turn)
+    → IsRun run before earlier
     → output_of run (before ++ lines) (earlier ++ turns) ≡ output_of run before earlier ++ output_of (run_after run before earlier) lines turns
 output_append run [] [] lines turns is = refl
 output_append run [] (turn ∷ earlier) lines turns is = absurd is
@@ -102,20 +103,23 @@ output_append run (bytes ∷ before) (turn ∷ earlier) lines turns is =
     ∙ sym (append_assoc (line_text run turn bytes) (output_of next before earlier) (output_of (run_after next before earlier) lines turns))
 
 -- devices that tell their content came back undamaged
-none_damaged : (hs : List Harm) (ds : List Device) → AreReached hs ds → AllByRecursion TellsAll ds → All (λ (harm : Harm). harm.damaged ≡ false) hs
+none_damaged : (hs : List Harm) (ds : List Device) → AreReached hs ds → AllByRecursion TellsAll ds
+    → All (λ (harm : Harm). harm.damaged ≡ false) hs
 none_damaged [] ds r tell = All-nil (λ harm. harm.damaged ≡ false)
 none_damaged (h ∷ hs) [] r tell = absurd r
 none_damaged (h ∷ hs) (d ∷ ds) r tell = All-cons (λ harm. harm.damaged ≡ false) h hs (r.0.unharmed tell.0) (none_damaged hs ds r.1 tell.1)
 
 -- trouble of a device that is no damage
-refused : (turn : Turn) (told : Rec) → TellsRefusals turn → tells_damage told ≡ false → IsAmong told turn.added → is_device_trouble told ≡ true → RefusesCall turn
+refused : (turn : Turn) (told : Rec) → TellsRefusals turn → tells_damage told ≡ false → IsAmong told turn.added
+    → is_device_trouble told ≡ true → RefusesCall turn
 refused turn (rec.Fault count) refusals undamaged among trouble =
     let call = refusals count among in
     record { asked = call.0; count = count; refused = call.1; recorded = among }
 refused turn (rec.Damaged piece place kept found) refusals undamaged among trouble = no_truth undamaged
 refused turn _ refusals undamaged among trouble = no_truth (sym trouble)
 
-module _ (refusals : TurnsTellRefusals) (undamaged : UndamagedTurns) (l : RunLogs) (tell : AllTell l) (lines before : List (List ℕ)) (h : HasHistory l lines) (f : IsUntroubledUpTo fresh before h.turns) where
+module _ (refusals : TurnsTellRefusals) (undamaged : UndamagedTurns) (l : RunLogs) (tell : AllTell l) (lines before : List (List ℕ))
+    (h : HasHistory l lines) (f : IsUntroubledUpTo fresh before h.turns) where
   meets : MeetsDeviceTrouble f.turn → RefusesCall f.turn
   meets t =
       let back = h.back.back in
@@ -143,7 +147,8 @@ comes_to l lines before bytes after e h f = record {
 
 -- ---- two of them
 
-module _ (agree : LinesAgreeBeforeTrouble) (refusals : TurnsTellRefusals) (undamaged : UndamagedTurns) (texts : TextsAreOutput) (spells : SpelledAreLines) (l m : RunLogs) (c : IsConcluded l status.Done) (d : IsConcluded m status.Done)
+module _ (agree : LinesAgreeBeforeTrouble) (refusals : TurnsTellRefusals) (undamaged : UndamagedTurns) (texts : TextsAreOutput)
+    (spells : SpelledAreLines) (l m : RunLogs) (c : IsConcluded l status.Done) (d : IsConcluded m status.Done)
     (same : GiveSame l m) (tell : AllTell l) (tell_too : AllTell m) where
   lines_read : (lines : List (List ℕ)) → AreLines lines → lines_of (spelled lines ++ []) ≡ lines
   lines_read lines each = spells lines [] each ∙ append-nil lines

@@ -47,7 +47,8 @@ slots_too s piece =
     ap (λ (rows : List Row). is_full_with s (bucket_of_piece s piece) rows) (ap (filter test) (live_rows_too s) ∙ filtered test (λ row. refl) (live_rows s))
     ∙ full_too s (bucket_of_piece s piece) (rows_of_segment s segment)
 
-displaces_alike : (p q : Permit) (s t : State) (piece : PieceId) → p.packed ≡ q.packed → HoldTheSame s t → displaces p s piece ≡ displaces q t piece
+displaces_alike : (p q : Permit) (s t : State) (piece : PieceId) → p.packed ≡ q.packed → HoldTheSame s t
+    → displaces p s piece ≡ displaces q t piece
 displaces_alike p q s t piece packed same =
     ap (λ (b : Bool). b && is_full_for s piece) packed
     ∙ ap (λ (b : Bool). q.packed && b) (sym (slots_too s piece) ∙ ap (λ (x : State). is_full_for x piece) same ∙ slots_too t piece)
@@ -57,7 +58,8 @@ tenth_some : (buckets n : ℕ) → 1 ≤ buckets → n ≡ (3 * buckets + 9) / 1
 tenth_some buckets n some tenth none = omega (arith, some, tenth, none)
 
 -- where nothing is told as displaced there was a slot
-had_slot : {p : Permit} {s : State} {piece : PieceId} {added : List Rec} (rest : List Rec) → IsUntroubled (added ++ rest) → MayDisplace p s piece added
+had_slot : {p : Permit} {s : State} {piece : PieceId} {added : List Rec} (rest : List Rec) → IsUntroubled (added ++ rest)
+    → MayDisplace p s piece added
     → displaces p s piece ≡ false
 had_slot {p} {s} {piece} rest calm m =
     false_from_ne_true (displaces p s piece)
@@ -84,7 +86,8 @@ module _ (p q : Permit) (s t : State) (put : ℕ) (like : AreLike p q) (packed :
       let places : place_now s ≡ place_now t = ap place_now same in
       omega (arith, is, above, below, places)
 
-  fragment_free : {index : ℕ} {payload : List ℕ} {one other : List Rec} {e : End} → IsUntroubled one → DoesFragment p s put index payload one e
+  fragment_free : {index : ℕ} {payload : List ℕ} {one other : List Rec} {e : End} → IsUntroubled one
+      → DoesFragment p s put index payload one e
       → (m : MayPlaceFragment q t put index payload other) → displaces q t (next_fragment_of m.w) ≡ false
   fragment_free calm (Legal.DoesFragment.unmarks w cut place u) m = never like.unsynced (unmark_on u)
   fragment_free calm (Legal.DoesFragment.places is n) m =
@@ -121,7 +124,8 @@ module _ (p q : Permit) (s t : State) (put : ℕ) (like : AreLike p q) (packed :
       absurd (not_lost (fragment_piece w.key put index) live.0 n.lost (ap (live_row_of t) (sym piece) ∙ live.1))
   vector_free calm (Legal.DoesFinish.exhausted w is cut live none) m = absurd (no_place _ _ (ap blocks_of lengths) none.above m.place.below)
 
-places_free : (p q : Permit) (s t : State) (one other : List Rec) (e : End) (i : Intent) → AreLike p q → p.packed ≡ q.packed → HoldTheSame s t
+places_free : (p q : Permit) (s t : State) (one other : List Rec) (e : End) (i : Intent) → AreLike p q → p.packed ≡ q.packed
+    → HoldTheSame s t
     → IsUntroubled one → Does p s i one e → PlacesFreely q t other i
 places_free p q s t one other e (Fragment put index payload) like packed same calm h = fragment_free p q s t put like packed same calm h
 places_free p q s t one other e (Finish put fragments) like packed same calm h = vector_free p q s t put like packed same calm h
@@ -139,8 +143,10 @@ pub all_untroubled : (recs : List Rec) → TellNoDisplacement recs → TellNoDev
 all_untroubled [] stay quiet = tt
 all_untroubled (r ∷ recs) stay quiet = (record_untroubled r stay.0 quiet.0, all_untroubled recs stay.1 quiet.1)
 
-advances_free : (p q : Permit) (s t : State) (is : List Intent) (why : Option Reason) (one other : List Rec) (between after : Work) → AreLike p q → p.packed ≡ q.packed
-    → HoldTheSame s t → IsUntroubled one → TellNoDeviceTrouble other → Advances p s is why one between → Advances q t is why other after → IsUntroubled other
+advances_free : (p q : Permit) (s t : State) (is : List Intent) (why : Option Reason) (one other : List Rec) (between after : Work)
+    → AreLike p q → p.packed ≡ q.packed
+    → HoldTheSame s t → IsUntroubled one → TellNoDeviceTrouble other → Advances p s is why one between → Advances q t is why other after
+    → IsUntroubled other
 advances_free p q s t [] why one other between after like packed same calm quiet h k = absurd h
 advances_free p q s t (i ∷ is) why one other between after like packed same calm quiet h k =
     all_untroubled other (group_other q t i other k.0 (places_free p q s t one other h.0 i like packed same calm h.1) k.1) quiet
@@ -167,6 +173,7 @@ grown_free {p} {q} {s} {t} {w} {after} {last} like packed same calm quiet done o
       subst IsUntroubled (sym v.is) (all_append (λ r. is_trouble r ≡ false) v.added v.rest here rest)
 ]
 
-pub displacements_agree : (p q : Permit) (s t : State) (intents : List Intent) (one other : List Rec) (why because : Option Reason) → AreLike p q → p.packed ≡ q.packed → HoldTheSame s t
+pub displacements_agree : (p q : Permit) (s t : State) (intents : List Intent) (one other : List Rec) (why because : Option Reason)
+    → AreLike p q → p.packed ≡ q.packed → HoldTheSame s t
     → IsUntroubled one → TellNoDeviceTrouble other → IsStep p s intents one why → IsStep q t intents other because → IsUntroubled other
 displacements_agree p q s t intents one other why because like packed same calm quiet h k = grown_free like packed same calm quiet refl refl h.grows k.grows

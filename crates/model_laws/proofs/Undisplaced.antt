@@ -22,12 +22,14 @@ use Rattle.model_laws.specs.RoomLaws.{TellNoDisplacement, is_displacement}
 -- ---- records
 
 -- nothing is displaced where there is a slot
-free_displaces : {p : Permit} {s : State} {piece : PieceId} {added : List Rec} → displaces p s piece ≡ false → MayDisplace p s piece added → added ≡ []
+free_displaces : {p : Permit} {s : State} {piece : PieceId} {added : List Rec} → displaces p s piece ≡ false → MayDisplace p s piece added
+    → added ≡ []
 free_displaces {p} {s} {piece} slot m =
     m.is ∙ ap (map (displaced_record (segment_of_piece s piece) (length (rows_of_segment s (segment_of_piece s piece))))) (m.free slot)
 
 -- nor where the directory does not
-pub none_displaced : {p : Permit} {s : State} {piece : PieceId} {added : List Rec} → p.packed ≡ false → MayDisplace p s piece added → added ≡ []
+pub none_displaced : {p : Permit} {s : State} {piece : PieceId} {added : List Rec} → p.packed ≡ false → MayDisplace p s piece added
+    → added ≡ []
 none_displaced {p} {s} {piece} loose m = free_displaces (subst (λ t. (t && is_full_for s piece) ≡ false) (sym loose) refl) m
 
 -- what is placed for an intent has a slot
@@ -92,10 +94,12 @@ roomed p s bytes added e (Legal.MakesRoom.syncs f x d is) = synced p WhereDue s 
 
 -- ---- each group
 
-read_on : (p : Permit) (s : State) (reader : ℕ) (answer : NextAnswer) (added : List Rec) → Legal.MayReadOn p s reader answer added → TellNoDisplacement added
+read_on : (p : Permit) (s : State) (reader : ℕ) (answer : NextAnswer) (added : List Rec) → Legal.MayReadOn p s reader answer added
+    → TellNoDisplacement added
 read_on p s reader answer added m = telling added _ m.is (beside _ (reading_on_aside p s reader answer added m))
 
-pub group_other : (p : Permit) (s : State) (i : Intent) (added : List Rec) (e : End) → PlacesFreely p s added i → Does p s i added e → TellNoDisplacement added
+pub group_other : (p : Permit) (s : State) (i : Intent) (added : List Rec) (e : End) → PlacesFreely p s added i → Does p s i added e
+    → TellNoDisplacement added
 group_other p s Flush added e free (Legal.DoesFlush.empty q f is) = telling added [] is tt
 group_other p s Flush added e free (Legal.DoesFlush.flushes m) = flushed p s added m
 group_other p s Flush added e free (Legal.DoesFlush.stops count m) = stopped p s count added m
@@ -145,11 +149,13 @@ plain_free p s added _ plain = tt
 
 -- ---- steps
 
-advanced_other : (p : Permit) (s : State) (is : List Intent) (why : Option Reason) (added : List Rec) (after : Work) → p.packed ≡ false → Advances p s is why added after → TellNoDisplacement added
+advanced_other : (p : Permit) (s : State) (is : List Intent) (why : Option Reason) (added : List Rec) (after : Work) → p.packed ≡ false
+    → Advances p s is why added after → TellNoDisplacement added
 advanced_other p s [] why added after plain h = absurd h
 advanced_other p s (i ∷ is) why added after plain h = group_other p s i added h.0 (plain_free p s added i plain) h.1
 
-grown_other : {p : Permit} {s : State} {w after : Work} {recs : List Rec} → p.packed ≡ false → MayGrow p s w recs after → TellNoDisplacement recs
+grown_other : {p : Permit} {s : State} {w after : Work} {recs : List Rec} → p.packed ≡ false → MayGrow p s w recs after
+    → TellNoDisplacement recs
 grown_other plain nothing = tt
 grown_other {p} {s} {w} plain (more {rest = tail} added between one others) =
     all_append IsOther added tail (advanced_other p s w.intents w.refused added between plain one) (grown_other plain others)

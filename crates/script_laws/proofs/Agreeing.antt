@@ -31,7 +31,8 @@ records_quiet [] faultless undamaged = tt
 records_quiet (r ∷ recs) faultless undamaged = (record_quiet r faultless.0 undamaged.0, records_quiet recs faultless.1 undamaged.1)
 
 -- such a turn is not where two runs part
-module _ (run : Run) (lines before : List (List ℕ)) (turns : List Turn) (is : IsRun run lines turns) (stay : NoneDisplaced turns) (clean : NoneHarmed (run_after run lines turns)) (f : IsUntroubledUpTo run before turns) where
+module _ (run : Run) (lines before : List (List ℕ)) (turns : List Turn) (is : IsRun run lines turns) (stay : NoneDisplaced turns)
+    (clean : NoneHarmed (run_after run lines turns)) (f : IsUntroubledUpTo run before turns) where
   at_turn : (P : Turn → Type 0) → AllByRecursion P turns → P f.turn
   at_turn P each = (all_parts P f.earlier (f.turn ∷ f.later) (subst (AllByRecursion P) f.turns_are each)).1.0
 
@@ -50,8 +51,10 @@ module _ (run : Run) (lines before : List (List ℕ)) (turns : List Turn) (is : 
   displaces_none d =
       no_truth (is_among (λ r. is_displacement r ≡ false) (rec.Displaced d.piece d.segment d.live) f.turn.added (at_turn (λ (turn : Turn). TellNoDisplacement turn.added) stay) d.recorded)
 
-pub output_is_fixed : (agree : LinesAgreeBeforeTrouble) (run : Run) (lines : List (List ℕ)) (one other : List Turn) → IsRun run lines one → IsRun run lines other
-    → NoneDisplaced one → NoneDisplaced other → NoneHarmed (run_after run lines one) → NoneHarmed (run_after run lines other) → AreSame run lines one other
+pub output_is_fixed : (agree : LinesAgreeBeforeTrouble) (run : Run) (lines : List (List ℕ)) (one other : List Turn) → IsRun run lines one
+    → IsRun run lines other
+    → NoneDisplaced one → NoneDisplaced other → NoneHarmed (run_after run lines one) → NoneHarmed (run_after run lines other)
+    → AreSame run lines one other
 output_is_fixed agree run lines one other legal other_legal stay other_stay clean other_clean = elim (agree run lines one other legal other_legal) [
   | inl same ↦ same
   | inr p ↦ absurd (elim p.part [

@@ -87,7 +87,8 @@ displaces_none turn none d = no_truth (is_among (λ r. is_trouble r ≡ false) (
 -- ---- one line
 
 -- turns that are the same but for their devices
-module _ (u v : Run) (s t : State) (a b : Turn) (step : Step) (runs : without_devices u ≡ without_devices v) (states : HoldTheSame s t) where
+module _ (u v : Run) (s t : State) (a b : Turn) (step : Step) (runs : without_devices u ≡ without_devices v)
+    (states : HoldTheSame s t) where
   asked_same : asked v t step ≡ asked u s step
   asked_same =
       asked_too v t step
@@ -225,7 +226,8 @@ module _ (agree : StepsAgree) (displace : DisplacementsAgree) where
     left = rest.left;
   }
 
-  parts_here : (u v : Run) (bytes : List ℕ) (lines : List (List ℕ)) (a b : Turn) (one other : List Turn) → without_devices u ≡ without_devices v
+  parts_here : (u v : Run) (bytes : List ℕ) (lines : List (List ℕ)) (a b : Turn) (one other : List Turn)
+      → without_devices u ≡ without_devices v
       → TurnsPart a b → PartBetween u v (bytes ∷ lines) (a ∷ one) (b ∷ other)
   parts_here u v bytes lines a b one other runs part = record {
     before = [];
@@ -238,7 +240,8 @@ module _ (agree : StepsAgree) (displace : DisplacementsAgree) where
     part = part;
   }
 
-  abbrev up_to_next : (u : Run) (bytes : List ℕ) (before : List (List ℕ)) (a : Turn) (one : List Turn) → LineTakes u a bytes → IsUntroubled a.added
+  abbrev up_to_next : (u : Run) (bytes : List ℕ) (before : List (List ℕ)) (a : Turn) (one : List Turn) → LineTakes u a bytes
+      → IsUntroubled a.added
       → IsUntroubledUpTo (after_line u a bytes) before one → IsUntroubledUpTo u (bytes ∷ before) (a ∷ one)
   up_to_next u bytes before a one takes quiet f = record {
     earlier = a ∷ f.earlier;
@@ -249,7 +252,8 @@ module _ (agree : StepsAgree) (displace : DisplacementsAgree) where
     untroubled = (quiet, f.untroubled);
   }
 
-  parts_later : (u v : Run) (bytes : List ℕ) (lines : List (List ℕ)) (a b : Turn) (one other : List Turn) → LineTakes u a bytes → LineTakes v b bytes
+  parts_later : (u v : Run) (bytes : List ℕ) (lines : List (List ℕ)) (a b : Turn) (one other : List Turn) → LineTakes u a bytes
+      → LineTakes v b bytes
       → IsUntroubled a.added → IsUntroubled b.added
       → IsSame (line_text u a bytes) (line_text v b bytes) (after_line u a bytes) (after_line v b bytes)
       → PartBetween (after_line u a bytes) (after_line v b bytes) lines one other → PartBetween u v (bytes ∷ lines) (a ∷ one) (b ∷ other)
@@ -265,7 +269,8 @@ module _ (agree : StepsAgree) (displace : DisplacementsAgree) where
   }
 
   -- where neither turn recorded trouble the line is the same, and the lines behind it go on
-  next_line : (u v : Run) (bytes : List ℕ) (lines : List (List ℕ)) (a b : Turn) (one other : List Turn) → LineTakes u a bytes → LineTakes v b bytes
+  next_line : (u v : Run) (bytes : List ℕ) (lines : List (List ℕ)) (a b : Turn) (one other : List Turn) → LineTakes u a bytes
+      → LineTakes v b bytes
       → IsUntroubled a.added → IsUntroubled b.added
       → IsSame (line_text u a bytes) (line_text v b bytes) (after_line u a bytes) (after_line v b bytes)
       → IsPlayedSame (after_line u a bytes) (after_line v b bytes) lines one other ⊎ PartBetween (after_line u a bytes) (after_line v b bytes) lines one other

@@ -44,7 +44,8 @@ module _ (Are : Permit → List Rec → Type 0) (Fine : Harm → Type 0)
   by_format turn segments buckets content agg reach fragment generation alternates (Some bad) takes = subst (Are turn.device) (sym takes) (none turn.device)
   by_format turn segments buckets content agg reach fragment generation alternates None takes = subst (Are turn.device) (sym takes.2) (formats turn.device takes.0)
 
-  by_step : (run : Run) (turn : Turn) (o : Option State) (step : Step) → Takes run turn o step → All Fine (harms_of (behind run turn o step)) → Are turn.device turn.added
+  by_step : (run : Run) (turn : Turn) (o : Option State) (step : Step) → Takes run turn o step
+      → All Fine (harms_of (behind run turn o step)) → Are turn.device turn.added
   by_step run turn o (step.Format name segments buckets content agg reach fragment generation alternates) takes fine =
       by_format turn segments buckets content agg reach fragment generation alternates (first_refusal segments buckets content agg reach fragment alternates) takes
   by_step run turn o (step.Now at) takes fine = subst (λ (t : Turn). Are t.device t.added) (sym takes) (none _)
@@ -54,14 +55,16 @@ module _ (Are : Permit → List Rec → Type 0) (Fine : Harm → Type 0)
       session turn.device calls s turn.added (walked takes.legal.grows).kept (All-head Fine last [] (all_behind Fine run.ended (last ∷ []) fine))
   by_step run turn None step takes fine = absurd takes
 
-  by_reading : (run : Run) (turn : Turn) (reading : LineAnswer) → ReadingTakes run turn reading → All Fine (harms_of (after_reading run turn reading)) → Are turn.device turn.added
+  by_reading : (run : Run) (turn : Turn) (reading : LineAnswer) → ReadingTakes run turn reading
+      → All Fine (harms_of (after_reading run turn reading)) → Are turn.device turn.added
   by_reading run turn (line.Step step) takes fine = by_step run turn run.state step takes fine
   by_reading run turn line.Nothing takes fine = subst (λ (t : Turn). Are t.device t.added) (sym takes) (none _)
   by_reading run turn (line.Bad fault) takes fine = absurd takes
 
   -- ---- all lines
 
-  each_turn : (run : Run) (lines : List (List ℕ)) (turns : List Turn) → IsRun run lines turns → All Fine (harms_of (run_after run lines turns))
+  each_turn : (run : Run) (lines : List (List ℕ)) (turns : List Turn) → IsRun run lines turns
+      → All Fine (harms_of (run_after run lines turns))
       → AllByRecursion (λ (turn : Turn). Are turn.device turn.added) turns
   each_turn run [] [] is fine = tt
   each_turn run [] (turn ∷ turns) is fine = absurd is
@@ -72,22 +75,26 @@ module _ (Are : Permit → List Rec → Type 0) (Fine : Harm → Type 0)
 
 -- ---- records that are not there
 
-none_tells : (tells : Rec → Bool) (recs : List Rec) → ((r : Rec) → IsAmong r recs → tells r ≡ true → ⊥) → AllByRecursion (λ r. tells r ≡ false) recs
+none_tells : (tells : Rec → Bool) (recs : List Rec) → ((r : Rec) → IsAmong r recs → tells r ≡ true → ⊥)
+    → AllByRecursion (λ r. tells r ≡ false) recs
 none_tells tells [] never = tt
 none_tells tells (r ∷ recs) never = (false_from_ne_true (tells r) (never r (inl refl)), none_tells tells recs (λ x among. never x (inr among)))
 
-fault_above : (p : Permit) (s : State) (recs : List Rec) (r : Rec) → AllByRecursion (IsKept p) recs → (after_all s recs).fault ≡ 0 → IsAmong r recs → tells_fault r ≡ true → ⊥
+fault_above : (p : Permit) (s : State) (recs : List Rec) (r : Rec) → AllByRecursion (IsKept p) recs → (after_all s recs).fault ≡ 0
+    → IsAmong r recs → tells_fault r ≡ true → ⊥
 fault_above p s recs (rec.Fault count) kept none among tells = none_below (after_all s recs).fault none (told_behind p s recs count kept among)
 fault_above p s recs r kept none among tells = no_truth (sym tells)
 
 pub faultless_turns : (run : Run) (lines : List (List ℕ)) (turns : List Turn) → IsRun run lines turns
-    → All (λ (harm : Harm). harm.fault ≡ 0) (harms_of (run_after run lines turns)) → AllByRecursion (λ (turn : Turn). TellNoFault turn.added) turns
+    → All (λ (harm : Harm). harm.fault ≡ 0) (harms_of (run_after run lines turns))
+    → AllByRecursion (λ (turn : Turn). TellNoFault turn.added) turns
 faultless_turns =
     each_turn (λ p recs. TellNoFault recs) (λ harm. harm.fault ≡ 0) (λ p. tt) (λ p geometry. (refl, (refl, tt)))
     (λ p calls s recs kept fine. none_tells tells_fault recs (λ r. fault_above p s recs r kept fine)) faultless_before
 
 pub undamaged_turns : (run : Run) (lines : List (List ℕ)) (turns : List Turn) → IsRun run lines turns
-    → All (λ (harm : Harm). harm.damaged ≡ false) (harms_of (run_after run lines turns)) → AllByRecursion (λ (turn : Turn). TellNoDamage turn.added) turns
+    → All (λ (harm : Harm). harm.damaged ≡ false) (harms_of (run_after run lines turns))
+    → AllByRecursion (λ (turn : Turn). TellNoDamage turn.added) turns
 undamaged_turns =
     each_turn (λ p recs. TellNoDamage recs) (λ harm. harm.damaged ≡ false) (λ p. tt) (λ p geometry. (refl, (refl, tt)))
     (λ p calls s recs kept fine. none_tells tells_damage recs (λ r among tells. no_truth (sym (told_among p s recs r kept among tells) ∙ fine))) undamaged_before
@@ -103,7 +110,8 @@ no_format_fault geometry count (inl same) = absurd cc
 no_format_fault geometry count (inr (inl same)) = absurd cc
 no_format_fault geometry count (inr (inr none)) = none
 
-pub turns_tell_refusals : (run : Run) (lines : List (List ℕ)) (turns : List Turn) → IsRun run lines turns → AllByRecursion TellsRefusals turns
+pub turns_tell_refusals : (run : Run) (lines : List (List ℕ)) (turns : List Turn) → IsRun run lines turns
+    → AllByRecursion TellsRefusals turns
 turns_tell_refusals run lines turns is =
     each_turn (λ p recs. (count : ℕ) → IsAmong (rec.Fault count) recs → IsRefusalCount p count) (λ harm. Unit {0})
     (λ p count none. absurd none) (λ p geometry count among. absurd (no_format_fault geometry count among))

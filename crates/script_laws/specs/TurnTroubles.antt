@@ -31,9 +31,11 @@ TurnsTellRefusals = (run : Run) (lines : List (List ℕ)) (turns : List Turn) �
 -- where no fault was told of any device in the end, no turn recorded one
 abbrev pub FaultlessTurns : Type 0
 FaultlessTurns = (run : Run) (lines : List (List ℕ)) (turns : List Turn) → IsRun run lines turns
-    → All (λ (harm : Harm). harm.fault ≡ 0) (harms_of (run_after run lines turns)) → AllByRecursion (λ (turn : Turn). TellNoFault turn.added) turns
+    → All (λ (harm : Harm). harm.fault ≡ 0) (harms_of (run_after run lines turns))
+    → AllByRecursion (λ (turn : Turn). TellNoFault turn.added) turns
 
 -- where no piece of any device was told as damaged in the end, no turn recorded damage
 abbrev pub UndamagedTurns : Type 0
 UndamagedTurns = (run : Run) (lines : List (List ℕ)) (turns : List Turn) → IsRun run lines turns
-    → All (λ (harm : Harm). harm.damaged ≡ false) (harms_of (run_after run lines turns)) → AllByRecursion (λ (turn : Turn). TellNoDamage turn.added) turns
+    → All (λ (harm : Harm). harm.damaged ≡ false) (harms_of (run_after run lines turns))
+    → AllByRecursion (λ (turn : Turn). TellNoDamage turn.added) turns
