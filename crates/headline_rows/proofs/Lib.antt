@@ -1,0 +1,6 @@
+mod Keys
+mod Missed
+mod PutIn
+mod Gotten
+mod Readings
+mod Along

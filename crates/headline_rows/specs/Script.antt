@@ -1,0 +1,134 @@
+-- A script of six lines on a device in memory of 64 blocks, and what each line did: all pieces stay in the buffer, so no
+-- call of the device is made. The key is any one, and digests stay names.
+use Rattle.std.specs.Prelude.{ℕ, ◌+◌, true, false, refl, List, [], ◌∷◌, ◌++◌, codes, None, Some}
+use Rattle.std.proofs.Math.Dec.{lit≤, lit<}
+use Rattle.tape_base.specs.declared.digests.Digest.{Digest}
+use Rattle.tape_base.specs.declared.geometries.Geometry.{Geometry}
+use Rattle.tape_base.specs.declared.keys.Key.{Key}
+use Rattle.tape_base.specs.Digest.{digest_of}
+use Rattle.tape_base.specs.Key.{key_of_url}
+use Rattle.doc_header.specs.Document.{digest_of_document}
+use Rattle.fragment_table.specs.Table.{TableRow, made_row}
+use Rattle.alternate_vector.specs.Alternates.{Stored}
+use Rattle.alternate_vector.specs.Spelling.{vector_bytes}
+use Rattle.cache_model.specs.declared.answer.ReadAnswer.TheVariants as read
+use Rattle.cache_model.specs.declared.cause.Cause.{Cause}
+use Rattle.cache_model.specs.declared.cause.Cause.TheVariants as cause
+use Rattle.cache_model.specs.declared.record.Rec.{Rec}
+use Rattle.cache_model.specs.declared.record.Rec.TheVariants as rec
+use Rattle.cache_model.specs.Legal.{format_records}
+use Rattle.cache_model.specs.Permit.{Permit}
+use Rattle.cache_model.specs.State.{fragment_piece, vector_piece}
+use Rattle.script_run.specs.Turn.{Turn}
+
+-- ---- the lines
+
+abbrev pub line_to_format : List ℕ
+line_to_format = codes "format mem:a 1 64 64 8 16 4 7"
+
+abbrev pub line_to_get : List ℕ
+line_to_get = codes "get /a"
+
+abbrev pub line_to_put : List ℕ
+line_to_put = codes "put /a 61"
+
+abbrev pub line_to_remove : List ℕ
+line_to_remove = codes "remove /a"
+
+-- the lines before the put, and all of them: the object is looked for before it is put, and got and removed behind that
+abbrev pub script_lines : List (List ℕ)
+script_lines = line_to_format ∷ line_to_get ∷ line_to_put ∷ line_to_get ∷ line_to_remove ∷ line_to_get ∷ []
+
+-- the key of the object, as a name: no SHA-256 is computed
+abbrev pub key_of_a : Key
+key_of_a = key_of_url (codes "/a")
+
+-- the body of the put
+abbrev pub body_of_a : List ℕ
+body_of_a = 97 ∷ []
+
+-- ---- what each line recorded
+
+-- the numbers of the first line, and five alternates
+abbrev pub script_geometry : Geometry
+script_geometry = record {
+  segments = 1;
+  buckets = 64;
+  content = 64;
+  agg = 8;
+  reach = 16;
+  fragment = 4;
+  generation = 7;
+  alternates = 5;
+  accepted = record {
+    segments_fit = (lit≤ tt, lit≤ tt);
+    buckets_fit = (lit≤ tt, lit≤ tt);
+    agg_fits = (lit≤ tt, lit≤ tt, refl);
+    content_fits = (lit≤ tt, lit< tt);
+    reach_fits = (lit≤ tt, lit< tt);
+    fragment_fits = (lit≤ tt, lit≤ tt);
+  };
+  keeps = record { some = lit≤ tt; few = lit≤ tt };
+}
+
+-- a lookup by no actor, with no lines of a request, that finds nothing
+abbrev pub miss_records : ℕ → Key → Cause → List Rec
+miss_records reader key why = rec.ReadOpened reader (record { 0 = 0 }) key [] (read.Miss why) ∷ []
+
+-- the one fragment of the put, in a table
+abbrev pub row_of_a : TableRow
+row_of_a = made_row 1 (digest_of body_of_a).0
+
+-- what the vector of the put lists
+abbrev pub alternate_of_a : Stored
+alternate_of_a = record { put = 1; pin = 0; length = 1; request = []; response = []; table = row_of_a ∷ [] }
+
+-- the digest of its fragment as a document, and that of its vector
+abbrev pub fragment_digest : Key → Digest
+fragment_digest key = digest_of_document (record { id = fragment_piece key 1 1; place = 64; generation = 7; pin = 0; start = 0 }) body_of_a
+
+abbrev pub vector_digest : Key → Digest
+vector_digest key =
+    digest_of_document (record { id = vector_piece key 1; place = 65; generation = 7; pin = 0; start = 0 }) (vector_bytes (alternate_of_a ∷ []))
+
+-- the put of one byte: its fragment takes the first block of the buffer, its vector the next one
+abbrev pub put_records : Key → List Rec
+put_records key =
+    rec.WriteOpened (record { 0 = 0 }) 1 key [] [] 0
+    ∷ rec.Cut 1 1 1 (digest_of body_of_a)
+    ∷ rec.Placed (fragment_piece key 1 1) 64 1 (fragment_digest key) 0
+    ∷ rec.Placed (vector_piece key 1) 65 1 (vector_digest key) 0
+    ∷ rec.Committed 1 key 1 (alternate_of_a ∷ [])
+    ∷ []
+
+-- it is read to its end
+abbrev pub get_records : Key → List Rec
+get_records key = rec.ReadOpened 2 (record { 0 = 0 }) key [] (read.Hit 1) ∷ rec.Gave 2 1 1 ∷ rec.Ended 2 1 ∷ rec.ReadClosed 2 ∷ []
+
+-- and removed
+abbrev pub removal_records : Key → List Rec
+removal_records key = rec.Removed 1 key ∷ []
+
+-- ---- the turns
+
+-- a device that makes no call, under a directory that displaces, at the moment 0
+abbrev pub silent : Permit
+silent = record { packed = true; syncs = false; now = 0; area = 0; past = []; events = [] }
+
+-- a line that added these records and gave these bytes, and made no call
+abbrev pub silent_turn : List Rec → List ℕ → Turn
+silent_turn added given = record { added = added; refused = None; device = silent; given = given }
+
+-- what each line of the script did
+abbrev pub turns_with : Key → List Turn
+turns_with key =
+    silent_turn (format_records script_geometry) []
+    ∷ silent_turn (miss_records 1 key cause.NeverPut) []
+    ∷ silent_turn (put_records key) []
+    ∷ silent_turn (get_records key) body_of_a
+    ∷ silent_turn (removal_records key) []
+    ∷ silent_turn (miss_records 3 key cause.Removed) []
+    ∷ []
+
+abbrev pub script_turns : List Turn
+script_turns = turns_with key_of_a

@@ -1,0 +1,35 @@
+//! A run of six lines, worked by hand, of which the laws of `headline` speak.
+#![tactic(auto)]
+
+ghost use Rattle.headline_rows.specs.Steps.{AMissIsAStep, APutIsAStep, AGetIsAStep, ARemovalIsAStep, AMissBehindItIsAStep};
+ghost use Rattle.headline_rows.specs.History.{TheScriptIsARun};
+
+/// The lines of the script have a legal history, written out by hand.
+pub fn the_script_is_a_run()
+    ensures { TheScriptIsARun }
+{}
+
+/// A lookup before the put finds nothing.
+pub fn a_miss_is_a_step()
+    ensures { AMissIsAStep }
+{}
+
+/// One byte is put.
+pub fn a_put_is_a_step()
+    ensures { APutIsAStep }
+{}
+
+/// It is given.
+pub fn a_get_is_a_step()
+    ensures { AGetIsAStep }
+{}
+
+/// It is removed.
+pub fn a_removal_is_a_step()
+    ensures { ARemovalIsAStep }
+{}
+
+/// And not found any more.
+pub fn a_miss_behind_it_is_a_step()
+    ensures { AMissBehindItIsAStep }
+{}
