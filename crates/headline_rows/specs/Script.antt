@@ -119,16 +119,30 @@ silent = record { packed = true; syncs = false; now = 0; area = 0; past = []; ev
 abbrev pub silent_turn : List Rec → List ℕ → Turn
 silent_turn added given = record { added = added; refused = None; device = silent; given = given }
 
--- what each line of the script did
+-- the format
+abbrev pub turn_of_format : Turn
+turn_of_format = silent_turn (format_records script_geometry) []
+
+-- the get before the put
+abbrev pub turn_of_miss : Key → Turn
+turn_of_miss key = silent_turn (miss_records 1 key cause.NeverPut) []
+
+abbrev pub turn_of_put : Key → Turn
+turn_of_put key = silent_turn (put_records key) []
+
+abbrev pub turn_of_get : Key → Turn
+turn_of_get key = silent_turn (get_records key) body_of_a
+
+abbrev pub turn_of_removal : Key → Turn
+turn_of_removal key = silent_turn (removal_records key) []
+
+-- the get behind the removal
+abbrev pub turn_at_last : Key → Turn
+turn_at_last key = silent_turn (miss_records 3 key cause.Removed) []
+
+-- what each line did, under any key
 abbrev pub turns_with : Key → List Turn
-turns_with key =
-    silent_turn (format_records script_geometry) []
-    ∷ silent_turn (miss_records 1 key cause.NeverPut) []
-    ∷ silent_turn (put_records key) []
-    ∷ silent_turn (get_records key) body_of_a
-    ∷ silent_turn (removal_records key) []
-    ∷ silent_turn (miss_records 3 key cause.Removed) []
-    ∷ []
+turns_with key = turn_of_format ∷ turn_of_miss key ∷ turn_of_put key ∷ turn_of_get key ∷ turn_of_removal key ∷ turn_at_last key ∷ []
 
 abbrev pub script_turns : List Turn
 script_turns = turns_with key_of_a

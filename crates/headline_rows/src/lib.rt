@@ -2,12 +2,26 @@
 #![tactic(auto)]
 
 ghost use Rattle.headline_rows.specs.Steps.{AMissIsAStep, APutIsAStep, AGetIsAStep, ARemovalIsAStep, AMissBehindItIsAStep};
-ghost use Rattle.headline_rows.specs.History.{TheScriptIsARun};
+ghost use Rattle.headline_rows.specs.History.{TheScriptIsARun, TheScriptIsAnswered, TheScriptPrints};
+
+use run_promise::texts_are_output;
 
 /// The lines of the script have a legal history, written out by hand.
 pub fn the_script_is_a_run()
     ensures { TheScriptIsARun }
 {}
+
+/// Each line is answered as the program prints it.
+pub fn the_script_is_answered()
+    ensures { TheScriptIsAnswered }
+{}
+
+/// And these answers are what is printed.
+pub fn the_script_prints()
+    ensures { TheScriptPrints }
+{
+    texts_are_output();
+}
 
 /// A lookup before the put finds nothing.
 pub fn a_miss_is_a_step()

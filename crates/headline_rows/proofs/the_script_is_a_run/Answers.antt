@@ -4,4 +4,4 @@ use Rattle.headline_rows.proofs.Along.{is_run}
 use Rattle.headline_rows.proofs.the_script_is_a_run.Goals as goal
 
 pub returns : goal.returns
-returns c = is_run key_of_a get_is_read put_is_read removal_is_read format_is_read
+returns c = is_run key_of_a format_is_read get_is_read put_is_read removal_is_read

@@ -1,0 +1,21 @@
+use Rattle.std.proofs.Common.{◌≡◌, ◌∙◌, ap, sym, refl}
+use Rattle.std.specs.Fmt.{digits}
+use Rattle.hex.specs.Hex.{encode_with}
+use Rattle.script_lang.specs.Texts.{cause_line, formatted_line, got_line, number_line, put_line, shown}
+use Rattle.script_run.specs.Run.{fresh}
+use Rattle.run_promise.specs.Lines.{texts_of}
+use Rattle.headline_rows.specs.History.{script_answers, script_output}
+use Rattle.headline_rows.specs.Script.{key_of_a, script_lines, script_turns}
+use Rattle.headline_rows.proofs.Readings.{format_is_read, get_is_read, put_is_read, removal_is_read}
+use Rattle.headline_rows.proofs.Along.{is_answered}
+use Rattle.headline_rows.proofs.the_script_prints.Goals as goal
+
+are_printed : texts_of script_answers ≡ script_output
+unfolding cause_line formatted_line got_line number_line put_line shown encode_with digits
+are_printed = refl
+
+pub returns : goal.returns
+returns c =
+    sym (c.texts_are_output.ensures fresh script_lines script_turns)
+    ∙ ap texts_of (is_answered key_of_a format_is_read get_is_read put_is_read removal_is_read)
+    ∙ are_printed
