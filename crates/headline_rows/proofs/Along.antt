@@ -1,100 +1,115 @@
--- The script line by line: each reading is a step, and the run behind it goes on.
-use Rattle.std.proofs.Common.{◌≡◌, ◌∙◌, ℕ, List, [], ◌∷◌, refl, sym, ap, subst}
-use Rattle.std.specs.Prelude.{codes, drop, Option, Some}
-use Rattle.tape_base.specs.declared.keys.Key.{Key}
+-- What is said of lines is said of the steps as which they are read.
+use Rattle.std.proofs.Common.{◌≡◌, ◌∙◌, ℕ, ◌+◌, ◌<◌, List, [], ◌∷◌, refl, sym, ap, subst}
+use Rattle.std.specs.Prelude.{if◌then◌else◌, Option, Some, ⊤}
 use Rattle.script_lang.specs.declared.line.LineAnswer.{LineAnswer}
 use Rattle.script_lang.specs.declared.line.LineAnswer.TheVariants as line
 use Rattle.script_lang.specs.declared.answer.StepAnswer.{StepAnswer}
 use Rattle.script_lang.specs.declared.step.Step.{Step}
-use Rattle.script_lang.specs.declared.step.Step.TheVariants as step
 use Rattle.script_lang.specs.Grammar.{reading_of}
-use Rattle.script_run.specs.Run.{Run, fresh}
+use Rattle.script_run.specs.Run.{Run}
 use Rattle.script_run.specs.Turn.{Turn}
 use Rattle.script_run.specs.Behind.{after_reading, after_step}
 use Rattle.script_run.specs.Answers.{step_answer}
-use Rattle.script_run.specs.Takes.{IsRun, ReadingTakes, StepTakes}
-use Rattle.run_promise.specs.Lines.{answers_of, reading_answer}
-use Rattle.headline_rows.specs.Script.{body_of_a, line_to_format, line_to_get, line_to_put, line_to_remove, script_geometry, script_lines, turn_at_last, turn_of_format, turn_of_get, turn_of_miss, turn_of_put, turn_of_removal, turns_with}
-use Rattle.headline_rows.specs.History.{script_answers}
-use Rattle.headline_rows.proofs.Missed.{miss_is_a_step}
-use Rattle.headline_rows.proofs.PutIn.{put_is_a_step}
-use Rattle.headline_rows.proofs.Gotten.{get_is_a_step, miss_behind_is_a_step, removal_is_a_step}
+use Rattle.script_run.specs.Takes.{IsRun, ReadingTakes, StepTakes, run_after}
+use Rattle.run_promise.specs.Lines.{AreAnswered, IsReadAs, answers_of, outline_of, outline_read, reading_answer}
+use Rattle.run_promise.specs.Needs.{NeedsSession}
+use Rattle.run_promise.specs.Outline.{IsAnswered, Outline, outline_after}
+use Rattle.reader_laws.specs.Along.{begins_session}
+use Rattle.headline.specs.Account.{begun_in}
+use Rattle.headline.specs.Endings.{AreTakeable, MayBeTaken}
 
--- the step of a line takes it on
-goes_on : (run : Run) (turn : Turn) (bytes : List ℕ) (lines : List (List ℕ)) (turns : List Turn) (asks : Step)
-    → reading_of bytes ≡ line.Step asks → StepTakes run turn asks → IsRun (after_step run turn asks) lines turns → IsRun run (bytes ∷ lines) (turn ∷ turns)
-goes_on run turn bytes lines turns asks e takes rest =
-    (subst (λ (r : LineAnswer). ReadingTakes run turn r) (sym e) takes, subst (λ (r : LineAnswer). IsRun (after_reading run turn r) lines turns) (sym e) rest)
+-- each line is read as this step
+abbrev pub AreRead : List (List ℕ) → List Step → Type 0
+AreRead [] [] = ⊤
+AreRead (bytes ∷ lines) (asks ∷ steps) = (reading_of bytes ≡ line.Step asks) × AreRead lines steps
+AreRead _ _ = ⊥
 
--- and is answered
-says : (run : Run) (turn : Turn) (bytes : List ℕ) (lines : List (List ℕ)) (turns : List Turn) (asks : Step) (said : StepAnswer) (rest : List (Option StepAnswer))
-    → reading_of bytes ≡ line.Step asks → step_answer run turn asks ≡ said → answers_of (after_step run turn asks) lines turns ≡ rest
-    → answers_of run (bytes ∷ lines) (turn ∷ turns) ≡ Some said ∷ rest
-says run turn bytes lines turns asks said rest e is behind =
-    ap (λ (r : LineAnswer). reading_answer run turn r ∷ answers_of (after_reading run turn r) lines turns) e
-    ∙ ap (λ (a : StepAnswer). Some a ∷ answers_of (after_step run turn asks) lines turns) is
-    ∙ ap (λ (answers : List (Option StepAnswer)). Some said ∷ answers) behind
+abbrev pub StepsTake : Run → List Step → List Turn → Type 0
+StepsTake run [] [] = ⊤
+StepsTake run (asks ∷ steps) (turn ∷ turns) = StepTakes run turn asks × StepsTake (after_step run turn asks) steps turns
+StepsTake run _ _ = ⊥
 
-abbrev step_to_format : Step
-step_to_format = step.Format (codes "mem:a") 1 64 64 8 16 4 7 5
+pub are_run : (run : Run) (lines : List (List ℕ)) (steps : List Step) (turns : List Turn) → AreRead lines steps → StepsTake run steps turns → IsRun run lines turns
+are_run run [] [] [] reads takes = tt
+are_run run [] [] (turn ∷ turns) reads takes = absurd takes
+are_run run [] (asks ∷ steps) turns reads takes = absurd reads
+are_run run (bytes ∷ lines) [] turns reads takes = absurd reads
+are_run run (bytes ∷ lines) (asks ∷ steps) [] reads takes = absurd takes
+are_run run (bytes ∷ lines) (asks ∷ steps) (turn ∷ turns) reads takes =
+    let rest : IsRun (after_step run turn asks) lines turns = are_run (after_step run turn asks) lines steps turns reads.1 takes.1 in
+    (subst (λ (r : LineAnswer). ReadingTakes run turn r) (sym reads.0) takes.0, subst (λ (r : LineAnswer). IsRun (after_reading run turn r) lines turns) (sym reads.0) rest)
 
-abbrev run_of_format : Run
-run_of_format = after_step fresh turn_of_format step_to_format
+abbrev pub run_by : Run → List Step → List Turn → Run
+run_by run [] turns = run
+run_by run (asks ∷ steps) [] = run
+run_by run (asks ∷ steps) (turn ∷ turns) = run_by (after_step run turn asks) steps turns
 
-module _ (key : Key) where
-  abbrev step_to_get : Step
-  step_to_get = step.Get key []
+pub run_is : (run : Run) (lines : List (List ℕ)) (steps : List Step) (turns : List Turn) → AreRead lines steps → run_after run lines turns ≡ run_by run steps turns
+run_is run [] [] turns reads = refl
+run_is run [] (asks ∷ steps) turns reads = absurd reads
+run_is run (bytes ∷ lines) [] turns reads = absurd reads
+run_is run (bytes ∷ lines) (asks ∷ steps) [] reads = refl
+run_is run (bytes ∷ lines) (asks ∷ steps) (turn ∷ turns) reads =
+    ap (λ (r : LineAnswer). run_after (after_reading run turn r) lines turns) reads.0 ∙ run_is (after_step run turn asks) lines steps turns reads.1
 
-  abbrev step_to_put : Step
-  step_to_put = step.Put key body_of_a [] []
+abbrev pub answers_by : Run → List Step → List Turn → List (Option StepAnswer)
+answers_by run [] turns = []
+answers_by run (asks ∷ steps) [] = []
+answers_by run (asks ∷ steps) (turn ∷ turns) = Some (step_answer run turn asks) ∷ answers_by (after_step run turn asks) steps turns
 
-  abbrev step_to_remove : Step
-  step_to_remove = step.Remove key
+pub answers_are : (run : Run) (lines : List (List ℕ)) (steps : List Step) (turns : List Turn) → AreRead lines steps → answers_of run lines turns ≡ answers_by run steps turns
+answers_are run [] [] turns reads = refl
+answers_are run [] (asks ∷ steps) turns reads = absurd reads
+answers_are run (bytes ∷ lines) [] turns reads = absurd reads
+answers_are run (bytes ∷ lines) (asks ∷ steps) [] reads = refl
+answers_are run (bytes ∷ lines) (asks ∷ steps) (turn ∷ turns) reads =
+    ap (λ (r : LineAnswer). reading_answer run turn r ∷ answers_of (after_reading run turn r) lines turns) reads.0
+    ∙ ap (λ (rest : List (Option StepAnswer)). Some (step_answer run turn asks) ∷ rest) (answers_are (after_step run turn asks) lines steps turns reads.1)
 
-  abbrev run_of_miss : Run
-  run_of_miss = after_step run_of_format (turn_of_miss key) step_to_get
+abbrev pub AreAnsweredBy : Outline → List Step → List StepAnswer → Type 0
+AreAnsweredBy o [] [] = ⊤
+AreAnsweredBy o (asks ∷ steps) (said ∷ answers) = IsAnswered o asks said × AreAnsweredBy (outline_after o asks said) steps answers
+AreAnsweredBy o _ _ = ⊥
 
-  abbrev run_of_put : Run
-  run_of_put = after_step run_of_miss (turn_of_put key) step_to_put
+abbrev pub each_said : List StepAnswer → List (Option StepAnswer)
+each_said [] = []
+each_said (said ∷ answers) = Some said ∷ each_said answers
 
-  abbrev run_of_get : Run
-  run_of_get = after_step run_of_put (turn_of_get key) step_to_get
+pub are_answered : (o : Outline) (lines : List (List ℕ)) (steps : List Step) (answers : List StepAnswer) → AreRead lines steps
+    → AreAnsweredBy o steps answers → AreAnswered o lines (each_said answers)
+are_answered o [] [] [] reads are = tt
+are_answered o [] [] (said ∷ answers) reads are = absurd are
+are_answered o [] (asks ∷ steps) answers reads are = absurd reads
+are_answered o (bytes ∷ lines) [] answers reads are = absurd reads
+are_answered o (bytes ∷ lines) (asks ∷ steps) [] reads are = absurd are
+are_answered o (bytes ∷ lines) (asks ∷ steps) (said ∷ answers) reads are =
+    let rest : AreAnswered (outline_after o asks said) lines (each_said answers) = are_answered (outline_after o asks said) lines steps answers reads.1 are.1 in
+    (subst (λ (r : LineAnswer). IsReadAs o r (Some said)) (sym reads.0) are.0,
+      subst (λ (r : LineAnswer). AreAnswered (outline_read o r (Some said)) lines (each_said answers)) (sym reads.0) rest)
 
-  abbrev run_of_removal : Run
-  run_of_removal = after_step run_of_get (turn_of_removal key) step_to_remove
+abbrev pub outline_by : Outline → List Step → List StepAnswer → Outline
+outline_by o [] answers = o
+outline_by o (asks ∷ steps) [] = o
+outline_by o (asks ∷ steps) (said ∷ answers) = outline_by (outline_after o asks said) steps answers
 
-  module _ (format_is : reading_of line_to_format ≡ line.Step step_to_format) (get_is : reading_of line_to_get ≡ line.Step step_to_get)
-      (put_is : reading_of line_to_put ≡ line.Step step_to_put) (removal_is : reading_of line_to_remove ≡ line.Step step_to_remove) where
-    from_last : IsRun run_of_removal (drop 5 script_lines) (drop 5 (turns_with key))
-    from_last = goes_on run_of_removal (turn_at_last key) line_to_get [] [] step_to_get get_is
-        (record { packs = refl; unsynced = refl; content = refl; moment = refl; legal = miss_behind_is_a_step key; own = refl }) tt
+pub outline_is : (o : Outline) (lines : List (List ℕ)) (steps : List Step) (answers : List StepAnswer) → AreRead lines steps
+    → outline_of o lines (each_said answers) ≡ outline_by o steps answers
+outline_is o [] [] answers reads = refl
+outline_is o [] (asks ∷ steps) answers reads = absurd reads
+outline_is o (bytes ∷ lines) [] answers reads = absurd reads
+outline_is o (bytes ∷ lines) (asks ∷ steps) [] reads = refl
+outline_is o (bytes ∷ lines) (asks ∷ steps) (said ∷ answers) reads =
+    ap (λ (r : LineAnswer). outline_of (outline_read o r (Some said)) lines (each_said answers)) reads.0
+    ∙ outline_is (outline_after o asks said) lines steps answers reads.1
 
-    from_removal : IsRun run_of_get (drop 4 script_lines) (drop 4 (turns_with key))
-    from_removal = goes_on run_of_get (turn_of_removal key) line_to_remove (drop 5 script_lines) (drop 5 (turns_with key)) step_to_remove removal_is
-        (record { packs = refl; unsynced = refl; content = refl; moment = refl; legal = removal_is_a_step key; own = refl }) from_last
+abbrev pub AreTakeableBy : ℕ → List Step → Type 0
+AreTakeableBy sessions [] = ⊤
+AreTakeableBy sessions (asks ∷ steps) = (NeedsSession asks → 0 < sessions) × AreTakeableBy (sessions + (if begins_session asks then 1 else 0)) steps
 
-    from_get : IsRun run_of_put (drop 3 script_lines) (drop 3 (turns_with key))
-    from_get = goes_on run_of_put (turn_of_get key) line_to_get (drop 4 script_lines) (drop 4 (turns_with key)) step_to_get get_is
-        (record { packs = refl; unsynced = refl; content = refl; moment = refl; legal = get_is_a_step key; own = refl }) from_removal
-
-    from_put : IsRun run_of_miss (drop 2 script_lines) (drop 2 (turns_with key))
-    from_put = goes_on run_of_miss (turn_of_put key) line_to_put (drop 3 script_lines) (drop 3 (turns_with key)) step_to_put put_is
-        (record { packs = refl; unsynced = refl; content = refl; moment = refl; legal = put_is_a_step key; own = refl }) from_get
-
-    from_miss : IsRun run_of_format (drop 1 script_lines) (drop 1 (turns_with key))
-    from_miss = goes_on run_of_format (turn_of_miss key) line_to_get (drop 2 script_lines) (drop 2 (turns_with key)) step_to_get get_is
-        (record { packs = refl; unsynced = refl; content = refl; moment = refl; legal = miss_is_a_step key; own = refl }) from_put
-
-    pub is_run : IsRun fresh script_lines (turns_with key)
-    is_run = goes_on fresh turn_of_format line_to_format (drop 1 script_lines) (drop 1 (turns_with key)) step_to_format format_is
-        (script_geometry, record { has_segments = refl; has_buckets = refl; has_content = refl; has_agg = refl; has_reach = refl; has_fragment = refl; has_generation = refl; has_alternates = refl }, refl)
-        from_miss
-
-    pub is_answered : answers_of fresh script_lines (turns_with key) ≡ script_answers
-    is_answered =
-        says fresh turn_of_format line_to_format (drop 1 script_lines) (drop 1 (turns_with key)) step_to_format _ _ format_is refl
-        (says run_of_format (turn_of_miss key) line_to_get (drop 2 script_lines) (drop 2 (turns_with key)) step_to_get _ _ get_is refl
-        (says run_of_miss (turn_of_put key) line_to_put (drop 3 script_lines) (drop 3 (turns_with key)) step_to_put _ _ put_is refl
-        (says run_of_put (turn_of_get key) line_to_get (drop 4 script_lines) (drop 4 (turns_with key)) step_to_get _ _ get_is refl
-        (says run_of_get (turn_of_removal key) line_to_remove (drop 5 script_lines) (drop 5 (turns_with key)) step_to_remove _ _ removal_is refl
-        (says run_of_removal (turn_at_last key) line_to_get [] [] step_to_get _ _ get_is refl refl)))))
+pub are_takeable : (sessions : ℕ) (lines : List (List ℕ)) (steps : List Step) → AreRead lines steps → AreTakeableBy sessions steps → AreTakeable sessions lines
+are_takeable sessions [] [] reads are = tt
+are_takeable sessions [] (asks ∷ steps) reads are = absurd reads
+are_takeable sessions (bytes ∷ lines) [] reads are = absurd reads
+are_takeable sessions (bytes ∷ lines) (asks ∷ steps) reads are =
+    let rest : AreTakeable (sessions + (if begins_session asks then 1 else 0)) lines = are_takeable (sessions + (if begins_session asks then 1 else 0)) lines steps reads.1 are.1 in
+    (subst (λ (r : LineAnswer). MayBeTaken sessions r) (sym reads.0) are.0, subst (λ (r : LineAnswer). AreTakeable (sessions + begun_in r) lines) (sym reads.0) rest)

@@ -4,3 +4,5 @@ mod PutIn
 mod Gotten
 mod Readings
 mod Along
+mod Script
+mod Tells

@@ -1,3 +1,4 @@
 pub mod Script
 pub mod Steps
 pub mod History
+pub mod Told

@@ -3,6 +3,7 @@
 
 ghost use Rattle.headline_rows.specs.Steps.{AMissIsAStep, APutIsAStep, AGetIsAStep, ARemovalIsAStep, AMissBehindItIsAStep};
 ghost use Rattle.headline_rows.specs.History.{TheScriptIsARun, TheScriptIsAnswered, TheScriptPrints};
+ghost use Rattle.headline_rows.specs.Told.{TheScriptHasAnAccount, TheScriptIsConcluded};
 
 use run_promise::texts_are_output;
 
@@ -20,7 +21,24 @@ pub fn the_script_is_answered()
 pub fn the_script_prints()
     ensures { TheScriptPrints }
 {
+    the_script_is_answered();
     texts_are_output();
+}
+
+/// The run has an account, with these turns.
+pub fn the_script_has_an_account()
+    ensures { TheScriptHasAnAccount }
+{
+    the_script_is_a_run();
+    the_script_is_answered();
+}
+
+/// What the top call concludes with the status Done holds of the logs of such a run.
+pub fn the_script_is_concluded()
+    ensures { TheScriptIsConcluded }
+{
+    the_script_is_a_run();
+    the_script_is_answered();
 }
 
 /// A lookup before the put finds nothing.

@@ -1,7 +1,8 @@
-use Rattle.headline_rows.specs.Script.{key_of_a}
-use Rattle.headline_rows.proofs.Readings.{format_is_read, get_is_read, put_is_read, removal_is_read}
-use Rattle.headline_rows.proofs.Along.{is_run}
+use Rattle.script_run.specs.Run.{fresh}
+use Rattle.headline_rows.specs.Script.{key_of_a, script_lines, script_turns}
+use Rattle.headline_rows.proofs.Along.{are_run}
+use Rattle.headline_rows.proofs.Script.{are_read, are_taken, steps_with}
 use Rattle.headline_rows.proofs.the_script_is_a_run.Goals as goal
 
 pub returns : goal.returns
-returns c = is_run key_of_a format_is_read get_is_read put_is_read removal_is_read
+returns c = are_run fresh script_lines (steps_with key_of_a) script_turns are_read (are_taken key_of_a)

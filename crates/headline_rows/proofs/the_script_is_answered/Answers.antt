@@ -1,7 +1,9 @@
-use Rattle.headline_rows.specs.Script.{key_of_a}
-use Rattle.headline_rows.proofs.Readings.{format_is_read, get_is_read, put_is_read, removal_is_read}
-use Rattle.headline_rows.proofs.Along.{is_answered}
+use Rattle.std.proofs.Common.{◌∙◌}
+use Rattle.script_run.specs.Run.{fresh}
+use Rattle.headline_rows.specs.Script.{key_of_a, script_lines, script_turns}
+use Rattle.headline_rows.proofs.Along.{answers_are}
+use Rattle.headline_rows.proofs.Script.{are_read, are_said, steps_with}
 use Rattle.headline_rows.proofs.the_script_is_answered.Goals as goal
 
 pub returns : goal.returns
-returns c = is_answered key_of_a format_is_read get_is_read put_is_read removal_is_read
+returns c = answers_are fresh script_lines (steps_with key_of_a) script_turns are_read ∙ are_said key_of_a

@@ -5,9 +5,7 @@ use Rattle.script_lang.specs.Texts.{cause_line, formatted_line, got_line, number
 use Rattle.script_run.specs.Run.{fresh}
 use Rattle.run_promise.specs.Lines.{texts_of}
 use Rattle.headline_rows.specs.History.{script_answers, script_output}
-use Rattle.headline_rows.specs.Script.{key_of_a, script_lines, script_turns}
-use Rattle.headline_rows.proofs.Readings.{format_is_read, get_is_read, put_is_read, removal_is_read}
-use Rattle.headline_rows.proofs.Along.{is_answered}
+use Rattle.headline_rows.specs.Script.{script_lines, script_turns}
 use Rattle.headline_rows.proofs.the_script_prints.Goals as goal
 
 are_printed : texts_of script_answers ≡ script_output
@@ -17,5 +15,5 @@ are_printed = refl
 pub returns : goal.returns
 returns c =
     sym (c.texts_are_output.ensures fresh script_lines script_turns)
-    ∙ ap texts_of (is_answered key_of_a format_is_read get_is_read put_is_read removal_is_read)
+    ∙ ap texts_of c.the_script_is_answered.ensures
     ∙ are_printed

@@ -1,0 +1,39 @@
+-- The script as steps, under any key: each is taken, and answered.
+use Rattle.std.proofs.Common.{◌≡◌, ℕ, List, [], ◌∷◌, refl}
+use Rattle.std.specs.Prelude.{codes, Option, Some}
+use Rattle.tape_base.specs.declared.keys.Key.{Key}
+use Rattle.script_lang.specs.declared.step.Step.{Step}
+use Rattle.script_lang.specs.declared.step.Step.TheVariants as step
+use Rattle.script_run.specs.Run.{fresh}
+use Rattle.headline_rows.specs.Script.{body_of_a, key_of_a, script_geometry, script_lines, turns_with}
+use Rattle.headline_rows.specs.History.{script_answers}
+use Rattle.headline_rows.proofs.Along.{AreRead, StepsTake, answers_by}
+use Rattle.headline_rows.proofs.Missed.{miss_is_a_step}
+use Rattle.headline_rows.proofs.PutIn.{put_is_a_step}
+use Rattle.headline_rows.proofs.Gotten.{get_is_a_step, miss_behind_is_a_step, removal_is_a_step}
+use Rattle.headline_rows.proofs.Readings.{format_is_read, get_is_read, put_is_read, removal_is_read}
+
+abbrev pub steps_with : Key → List Step
+steps_with key =
+    step.Format (codes "mem:a") 1 64 64 8 16 4 7 5
+    ∷ step.Get key []
+    ∷ step.Put key body_of_a [] []
+    ∷ step.Get key []
+    ∷ step.Remove key
+    ∷ step.Get key []
+    ∷ []
+
+pub are_read : AreRead script_lines (steps_with key_of_a)
+are_read = (format_is_read, (get_is_read, (put_is_read, (get_is_read, (removal_is_read, (get_is_read, tt))))))
+
+pub are_taken : (key : Key) → StepsTake fresh (steps_with key) (turns_with key)
+are_taken key =
+    ((script_geometry, record { has_segments = refl; has_buckets = refl; has_content = refl; has_agg = refl; has_reach = refl; has_fragment = refl; has_generation = refl; has_alternates = refl }, refl),
+    (record { packs = refl; unsynced = refl; content = refl; moment = refl; legal = miss_is_a_step key; own = refl },
+    (record { packs = refl; unsynced = refl; content = refl; moment = refl; legal = put_is_a_step key; own = refl },
+    (record { packs = refl; unsynced = refl; content = refl; moment = refl; legal = get_is_a_step key; own = refl },
+    (record { packs = refl; unsynced = refl; content = refl; moment = refl; legal = removal_is_a_step key; own = refl },
+    (record { packs = refl; unsynced = refl; content = refl; moment = refl; legal = miss_behind_is_a_step key; own = refl }, tt))))))
+
+pub are_said : (key : Key) → answers_by fresh (steps_with key) (turns_with key) ≡ script_answers
+are_said key = refl
