@@ -1,8 +1,7 @@
 -- What was put is given, and removed: steps over the states as they are written out.
-use Rattle.std.proofs.Common.{◌≡◌, ◌∙◌, ℕ, ◌≤◌, List, [], ◌∷◌, refl, sym, ap, subst, lit≤, Bool, true, false, Some, None}
+use Rattle.std.proofs.Common.{◌≡◌, ◌∙◌, [], ◌∷◌, refl, sym, ap, subst, lit≤, Some, None}
 use Rattle.tape_base.specs.declared.keys.Key.{Key}
 use Rattle.tape_base.proofs.NameLaws.{same_key-same}
-use Rattle.fragment_table.specs.Table.{TableRow}
 use Rattle.cache_model.specs.declared.answer.ReadAnswer.{ReadAnswer}
 use Rattle.cache_model.specs.declared.answer.ReadAnswer.TheVariants as read
 use Rattle.cache_model.specs.declared.answer.NextAnswer.{NextAnswer}
@@ -15,12 +14,12 @@ use Rattle.cache_model.specs.Legal
 use Rattle.cache_model.specs.Legal.{IsLookup, IsNextAsListed, IsReading, IsStep, MayGrow, more, nothing}
 use Rattle.cache_model.specs.Permit.{Done, ReadAll, Remove, Stays, StopReading}
 use Rattle.cache_model.specs.State.{ReaderRow, Row, State, after_all, fragment_piece, live_row_of}
-use Rattle.cache_model.specs.Verdict.{digest_in, live_vector_of, lookup_verdict, next_row, reader_verdict}
+use Rattle.cache_model.specs.Verdict.{digest_in, live_vector_of, lookup_verdict, reader_verdict}
 use Rattle.script_run.specs.Asked.{get_intents}
 use Rattle.headline_rows.specs.Script.{get_records, miss_records, removal_records, row_of_a, silent}
-use Rattle.headline_rows.specs.Steps.{AGetIsAStep, AMissBehindItIsAStep, ARemovalIsAStep, fragment_row, held_state, state_of_get, state_of_put, state_of_removal, vector_row}
+use Rattle.headline_rows.specs.Steps.{AGetIsAStep, AMissBehindItIsAStep, ARemovalIsAStep, ThePutHolds, fragment_row, held_state, state_of_get, vector_row}
 
-pub put_holds : (key : Key) → state_of_put key ≡ held_state key
+pub put_holds : ThePutHolds
 put_holds key = rw (same_key-same key) refl
 
 -- ---- the get
@@ -33,7 +32,8 @@ is_found key = simp (same_key-same key)
 
 looks_up : (key : Key) → IsLookup silent (held_state key) key [] [] (read.Hit 1)
 looks_up key =
-    let live : IsReadWhereLive silent (held_state key) (live_vector_of (held_state key) key) = rw (vector_is_live key) (Given.IsRead.buffered (lit≤ tt)) in
+    let live : IsReadWhereLive silent (held_state key) (live_vector_of (held_state key) key) =
+    rw (vector_is_live key) (Given.IsRead.buffered (lit≤ tt)) in
     subst (λ (answer : ReadAnswer). IsLookup silent (held_state key) key [] [] answer) (is_found key) (Legal.IsLookup.verdict live)
 
 abbrev reader_at_first : Key → ReaderRow
@@ -61,14 +61,36 @@ is_as_listed key entry row listed live payload has =
 
 gives : (key : Key) → IsReading silent (reading_state key) (reader_at_first key) [] (next.Gave 1 1)
 gives key =
-    let live : IsReadWhereLive silent (reading_state key) (live_row_of (reading_state key) (fragment_piece key 1 1)) = rw (fragment_is_live key) (Given.IsRead.buffered (lit≤ tt)) in
-    subst (λ (answer : NextAnswer). IsReading silent (reading_state key) (reader_at_first key) [] answer) (is_given key) (Legal.IsReading.verdict live (is_as_listed key))
+    let live : IsReadWhereLive silent (reading_state key) (live_row_of (reading_state key) (fragment_piece key 1 1)) =
+    rw (fragment_is_live key) (Given.IsRead.buffered (lit≤ tt)) in
+    subst (λ (answer : NextAnswer). IsReading silent (reading_state key) (reader_at_first key) [] answer) (is_given key)
+    (Legal.IsReading.verdict live (is_as_listed key))
+
+-- it was given the one fragment
+abbrev reader_at_last : Key → ReaderRow
+reader_at_last key = record (reader_at_first key) { next = 2 }
+
+abbrev read_state : Key → State
+read_state key = record (reading_state key) { readers = reader_at_last key ∷ [] }
+
+ends : (key : Key) → IsReading silent (read_state key) (reader_at_last key) [] (next.Ended 1)
+ends key = Legal.IsReading.verdict tt (λ entry row listed live. absurd cc)
 
 reads_on : (key : Key) → MayGrow silent (reading_state key) (record { intents = ReadAll 2 ∷ StopReading 2 ∷ []; refused = None })
     (rec.Gave 2 1 1 ∷ rec.Ended 2 1 ∷ rec.ReadClosed 2 ∷ []) (record { intents = []; refused = None })
 reads_on key =
-    more (_ ∷ []) _ (Stays, Legal.DoesReadAll.reads_on (next.Gave 1 1) refl (record { r = _; before = []; quiet = refl; reading = refl; right = gives key; is = refl }) refl, refl)
-    (more (_ ∷ []) _ (Done, Legal.DoesReadAll.reads_on (next.Ended 1) refl (record { r = _; before = []; quiet = refl; reading = refl; right = Legal.IsReading.verdict tt (λ entry row listed live. absurd cc); is = refl }) refl, refl)
+    more (_ ∷ []) _ (
+      Stays,
+      Legal.DoesReadAll.reads_on (next.Gave 1 1) refl
+          (record { r = _; before = []; quiet = refl; reading = refl; right = gives key; is = refl }) refl,
+      refl,
+    )
+    (more (_ ∷ []) _ (
+      Done,
+      Legal.DoesReadAll.reads_on (next.Ended 1) refl
+          (record { r = _; before = []; quiet = refl; reading = refl; right = ends key; is = refl }) refl,
+      refl,
+    )
     (more (_ ∷ []) _ (Done, Legal.DoesStopReading.closes _ refl refl refl, refl) nothing))
 
 abbrev GetsFrom : Key → State → Type 0
@@ -76,9 +98,15 @@ GetsFrom key s = IsStep silent s (get_intents s key []) (get_records key) None
 
 pub get_is_a_step : AGetIsAStep
 get_is_a_step key = subst (GetsFrom key) (sym (put_holds key)) (record {
-  grows = more (_ ∷ []) _ (Done, Legal.DoesLook.looks (record { who = record { 0 = 0 }; before = []; answer = _; number = refl; quiet = refl; right = looks_up key; is = refl }), refl)
+  grows = more (_ ∷ []) _ (
+    Done,
+    Legal.DoesLook.looks
+        (record { who = record { 0 = 0 }; before = []; answer = _; number = refl; quiet = refl; right = looks_up key; is = refl }),
+    refl,
+  )
       (subst (λ (s : State). MayGrow silent s (record { intents = ReadAll 2 ∷ StopReading 2 ∷ []; refused = None })
-        (rec.Gave 2 1 1 ∷ rec.Ended 2 1 ∷ rec.ReadClosed 2 ∷ []) (record { intents = []; refused = None })) (sym (is_reading key)) (reads_on key));
+      (rec.Gave 2 1 1 ∷ rec.Ended 2 1 ∷ rec.ReadClosed 2 ∷ []) (record { intents = []; refused = None }))
+      (sym (is_reading key)) (reads_on key));
   quiet = refl;
   faults = refl;
   effects = λ off. refl;
@@ -124,7 +152,12 @@ MissesFrom key s = IsStep silent s (get_intents s key []) (miss_records 3 key ca
 
 pub miss_behind_is_a_step : AMissBehindItIsAStep
 miss_behind_is_a_step key = subst (λ (s : State). MissesFrom key (after_all s (removal_records key))) (sym (get_leaves key)) (record {
-  grows = more (_ ∷ []) _ (Done, Legal.DoesLook.looks (record { who = record { 0 = 0 }; before = []; answer = _; number = refl; quiet = refl; right = looks_behind key; is = refl }), refl)
+  grows = more (_ ∷ []) _ (
+    Done,
+    Legal.DoesLook.looks
+        (record { who = record { 0 = 0 }; before = []; answer = _; number = refl; quiet = refl; right = looks_behind key; is = refl }),
+    refl,
+  )
       (more [] _ (Done, Legal.DoesReadAll.has_none refl refl refl refl, refl)
       (more [] _ (Done, Legal.DoesStopReading.closed refl refl refl, refl) nothing));
   quiet = refl;

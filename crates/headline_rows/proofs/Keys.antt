@@ -1,5 +1,5 @@
 -- What holds whatever number a key has.
-use Rattle.std.proofs.Common.{◌≡◌, ◌∙◌, ℕ, zero, suc, ◌+◌, ◌*◌, ◌<◌, ◌≤◌, List, [], ◌∷◌, length, refl, sym, arith, lit<, lit≤, Bool, true, false}
+use Rattle.std.proofs.Common.{◌≡◌, ℕ, zero, suc, ◌+◌, ◌*◌, ◌<◌, ◌≤◌, List, [], ◌∷◌, length, refl, arith, lit<, lit≤, Bool, true, false}
 use Rattle.std.specs.Prelude.{◌==◌, ◌&&◌, filter}
 use Rattle.std.proofs.lemmas.Bool.{eqb-true}
 use Rattle.hex.specs.Hex.{IsBytes}
@@ -14,7 +14,8 @@ not_full s bucket rows less = by (is_bucket_used s rows bucket) (length rows == 
     by false c e = refl
     by true false e = refl
     by true true e =
-        let same : length rows ≡ 3 * s.geometry.buckets + used_buckets s rows = eqb-true (length rows) (3 * s.geometry.buckets + used_buckets s rows) e in
+        let same : length rows ≡ 3 * s.geometry.buckets + used_buckets s rows =
+        eqb-true (length rows) (3 * s.geometry.buckets + used_buckets s rows) e in
         absurd (omega (arith, less, same))
 
 pub one_at_most : {X : Type 0} (test : X → Bool) (x : X) → length (filter test (x ∷ [])) ≤ 1

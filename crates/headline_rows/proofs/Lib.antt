@@ -6,3 +6,5 @@ mod Readings
 mod Along
 mod Script
 mod Tells
+mod Fine
+mod Sentences

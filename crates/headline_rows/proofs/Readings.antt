@@ -1,5 +1,5 @@
 -- The lines of the script, as the grammar reads them.
-use Rattle.std.proofs.Common.{◌≡◌, List, [], ◌∷◌, refl}
+use Rattle.std.proofs.Common.{◌≡◌, [], refl}
 use Rattle.std.specs.Prelude.{codes}
 use Rattle.hex.specs.Hex.{decode_pairs}
 use Rattle.script_lang.specs.declared.line.LineAnswer.TheVariants as line

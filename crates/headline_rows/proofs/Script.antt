@@ -1,7 +1,8 @@
 -- The script as steps, under any key: each is taken, and answered.
-use Rattle.std.proofs.Common.{◌≡◌, ℕ, List, [], ◌∷◌, refl}
-use Rattle.std.specs.Prelude.{codes, Option, Some}
+use Rattle.std.proofs.Common.{◌≡◌, List, [], ◌∷◌, refl}
+use Rattle.std.specs.Prelude.{codes}
 use Rattle.tape_base.specs.declared.keys.Key.{Key}
+use Rattle.tape_base.specs.Geometry.{HasNumbers}
 use Rattle.script_lang.specs.declared.step.Step.{Step}
 use Rattle.script_lang.specs.declared.step.Step.TheVariants as step
 use Rattle.script_run.specs.Run.{fresh}
@@ -26,14 +27,35 @@ steps_with key =
 pub are_read : AreRead script_lines (steps_with key_of_a)
 are_read = (format_is_read, (get_is_read, (put_is_read, (get_is_read, (removal_is_read, (get_is_read, tt))))))
 
+has_numbers : HasNumbers script_geometry 1 64 64 8 16 4 7 5
+has_numbers = record {
+  has_segments = refl;
+  has_buckets = refl;
+  has_content = refl;
+  has_agg = refl;
+  has_reach = refl;
+  has_fragment = refl;
+  has_generation = refl;
+  has_alternates = refl;
+}
+
 pub are_taken : (key : Key) → StepsTake fresh (steps_with key) (turns_with key)
-are_taken key =
-    ((script_geometry, record { has_segments = refl; has_buckets = refl; has_content = refl; has_agg = refl; has_reach = refl; has_fragment = refl; has_generation = refl; has_alternates = refl }, refl),
-    (record { packs = refl; unsynced = refl; content = refl; moment = refl; legal = miss_is_a_step key; own = refl },
-    (record { packs = refl; unsynced = refl; content = refl; moment = refl; legal = put_is_a_step key; own = refl },
-    (record { packs = refl; unsynced = refl; content = refl; moment = refl; legal = get_is_a_step key; own = refl },
-    (record { packs = refl; unsynced = refl; content = refl; moment = refl; legal = removal_is_a_step key; own = refl },
-    (record { packs = refl; unsynced = refl; content = refl; moment = refl; legal = miss_behind_is_a_step key; own = refl }, tt))))))
+are_taken key = (
+  (script_geometry, has_numbers, refl),
+  (
+    record { packs = refl; unsynced = refl; content = refl; moment = refl; legal = miss_is_a_step key; own = refl },
+    (
+      record { packs = refl; unsynced = refl; content = refl; moment = refl; legal = put_is_a_step key; own = refl },
+      (
+        record { packs = refl; unsynced = refl; content = refl; moment = refl; legal = get_is_a_step key; own = refl },
+        (
+          record { packs = refl; unsynced = refl; content = refl; moment = refl; legal = removal_is_a_step key; own = refl },
+          (record { packs = refl; unsynced = refl; content = refl; moment = refl; legal = miss_behind_is_a_step key; own = refl }, tt),
+        ),
+      ),
+    ),
+  ),
+)
 
 pub are_said : (key : Key) → answers_by fresh (steps_with key) (turns_with key) ≡ script_answers
 are_said key = refl

@@ -1,6 +1,6 @@
 -- The account of the script, and what is concluded of it.
-use Rattle.std.proofs.Common.{◌≡◌, ◌∙◌, ℕ, List, [], ◌∷◌, ◌++◌, refl, sym, ap, subst, lit<, lit≤, inl, Contains, false, true}
-use Rattle.std.specs.Prelude.{nat_eq, codes, Some, None, Option}
+use Rattle.std.proofs.Common.{◌≡◌, ℕ, List, [], ◌∷◌, refl, sym, subst, lit<, lit≤, inl, Contains, false, true}
+use Rattle.std.specs.Prelude.{nat_eq}
 use Rattle.std.specs.Fmt.{digits}
 use Rattle.std.specs.List.{list_any}
 use Rattle.std.proofs.lemmas.Cmp.{nat_eq_equiv}
@@ -8,22 +8,20 @@ use Rattle.std.proofs.lemmas.Map.Views.{list_any-from_Contains}
 use Rattle.hex.specs.Hex.{encode_with}
 use Rattle.tape_base.specs.declared.keys.Key.{Key}
 use Rattle.device_log.specs.Streams.{refused_writes, taken_by}
-use Rattle.logged_disk.specs.Device.{has_flip}
 use Rattle.edge_io.specs.Lines.{IsLine}
 use Rattle.edge_io.specs.Text.{text_read}
 use Rattle.script_lang.specs.declared.answer.StepAnswer.{StepAnswer}
 use Rattle.script_lang.specs.declared.answer.StepAnswer.TheVariants as answer
 use Rattle.script_lang.specs.Texts.{cause_line, formatted_line, got_line, number_line, put_line, shown}
 use Rattle.cache_model.specs.declared.cause.Cause.TheVariants as cause
-use Rattle.script_run.specs.Ledger.{IsReached}
-use Rattle.script_run.specs.Run.{Harm, Run, fresh}
+use Rattle.script_run.specs.Run.{Run, fresh}
 use Rattle.script_run.specs.Behind.{harms_of}
-use Rattle.script_run.specs.Takes.{IsRun, run_after}
+use Rattle.script_run.specs.Takes.{run_after}
 use Rattle.run_promise.specs.Outline.{Outline, all_told, blank}
-use Rattle.run_promise.specs.Lines.{AreAnswered, answers_of, outline_of, texts_of}
-use Rattle.run_promise.specs.Story.{Taken, Told, Took, told_by, told_in}
+use Rattle.run_promise.specs.Lines.{AreAnswered, outline_of, texts_of}
+use Rattle.run_promise.specs.Story.{Taken, Took, told_by, told_in}
 use Rattle.run_promise.specs.Top.{EachBack}
-use Rattle.headline.specs.Account.{Account, ComeBackFrom}
+use Rattle.headline.specs.Account.{ComeBackFrom}
 use Rattle.headline.specs.Endings.{AreTakeable}
 use Rattle.headline_rows.specs.Script.{body_of_a, key_of_a, line_to_format, line_to_get, line_to_put, line_to_remove, script_lines, script_turns}
 use Rattle.headline_rows.specs.History.{TheScriptIsAnswered, TheScriptIsARun, script_answers}
@@ -39,15 +37,25 @@ no_newline bytes none has =
 is_line_to_get : IsLine line_to_get
 is_line_to_get = record { short = lit≤ tt; clear = no_newline line_to_get refl }
 
-taken_lines : Taken (text_read script_reads) script_lines []
+pub taken_lines : Taken (text_read script_reads) script_lines []
 taken_lines = record {
   all = refl;
-  each = (record { short = lit≤ tt; clear = no_newline line_to_format refl },
-      (is_line_to_get,
-      (record { short = lit≤ tt; clear = no_newline line_to_put refl },
-      (is_line_to_get,
-      (record { short = lit≤ tt; clear = no_newline line_to_remove refl },
-      (is_line_to_get, tt))))));
+  each = (
+    record { short = lit≤ tt; clear = no_newline line_to_format refl },
+    (
+      is_line_to_get,
+      (
+        record { short = lit≤ tt; clear = no_newline line_to_put refl },
+        (
+          is_line_to_get,
+          (
+            record { short = lit≤ tt; clear = no_newline line_to_remove refl },
+            (is_line_to_get, tt),
+          ),
+        ),
+      ),
+    ),
+  );
   within = lit≤ tt;
 }
 
@@ -62,13 +70,22 @@ what_was_said =
     ∷ []
 
 each_is_answered : (key : Key) → AreAnsweredBy blank (steps_with key) what_was_said
-each_is_answered key =
-    (record { session = λ needs. absurd needs; none = λ h. refl; fixed = refl },
-    (record { session = λ needs. refl; none = λ h. refl; fixed = tt },
-    (record { session = λ needs. refl; none = λ h. refl; fixed = tt },
-    (record { session = λ needs. refl; none = λ h. refl; fixed = tt },
-    (record { session = λ needs. refl; none = λ h. refl; fixed = tt },
-    (record { session = λ needs. refl; none = λ h. refl; fixed = tt }, tt))))))
+each_is_answered key = (
+  record { session = λ needs. absurd needs; none = λ h. refl; fixed = refl },
+  (
+    record { session = λ needs. refl; none = λ h. refl; fixed = tt },
+    (
+      record { session = λ needs. refl; none = λ h. refl; fixed = tt },
+      (
+        record { session = λ needs. refl; none = λ h. refl; fixed = tt },
+        (
+          record { session = λ needs. refl; none = λ h. refl; fixed = tt },
+          (record { session = λ needs. refl; none = λ h. refl; fixed = tt }, tt),
+        ),
+      ),
+    ),
+  ),
+)
 
 answered_each : AreAnswered blank script_lines script_answers
 answered_each = are_answered blank script_lines (steps_with key_of_a) what_was_said are_read (each_is_answered key_of_a)
@@ -122,9 +139,11 @@ unfolding cause_line formatted_line got_line number_line put_line shown encode_w
 went_out = record { taken = refl; unfailed = refl }
 
 takeable : (key : Key) → AreTakeableBy 0 (steps_with key)
-takeable key = ((λ needs. absurd needs), ((λ needs. lit< tt), ((λ needs. lit< tt), ((λ needs. lit< tt), ((λ needs. lit< tt), ((λ needs. lit< tt), tt))))))
+takeable key =
+    let some : 0 < 1 = lit< tt in
+    ((λ needs. absurd needs), ((λ needs. some), ((λ needs. some), ((λ needs. some), ((λ needs. some), ((λ needs. some), tt))))))
 
-lines_are_takeable : AreTakeable 0 script_lines
+pub lines_are_takeable : AreTakeable 0 script_lines
 lines_are_takeable = are_takeable 0 script_lines (steps_with key_of_a) are_read (takeable key_of_a)
 
 -- ---- the account

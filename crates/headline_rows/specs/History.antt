@@ -1,12 +1,12 @@
 -- The script as a whole: its lines have a legal history, and what they answer.
-use Rattle.std.specs.Prelude.{◌≡◌, ℕ, List, [], ◌∷◌, ◌++◌, codes, Option, Some}
+use Rattle.std.specs.Prelude.{◌≡◌, ℕ, List, [], ◌∷◌, ◌++◌, codes, take, Option, Some}
 use Rattle.cache_model.specs.declared.cause.Cause.TheVariants as cause
 use Rattle.script_lang.specs.declared.answer.StepAnswer.{StepAnswer}
 use Rattle.script_lang.specs.declared.answer.StepAnswer.TheVariants as answer
 use Rattle.script_run.specs.Run.{fresh}
 use Rattle.script_run.specs.Takes.{IsRun, output_of}
 use Rattle.run_promise.specs.Lines.{answers_of}
-use Rattle.headline_rows.specs.Script.{body_of_a, script_lines, script_turns}
+use Rattle.headline_rows.specs.Script.{body_of_a, get_records, key_of_a, script_lines, script_turns, silent_turn}
 
 -- each line does all that it must, and no more
 abbrev pub TheScriptIsARun : Type 0
@@ -23,11 +23,11 @@ script_answers =
     ∷ Some (answer.Miss cause.Removed)
     ∷ []
 
--- the lines are answered so
+-- by the turns the lines are answered so
 abbrev pub TheScriptIsAnswered : Type 0
 TheScriptIsAnswered = answers_of fresh script_lines script_turns ≡ script_answers
 
--- and that is printed
+-- the text of these answers
 abbrev pub script_output : List ℕ
 script_output =
     codes "formatted serial 1 cursor 64 floor 8\n"
@@ -37,5 +37,11 @@ script_output =
     ++ (codes "removed 1\n"
     ++ codes "miss removed\n"))))
 
+-- and that is printed
 abbrev pub TheScriptPrints : Type 0
 TheScriptPrints = output_of fresh script_lines script_turns ≡ script_output
+
+-- behind the format, a miss and the put, the get gives the body of the put and no other bytes
+abbrev pub OnlyTheBodyIsGiven : Type 0
+OnlyTheBodyIsGiven = (bytes : List ℕ)
+    → IsRun fresh (take 4 script_lines) (take 3 script_turns ++ silent_turn (get_records key_of_a) bytes ∷ []) → bytes ≡ body_of_a

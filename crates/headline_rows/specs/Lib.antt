@@ -2,3 +2,4 @@ pub mod Script
 pub mod Steps
 pub mod History
 pub mod Told
+pub mod Sentences

@@ -1,6 +1,6 @@
--- A script of six lines on a device in memory of 64 blocks, and what each line did: all pieces stay in the buffer, so no
--- call of the device is made. The key is any one, and digests stay names.
-use Rattle.std.specs.Prelude.{ℕ, ◌+◌, true, false, refl, List, [], ◌∷◌, ◌++◌, codes, None, Some}
+-- A script of six lines on a device in memory of 64 blocks, and what each line did. All pieces stay in the buffer, so no
+-- call of the device is made. Keys and digests stay names: no SHA-256 is computed.
+use Rattle.std.specs.Prelude.{ℕ, true, false, refl, List, [], ◌∷◌, codes, None}
 use Rattle.std.proofs.Math.Dec.{lit≤, lit<}
 use Rattle.tape_base.specs.declared.digests.Digest.{Digest}
 use Rattle.tape_base.specs.declared.geometries.Geometry.{Geometry}
@@ -23,23 +23,27 @@ use Rattle.script_run.specs.Turn.{Turn}
 
 -- ---- the lines
 
+-- a device of 64 blocks, with buffers of 8 and fragments of 4 bytes
 abbrev pub line_to_format : List ℕ
 line_to_format = codes "format mem:a 1 64 64 8 16 4 7"
 
+-- with no lines of a request
 abbrev pub line_to_get : List ℕ
 line_to_get = codes "get /a"
 
+-- a body of one byte
 abbrev pub line_to_put : List ℕ
 line_to_put = codes "put /a 61"
 
+-- what was put
 abbrev pub line_to_remove : List ℕ
 line_to_remove = codes "remove /a"
 
--- the lines before the put, and all of them: the object is looked for before it is put, and got and removed behind that
+-- the object is looked for before it is put, behind that, and behind its removal
 abbrev pub script_lines : List (List ℕ)
 script_lines = line_to_format ∷ line_to_get ∷ line_to_put ∷ line_to_get ∷ line_to_remove ∷ line_to_get ∷ []
 
--- the key of the object, as a name: no SHA-256 is computed
+-- the key of the object
 abbrev pub key_of_a : Key
 key_of_a = key_of_url (codes "/a")
 
@@ -83,13 +87,15 @@ row_of_a = made_row 1 (digest_of body_of_a).0
 abbrev pub alternate_of_a : Stored
 alternate_of_a = record { put = 1; pin = 0; length = 1; request = []; response = []; table = row_of_a ∷ [] }
 
--- the digest of its fragment as a document, and that of its vector
+-- the digest of its fragment as a document
 abbrev pub fragment_digest : Key → Digest
 fragment_digest key = digest_of_document (record { id = fragment_piece key 1 1; place = 64; generation = 7; pin = 0; start = 0 }) body_of_a
 
+-- and that of its vector
 abbrev pub vector_digest : Key → Digest
 vector_digest key =
-    digest_of_document (record { id = vector_piece key 1; place = 65; generation = 7; pin = 0; start = 0 }) (vector_bytes (alternate_of_a ∷ []))
+    digest_of_document (record { id = vector_piece key 1; place = 65; generation = 7; pin = 0; start = 0 })
+    (vector_bytes (alternate_of_a ∷ []))
 
 -- the put of one byte: its fragment takes the first block of the buffer, its vector the next one
 abbrev pub put_records : Key → List Rec
@@ -105,7 +111,7 @@ put_records key =
 abbrev pub get_records : Key → List Rec
 get_records key = rec.ReadOpened 2 (record { 0 = 0 }) key [] (read.Hit 1) ∷ rec.Gave 2 1 1 ∷ rec.Ended 2 1 ∷ rec.ReadClosed 2 ∷ []
 
--- and removed
+-- and then removed
 abbrev pub removal_records : Key → List Rec
 removal_records key = rec.Removed 1 key ∷ []
 
@@ -127,12 +133,15 @@ turn_of_format = silent_turn (format_records script_geometry) []
 abbrev pub turn_of_miss : Key → Turn
 turn_of_miss key = silent_turn (miss_records 1 key cause.NeverPut) []
 
+-- the put
 abbrev pub turn_of_put : Key → Turn
 turn_of_put key = silent_turn (put_records key) []
 
+-- the get of what was put
 abbrev pub turn_of_get : Key → Turn
 turn_of_get key = silent_turn (get_records key) body_of_a
 
+-- the removal
 abbrev pub turn_of_removal : Key → Turn
 turn_of_removal key = silent_turn (removal_records key) []
 
@@ -144,5 +153,6 @@ turn_at_last key = silent_turn (miss_records 3 key cause.Removed) []
 abbrev pub turns_with : Key → List Turn
 turns_with key = turn_of_format ∷ turn_of_miss key ∷ turn_of_put key ∷ turn_of_get key ∷ turn_of_removal key ∷ turn_at_last key ∷ []
 
+-- under the key of the object
 abbrev pub script_turns : List Turn
 script_turns = turns_with key_of_a

@@ -1,7 +1,6 @@
 -- Each line of the script is a step of its session, under any key.
-use Rattle.std.specs.Prelude.{ℕ, false, List, [], ◌∷◌, ◌++◌, None, Some}
+use Rattle.std.specs.Prelude.{◌≡◌, List, [], ◌∷◌, ◌++◌, None, Some}
 use Rattle.tape_base.specs.declared.keys.Key.{Key}
-use Rattle.doc_header.specs.Document.{digest_of_document}
 use Rattle.cache_model.specs.declared.cause.Cause.TheVariants as cause
 use Rattle.cache_model.specs.declared.record.Rec.{Rec}
 use Rattle.cache_model.specs.Legal.{IsStep, format_records}
@@ -14,9 +13,11 @@ use Rattle.headline_rows.specs.Script.{alternate_of_a, body_of_a, fragment_diges
 abbrev pub behind_script : List Rec → State
 behind_script added = after_all nothing_yet (format_records script_geometry ++ added)
 
+-- the state behind the get that finds nothing
 abbrev pub state_of_miss : Key → State
 state_of_miss key = behind_script (miss_records 1 key cause.NeverPut)
 
+-- behind the put
 abbrev pub state_of_put : Key → State
 state_of_put key = after_all (state_of_miss key) (put_records key)
 
@@ -57,18 +58,24 @@ held_state key = record (state_of_miss key) {
   next_put = 2;
 }
 
+-- so it is, whatever number the key has
+abbrev pub ThePutHolds : Type 0
+ThePutHolds = (key : Key) → state_of_put key ≡ held_state key
+
+-- behind the get of what was put
 abbrev pub state_of_get : Key → State
 state_of_get key = after_all (state_of_put key) (get_records key)
 
+-- behind the removal
 abbrev pub state_of_removal : Key → State
 state_of_removal key = after_all (state_of_get key) (removal_records key)
 
--- nothing was put yet
+-- a lookup is a step that finds nothing, since nothing was put yet
 abbrev pub AMissIsAStep : Type 0
 AMissIsAStep = (key : Key)
     → IsStep silent (behind_script []) (get_intents (behind_script []) key []) (miss_records 1 key cause.NeverPut) None
 
--- a body of one byte
+-- a body of one byte is put
 abbrev pub APutIsAStep : Type 0
 APutIsAStep = (key : Key) → IsStep silent (state_of_miss key) (put_intents (state_of_miss key) key body_of_a [] []) (put_records key) None
 
@@ -76,6 +83,7 @@ APutIsAStep = (key : Key) → IsStep silent (state_of_miss key) (put_intents (st
 abbrev pub AGetIsAStep : Type 0
 AGetIsAStep = (key : Key) → IsStep silent (state_of_put key) (get_intents (state_of_put key) key []) (get_records key) None
 
+-- it is removed
 abbrev pub ARemovalIsAStep : Type 0
 ARemovalIsAStep = (key : Key) → IsStep silent (state_of_get key) (Remove key ∷ []) (removal_records key) None
 

@@ -1,6 +1,6 @@
 -- What the run of the script is known by, and its account: the source gave the text in one read, the sink took an answer in
 -- each write, and the one device came back as it was given.
-use Rattle.std.specs.Prelude.{◌≡◌, true, List, [], ◌∷◌, codes, Some}
+use Rattle.std.specs.Prelude.{◌≡◌, true, List, [], ◌∷◌, codes}
 use Rattle.device_log.specs.Image.{blank}
 use Rattle.device_log.specs.Streams.{SourceRead, GaveBytes, CameToEnd, SinkWrite, TookBytes}
 use Rattle.edge_io.specs.Text.{spelled}

@@ -1,45 +1,18 @@
-//! A run of six lines, worked by hand, of which the laws of `headline` speak.
+//! A run of six lines, worked by hand, and what the laws of `headline` say of it.
 #![tactic(auto)]
 
-ghost use Rattle.headline_rows.specs.Steps.{AMissIsAStep, APutIsAStep, AGetIsAStep, ARemovalIsAStep, AMissBehindItIsAStep};
-ghost use Rattle.headline_rows.specs.History.{TheScriptIsARun, TheScriptIsAnswered, TheScriptPrints};
+ghost use Rattle.headline_rows.specs.Steps.{AMissIsAStep, APutIsAStep, AGetIsAStep, ARemovalIsAStep, AMissBehindItIsAStep, ThePutHolds};
+ghost use Rattle.headline_rows.specs.History.{OnlyTheBodyIsGiven, TheScriptIsARun, TheScriptIsAnswered, TheScriptPrints};
 ghost use Rattle.headline_rows.specs.Told.{TheScriptHasAnAccount, TheScriptIsConcluded};
+ghost use Rattle.headline_rows.specs.Sentences.{EachRunIsDone, EachRunPrintsIt, ItWasRemoved, NothingWasPut, TheGetIsWhole, TheHistoryIsWhole, TheMissIsCaused, ThePutIsListed, ThePutWasAnswered, TheRemovalWasAnswered};
 
+use edge_io::texts_have_lines;
+use headline::{
+    completed_was_answered, done_where_fine, found_is_listed, got_is_whole, honest_runs_are_whole,
+    misses_are_caused, never_put_was_none, removal_was_answered, removed_was_recorded,
+    source_fixes_sink,
+};
 use run_promise::texts_are_output;
-
-/// The lines of the script have a legal history, written out by hand.
-pub fn the_script_is_a_run()
-    ensures { TheScriptIsARun }
-{}
-
-/// Each line is answered as the program prints it.
-pub fn the_script_is_answered()
-    ensures { TheScriptIsAnswered }
-{}
-
-/// And these answers are what is printed.
-pub fn the_script_prints()
-    ensures { TheScriptPrints }
-{
-    the_script_is_answered();
-    texts_are_output();
-}
-
-/// The run has an account, with these turns.
-pub fn the_script_has_an_account()
-    ensures { TheScriptHasAnAccount }
-{
-    the_script_is_a_run();
-    the_script_is_answered();
-}
-
-/// What the top call concludes with the status Done holds of the logs of such a run.
-pub fn the_script_is_concluded()
-    ensures { TheScriptIsConcluded }
-{
-    the_script_is_a_run();
-    the_script_is_answered();
-}
 
 /// A lookup before the put finds nothing.
 pub fn a_miss_is_a_step()
@@ -49,6 +22,11 @@ pub fn a_miss_is_a_step()
 /// One byte is put.
 pub fn a_put_is_a_step()
     ensures { APutIsAStep }
+{}
+
+/// Its fragment and its vector then stand in the first two blocks of the buffer, and the key has that vector.
+pub fn the_put_holds()
+    ensures { ThePutHolds }
 {}
 
 /// It is given.
@@ -65,3 +43,119 @@ pub fn a_removal_is_a_step()
 pub fn a_miss_behind_it_is_a_step()
     ensures { AMissBehindItIsAStep }
 {}
+
+/// The lines of the script have a legal history, written out by hand.
+pub fn the_script_is_a_run()
+    ensures { TheScriptIsARun }
+{}
+
+/// In it the get gives the body of the put, and no other bytes.
+pub fn only_the_body_is_given()
+    ensures { OnlyTheBodyIsGiven }
+{}
+
+/// By these turns each line is answered so.
+pub fn the_script_is_answered()
+    ensures { TheScriptIsAnswered }
+{}
+
+/// And that is what is printed.
+pub fn the_script_prints()
+    ensures { TheScriptPrints }
+{
+    the_script_is_answered();
+    texts_are_output();
+}
+
+/// The run has an account, with these lines, turns and answers.
+pub fn the_script_has_an_account()
+    ensures { TheScriptHasAnAccount }
+{
+    the_script_is_a_run();
+    the_script_is_answered();
+}
+
+/// What the top call concludes with the status Done holds of its logs.
+pub fn the_script_is_concluded()
+    ensures { TheScriptIsConcluded }
+{
+    the_script_is_a_run();
+    the_script_is_answered();
+}
+
+/// The get gave all that the writer of put 1 took.
+pub fn the_get_is_whole()
+    ensures { TheGetIsWhole }
+{
+    got_is_whole();
+    the_script_is_answered();
+}
+
+/// The put that was got was completed by an earlier line, and is listed.
+pub fn the_put_is_listed()
+    ensures { ThePutIsListed }
+{
+    found_is_listed();
+    the_script_is_answered();
+}
+
+/// Before the get that was answered never-put no put of the key had ended.
+pub fn nothing_was_put()
+    ensures { NothingWasPut }
+{
+    never_put_was_none();
+    the_script_is_answered();
+}
+
+/// And the records of the lines before say so.
+pub fn the_miss_is_caused()
+    ensures { TheMissIsCaused }
+{
+    misses_are_caused();
+    the_script_is_answered();
+}
+
+/// Before the get that was answered removed a line recorded the removal.
+pub fn it_was_removed()
+    ensures { ItWasRemoved }
+{
+    removed_was_recorded();
+    the_script_is_answered();
+}
+
+/// Each account of these logs has a legal history of all its lines.
+pub fn the_history_is_whole()
+    ensures { TheHistoryIsWhole }
+{
+    honest_runs_are_whole();
+}
+
+/// The line that recorded the commit was answered so.
+pub fn the_put_was_answered()
+    ensures { ThePutWasAnswered }
+{
+    completed_was_answered();
+}
+
+/// So was the line that recorded the removal.
+pub fn the_removal_was_answered()
+    ensures { TheRemovalWasAnswered }
+{
+    removal_was_answered();
+}
+
+/// Each other run over that text and steady devices printed the same, or displaced a piece.
+pub fn each_run_prints_it()
+    ensures { EachRunPrintsIt }
+{
+    source_fixes_sink();
+    the_script_is_concluded();
+}
+
+/// Each run over that text ends with the status Done, where nothing was refused.
+pub fn each_run_is_done()
+    ensures { EachRunIsDone }
+{
+    done_where_fine();
+    texts_have_lines();
+}

@@ -1,0 +1,165 @@
+-- The laws of `headline` at the script.
+use Rattle.std.proofs.Common.{◌≡◌, ◌∙◌, ℕ, List, [], ◌∷◌, ◌++◌, length, refl, sym, ap, subst, lit<, lit≤, inl, inr}
+use Rattle.std.specs.Prelude.{Option, Some, take, drop}
+use Rattle.std.specs.List.{AllByRecursion}
+use Rattle.device_log.specs.Streams.{taken_by}
+use Rattle.edge_io.specs.Laws.{SpelledAreLines}
+use Rattle.edge_io.specs.Text.{spelled}
+use Rattle.logged_disk.specs.Device.{State as Device, TellsAll, has_flip}
+use Rattle.script_lang.specs.declared.line.LineAnswer.TheVariants as line
+use Rattle.script_lang.specs.declared.step.Step.{Step}
+use Rattle.script_lang.specs.declared.step.Step.TheVariants as step
+use Rattle.script_lang.specs.declared.answer.StepAnswer.{StepAnswer}
+use Rattle.script_lang.specs.declared.answer.StepAnswer.TheVariants as answer
+use Rattle.script_lang.specs.Grammar.{reading_of}
+use Rattle.script_run.specs.Run.{fresh}
+use Rattle.cache_model.specs.declared.cause.Cause.TheVariants as cause
+use Rattle.cache_model.specs.declared.record.Rec.TheVariants as rec
+use Rattle.headline.specs.Account.{Account, AllTell, HistoryTells, HonestRunsAreWhole}
+use Rattle.headline.specs.Answered.{CompletedWasAnswered, RecordsBehind, RemovalWasAnswered}
+use Rattle.headline.specs.Endings.{DoneWhereFine, IsFine}
+use Rattle.headline.specs.Fixed.{AreSteady, IsSteady, SourceFixesSink}
+use Rattle.headline.specs.Misses
+use Rattle.headline.specs.Misses.{NeverPutWasNone}
+use Rattle.headline.specs.Reads
+use Rattle.headline.specs.Reads.{GotIsWhole}
+use Rattle.headline.specs.Standing
+use Rattle.headline.specs.Standing.{FoundIsListed, RemovedWasRecorded}
+use Rattle.headline.specs.Verdicts.{MissesAreCaused}
+use Rattle.headline_rows.specs.History.{TheScriptIsAnswered, script_answers, script_output}
+use Rattle.headline_rows.specs.Script.{alternate_of_a, body_of_a, key_of_a, line_to_put, line_to_remove, script_lines, script_turns, turn_of_put, turn_of_removal}
+use Rattle.headline_rows.specs.Sentences.{EachRunIsDone, EachRunPrintsIt, ItWasRemoved, NothingWasPut, TheGetIsWhole, TheHistoryIsWhole, TheMissIsCaused, ThePutIsListed, ThePutWasAnswered, TheRemovalWasAnswered}
+use Rattle.headline_rows.specs.Told.{TellsScript, TheScriptIsConcluded, script_device, script_logs, script_writes}
+use Rattle.headline_rows.proofs.Along.{are_run}
+use Rattle.headline_rows.proofs.Fine.{is_fine}
+use Rattle.headline_rows.proofs.Readings.{get_is_read}
+use Rattle.headline_rows.proofs.Script.{are_read, are_taken, steps_with}
+use Rattle.headline_rows.proofs.Tells.{lines_are_takeable, taken_lines}
+
+-- one line of the script, with its answer
+module _ (said : TheScriptIsAnswered) (a : Account script_logs) (tells : TellsScript a) where
+  history : (before : List (List ℕ)) (bytes : List ℕ) (later : List (List ℕ)) (front rest : List (Option StepAnswer)) (asks : Step)
+      (told : StepAnswer)
+      → reading_of bytes ≡ line.Step asks → script_lines ≡ before ++ bytes ∷ later → script_answers ≡ front ++ Some told ∷ rest
+      → length front ≡ length before
+      → HistoryTells a before asks told
+  history before bytes later front rest asks told reading lines answers many = record {
+    bytes = bytes;
+    reading = reading;
+    later = later;
+    lines_are = tells.told_are ∙ lines;
+    front = front;
+    rest = rest;
+    answers_are = rw (tells.told_are, tells.turns_are) (said ∙ answers);
+    as_many = many;
+  }
+
+  first_get : HistoryTells a (take 1 script_lines) (step.Get key_of_a []) (answer.Miss cause.NeverPut)
+  first_get = history _ _ (drop 2 script_lines) (take 1 script_answers) (drop 2 script_answers) _ _ get_is_read refl refl refl
+
+  second_get : HistoryTells a (take 3 script_lines) (step.Get key_of_a []) (answer.Got 1 1 body_of_a)
+  second_get = history _ _ (drop 4 script_lines) (take 3 script_answers) (drop 4 script_answers) _ _ get_is_read refl refl refl
+
+  last_get : HistoryTells a (take 5 script_lines) (step.Get key_of_a []) (answer.Miss cause.Removed)
+  last_get = history _ _ [] (take 5 script_answers) [] _ _ get_is_read refl refl refl
+
+pub get_is_whole : GotIsWhole → TheScriptIsAnswered → TheGetIsWhole
+get_is_whole law said a tells = law script_logs a (take 3 script_lines) key_of_a [] 1 1 body_of_a (second_get said a tells)
+
+pub put_is_listed : FoundIsListed → TheScriptIsAnswered → ThePutIsListed
+put_is_listed law said a tells =
+    law script_logs a (take 3 script_lines) (step.Get key_of_a []) (answer.Got 1 1 body_of_a) key_of_a [] 1
+    (Standing.FindsPut.gets 1 body_of_a) (second_get said a tells)
+
+pub nothing_was_put : NeverPutWasNone → TheScriptIsAnswered → NothingWasPut
+nothing_was_put law said a tells =
+    law script_logs a (take 1 script_lines) (step.Get key_of_a []) (answer.Miss cause.NeverPut) key_of_a
+    (Misses.MissesKey.gets []) (first_get said a tells)
+
+pub miss_is_caused : MissesAreCaused → TheScriptIsAnswered → TheMissIsCaused
+miss_is_caused law said a tells =
+    law script_logs a (take 1 script_lines) (step.Get key_of_a []) key_of_a [] cause.NeverPut Reads.AsksFor.gets (first_get said a tells)
+
+pub it_was_removed : RemovedWasRecorded → TheScriptIsAnswered → ItWasRemoved
+it_was_removed law said a tells =
+    law script_logs a (take 5 script_lines) (step.Get key_of_a []) (answer.Miss cause.Removed) key_of_a
+    (Misses.MissesKey.gets []) (last_get said a tells)
+
+-- ---- from records to answers
+
+-- what these turns did of the script
+module _ (a : Account script_logs) (tells : TellsScript a) where
+  put_recorded : RecordsBehind a (take 2 script_lines) (rec.Committed 1 key_of_a 1 (alternate_of_a ∷ []))
+  put_recorded = record {
+    bytes = line_to_put;
+    later = drop 3 script_lines;
+    lines_are = tells.told_are;
+    did = record {
+      earlier = take 2 script_turns;
+      turn = turn_of_put key_of_a;
+      later = drop 3 script_turns;
+      turns_are = tells.turns_are;
+      legal = are_run fresh (take 2 script_lines) (take 2 (steps_with key_of_a)) (take 2 script_turns)
+          (are_read.0, (are_read.1.0, tt)) ((are_taken key_of_a).0, ((are_taken key_of_a).1.0, tt));
+    };
+    among = inr (inr (inr (inr (inl refl))));
+  }
+
+  removal_recorded : RecordsBehind a (take 4 script_lines) (rec.Removed 1 key_of_a)
+  removal_recorded = record {
+    bytes = line_to_remove;
+    later = drop 5 script_lines;
+    lines_are = tells.told_are;
+    did = record {
+      earlier = take 4 script_turns;
+      turn = turn_of_removal key_of_a;
+      later = drop 5 script_turns;
+      turns_are = tells.turns_are;
+      legal = are_run fresh (take 4 script_lines) (take 4 (steps_with key_of_a)) (take 4 script_turns)
+          (are_read.0, (are_read.1.0, (are_read.1.1.0, (are_read.1.1.1.0, tt))))
+          ((are_taken key_of_a).0, ((are_taken key_of_a).1.0, ((are_taken key_of_a).1.1.0, ((are_taken key_of_a).1.1.1.0, tt))));
+    };
+    among = inl refl;
+  }
+
+pub put_was_answered : CompletedWasAnswered → ThePutWasAnswered
+unfolding put_recorded
+put_was_answered law a tells = law script_logs a (take 2 script_lines) 1 key_of_a 1 (alternate_of_a ∷ []) (put_recorded a tells)
+
+pub removal_was_answered : RemovalWasAnswered → TheRemovalWasAnswered
+removal_was_answered law a tells = law script_logs a (take 4 script_lines) 1 key_of_a (removal_recorded a tells)
+
+-- ---- the device
+
+device_tells : TellsAll script_device
+unfolding has_flip
+device_tells = record { trusted = lit≤ tt; unturned = refl }
+
+all_tell : AllTell script_logs
+all_tell devices are = subst (λ (ds : List Device). AllByRecursion TellsAll ds) are (device_tells, tt)
+
+pub history_is_whole : HonestRunsAreWhole → TheHistoryIsWhole
+history_is_whole law a = law script_logs all_tell a
+
+all_steady : AreSteady script_logs
+all_steady devices are =
+    subst (λ (ds : List Device). AllByRecursion IsSteady ds) are (record { tells = device_tells; unfaulted = refl }, tt)
+
+output_is : (output : List ℕ) → taken_by script_writes ≡ taken_by [] ++ output → output ≡ script_output
+unfolding taken_by
+output_is output taken = sym taken
+
+pub each_run_prints : SourceFixesSink → TheScriptIsConcluded → EachRunPrintsIt
+each_run_prints law concluded m concluded_too same steady = elim (law script_logs m concluded concluded_too same all_steady steady) [
+  | inl alike ↦ inl (alike.taken_too ∙ ap (λ (output : List ℕ). taken_by m.old ++ output) (output_is alike.output alike.taken))
+  | inr one ↦ inr one
+]
+
+-- ---- the text
+
+text_is_fine : SpelledAreLines → IsFine (spelled script_lines)
+text_is_fine law = is_fine law script_lines taken_lines.each (lit≤ tt) (lit< tt) lines_are_takeable
+
+pub each_run_is_done : DoneWhereFine → SpelledAreLines → EachRunIsDone
+each_run_is_done law lines m s concluded failed begun memory read wrote attached texts =
+    law m s concluded failed begun memory read wrote attached (λ reads since. subst IsFine (sym (texts reads since)) (text_is_fine lines))
