@@ -1,5 +1,6 @@
--- A lookup that finds nothing is a step, before the put and behind the removal.
+-- A lookup that finds nothing is a step, before anything was put.
 use Rattle.std.proofs.Common.{[], refl}
+use Rattle.tape_base.specs.declared.keys.Key.{Key}
 use Rattle.cache_model.specs.declared.answer.ReadAnswer.TheVariants as read
 use Rattle.cache_model.specs.declared.cause.Cause.TheVariants as cause
 use Rattle.cache_model.specs.Legal

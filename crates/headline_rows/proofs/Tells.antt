@@ -1,5 +1,5 @@
 -- The account of the script, and what is concluded of it.
-use Rattle.std.proofs.Common.{◌≡◌, ℕ, List, [], ◌∷◌, refl, sym, subst, lit<, lit≤, inl, Contains, false, true}
+use Rattle.std.proofs.Common.{◌≡◌, ℕ, ◌<◌, List, [], ◌∷◌, refl, sym, subst, lit<, lit≤, inl, Contains, false, true}
 use Rattle.std.specs.Prelude.{nat_eq}
 use Rattle.std.specs.Fmt.{digits}
 use Rattle.std.specs.List.{list_any}
