@@ -14,7 +14,7 @@ use Rattle.run_promise.specs.declared.status.Status.TheVariants as status
 use Rattle.run_promise.specs.Top.{ReadsFailed}
 use Rattle.headline.specs.Account.{Account, HistoryTells, IsConcluded, RunLogs}
 use Rattle.headline.specs.Answered.{WasCompleted}
-use Rattle.headline.specs.Fixed.{AreSteady, GiveSame, OneDisplaced}
+use Rattle.headline.specs.Fixed.{AreSteady, GiveSame, BothDisplaced}
 use Rattle.headline.specs.Misses.{HasEndedNone}
 use Rattle.headline.specs.Reads.{IsWholePut}
 use Rattle.headline.specs.Standing.{IsListedPut, WasRemoved}
@@ -57,11 +57,11 @@ TheRemovalWasAnswered = (a : Account script_logs) → TellsScript a
 abbrev pub TheHistoryIsWhole : Type 0
 TheHistoryIsWhole = (a : Account script_logs) → a.left ≡ []
 
--- each run that was read to its end, over a source that gave that text and steady devices, printed the same; or a line
--- displaced a piece
+-- each run that was read to its end, over a source that gave that text and steady devices, printed the same; or both displaced
+-- a piece
 abbrev pub EachRunPrintsIt : Type 0
 EachRunPrintsIt = (m : RunLogs) → IsConcluded m status.Done → (same : GiveSame script_logs m) → AreSteady m
-    → (taken_by m.new ≡ taken_by m.old ++ script_output) ⊎ OneDisplaced script_logs m same
+    → (taken_by m.new ≡ taken_by m.old ++ script_output) ⊎ BothDisplaced script_logs m same
 
 -- each run over that text, of which nothing was refused and whose memory sufficed, ends with the status Done
 abbrev pub EachRunIsDone : Type 0
