@@ -1,6 +1,6 @@
 -- What the actor of a number has, after one of them is given something.
 use Rattle.std.proofs.Common.{◌≡◌, refl, arith, ℕ, zero, suc, ◌==◌, ◌+◌, ◌-◌, ◌<◌, ◌≤◌, if◌then◌else◌, Option, None, List, [], ◌∷◌, ◌++◌, length, slice_index_or, slice_set}
-use Rattle.actor_table.specs.Table.{slot_at, slot_of}
+use Rattle.actor_table.specs.Table.{slot_at, slot_of_actor}
 
 slot_at_past : {T : Type 0} (slots : List (Option T)) (place : ℕ) → length slots ≤ place → slot_at slots place ≡ None
 slot_at_past [] place past = refl
@@ -8,7 +8,7 @@ slot_at_past (slot ∷ slots) zero past = absurd (omega arith)
 slot_at_past (slot ∷ slots) (suc place) past = slot_at_past slots place (omega arith)
 
 -- behind the end nobody has anything
-pub slot_of_past : {T : Type 0} (slots : List (Option T)) (number : ℕ) → length slots < number → slot_of slots number ≡ None
+pub slot_of_past : {T : Type 0} (slots : List (Option T)) (number : ℕ) → length slots < number → slot_of_actor slots number ≡ None
 slot_of_past slots zero past = refl
 slot_of_past slots (suc place) past = slot_at_past slots place (omega arith)
 
@@ -26,7 +26,7 @@ slot_at_set (slot ∷ slots) (suc place) zero value within = grind arith
 slot_at_set (slot ∷ slots) (suc place) (suc n) value within = let rest = slot_at_set slots place n value (omega arith) in grind (arith, rest)
 
 -- one is given something, and the others keep what they have
-pub slot_of_set : {T : Type 0} (slots : List (Option T)) (number n : ℕ) (value : Option T) → 0 < number → number ≤ length slots → slot_of (slice_set slots (number - 1) value) n ≡ (if n == number then value else slot_of slots n)
+pub slot_of_set : {T : Type 0} (slots : List (Option T)) (number n : ℕ) (value : Option T) → 0 < number → number ≤ length slots → slot_of_actor (slice_set slots (number - 1) value) n ≡ (if n == number then value else slot_of_actor slots n)
 slot_of_set slots zero n value some within = absurd (omega arith)
 slot_of_set slots (suc place) zero value some within = grind arith
 slot_of_set slots (suc place) (suc n) value some within = let rest = slot_at_set slots place n value (omega arith) in grind (arith, rest)
@@ -36,7 +36,7 @@ pub empty_more : {T : Type 0} (slots : List (Option T)) (place n : ℕ) → plac
 empty_more slots place n within empty below = let set = slot_at_set slots place n None within in let here = empty n in grind (arith, set, here)
 
 -- nobody has anything where all are empty
-pub all_empty : {T : Type 0} (slots : List (Option T)) (n : ℕ) → ((k : ℕ) → k < length slots → slot_at slots k ≡ None) → slot_of slots n ≡ None
+pub all_empty : {T : Type 0} (slots : List (Option T)) (n : ℕ) → ((k : ℕ) → k < length slots → slot_at slots k ≡ None) → slot_of_actor slots n ≡ None
 all_empty slots zero empty = refl
 all_empty slots (suc place) empty = let past = slot_at_past slots place in let within = empty place in grind (arith, past, within)
 
@@ -47,6 +47,6 @@ slot_at_more (slot ∷ slots) zero = refl
 slot_at_more (slot ∷ slots) (suc place) = slot_at_more slots place
 
 -- one more that has nothing changes nothing
-pub slot_of_more : {T : Type 0} (slots : List (Option T)) (n : ℕ) → slot_of (slots ++ None ∷ []) n ≡ slot_of slots n
+pub slot_of_more : {T : Type 0} (slots : List (Option T)) (n : ℕ) → slot_of_actor (slots ++ None ∷ []) n ≡ slot_of_actor slots n
 slot_of_more slots zero = refl
 slot_of_more slots (suc place) = slot_at_more slots place

@@ -7,8 +7,8 @@ use Rattle.std.specs.Global.{Vec}
 use Rattle.std.specs.List.{AllByRecursion, IsDistinct}
 use Rattle.std.specs.Map.{lookup, KeepsOthers}
 use lib.Pointwise.{pointwise}
-use Rattle.actor_table.specs.Index.{IsIndex, known_from, texts_of}
-use Rattle.actor_table.specs.Table.{number_from, number_of, same_name, with_actor}
+use Rattle.actor_table.specs.Index.{IsIndex, known_from, texts_of_names}
+use Rattle.actor_table.specs.Table.{number_from, number_of_name, same_name, with_actor}
 
 -- what is known of a name's number
 pub record IsKnown (n : ℕ) (names : List (List ℕ)) (name : List ℕ) (k : ℕ) : Type 0 where
@@ -18,7 +18,7 @@ pub record IsKnown (n : ℕ) (names : List (List ℕ)) (name : List ℕ) (k : �
 
 -- a number that is given to a name, and the names after it
 pub record IsGiven (names : List (List ℕ)) (name : List ℕ) (k : ℕ) (after : List (List ℕ)) : Type 0 where
-  pub number : k ≡ number_of names name
+  pub number : k ≡ number_of_name names name
   pub with : after ≡ with_actor names name
   pub some : 0 < k
   pub within : k ≤ length after
@@ -97,25 +97,27 @@ known_stays names name k known =
 pub new_enters : (names : List (List ℕ)) (name : List ℕ) → known_from 1 names name ≡ None → IsGiven names name (length names + 1) (names ++ name ∷ [])
 new_enters names name new =
     let e = new_number 1 names name new in
-    let number : number_of names name ≡ length names + 1 = omega (arith, e) in
+    let number : number_of_name names name ≡ length names + 1 = omega (arith, e) in
     record { number = sym number; with = grind (arith, number); some = omega arith; within = subst (λ (count : ℕ). length names + 1 ≤ count) (sym (length-append names (name ∷ []))) (omega arith) }
 
-texts_more : (names names_after : List (Vec ℕ)) (kept : Vec ℕ) (name : List ℕ) → kept.items ≡ name → names_after ≡ names ++ kept ∷ [] → texts_of names_after ≡ texts_of names ++ name ∷ []
+texts_more : (names names_after : List (Vec ℕ)) (kept : Vec ℕ) (name : List ℕ) → kept.items ≡ name → names_after ≡ names ++ kept ∷ [] → texts_of_names names_after ≡ texts_of_names names ++ name ∷ []
 texts_more names names_after kept name kept_is more =
-    ap (λ (all : List (Vec ℕ)). texts_of all) more ∙ map-append (λ text. text.items) names (kept ∷ []) ∙ ap (λ (text : List ℕ). texts_of names ++ text ∷ []) kept_is
+    ap (λ (all : List (Vec ℕ)). texts_of_names all) more ∙ map-append (λ text. text.items) names (kept ∷ []) ∙ ap (λ (text : List ℕ). texts_of_names names ++ text ∷ []) kept_is
 
 -- the index after a name was entered that is not known
-pub index_entered : (names names_after : List (Vec ℕ)) (key kept : Vec ℕ) (name : List ℕ) (number : ℕ) (before after : List (Vec ℕ × ℕ)) → IsIndex (texts_of names) before
-    → known_from 1 (texts_of names) name ≡ None → key.items ≡ name → kept.items ≡ name → names_after ≡ names ++ kept ∷ [] → number ≡ length names + 1
+pub index_entered : (names names_after : List (Vec ℕ)) (key kept : Vec ℕ) (name : List ℕ) (number : ℕ) (before after : List (Vec ℕ × ℕ)) → IsIndex (texts_of_names names) before
+    → known_from 1 (texts_of_names names) name ≡ None → key.items ≡ name → kept.items ≡ name → names_after ≡ names ++ kept ∷ [] → number ≡ length names + 1
     → lookup (λ stored. pointwise nat_eq key.items stored.items) after ≡ Some number
     → KeepsOthers (λ a b. pointwise nat_eq a.items b.items) (λ stored. pointwise nat_eq key.items stored.items) before after
-    → IsIndex (texts_of names_after) after
+    → IsIndex (texts_of_names names_after) after
 index_entered names names_after key kept name number before after index new key_is kept_is more count entered others =
-    let next : number ≡ length (texts_of names) + 1 = count ∙ ap (λ (n : ℕ). n + 1) (sym (length-map names (λ text. text.items))) in
-    let texts : texts_of names_after ≡ texts_of names ++ key.items ∷ [] = texts_more names names_after kept key.items (kept_is ∙ sym key_is) more in
-    let absent : known_from 1 (texts_of names) key.items ≡ None = ap (λ (text : List ℕ). known_from 1 (texts_of names) text) key_is ∙ new in
+    let next : number ≡ length (texts_of_names names) + 1 = count ∙ ap (λ (n : ℕ). n + 1) (sym (length-map names (λ text. text.items))) in
+    let texts : texts_of_names names_after ≡ texts_of_names names ++ key.items ∷ [] = texts_more names names_after kept key.items (kept_is ∙ sym key_is) more in
+    let absent : known_from 1 (texts_of_names names) key.items ≡ None =
+    ap (λ (text : List ℕ). known_from 1 (texts_of_names names) text) key_is ∙ new in
     subst (λ (texts : List (List ℕ)). IsIndex texts after) (sym texts)
-    (index_more (texts_of names) key.items before after index (index key.items ∙ absent) (entered ∙ ap (λ (k : ℕ). Some k) next) others)
+    (index_more (texts_of_names names) key.items before after index (index key.items ∙ absent)
+    (entered ∙ ap (λ (k : ℕ). Some k) next) others)
 
 -- a name that is not known makes no name stand twice
 pub distinct_more : (n : ℕ) (names : List (List ℕ)) (new : List ℕ) → IsDistinct same_name names → known_from n names new ≡ None → IsDistinct same_name (names ++ new ∷ [])
@@ -132,12 +134,12 @@ distinct_more n (actor ∷ names) new distinct absent = at (same_name actor new)
     at true same further here = let none : Some n ≡ None = here in cc
     at false other further later = (others names distinct.0 (sym other), further later)
 
-pub distinct_entered : (names names_after : List (Vec ℕ)) (kept : Vec ℕ) (name : List ℕ) → IsDistinct same_name (texts_of names) → known_from 1 (texts_of names) name ≡ None
-    → kept.items ≡ name → names_after ≡ names ++ kept ∷ [] → IsDistinct same_name (texts_of names_after)
+pub distinct_entered : (names names_after : List (Vec ℕ)) (kept : Vec ℕ) (name : List ℕ) → IsDistinct same_name (texts_of_names names) → known_from 1 (texts_of_names names) name ≡ None
+    → kept.items ≡ name → names_after ≡ names ++ kept ∷ [] → IsDistinct same_name (texts_of_names names_after)
 distinct_entered names names_after kept name distinct new kept_is more =
-    let texts : texts_of names_after ≡ texts_of names ++ name ∷ [] = texts_more names names_after kept name kept_is more in
-    subst (λ (texts : List (List ℕ)). IsDistinct same_name texts) (sym texts) (distinct_more 1 (texts_of names) name distinct new)
+    let texts : texts_of_names names_after ≡ texts_of_names names ++ name ∷ [] = texts_more names names_after kept name kept_is more in
+    subst (λ (texts : List (List ℕ)). IsDistinct same_name texts) (sym texts) (distinct_more 1 (texts_of_names names) name distinct new)
 
-pub distinct_none : (names : List (Vec ℕ)) → names ≡ [] → IsDistinct same_name (texts_of names)
+pub distinct_none : (names : List (Vec ℕ)) → names ≡ [] → IsDistinct same_name (texts_of_names names)
 unfolding IsDistinct
-distinct_none names none = subst (λ (all : List (Vec ℕ)). IsDistinct same_name (texts_of all)) (sym none) tt
+distinct_none names none = subst (λ (all : List (Vec ℕ)). IsDistinct same_name (texts_of_names all)) (sym none) tt

@@ -15,5 +15,5 @@ abbrev pub IsIndex : List (List ℕ) → List (Vec ℕ × ℕ) → Type 0
 IsIndex names entries = (name : List ℕ) → lookup (λ key. pointwise nat_eq name key.items) entries ≡ known_from 1 names name
 
 -- the bytes of each
-abbrev pub texts_of : List (Vec ℕ) → List (List ℕ)
-texts_of names = map (λ name. name.items) names
+abbrev pub texts_of_names : List (Vec ℕ) → List (List ℕ)
+texts_of_names names = map (λ name. name.items) names

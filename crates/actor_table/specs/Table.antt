@@ -3,7 +3,7 @@ use Rattle.std.specs.Prelude.{ℕ, zero, suc, ◌+◌, ◌==◌, Bool, nat_eq, i
 use lib.Pointwise.{pointwise}
 
 -- what contracts see
-pub record Seen (T : Type 0) : Type 0 where
+pub record TableSeen (T : Type 0) : Type 0 where
   -- in the order of their first steps
   pub names : List (List ℕ)
   -- what each actor has, in the same order
@@ -19,12 +19,12 @@ number_from n [] name = n
 number_from n (actor ∷ actors) name = if same_name actor name then n else number_from (n + 1) actors name
 
 -- the number of a name: that of its first place, or the next one
-abbrev pub number_of : List (List ℕ) → List ℕ → ℕ
-number_of names name = number_from 1 names name
+abbrev pub number_of_name : List (List ℕ) → List ℕ → ℕ
+number_of_name names name = number_from 1 names name
 
 -- the names with that one among them
 abbrev pub with_actor : List (List ℕ) → List ℕ → List (List ℕ)
-with_actor names name = if number_of names name == length names + 1 then names ++ name ∷ [] else names
+with_actor names name = if number_of_name names name == length names + 1 then names ++ name ∷ [] else names
 
 -- what stands at a place, from 0
 abbrev pub slot_at : {T : Type 0} → List (Option T) → ℕ → Option T
@@ -33,6 +33,6 @@ slot_at (slot ∷ slots) zero = slot
 slot_at (slot ∷ slots) (suc place) = slot_at slots place
 
 -- what the actor of a number has: None where there is no such actor, or where it has nothing
-abbrev pub slot_of : {T : Type 0} → List (Option T) → ℕ → Option T
-slot_of slots zero = None
-slot_of slots (suc place) = slot_at slots place
+abbrev pub slot_of_actor : {T : Type 0} → List (Option T) → ℕ → Option T
+slot_of_actor slots zero = None
+slot_of_actor slots (suc place) = slot_at slots place

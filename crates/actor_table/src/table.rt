@@ -3,7 +3,7 @@
 ghost use Rattle.std.specs.Prelude.{◌≡◌, ◌==◌, ℕ, ◌+◌, ◌-◌, ◌<◌, ◌≤◌, ◌^◌, [], ◌∷◌, ◌++◌, length, None, Some, IfOk, OnOk, OnErr, if◌then◌else◌, option_copied};
 ghost use Rattle.std.specs.List.{IsDistinct};
 ghost use Rattle.actor_table.specs.Index.{known_from};
-ghost use Rattle.actor_table.specs.Table.{number_of, same_name, slot_of, with_actor};
+ghost use Rattle.actor_table.specs.Table.{number_of_name, same_name, slot_of_actor, with_actor};
 
 use crate::slots;
 use std::alloc::{AllocError, Global};
@@ -22,14 +22,14 @@ pub struct Actors<T: Drop> {
 impl<T: Drop> Model for Actors<T> {
     ghost use Rattle.std.specs.List.{IsDistinct};
     ghost use Rattle.std.specs.Prelude.{◌≡◌, length};
-    ghost use Rattle.actor_table.specs.Index.{IsIndex, texts_of};
-    ghost use Rattle.actor_table.specs.Table.{Seen, same_name};
+    ghost use Rattle.actor_table.specs.Index.{IsIndex, texts_of_names};
+    ghost use Rattle.actor_table.specs.Table.{TableSeen, same_name};
 
-    ghost Value = { Seen T };
+    ghost Value = { TableSeen T };
 
-    ghost view = { λ a. record { names = texts_of a.names.items; slots = a.slots.items } };
+    ghost view = { λ a. record { names = texts_of_names a.names.items; slots = a.slots.items } };
 
-    ghost invariant = { λ a. IsIndex (texts_of a.names.items) a.numbers.entries × (length a.slots.items ≡ length a.names.items) × IsDistinct same_name (texts_of a.names.items) };
+    ghost invariant = { λ a. IsIndex (texts_of_names a.names.items) a.numbers.entries × (length a.slots.items ≡ length a.names.items) × IsDistinct same_name (texts_of_names a.names.items) };
 }
 
 impl<T: Drop> Actors<T> {
@@ -60,9 +60,9 @@ impl<T: Drop> Actors<T> {
     #[tactic(auto, using(crate::proofs::Numbers::known_stays, crate::proofs::Numbers::new_enters))]
     pub fn number(&mut self, name: &[u8]) -> Result<u32, AllocError>
         requires few { length self.old.names < 2 ^ 32 - 1 }
-        ensures number { IfOk result (λ n. n ≡ number_of self.old.names name.now) }
+        ensures number { IfOk result (λ n. n ≡ number_of_name self.old.names name.now) }
         ensures names { OnOk result (self.new.names ≡ with_actor self.old.names name.now) }
-        ensures slots { (n : ℕ) → slot_of self.new.slots n ≡ slot_of self.old.slots n }
+        ensures slots { (n : ℕ) → slot_of_actor self.new.slots n ≡ slot_of_actor self.old.slots n }
         ensures known { IfOk result (λ n. (0 < n) × (n ≤ length self.new.names)) }
         ensures err { OnErr result (self.new ≡ self.old) }
     {
@@ -86,7 +86,7 @@ impl<T: Drop> Actors<T> {
         requires new { known_from 1 self.old.names name.now ≡ None }
         ensures number { IfOk result (λ n. n ≡ length self.old.names + 1) }
         ensures names { OnOk result (self.new.names ≡ self.old.names ++ name.now ∷ []) }
-        ensures slots { (n : ℕ) → slot_of self.new.slots n ≡ slot_of self.old.slots n }
+        ensures slots { (n : ℕ) → slot_of_actor self.new.slots n ≡ slot_of_actor self.old.slots n }
         ensures err { OnErr result (self.new ≡ self.old) }
     {
         let number = self.names.len() as u32 + 1;
@@ -102,16 +102,16 @@ impl<T: Drop> Actors<T> {
 
     /// What the actor of a number has.
     pub fn get(&self, number: u32) -> Option<&T>
-        ensures { option_copied result ≡ slot_of self.now.slots number }
+        ensures { option_copied result ≡ slot_of_actor self.now.slots number }
     {
         slots::get(&self.slots, number)
     }
 
     /// Takes what the actor of a number has.
     pub fn take(&mut self, number: u32) -> Option<T>
-        ensures result { result ≡ slot_of self.old.slots number }
+        ensures result { result ≡ slot_of_actor self.old.slots number }
         ensures names { self.new.names ≡ self.old.names }
-        ensures slots { (n : ℕ) → slot_of self.new.slots n ≡ (if n == number then None else slot_of self.old.slots n) }
+        ensures slots { (n : ℕ) → slot_of_actor self.new.slots n ≡ (if n == number then None else slot_of_actor self.old.slots n) }
     {
         slots::take(&mut self.slots, number)
     }
@@ -120,7 +120,7 @@ impl<T: Drop> Actors<T> {
     pub fn set(&mut self, number: u32, value: T)
         requires known { (0 < number) × (number ≤ length self.old.names) }
         ensures names { self.new.names ≡ self.old.names }
-        ensures slots { (n : ℕ) → slot_of self.new.slots n ≡ (if n == number then Some value else slot_of self.old.slots n) }
+        ensures slots { (n : ℕ) → slot_of_actor self.new.slots n ≡ (if n == number then Some value else slot_of_actor self.old.slots n) }
     {
         slots::set(&mut self.slots, number, value);
     }
@@ -128,7 +128,7 @@ impl<T: Drop> Actors<T> {
     /// Takes from all what they have.
     pub fn clear(&mut self)
         ensures names { self.new.names ≡ self.old.names }
-        ensures slots { (n : ℕ) → slot_of self.new.slots n ≡ None }
+        ensures slots { (n : ℕ) → slot_of_actor self.new.slots n ≡ None }
     {
         slots::clear(&mut self.slots);
     }

@@ -35,7 +35,7 @@ abbrev pub bytes_at : Buffer → ℕ → ℕ → List ℕ
 bytes_at b place blocks = take (512 * blocks) (drop (512 * (place - b.cursor)) b.bytes)
 
 -- a piece is whole blocks, and at least one
-pub record IsWhole (piece : List ℕ) : Type 0 where
+pub record IsWholePiece (piece : List ℕ) : Type 0 where
   pub some : 0 < length piece
   pub whole : length piece % 512 ≡ 0
 
@@ -44,7 +44,7 @@ abbrev pub blocks_in : List ℕ → ℕ
 blocks_in piece = length piece / 512
 
 -- a piece had room, and is put behind those before it
-pub record Adds (before after : Buffer) (piece : List ℕ) : Type 0 where
+pub record AddsPiece (before after : Buffer) (piece : List ℕ) : Type 0 where
   pub room : blocks_in piece ≤ room_of before
   pub behind : after ≡ record before { bytes = before.bytes ++ piece }
   pub next : next_place_of after ≡ next_place_of before + blocks_in piece
@@ -53,7 +53,7 @@ pub record Adds (before after : Buffer) (piece : List ℕ) : Type 0 where
       → bytes_at after place blocks ≡ bytes_at before place blocks
 
 -- a piece has more blocks than are left, and nothing changes
-pub record Refuses (before after : Buffer) (piece : List ℕ) : Type 0 where
+pub record RefusesPiece (before after : Buffer) (piece : List ℕ) : Type 0 where
   pub room : room_of before < blocks_in piece
   pub same : after ≡ before
 

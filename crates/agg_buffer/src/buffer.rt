@@ -4,7 +4,7 @@ ghost use Rattle.tape_base.specs.Blocks.{blocks_of};
 ghost use Rattle.tape_base.specs.Digest.{digest_of};
 ghost use Rattle.doc_header.specs.Document.{IsDocument, document_bytes};
 ghost use Rattle.doc_header.specs.Moving.{moved_to};
-ghost use Rattle.agg_buffer.specs.Buffer.{Buffer, empty_buffer, filled_of, next_place_of, bytes_at, IsFilled, IsWhole, Adds, Refuses, IfPlaced, IfNoRoom, room_of, blocks_in};
+ghost use Rattle.agg_buffer.specs.Buffer.{Buffer, empty_buffer, filled_of, next_place_of, bytes_at, IsFilled, IsWholePiece, AddsPiece, RefusesPiece, IfPlaced, IfNoRoom, room_of, blocks_in};
 
 use crate::answers::PutAnswer;
 use doc_header::{Doc, move_document, write_doc};
@@ -70,11 +70,11 @@ impl AggBuffer {
 
     /// Puts a piece behind the others, where its blocks are left.
     pub fn put(&mut self, piece: &[u8]) -> PutAnswer
-        requires { IsWhole piece.now }
+        requires { IsWholePiece piece.now }
         ensures placed { IfPlaced result (λ place. place ≡ next_place_of self.old) }
-        ensures added { IfPlaced result (λ _. Adds self.old self.new piece.now) }
+        ensures added { IfPlaced result (λ _. AddsPiece self.old self.new piece.now) }
         ensures no_room { IfNoRoom result (λ left. left ≡ room_of self.old) }
-        ensures refused { IfNoRoom result (λ _. Refuses self.old self.new piece.now) }
+        ensures refused { IfNoRoom result (λ _. RefusesPiece self.old self.new piece.now) }
     {
         let left = self.room();
         if piece.len() / BLOCK > left as usize {
@@ -91,7 +91,7 @@ impl AggBuffer {
     pub fn put_document(&mut self, doc: &Doc, payload: &[u8]) -> Digest
         requires size { length payload.now ≤ 2 ^ 31 }
         requires room { blocks_of (length payload.now) ≤ room_of self.old }
-        ensures added { Adds self.old self.new (document_bytes doc.now payload.now) }
+        ensures added { AddsPiece self.old self.new (document_bytes doc.now payload.now) }
         ensures size { blocks_in (document_bytes doc.now payload.now) ≡ blocks_of (length payload.now) }
         ensures document { let d = doc.now in
             IsDocument (document_bytes d payload.now) d.generation d.place d payload.now }
@@ -106,9 +106,9 @@ impl AggBuffer {
 
     /// Puts a copy of a document behind the others, with its place there.
     pub fn put_moved(&mut self, bytes: &[u8])
-        requires whole { IsWhole bytes.now }
+        requires whole { IsWholePiece bytes.now }
         requires room { blocks_in bytes.now ≤ room_of self.old }
-        ensures added { Adds self.old self.new (moved_to (next_place_of self.old) bytes.now) }
+        ensures added { AddsPiece self.old self.new (moved_to (next_place_of self.old) bytes.now) }
         ensures size { length (moved_to (next_place_of self.old) bytes.now) ≡ length bytes.now }
     {
         let place = self.next_place();

@@ -18,7 +18,7 @@ use Rattle.fragment_table.proofs.Ends.{total_small}
 use Rattle.fragment_table.proofs.Whole.{table_again}
 use Rattle.alternate_vector.specs.declared.fault.VectorFault.{VectorFault}
 use Rattle.alternate_vector.specs.Field.{Field, AreFields, IsKept, IsRising, is_above, is_name}
-use Rattle.alternate_vector.specs.Alternates.{Stored, AreStored, IsStored}
+use Rattle.alternate_vector.specs.Alternates.{Stored, AreStoredAlternates, IsStored}
 use Rattle.alternate_vector.specs.Reading.{alternate_at, alternates_at, field_at, fields_at, fields_from, follows, number_at, read_vector, table_at, text_at, told_table}
 use Rattle.alternate_vector.specs.Spelling.{alternate_bytes, field_bytes, fields_bytes, vector_bytes}
 use Rattle.alternate_vector.proofs.Order.{three}
@@ -149,7 +149,7 @@ alternates_again (a ∷ alternates) rest each =
 
 -- ---- the vector
 
-pub vector_again : (alternates : List Stored) → 0 < length alternates → AreStored alternates → read_vector (vector_bytes alternates) ≡ Ok alternates
+pub vector_again : (alternates : List Stored) → 0 < length alternates → AreStoredAlternates alternates → read_vector (vector_bytes alternates) ≡ Ok alternates
 unfolding read_vector
 vector_again alternates some stored =
     let n = length alternates in

@@ -12,7 +12,7 @@ use Rattle.tape_base.proofs.Bytes.{IsBytes-append, IsBytes-cons, IsBytes-nil, le
 use Rattle.fragment_table.specs.Table.{table_bytes}
 use Rattle.fragment_table.proofs.Rows.{table_bytes-small}
 use Rattle.alternate_vector.specs.Field.{Field, AreFields, IsKept, is_name}
-use Rattle.alternate_vector.specs.Alternates.{AreStored, IsStored, Stored}
+use Rattle.alternate_vector.specs.Alternates.{AreStoredAlternates, IsStored, Stored}
 use Rattle.alternate_vector.specs.Spelling.{alternate_bytes, field_bytes, fields_bytes, vector_bytes}
 
 -- what is joined of parts that are bytes
@@ -57,7 +57,7 @@ alternate_small a is =
     let five = IsBytes-append (put ++ pin ++ size ++ request) response four (fields_small a.response is.response) in
     IsBytes-append (put ++ pin ++ size ++ request ++ response) (table_bytes a.table) five (table_bytes-small a.table is.table)
 
-pub vector_small : (alternates : List Stored) → AreStored alternates → IsBytes (vector_bytes alternates)
+pub vector_small : (alternates : List Stored) → AreStoredAlternates alternates → IsBytes (vector_bytes alternates)
 vector_small alternates are =
     IsBytes-append (to_le_bytes w32 (length alternates)) (flat_map alternate_bytes alternates) (le_bytes-small w32 (length alternates))
     (all_bytes alternate_bytes IsStored alternate_small alternates are.each)

@@ -16,7 +16,7 @@ use Rattle.alternate_vector.specs.declared.fields.Line.{Line}
 use Rattle.alternate_vector.specs.Field.{Field, IsRising, is_above, is_name}
 use Rattle.alternate_vector.specs.Lines.{fields_of}
 use Rattle.alternate_vector.specs.Alternates.{Stored}
-use Rattle.alternate_vector.specs.Reading.{◌>>=◌, Fails, alternate_at, alternates_at, field_at, fields_from, follows, last_name}
+use Rattle.alternate_vector.specs.Reading.{◌>>=◌, FailsAs, alternate_at, alternates_at, field_at, fields_from, follows, last_name}
 use Rattle.alternate_vector.proofs.Order.{chain, three}
 
 -- what was read before, and what is still read
@@ -27,7 +27,7 @@ regroup : {A : Type 0} (front : List A) (n : A) (read : Result (List A × List �
 regroup {A} front n (Ok x) = ap (λ (ns : List A). Ok (ns, x.1)) (simp append_assoc)
 regroup front n (Err f) = refl
 
-pub fails_on : {A B : Type 0} (e : VectorFault) (one : Result A VectorFault) (two : Result B VectorFault) → ((f : VectorFault) → one ≡ Err f → two ≡ Err f) → Fails e one → Fails e two
+pub fails_on : {A B : Type 0} (e : VectorFault) (one : Result A VectorFault) (two : Result B VectorFault) → ((f : VectorFault) → one ≡ Err f → two ≡ Err f) → FailsAs e one → FailsAs e two
 fails_on (Memory e) one two h k = tt
 fails_on Short one two h k = h Short k
 fails_on Count one two h k = h Count k
@@ -58,8 +58,8 @@ lines_go_on front count i bytes f after total lt h so_far =
     let one : with_front front (fields_from (count - i) (last_name front) bytes) ≡ with_front (front ++ f ∷ []) (fields_from (count - (i + 1)) f.name after) = rw (k, h) (regroup front f (fields_from (count - (i + 1)) f.name after)) in
     ap (λ (name : List ℕ). with_front (front ++ f ∷ []) (fields_from (count - (i + 1)) name after)) (last-push front f) ∙ sym one ∙ so_far
 
-pub lines_end : (e : VectorFault) (front : List Field) (count i : ℕ) (bytes : List ℕ) (total : Result (List Field × List ℕ) VectorFault) → i < count → Fails e (field_at (last_name front) bytes)
-    → with_front front (fields_from (count - i) (last_name front) bytes) ≡ total → Fails e total
+pub lines_end : (e : VectorFault) (front : List Field) (count i : ℕ) (bytes : List ℕ) (total : Result (List Field × List ℕ) VectorFault) → i < count → FailsAs e (field_at (last_name front) bytes)
+    → with_front front (fields_from (count - i) (last_name front) bytes) ≡ total → FailsAs e total
 unfolding fields_from
 lines_end e front count i bytes total lt h so_far =
     let k : count - i ≡ suc (count - (i + 1)) = omega arith in
@@ -82,8 +82,8 @@ alternates_go_on front count i bytes a after total lt h so_far =
     let one : with_front front (alternates_at (count - i) bytes) ≡ with_front (front ++ a ∷ []) (alternates_at (count - (i + 1)) after) = rw (k, h) (regroup front a (alternates_at (count - (i + 1)) after)) in
     sym one ∙ so_far
 
-pub alternates_end : (e : VectorFault) (front : List Stored) (count i : ℕ) (bytes : List ℕ) (total : Result (List Stored × List ℕ) VectorFault) → i < count → Fails e (alternate_at bytes)
-    → with_front front (alternates_at (count - i) bytes) ≡ total → Fails e total
+pub alternates_end : (e : VectorFault) (front : List Stored) (count i : ℕ) (bytes : List ℕ) (total : Result (List Stored × List ℕ) VectorFault) → i < count → FailsAs e (alternate_at bytes)
+    → with_front front (alternates_at (count - i) bytes) ≡ total → FailsAs e total
 unfolding alternates_at
 alternates_end e front count i bytes total lt h so_far =
     let k : count - i ≡ suc (count - (i + 1)) = omega arith in

@@ -7,7 +7,7 @@ use Rattle.std.proofs.lemmas.List.Concat.{flat_map-cons}
 use Rattle.std.proofs.lemmas.List.Folds.{list_all-append}
 use Rattle.alternate_vector.specs.declared.fields.Line.{Line}
 use Rattle.alternate_vector.specs.Lines.{fields_of}
-use Rattle.alternate_vector.specs.Vary.{IsCommaAt, comma_parts, elements_of, is_empty, onto_first, trimmed, values_of}
+use Rattle.alternate_vector.specs.Vary.{IsCommaAt, comma_parts, elements_of, is_empty, onto_first_part, trimmed, values_of}
 
 abbrev pub is_comma : ℕ → Bool
 is_comma b = eqb b 44
@@ -16,12 +16,12 @@ split_first : (bytes : List ℕ) → position_or_len is_comma bytes < length byt
 split_first [] lt = absurd (omega (arith, lt))
 split_first (b ∷ bytes) lt =
     let n = position_or_len is_comma bytes in
-    elim (eqb b 44) as (λ t. cond (not t) (1 + n) 0 < length (b ∷ bytes) → cond t ([] ∷ comma_parts bytes) (onto_first b (comma_parts bytes)) ≡ take (cond (not t) (1 + n) 0) (b ∷ bytes) ∷ comma_parts (drop (cond (not t) (1 + n) 0 + 1) (b ∷ bytes))) [
+    elim (eqb b 44) as (λ t. cond (not t) (1 + n) 0 < length (b ∷ bytes) → cond t ([] ∷ comma_parts bytes) (onto_first_part b (comma_parts bytes)) ≡ take (cond (not t) (1 + n) 0) (b ∷ bytes) ∷ comma_parts (drop (cond (not t) (1 + n) 0 + 1) (b ∷ bytes))) [
       | true ↦ λ l. refl
       | false ↦ λ l.
           let first : 1 + n ≡ suc n = omega arith in
           let after : 1 + n + 1 ≡ suc (n + 1) = omega arith in
-          ap (onto_first b) (split_first bytes (omega (arith, l)))
+          ap (onto_first_part b) (split_first bytes (omega (arith, l)))
           ∙ ap (λ (k : ℕ). take k (b ∷ bytes) ∷ comma_parts (drop (n + 1) bytes)) (sym first)
           ∙ ap (λ (k : ℕ). take (1 + n) (b ∷ bytes) ∷ comma_parts (drop k (b ∷ bytes))) (sym after)
     ] lt
@@ -30,9 +30,9 @@ split_none : (bytes : List ℕ) → length bytes ≤ position_or_len is_comma by
 split_none [] le = refl
 split_none (b ∷ bytes) le =
     let n = position_or_len is_comma bytes in
-    elim (eqb b 44) as (λ t. length (b ∷ bytes) ≤ cond (not t) (1 + n) 0 → cond t ([] ∷ comma_parts bytes) (onto_first b (comma_parts bytes)) ≡ (b ∷ bytes) ∷ []) [
+    elim (eqb b 44) as (λ t. length (b ∷ bytes) ≤ cond (not t) (1 + n) 0 → cond t ([] ∷ comma_parts bytes) (onto_first_part b (comma_parts bytes)) ≡ (b ∷ bytes) ∷ []) [
       | true ↦ λ l. absurd (omega (arith, l))
-      | false ↦ λ l. ap (onto_first b) (split_none bytes (omega (arith, l)))
+      | false ↦ λ l. ap (onto_first_part b) (split_none bytes (omega (arith, l)))
     ] le
 
 -- what the place of the first comma tells

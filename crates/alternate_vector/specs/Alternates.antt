@@ -61,7 +61,7 @@ pub record IsStored (a : Stored) : Type 0 where
   pub length : total_length a.table ≡ a.length
 
 -- the alternates that may be kept together
-pub record AreStored (alternates : List Stored) : Type 0 where
+pub record AreStoredAlternates (alternates : List Stored) : Type 0 where
   pub few : length alternates ≤ 16
   pub each : AllByRecursion IsStored alternates
 

@@ -65,10 +65,10 @@ field_refusal fields name value =
     else (if nat_le 128 (length fields) then Some TooMany else None))
 
 -- a call answered as the reason says, unless memory ran out
-abbrev pub Refuses : {X : Type 0} → Result X FieldFault → Option FieldFault → Type 0
-Refuses (Ok x) refusal = refusal ≡ None
-Refuses (Err (Memory e)) refusal = ⊤
-Refuses (Err fault) refusal = refusal ≡ Some fault
+abbrev pub RefusesField : {X : Type 0} → Result X FieldFault → Option FieldFault → Type 0
+RefusesField (Ok x) refusal = refusal ≡ None
+RefusesField (Err (Memory e)) refusal = ⊤
+RefusesField (Err fault) refusal = refusal ≡ Some fault
 
 -- the two faults that come of a name alone: it is no name, or memory ran out
 abbrev pub IsNameOrMemory : FieldFault → Type 0

@@ -13,7 +13,7 @@ abbrev pub fields_of : List Line → List Field
 fields_of lines = map field_of lines
 
 -- so many lines have a name that is not above this one, and they come first
-abbrev pub IsPlace : List ℕ → List Line → ℕ → Type 0
-IsPlace name lines at =
+abbrev pub IsPlaceOfName : List ℕ → List Line → ℕ → Type 0
+IsPlaceOfName name lines at =
     AllWithin (λ line. is_above line.name name ≡ false) lines 0 at
     × AllWithin (λ line. is_above line.name name ≡ true) lines at (length lines)

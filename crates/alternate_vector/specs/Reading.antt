@@ -18,14 +18,14 @@ abbrev pub ◌>>=◌ : {A B : Type 0} → Result A VectorFault → (A → Result
 (Err e) >>= f = Err e
 
 -- a fault that a reader returned is the one that reading gives; of want of memory nothing is said
-abbrev pub Fails : {Y : Type 0} → VectorFault → Result Y VectorFault → Type 0
-Fails (Memory e) read = ⊤
-Fails fault read = read ≡ Err fault
+abbrev pub FailsAs : {Y : Type 0} → VectorFault → Result Y VectorFault → Type 0
+FailsAs (Memory e) read = ⊤
+FailsAs fault read = read ≡ Err fault
 
 -- what a reader returned, seen by `view`, is what reading gives, unless memory ran out
-abbrev pub Gives : {X Y : Type 0} → (X → Y) → Result X VectorFault → Result Y VectorFault → Type 0
-Gives view (Ok x) read = read ≡ Ok (view x)
-Gives view (Err fault) read = Fails fault read
+abbrev pub GivesAs : {X Y : Type 0} → (X → Y) → Result X VectorFault → Result Y VectorFault → Type 0
+GivesAs view (Ok x) read = read ≡ Ok (view x)
+GivesAs view (Err fault) read = FailsAs fault read
 
 -- a number, low byte first. Each item that is read is its value and the bytes behind it
 abbrev pub number_at : Width → List ℕ → Result (ℕ × List ℕ) VectorFault

@@ -4,7 +4,7 @@ use Rattle.std.specs.List.{flat_map}
 use Rattle.std.specs.Int.{w16, w32, w64, to_le_bytes}
 use Rattle.fragment_table.specs.Table.{table_bytes}
 use Rattle.alternate_vector.specs.Field.{Field}
-use Rattle.alternate_vector.specs.Alternates.{Stored, AreStored}
+use Rattle.alternate_vector.specs.Alternates.{Stored, AreStoredAlternates}
 
 -- the lengths of the name and of the value, and both
 abbrev pub field_bytes : Field → List ℕ
@@ -27,5 +27,5 @@ vector_bytes alternates = to_le_bytes w32 (length alternates) ++ flat_map altern
 -- the bytes spell these alternates, of which there is one at least
 pub record IsSpelling (bytes : List ℕ) (alternates : List Stored) : Type 0 where
   pub some : 0 < length alternates
-  pub stored : AreStored alternates
+  pub stored : AreStoredAlternates alternates
   pub spelled : bytes ≡ vector_bytes alternates

@@ -18,14 +18,14 @@ abbrev pub trimmed : List ℕ → List ℕ
 trimmed bytes = reverse (skip_blanks (reverse (skip_blanks bytes)))
 
 -- a byte in front of the first part
-abbrev pub onto_first : ℕ → List (List ℕ) → List (List ℕ)
-onto_first b [] = (b ∷ []) ∷ []
-onto_first b (part ∷ parts) = (b ∷ part) ∷ parts
+abbrev pub onto_first_part : ℕ → List (List ℕ) → List (List ℕ)
+onto_first_part b [] = (b ∷ []) ∷ []
+onto_first_part b (part ∷ parts) = (b ∷ part) ∷ parts
 
 -- the parts between commas
 abbrev pub comma_parts : List ℕ → List (List ℕ)
 comma_parts [] = [] ∷ []
-comma_parts (b ∷ bytes) = if b == 44 then [] ∷ comma_parts bytes else onto_first b (comma_parts bytes)
+comma_parts (b ∷ bytes) = if b == 44 then [] ∷ comma_parts bytes else onto_first_part b (comma_parts bytes)
 
 -- the first comma
 pub record IsCommaAt (bytes : List ℕ) (end : ℕ) : Type 0 where

@@ -3,8 +3,8 @@
 ghost use Rattle.std.specs.Prelude.{◌≡◌, ◌<◌, ◌≤◌, List, [], length, Ok, Err, IfOk, OnOk, OnErr};
 ghost use Rattle.http_header.specs.Token.{is_token_byte, is_value_byte};
 ghost use Rattle.std.specs.List.{list_all};
-ghost use Rattle.alternate_vector.specs.Field.{AreFields, IsRising, Refuses, field_refusal, IsKept, IsNameOrMemory, is_name, is_value, made_field, with_field};
-ghost use Rattle.alternate_vector.specs.Lines.{IsPlace, field_of, fields_of};
+ghost use Rattle.alternate_vector.specs.Field.{AreFields, IsRising, RefusesField, field_refusal, IsKept, IsNameOrMemory, is_name, is_value, made_field, with_field};
+ghost use Rattle.alternate_vector.specs.Lines.{IsPlaceOfName, field_of, fields_of};
 
 use crate::fault::FieldFault;
 use bytes::Bytes;
@@ -62,7 +62,7 @@ impl Fields {
     pub fn append(&mut self, name: &[u8], value: &[u8]) -> Result<(), FieldFault>
         ensures ok { OnOk result (self.new ≡ with_field self.old (made_field name.now value.now)) }
         ensures err { OnErr result (self.new ≡ self.old) }
-        ensures exact { Refuses result (field_refusal self.old name.now value.now) }
+        ensures exact { RefusesField result (field_refusal self.old name.now value.now) }
     {
         let line = read_line(self.alloc, name, value)?;
         if self.lines.len() == MAX_LINES {
@@ -111,7 +111,7 @@ impl Fields {
 pub(crate) fn read_line(alloc: Global, name: &[u8], value: &[u8]) -> Result<Line, FieldFault>
     ensures ok { IfOk result (λ line. field_of line ≡ made_field name.now value.now) }
     ensures kept { OnOk result (IsKept (made_field name.now value.now)) }
-    ensures exact { Refuses result (field_refusal [] name.now value.now) }
+    ensures exact { RefusesField result (field_refusal [] name.now value.now) }
 {
     if !is_name(name) {
         return Err(FieldFault::Name);
@@ -168,7 +168,7 @@ fn is_value_byte(b: u8) -> bool
 // How many lines have a name that is not above this one.
 fn place_of(lines: &[Line], name: &[u8]) -> usize
     ensures within { result ≤ length lines.now }
-    ensures place { IsRising (fields_of lines.now) → IsPlace name.now lines.now result }
+    ensures place { IsRising (fields_of lines.now) → IsPlaceOfName name.now lines.now result }
 {
     lines.partition_point(|line| line.name.as_bytes().cmp(name).is_le())
 }

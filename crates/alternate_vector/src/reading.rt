@@ -5,9 +5,9 @@ ghost use Rattle.http_header.specs.Token.{lowercase};
 ghost use Rattle.std.specs.List.{AllByRecursion};
 ghost use Rattle.fragment_table.specs.Table.{AreRows, total_length};
 ghost use Rattle.std.specs.Int.{w16, w32, w64};
-ghost use Rattle.alternate_vector.specs.Alternates.{IsStored, AreStored, all_stored, stored_of};
+ghost use Rattle.alternate_vector.specs.Alternates.{IsStored, AreStoredAlternates, all_stored, stored_of};
 ghost use Rattle.alternate_vector.specs.Field.{AreFields, IsKept, is_above, is_name, is_value, plain_field};
-ghost use Rattle.alternate_vector.specs.Reading.{Gives, alternate_at, alternates_at, field_at, fields_at, fields_from, follows, last_name, number_at, read_vector, table_at, text_at};
+ghost use Rattle.alternate_vector.specs.Reading.{GivesAs, alternate_at, alternates_at, field_at, fields_at, fields_from, follows, last_name, number_at, read_vector, table_at, text_at};
 ghost use Rattle.alternate_vector.specs.Lines.{field_of, fields_of};
 
 use crate::alternate::Alternate;
@@ -23,8 +23,8 @@ const MAX_LINES: u16 = 128;
 
 #[tactic(auto, unfolding(crate::specs::Reading::read_vector))]
 pub(crate) fn read(alloc: Global, bytes: &[u8]) -> Result<Vec<Alternate>, VectorFault>
-    ensures exact { Gives (λ v. all_stored v.items) result (read_vector bytes.now) }
-    ensures stored { IfOk result (λ v. AreStored (all_stored v.items)) }
+    ensures exact { GivesAs (λ v. all_stored v.items) result (read_vector bytes.now) }
+    ensures stored { IfOk result (λ v. AreStoredAlternates (all_stored v.items)) }
 {
     let (count, rest) = u32_at(bytes)?;
     if count == 0 || count > MAX_ALTERNATES {
@@ -42,7 +42,7 @@ fn alternates_of(
     count: u32,
     bytes: &[u8],
 ) -> Result<(Vec<Alternate>, &[u8]), VectorFault>
-    ensures alternates { Gives (λ x. (all_stored x.0.items, x.1.now)) result (alternates_at count bytes.now) }
+    ensures alternates { GivesAs (λ x. (all_stored x.0.items, x.1.now)) result (alternates_at count bytes.now) }
     ensures each { IfOk result (λ x. AllByRecursion IsStored (all_stored x.0.items)) }
     ensures count { IfOk result (λ x. length (all_stored x.0.items) ≡ count) }
 {
@@ -58,7 +58,7 @@ fn alternates_of(
 
 #[tactic(auto, unfolding(crate::specs::Reading::alternate_at))]
 fn alternate_of(alloc: Global, bytes: &[u8]) -> Result<(Alternate, &[u8]), VectorFault>
-    ensures alternate { Gives (λ x. (stored_of x.0, x.1.now)) result (alternate_at bytes.now) }
+    ensures alternate { GivesAs (λ x. (stored_of x.0, x.1.now)) result (alternate_at bytes.now) }
     ensures stored { IfOk result (λ x. IsStored (stored_of x.0)) }
 {
     let (put, rest) = u64_at(bytes)?;
@@ -79,7 +79,7 @@ fn alternate_of(alloc: Global, bytes: &[u8]) -> Result<(Alternate, &[u8]), Vecto
 }
 
 fn table_of(alloc: Global, total: u64, bytes: &[u8]) -> Result<(FragTable, &[u8]), VectorFault>
-    ensures table { Gives (λ x. (x.0.rows, x.1.now)) result (table_at total bytes.now) }
+    ensures table { GivesAs (λ x. (x.0.rows, x.1.now)) result (table_at total bytes.now) }
     ensures rows { IfOk result (λ x. AreRows x.0.rows) }
     ensures sum { IfOk result (λ x. total_length x.0.rows ≡ total) }
 {
@@ -95,28 +95,28 @@ fn table_of(alloc: Global, total: u64, bytes: &[u8]) -> Result<(FragTable, &[u8]
 }
 
 fn u64_at(bytes: &[u8]) -> Result<(u64, &[u8]), VectorFault>
-    ensures { Gives (λ x. (x.0, x.1.now)) result (number_at w64 bytes.now) }
+    ensures { GivesAs (λ x. (x.0, x.1.now)) result (number_at w64 bytes.now) }
 {
     let (number, rest) = bytes.split_first_chunk::<8>().ok_or(VectorFault::Short)?;
     Ok((u64::from_le_bytes(*number), rest))
 }
 
 fn u32_at(bytes: &[u8]) -> Result<(u32, &[u8]), VectorFault>
-    ensures { Gives (λ x. (x.0, x.1.now)) result (number_at w32 bytes.now) }
+    ensures { GivesAs (λ x. (x.0, x.1.now)) result (number_at w32 bytes.now) }
 {
     let (number, rest) = bytes.split_first_chunk::<4>().ok_or(VectorFault::Short)?;
     Ok((u32::from_le_bytes(*number), rest))
 }
 
 fn u16_at(bytes: &[u8]) -> Result<(u16, &[u8]), VectorFault>
-    ensures { Gives (λ x. (x.0, x.1.now)) result (number_at w16 bytes.now) }
+    ensures { GivesAs (λ x. (x.0, x.1.now)) result (number_at w16 bytes.now) }
 {
     let (number, rest) = bytes.split_first_chunk::<2>().ok_or(VectorFault::Short)?;
     Ok((u16::from_le_bytes(*number), rest))
 }
 
 fn text_of(n: usize, bytes: &[u8]) -> Result<(&[u8], &[u8]), VectorFault>
-    ensures { Gives (λ x. (x.0.now, x.1.now)) result (text_at n bytes.now) }
+    ensures { GivesAs (λ x. (x.0.now, x.1.now)) result (text_at n bytes.now) }
 {
     if bytes.len() < n {
         return Err(VectorFault::Short);
@@ -126,7 +126,7 @@ fn text_of(n: usize, bytes: &[u8]) -> Result<(&[u8], &[u8]), VectorFault>
 
 #[tactic(auto, unfolding(crate::specs::Reading::fields_at))]
 fn fields_of(alloc: Global, bytes: &[u8]) -> Result<(Fields, &[u8]), VectorFault>
-    ensures fields { Gives (λ x. (x.0, x.1.now)) result (fields_at bytes.now) }
+    ensures fields { GivesAs (λ x. (x.0, x.1.now)) result (fields_at bytes.now) }
     ensures valid { IfOk result (λ x. AreFields x.0) }
 {
     let (count, rest) = u16_at(bytes)?;
@@ -139,7 +139,7 @@ fn fields_of(alloc: Global, bytes: &[u8]) -> Result<(Fields, &[u8]), VectorFault
 
 fn lines_of(alloc: Global, count: u16, bytes: &[u8]) -> Result<(Vec<Line>, &[u8]), VectorFault>
     requires { count ≤ 128 }
-    ensures lines { Gives (λ x. (fields_of x.0.items, x.1.now)) result (fields_from count [] bytes.now) }
+    ensures lines { GivesAs (λ x. (fields_of x.0.items, x.1.now)) result (fields_from count [] bytes.now) }
     ensures valid { IfOk result (λ x. AreFields (fields_of x.0.items)) }
 {
     let mut lines = Vec::new(alloc);
@@ -167,7 +167,7 @@ fn line_of<'a>(
     before: &[u8],
     bytes: &'a [u8],
 ) -> Result<(Line, &'a [u8]), VectorFault>
-    ensures field { Gives (λ x. (field_of x.0, x.1.now)) result (field_at before.now bytes.now) }
+    ensures field { GivesAs (λ x. (field_of x.0, x.1.now)) result (field_at before.now bytes.now) }
     ensures kept { IfOk result (λ x. IsKept (field_of x.0)) }
     ensures order { IfOk result (λ x. is_above before.now (field_of x.0).name ≡ false) }
 {

@@ -1,10 +1,10 @@
 // The alternates of an object, the newest last.
 
 ghost use Rattle.std.specs.Prelude.{◌≡◌, ◌<◌, ◌≤◌, List, [], ◌∷◌, ◌++◌, length, slice_get, Some, Ok, IfOk, OnOk, OnErr};
-ghost use Rattle.alternate_vector.specs.Reading.{Gives, read_vector};
+ghost use Rattle.alternate_vector.specs.Reading.{GivesAs, read_vector};
 ghost use Rattle.alternate_vector.specs.Spelling.{IsSpelling, vector_bytes};
 ghost use Rattle.fragment_table.specs.Table.{AreRows, total_length};
-ghost use Rattle.alternate_vector.specs.Alternates.{AreStored, IsStored, Stored, all_stored, chosen, is_within, longest_within, merged, stored_of, vector_size, with_new};
+ghost use Rattle.alternate_vector.specs.Alternates.{AreStoredAlternates, IsStored, Stored, all_stored, chosen, is_within, longest_within, merged, stored_of, vector_size, with_new};
 
 use crate::alternate::{Alternate, matches};
 use crate::fault::VectorFault;
@@ -25,13 +25,13 @@ pub struct Vector {
 
 impl Model for Vector {
     ghost use Rattle.std.specs.Prelude.{List};
-    ghost use Rattle.alternate_vector.specs.Alternates.{AreStored, Stored, all_stored};
+    ghost use Rattle.alternate_vector.specs.Alternates.{AreStoredAlternates, Stored, all_stored};
 
     ghost Value = { List Stored };
 
     ghost view = { λ vector. all_stored vector.alternates.items };
 
-    ghost invariant = { λ vector. AreStored (all_stored vector.alternates.items) };
+    ghost invariant = { λ vector. AreStoredAlternates (all_stored vector.alternates.items) };
 }
 
 impl Vector {
@@ -48,7 +48,7 @@ impl Vector {
     /// How many alternates there are.
     pub fn len(&self) -> usize
         ensures len { result ≡ length self.now }
-        ensures stored { AreStored self.now }
+        ensures stored { AreStoredAlternates self.now }
     {
         self.alternates.len()
     }
@@ -110,12 +110,12 @@ impl Vector {
     /// Reads a vector, all of the bytes. An item is read whole before it is judged.
     pub fn decode(alloc: Global, bytes: &[u8]) -> Result<Vector, VectorFault>
         // Which vector, or which fault.
-        ensures exact { Gives (λ vector. vector) result (read_vector bytes.now) }
+        ensures exact { GivesAs (λ vector. vector) result (read_vector bytes.now) }
         // What is read was spelled so.
         ensures found { IfOk result (λ vector. IsSpelling bytes.now vector) }
         // What is spelled so is read.
         ensures only { (alternates : List Stored) → IsSpelling bytes.now alternates
-            → Gives (λ vector. vector) result (Ok alternates) }
+            → GivesAs (λ vector. vector) result (Ok alternates) }
     {
         Ok(Vector {
             alloc,

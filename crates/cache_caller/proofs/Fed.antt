@@ -25,9 +25,9 @@ use Rattle.call_laws.specs.Moments.{At, permit_of}
 use Rattle.call_laws.proofs.Joined.{state_behind}
 use Rattle.cache_calls.specs.Actors.{IsAtHand, IsWriterOf, WriterSeen}
 use Rattle.cache_calls.specs.Adds.{IsOfFlush}
-use Rattle.cache_calls.specs.Asked.{gathered_with, is_cut, rest_rows, rows_at_close}
-use Rattle.cache_calls.specs.Keeping.{Keeps, state_at}
-use Rattle.cache_calls.specs.Writers.{CutsAs, HasBegun, HasTaken, IsPushedOut, Takes, fragment_records, next_fragment, opened_record}
+use Rattle.cache_calls.specs.Asked.{fills_fragment, gathered_with, rest_rows, rows_at_close}
+use Rattle.cache_calls.specs.Keeping.{KeepsUnharmed, state_at}
+use Rattle.cache_calls.specs.Writers.{CutsAs, HasBegun, HasTaken, IsPushedOut, TakesBytes, fragment_records, opened_writer_record, piece_cut_next}
 
 -- how many bytes of its body a writer has
 abbrev pub held : WriterSeen → ℕ
@@ -52,7 +52,7 @@ found_open s put (Some row) e writing = record { row = row; found = e; is_open =
 
 -- a new one has cut nothing
 pub nothing_cut : (old mid : At) (who : Actor) (key : Key) (request response : List Field) (pin : ℕ) (w : WriterSeen)
-    → HasBegun old mid (opened_record (state_at old) who key request response pin) w → held w ≡ 0
+    → HasBegun old mid (opened_writer_record (state_at old) who key request response pin) w → held w ≡ 0
 nothing_cut old mid who key request response pin w begun =
     let cuts : w.cuts ≡ [] = sym (begun.writer row (ap (put_of (state_at mid)) begun.put ∙ (ap (λ (x : State). put_of x s.next_put) there ∙ found)) refl).cuts_are in
     let total : total_length w.cuts ≡ 0 = ap total_length cuts in
@@ -65,10 +65,10 @@ nothing_cut old mid who key request response pin w begun =
     row : PutRow
     row = opened_put who.0 s.next_put key request response pin
 
-    there : state_at mid ≡ state_after s (opened_record s who key request response pin)
-    there = state_behind old.kept mid.kept (opened_record s who key request response pin ∷ []) begun.adds
+    there : state_at mid ≡ state_after s (opened_writer_record s who key request response pin)
+    there = state_behind old.kept mid.kept (opened_writer_record s who key request response pin ∷ []) begun.adds
 
-    found : put_of (state_after s (opened_record s who key request response pin)) s.next_put ≡ Some row
+    found : put_of (state_after s (opened_writer_record s who key request response pin)) s.next_put ≡ Some row
     found = ap (λ (b : Bool). cond b (Some row) (find (λ (p : PutRow). p.put == s.next_put) s.puts)) (eq-eqb s.next_put s.next_put refl)
 
 -- the records of a flush leave it
@@ -103,7 +103,7 @@ cut_found : (old new : At) (w : WriterSeen) (payload : List ℕ) (row : PutRow) 
     → put_of (state_at new) w.put ≡ Some (with_cut (row_for payload) row)
 cut_found old new w payload row c found =
     ap (λ (x : State). put_of x w.put) there
-    ∙ (ap (find (λ (p : PutRow). p.put == w.put)) (pushed_leave old.setting room cut (next_fragment w) c.displaced c.pushed)
+    ∙ (ap (find (λ (p : PutRow). p.put == w.put)) (pushed_leave old.setting room cut (piece_cut_next w) c.displaced c.pushed)
     ∙ (find-changed (λ (p : PutRow). p.put) (with_cut (row_for payload)) (λ x. refl) w.put w.put room.puts
     ∙ rw (eq-eqb w.put w.put refl) (ap (option_map (with_cut (row_for payload))) (ap (find (λ (p : PutRow). p.put == w.put)) left ∙ found))))
   where
@@ -114,7 +114,7 @@ cut_found old new w payload row c found =
     cut = state_after room (rec.Cut w.put (length w.cuts + 1) (length payload) (digest_of payload))
 
     placed : Rec
-    placed = placed_record room (next_fragment w) w.pin (total_length w.cuts) (length payload) payload
+    placed = placed_record room (piece_cut_next w) w.pin (total_length w.cuts) (length payload) payload
 
     there : state_at new ≡ state_after (after_all cut c.displaced) placed
     there =
@@ -133,7 +133,8 @@ total_more rows row = sum_by-append (λ (r : TableRow). r.length) rows (row ∷ 
     one : (r : TableRow) → total_length (r ∷ []) ≡ r.length
     one r = omega arith
 
-module _ (old new : At) (w v : WriterSeen) (bytes : List ℕ) (n : ℕ) (own : IsWriterOf (state_at old) w) (takes : Takes old new w bytes n)
+module _ (old new : At) (w v : WriterSeen) (bytes : List ℕ) (n : ℕ) (own : IsWriterOf (state_at old) w)
+    (takes : TakesBytes old new w bytes n)
     (has : HasTaken (state_at old).geometry w bytes n v) (later : IsWriterOf (state_at new) v) where
   abbrev s : State
   s = state_at old
@@ -161,9 +162,9 @@ module _ (old new : At) (w v : WriterSeen) (bytes : List ℕ) (n : ℕ) (own : I
 
   -- what it has is longer by what was taken
   longer : held v ≡ held w + n
-  longer = by (is_cut s.geometry w n) refl
+  longer = by (fills_fragment s.geometry w n) refl
     where
-      by : (b : Bool) → is_cut s.geometry w n ≡ b → held v ≡ held w + n
+      by : (b : Bool) → fills_fragment s.geometry w n ≡ b → held v ≡ held w + n
       by true e =
           let c : CutsAs old new w payload = subst (λ b. MatchBool b (CutsAs old new w payload) (new.kept ≡ old.kept)) e takes.cuts in
           let cuts : v.cuts ≡ w.cuts ++ row_for payload ∷ [] =
@@ -183,7 +184,7 @@ module _ (old new : At) (w v : WriterSeen) (bytes : List ℕ) (n : ℕ) (own : I
 
 -- the first cache, and the one behind the writes so far
 pub record Fed {S : Type 0} (at : S → At) (holds : S → Type 0) (first mid : S) (w : WriterSeen) (body : List ℕ) (taken : ℕ) : Type 0 where
-  pub keeps : Keeps at holds first mid
+  pub keeps : KeepsUnharmed at holds first mid
   pub writer : IsWriterOf (state_at (at mid)) w
   pub put_is : w.put ≡ (state_at (at first)).next_put
   pub within : taken ≤ length body
@@ -199,7 +200,7 @@ pub record Further (v : WriterSeen) (body : List ℕ) (taken n : ℕ) : Type 0 w
   pub nearer : length body - (taken + n) < length body - taken
   pub has : held v ≡ taken + n
 
-pub goes_further : (old new : At) (w v : WriterSeen) (body : List ℕ) (taken n : ℕ) → IsWriterOf (state_at old) w → Takes old new w (part body taken) n
+pub goes_further : (old new : At) (w v : WriterSeen) (body : List ℕ) (taken n : ℕ) → IsWriterOf (state_at old) w → TakesBytes old new w (part body taken) n
     → HasTaken (state_at old).geometry w (part body taken) n v → IsWriterOf (state_at new) v → taken < length body
     → held w ≡ taken → Further v body taken n
 goes_further old new w v body taken n own takes has later left so_far =

@@ -16,9 +16,9 @@ use Rattle.cache_calls.specs.Actors.{WriterSeen}
 use Rattle.cache_calls.specs.Adds.{IsAsItWas}
 use Rattle.cache_calls.specs.Keeping.{FallBelow, IsAtRest, state_at}
 use Rattle.cache_calls.specs.Writers.{GivesUp}
-use Rattle.cache_caller.specs.Refused.{IsOver}
+use Rattle.cache_caller.specs.Refused.{RefusedIsOver}
 
-pub is_over : (t : State) (put : ℕ) (why : Refusal) → is_writing t put ≡ false → IsOver t put why
+pub is_over : (t : State) (put : ℕ) (why : Refusal) → is_writing t put ≡ false → RefusedIsOver t put why
 is_over t put (refusal.Memory e) over = tt
 is_over t put refusal.TooManyWriters over = over
 is_over t put refusal.TooManyFragments over = over
@@ -29,7 +29,8 @@ is_over t put refusal.Sealed over = over
 is_over t put (refusal.Exhausted number) over = over
 is_over t put refusal.NoSuchWriter over = over
 
-pub refused_over : {X : Type 0} (t : State) (put : ℕ) (result : Result X Refusal) → is_writing t put ≡ false → IfErr result (IsOver t put)
+pub refused_over : {X : Type 0} (t : State) (put : ℕ) (result : Result X Refusal) → is_writing t put ≡ false
+    → IfErr result (RefusedIsOver t put)
 refused_over t put (Ok x) over = tt
 refused_over t put (Err why) over = is_over t put why over
 

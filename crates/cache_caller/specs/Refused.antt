@@ -6,6 +6,6 @@ use Rattle.cache_calls.specs.declared.calls.Refusal.{Refusal}
 use Rattle.cache_calls.specs.declared.calls.Refusal.TheVariants as refusal
 
 -- it is not open, unless memory was wanting
-abbrev pub IsOver : State → ℕ → Refusal → Type 0
-IsOver t put (refusal.Memory e) = Unit {0}
-IsOver t put why = is_writing t put ≡ false
+abbrev pub RefusedIsOver : State → ℕ → Refusal → Type 0
+RefusedIsOver t put (refusal.Memory e) = Unit {0}
+RefusedIsOver t put why = is_writing t put ≡ false

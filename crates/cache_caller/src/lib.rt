@@ -4,8 +4,8 @@
 ghost use Rattle.std.specs.Prelude.{◌≡◌, ◌*◌, ◌≤◌, length, IfErr, IfOk, IfSome};
 ghost use Rattle.tape_base.specs.Geometry.{budget_of};
 ghost use Rattle.cache_calls.specs.Actors.{IsOpenReader, IsWriterOf};
-ghost use Rattle.cache_calls.specs.Keeping.{Goes, Keeps, state_at};
-ghost use Rattle.cache_caller.specs.Refused.{IsOver};
+ghost use Rattle.cache_calls.specs.Keeping.{Goes, KeepsUnharmed, state_at};
+ghost use Rattle.cache_caller.specs.Refused.{RefusedIsOver};
 
 use alternate_vector::Fields;
 use cache_calls::{Calls, NextPiece, Opened, Receipt, Refusal};
@@ -21,12 +21,12 @@ pub fn store<S: Calls>(
     now: u64,
 ) -> Result<Receipt, Refusal>
     requires { S.holds cache.old }
-    ensures keeps { Keeps S.at S.holds cache.old cache.new }
+    ensures keeps { KeepsUnharmed S.at S.holds cache.old cache.new }
     ensures put { let put = (state_at (S.at cache.old)).next_put in
         IfOk result (λ receipt. receipt.put ≡ put) }
     ensures whole { IfOk result (λ receipt. receipt.length ≡ length body.now) }
     ensures over { let put = (state_at (S.at cache.old)).next_put in
-        IfErr result (IsOver (state_at (S.at cache.new)) put) }
+        IfErr result (RefusedIsOver (state_at (S.at cache.new)) put) }
 {
     let (request, response) = (Fields::new(alloc), Fields::new(alloc));
     let mut writer = cache.open_write(Actor(0), key, request, response, 0)?;
@@ -47,8 +47,8 @@ pub fn store<S: Calls>(
 fn give_up<S: Calls>(cache: &mut S, writer: &mut S::Writer, why: Refusal) -> Refusal
     requires holds { S.holds cache.old }
     requires writer { IsWriterOf (state_at (S.at cache.old)) (S.written writer.old) }
-    ensures keeps { Keeps S.at S.holds cache.old cache.new }
-    ensures over { IsOver (state_at (S.at cache.new)) (S.written writer.old).put result }
+    ensures keeps { KeepsUnharmed S.at S.holds cache.old cache.new }
+    ensures over { RefusedIsOver (state_at (S.at cache.new)) (S.written writer.old).put result }
 {
     match cache.abort_write(writer) {
         Err(Refusal::Memory(e)) => Refusal::Memory(e),

@@ -3,7 +3,7 @@ use Rattle.std.proofs.Common.{◌≡◌, true, false, refl, sym, ◌∙◌, arit
 use Rattle.logged_disk.proofs.GoingOn.{goes_further, stays_put}
 use Rattle.call_laws.specs.Moments.{At}
 use Rattle.call_laws.proofs.Whole.{encloses_own}
-use Rattle.cache_calls.specs.Keeping.{Goes, IsUnharmed, Keeps, PlainHasSteps}
+use Rattle.cache_calls.specs.Keeping.{Goes, IsUnharmed, KeepsUnharmed, PlainHasSteps}
 
 module _ {S : Type 0} {at : S → At} {holds : S → Type 0} where
   pub goes_still : (a : S) → holds a → Goes at holds a a
@@ -17,10 +17,10 @@ module _ {S : Type 0} {at : S → At} {holds : S → Type 0} where
     later = omega (arith, first.later, next.later);
   }
 
-  pub keeps_still : (a : S) → holds a → Keeps at holds a a
+  pub keeps_still : (a : S) → holds a → KeepsUnharmed at holds a a
   keeps_still a h = record { goes_on = goes_still a h; unharmed = λ (u : IsUnharmed (at a)). u }
 
-  pub keeps_then : {a b c : S} → Keeps at holds a b → Keeps at holds b c → Keeps at holds a c
+  pub keeps_then : {a b c : S} → KeepsUnharmed at holds a b → KeepsUnharmed at holds b c → KeepsUnharmed at holds a c
   keeps_then {a} first next = record {
     goes_on = goes_then first.goes_on next.goes_on;
     unharmed = λ (u : IsUnharmed (at a)). next.unharmed (first.unharmed u);

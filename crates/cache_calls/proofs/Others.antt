@@ -15,7 +15,7 @@ use Rattle.cache_model.proofs.ByNumber.{find-changed, find-without}
 use Rattle.call_laws.specs.Moments.{At}
 use Rattle.call_laws.proofs.Joined.{state_behind}
 use Rattle.cache_calls.specs.Actors.{IsAtHand, IsOpenReader, IsReaderOf, IsWriterOf, ReaderSeen, WriterSeen}
-use Rattle.cache_calls.specs.Adds.{Adds, IsOfPut, IsOfReader}
+use Rattle.cache_calls.specs.Adds.{AddsOnly, IsOfPut, IsOfReader}
 use Rattle.cache_calls.specs.Keeping.{state_at}
 use Rattle.cache_calls.specs.Others.{LeavesOtherReaders, LeavesOthers}
 
@@ -76,7 +76,7 @@ all_of_put put s (r ∷ recs) own =
       geometry = others.geometry ∙ first.geometry;
     }
 
-pub others_stay : (put : ℕ) (old new : At) → Adds (IsOfPut put) old new → LeavesOthers put (state_at old) (state_at new)
+pub others_stay : (put : ℕ) (old new : At) → AddsOnly (IsOfPut put) old new → LeavesOthers put (state_at old) (state_at new)
 others_stay put old new h =
     subst (LeavesOthers put (state_at old)) (sym (state_behind old.kept new.kept h.added h.adds)) (all_of_put put (state_at old) h.added h.own)
 
@@ -136,7 +136,7 @@ all_of_reader reader s (r ∷ recs) own =
       geometry = others.geometry ∙ first.geometry;
     }
 
-pub reads_leave_others : (reader : ℕ) (old new : At) → Adds (IsOfReader reader) old new → LeavesOtherReaders reader (state_at old) (state_at new)
+pub reads_leave_others : (reader : ℕ) (old new : At) → AddsOnly (IsOfReader reader) old new → LeavesOtherReaders reader (state_at old) (state_at new)
 reads_leave_others reader old new h =
     subst (LeavesOtherReaders reader (state_at old)) (sym (state_behind old.kept new.kept h.added h.adds)) (all_of_reader reader (state_at old) h.added h.own)
 

@@ -17,7 +17,7 @@ abbrev pub AddsAll : List Rec → (old new : At) → Type 0
 AddsAll added old new = new.kept ≡ with_records old.kept added
 
 -- all that were are of one kind
-pub record Adds (IsOwn : Rec → Type 0) (old new : At) : Type 0 where
+pub record AddsOnly (IsOwn : Rec → Type 0) (old new : At) : Type 0 where
   pub added : List Rec
   pub adds : AddsAll added old new
   pub own : AllByRecursion IsOwn added

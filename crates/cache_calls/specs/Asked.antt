@@ -22,8 +22,8 @@ abbrev pub gathered_with : WriterSeen → List ℕ → ℕ → List ℕ
 gathered_with w bytes n = w.gathered ++ take n bytes
 
 -- as many as a fragment has
-abbrev pub is_cut : Geometry → WriterSeen → ℕ → Bool
-is_cut g w n = length w.gathered + n == g.fragment
+abbrev pub fills_fragment : Geometry → WriterSeen → ℕ → Bool
+fills_fragment g w n = length w.gathered + n == g.fragment
 
 -- the bytes of the next fragment, where it has gathered
 abbrev pub next_payload : State → WriterSeen → List ℕ → List ℕ
@@ -41,7 +41,7 @@ is_overflow w bytes = nat_lt 0 (length bytes) && length w.cuts == most_fragments
 abbrev pub fed_asks : State → WriterSeen → List ℕ → List Intent
 fed_asks s w bytes =
     if is_overflow w bytes then Overflow w.put ∷ []
-    else if is_cut s.geometry w (taken_of s.geometry w bytes) then cuts_next w (next_payload s w bytes) ∷ []
+    else if fills_fragment s.geometry w (taken_of s.geometry w bytes) then cuts_next w (next_payload s w bytes) ∷ []
     else []
 
 -- one that takes none is asked for nothing

@@ -1,7 +1,7 @@
 -- How a cache begins.
 use Rattle.std.specs.Prelude.{◌≡◌}
 use Rattle.tape_base.specs.declared.geometries.Geometry.{Geometry}
-use Rattle.logged_disk.specs.Device.{State as Device}
+use Rattle.logged_disk.specs.Device.{DeviceState as Device}
 use Rattle.cache_model.specs.Kept.{all_of}
 use Rattle.cache_model.specs.Legal.{format_records}
 use Rattle.call_laws.specs.Contents.{Contents}

@@ -3,7 +3,7 @@ use Rattle.std.specs.Prelude.{ℕ, ◌≡◌, ◌/◌, ◌<◌, ◌≤◌, Bool,
 use Rattle.std.specs.List.{AllByRecursion}
 use Rattle.device_log.specs.Calls.{Call, Read}
 use Rattle.device_log.specs.Image.{span}
-use Rattle.logged_disk.specs.Device.{IsAfter, IsTrusted, State as Device, TellsAll, seen}
+use Rattle.logged_disk.specs.Device.{DeviceState as Device, IsAfter, IsTrusted, TellsAll, seen}
 use Rattle.cache_model.specs.State.{PutRow, ReaderRow, State}
 use Rattle.cache_model.specs.Damage.{has_damage}
 use Rattle.cache_model.specs.Kept.{state_of}
@@ -69,17 +69,18 @@ pub record Goes {S : Type 0} (at : S → At) (holds : S → Type 0) (old new : S
   pub later : (at old).device.faults ≤ (at new).device.faults
 
 -- and what it tells is not harmed
-pub record Keeps {S : Type 0} (at : S → At) (holds : S → Type 0) (old new : S) : Type 0 where
+pub record KeepsUnharmed {S : Type 0} (at : S → At) (holds : S → Type 0) (old new : S) : Type 0 where
   pub goes_on : Goes at holds old new
   pub unharmed : StaysUnharmed (at old) (at new)
 
 -- so it does where nothing was done, and behind two calls
-abbrev pub GoOn : {S : Type 0} → (S → At) → (S → Type 0) → Type 0
-GoOn {S} at holds = ((a : S) → holds a → Goes at holds a a) × ((a b c : S) → Goes at holds a b → Goes at holds b c → Goes at holds a c)
+abbrev pub GoesBehindCalls : {S : Type 0} → (S → At) → (S → Type 0) → Type 0
+GoesBehindCalls {S} at holds = ((a : S) → holds a → Goes at holds a a)
+    × ((a b c : S) → Goes at holds a b → Goes at holds b c → Goes at holds a c)
 
 -- and keeps it
 abbrev pub KeepOn : {S : Type 0} → (S → At) → (S → Type 0) → Type 0
-KeepOn {S} at holds = ((a : S) → holds a → Keeps at holds a a) × ((a b c : S) → Keeps at holds a b → Keeps at holds b c → Keeps at holds a c)
+KeepOn {S} at holds = ((a : S) → holds a → KeepsUnharmed at holds a a) × ((a b c : S) → KeepsUnharmed at holds a b → KeepsUnharmed at holds b c → KeepsUnharmed at holds a c)
 
 -- ---- what the device did
 

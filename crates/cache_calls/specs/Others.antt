@@ -3,7 +3,7 @@ use Rattle.std.specs.Prelude.{ℕ, ◌≡◌}
 use Rattle.cache_model.specs.State.{State, put_of, reader_of}
 use Rattle.call_laws.specs.Moments.{At}
 use Rattle.cache_calls.specs.Actors.{IsOpenReader, IsReaderOf, IsWriterOf, ReaderSeen, WriterSeen}
-use Rattle.cache_calls.specs.Adds.{Adds, IsOfPut, IsOfReader}
+use Rattle.cache_calls.specs.Adds.{AddsOnly, IsOfPut, IsOfReader}
 use Rattle.cache_calls.specs.Keeping.{state_at}
 
 -- ---- writers
@@ -16,7 +16,7 @@ pub record LeavesOthers (put : ℕ) (s t : State) : Type 0 where
 
 -- records of one put leave them so
 abbrev pub OthersStay : Type 0
-OthersStay = (put : ℕ) (old new : At) → Adds (IsOfPut put) old new → LeavesOthers put (state_at old) (state_at new)
+OthersStay = (put : ℕ) (old new : At) → AddsOnly (IsOfPut put) old new → LeavesOthers put (state_at old) (state_at new)
 
 -- and so they leave the writers of other puts
 abbrev pub WritersStay : Type 0
@@ -32,7 +32,8 @@ pub record LeavesOtherReaders (reader : ℕ) (s t : State) : Type 0 where
 
 -- records of one reader leave them so
 abbrev pub ReadsLeaveOthers : Type 0
-ReadsLeaveOthers = (reader : ℕ) (old new : At) → Adds (IsOfReader reader) old new → LeavesOtherReaders reader (state_at old) (state_at new)
+ReadsLeaveOthers = (reader : ℕ) (old new : At) → AddsOnly (IsOfReader reader) old new
+    → LeavesOtherReaders reader (state_at old) (state_at new)
 
 -- a reader whose row is as it was is open as it was, with the fragments that it had
 abbrev pub ReadersStay : Type 0

@@ -29,7 +29,7 @@ Removes old new key (Err e) = IsAsItWas old new
 -- ---- a flush
 
 -- the blocks that were written, and the buffer that stands then, which has what may be copied into it at most
-pub record Tells (s t : State) (flushed : Flushed) : Type 0 where
+pub record TellsFlushed (s t : State) (flushed : Flushed) : Type 0 where
   pub blocks : flushed.blocks ≡ s.filled
   pub cursor : flushed.cursor ≡ t.cursor
   pub floor : flushed.floor ≡ floor_now t
@@ -38,7 +38,7 @@ pub record Tells (s t : State) (flushed : Flushed) : Type 0 where
 -- it is done; or the device refused a call, with that count, or its copies would end there at most; or memory was wanting, and
 -- nothing was done
 abbrev pub FlushesAs : (old new : At) → Result Flushed Refusal → Type 0
-FlushesAs old new (Ok flushed) = Tells (state_at old) (state_at new) flushed × LiveBefore (state_at old) (state_at new)
+FlushesAs old new (Ok flushed) = TellsFlushed (state_at old) (state_at new) flushed × LiveBefore (state_at old) (state_at new)
 FlushesAs old new (Err (refusal.DeviceFault count)) = (count ≡ new.device.faults) × LiveBefore (state_at old) (state_at new)
 FlushesAs old new (Err (refusal.Exhausted number)) =
     (number ≡ copies_end (state_at old)) × (limit ≤ number) × LiveBefore (state_at old) (state_at new)

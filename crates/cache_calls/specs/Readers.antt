@@ -146,8 +146,8 @@ IsGivenAs p s r (piece.Piece index size) into = IsFragment p s r index size into
 IsGivenAs p s r _ into = Unit {0}
 
 -- so it is in each step that has the calls of this one
-abbrev pub IsGiven : (old new : At) → ReaderSeen → NextPiece → List ℕ → Type 0
-IsGiven old new r answer into = (now : ℕ) (p : Permit) (earlier calls : List Call) → new.device.past ≡ calls ++ old.device.past
+abbrev pub IsGivenInEachStep : (old new : At) → ReaderSeen → NextPiece → List ℕ → Type 0
+IsGivenInEachStep old new r answer into = (now : ℕ) (p : Permit) (earlier calls : List Call) → new.device.past ≡ calls ++ old.device.past
     → Encloses now old.setting p earlier calls → IsGivenAs p (state_at old) r answer into
 
 -- the cause for which it breaks is that of the records, or tells no count to which the device has not come
@@ -158,7 +158,7 @@ IsCountedBreak faults s r _ = Unit {0}
 -- what came of it: the records, and what it is given
 pub record HasRead (old new : At) (r : ReaderSeen) (answer : NextPiece) (into : List ℕ) : Type 0 where
   pub adds : AddsAll (read_adds (state_at old) r answer) old new
-  pub given : IsGiven old new r answer into
+  pub given : IsGivenInEachStep old new r answer into
   pub counted : IsCountedBreak new.device.faults (state_at old) r answer
   pub read : AreSeen old new
 
@@ -183,7 +183,7 @@ next_behind index (piece.Piece given length) = index + 1
 next_behind index _ = index
 
 -- a reader behind what it was given, and else as it was
-pub record GoesOn (old : ReaderSeen) (answer : NextPiece) (new : ReaderSeen) : Type 0 where
+pub record IsBehindAnswer (old : ReaderSeen) (answer : NextPiece) (new : ReaderSeen) : Type 0 where
   pub reader : new.reader ≡ old.reader
   pub key : new.key ≡ old.key
   pub put : new.put ≡ old.put
@@ -191,7 +191,7 @@ pub record GoesOn (old : ReaderSeen) (answer : NextPiece) (new : ReaderSeen) : T
   pub next : new.next ≡ next_behind old.next answer
 
 abbrev pub GoesOnReading : (old : ReaderSeen) → Result NextPiece AllocError → (new : ReaderSeen) → Type 0
-GoesOnReading old (Ok answer) new = GoesOn old answer new
+GoesOnReading old (Ok answer) new = IsBehindAnswer old answer new
 GoesOnReading old (Err e) new = new ≡ old
 
 -- it is the reader of the records, gone on so; it has their fragments where it had them

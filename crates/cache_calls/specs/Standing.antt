@@ -12,7 +12,7 @@ use Rattle.cache_calls.specs.declared.calls.NextPiece.{NextPiece}
 use Rattle.cache_calls.specs.declared.calls.NextPiece.TheVariants as piece
 use Rattle.cache_calls.specs.declared.calls.Refusal.{Refusal}
 use Rattle.cache_calls.specs.Actors.{ReaderSeen, WriterSeen, as_row}
-use Rattle.cache_calls.specs.Asked.{gathered_with, is_cut}
+use Rattle.cache_calls.specs.Asked.{fills_fragment, gathered_with}
 use Rattle.cache_calls.specs.Keeping.{state_at}
 
 -- ---- what goes on to stand
@@ -28,7 +28,8 @@ IsToldNext w payload contents =
 
 -- where a write cut one
 abbrev pub IsToldWritten : State → WriterSeen → List ℕ → Result ℕ Refusal → Contents → Type 0
-IsToldWritten s w bytes result contents = IfOk result (λ n. is_cut s.geometry w n ≡ true → IsToldNext w (gathered_with w bytes n) contents)
+IsToldWritten s w bytes result contents =
+    IfOk result (λ n. fills_fragment s.geometry w n ≡ true → IsToldNext w (gathered_with w bytes n) contents)
 
 -- where a close cut the rest; and each vector spells its alternates
 pub record IsToldClosed (new : State) (w : WriterSeen) (contents : Contents) : Type 0 where

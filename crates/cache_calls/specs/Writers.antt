@@ -23,9 +23,9 @@ use Rattle.cache_calls.specs.declared.calls.Receipt.{Receipt}
 use Rattle.cache_calls.specs.declared.calls.Refusal.{Refusal}
 use Rattle.cache_calls.specs.declared.calls.Refusal.TheVariants as refusal
 use Rattle.cache_calls.specs.Actors.{IsWriterOf, WriterSeen}
-use Rattle.cache_calls.specs.Adds.{Adds, AddsAll, IsAsItWas, IsOfFlush}
+use Rattle.cache_calls.specs.Adds.{AddsAll, AddsOnly, IsAsItWas, IsOfFlush}
 use Rattle.cache_calls.specs.Keeping.{state_at}
-use Rattle.cache_calls.specs.Asked.{gathered_with, is_cut, next_payload, rows_at_close, taken_of}
+use Rattle.cache_calls.specs.Asked.{fills_fragment, gathered_with, next_payload, rows_at_close, taken_of}
 
 -- ---- a writer opens
 
@@ -35,8 +35,8 @@ pub record HasNumber (s : State) : Type 0 where
   pub below : s.next_put + 1 < limit
 
 -- the record of a writer that opens, which has the next number
-abbrev pub opened_record : State → Actor → Key → List Field → List Field → ℕ → Rec
-opened_record s who key request response pin = rec.WriteOpened who s.next_put key request response pin
+abbrev pub opened_writer_record : State → Actor → Key → List Field → List Field → ℕ → Rec
+opened_writer_record s who key request response pin = rec.WriteOpened who s.next_put key request response pin
 
 -- a put has begun, and this is its writer
 pub record HasBegun (old new : At) (opened : Rec) (w : WriterSeen) : Type 0 where
@@ -99,11 +99,11 @@ IsTaking s w = (is_writing s w.put ≡ true) × (w.sealed ≡ false)
 pub record IsCutting (s : State) (w : WriterSeen) (bytes : List ℕ) : Type 0 where
   pub taking : IsTaking s w
   pub few : length w.cuts < most_fragments
-  pub full : is_cut s.geometry w (taken_of s.geometry w bytes) ≡ true
+  pub full : fills_fragment s.geometry w (taken_of s.geometry w bytes) ≡ true
 
 -- the piece that is cut next
-abbrev pub next_fragment : WriterSeen → PieceId
-next_fragment w = fragment_piece w.key w.put (length w.cuts + 1)
+abbrev pub piece_cut_next : WriterSeen → PieceId
+piece_cut_next w = fragment_piece w.key w.put (length w.cuts + 1)
 
 -- what the entry of a piece displaces, in each step of such a cache
 abbrev pub IsPushedOut : Setting → State → PieceId → List Rec → Type 0
@@ -113,7 +113,7 @@ IsPushedOut setting s id displaced = (p : Permit) → p.packed ≡ setting.packe
 abbrev pub fragment_records : State → WriterSeen → List ℕ → (displaced : List Rec) → List Rec
 fragment_records s w payload displaced =
     rec.Cut w.put (length w.cuts + 1) (length payload) (digest_of payload)
-    ∷ (displaced ++ placed_record s (next_fragment w) w.pin (total_length w.cuts) (length payload) payload ∷ [])
+    ∷ (displaced ++ placed_record s (piece_cut_next w) w.pin (total_length w.cuts) (length payload) payload ∷ [])
 
 -- they are cut and placed, behind the flush for which there was need
 pub record CutsAs (old new : At) (w : WriterSeen) (payload : List ℕ) : Type 0 where
@@ -122,24 +122,24 @@ pub record CutsAs (old new : At) (w : WriterSeen) (payload : List ℕ) : Type 0 
   pub kinds : AllByRecursion IsOfFlush room
   pub none : has_room (state_at old) (length payload) ≡ true → room ≡ []
   pub live : LiveBefore (state_at old) (after_all (state_at old) room)
-  pub pushed : IsPushedOut old.setting (after_all (state_at old) room) (next_fragment w) displaced
+  pub pushed : IsPushedOut old.setting (after_all (state_at old) room) (piece_cut_next w) displaced
   pub adds : AddsAll (room ++ fragment_records (after_all (state_at old) room) w payload displaced) old new
 
 -- the device stopped that flush, or the limit did
 pub record StopsAs (old new : At) : Type 0 where
-  pub flush : Adds IsOfFlush old new
+  pub flush : AddsOnly IsOfFlush old new
   pub live : LiveBefore (state_at old) (state_at new)
 
 -- so many bytes were taken: up to the next cut
-pub record Takes (old new : At) (w : WriterSeen) (bytes : List ℕ) (n : ℕ) : Type 0 where
+pub record TakesBytes (old new : At) (w : WriterSeen) (bytes : List ℕ) (n : ℕ) : Type 0 where
   pub taking : IsTaking (state_at old) w
   pub count : n ≡ taken_of (state_at old).geometry w bytes
   pub few : 0 < length bytes → length w.cuts < most_fragments
-  pub cuts : MatchBool (is_cut (state_at old).geometry w n) (CutsAs old new w (gathered_with w bytes n)) (IsAsItWas old new)
+  pub cuts : MatchBool (fills_fragment (state_at old).geometry w n) (CutsAs old new w (gathered_with w bytes n)) (IsAsItWas old new)
 
 -- when each answer comes, and which records there are then
 abbrev pub Writes : (old new : At) → WriterSeen → List ℕ → Result ℕ Refusal → Type 0
-Writes old new w bytes (Ok n) = Takes old new w bytes n
+Writes old new w bytes (Ok n) = TakesBytes old new w bytes n
 Writes old new w bytes (Err refusal.NoSuchWriter) = (is_writing (state_at old) w.put ≡ false) × IsAsItWas old new
 Writes old new w bytes (Err refusal.Sealed) = (is_writing (state_at old) w.put ≡ true) × (w.sealed ≡ true) × IsAsItWas old new
 Writes old new w bytes (Err refusal.TooManyFragments) =
@@ -155,7 +155,7 @@ Writes old new w bytes (Err _) = ⊥
 -- a writer of the same put, behind the bytes that it took: none stay gathered behind a cut
 pub record HasTaken (g : Geometry) (old : WriterSeen) (bytes : List ℕ) (n : ℕ) (new : WriterSeen) : Type 0 where
   pub put : new.put ≡ old.put
-  pub gathered : new.gathered ≡ (if is_cut g old n then [] else gathered_with old bytes n)
+  pub gathered : new.gathered ≡ (if fills_fragment g old n then [] else gathered_with old bytes n)
   pub sealed : new.sealed ≡ old.sealed
 
 -- behind a refusal it is as it was
@@ -171,7 +171,7 @@ pub record WriterGoesOn (old : WriterSeen) (bytes : List ℕ) (result : Result �
 -- ---- a writer closes
 
 -- the put is complete, of so many bytes and fragments
-pub record IsComplete (w : WriterSeen) (receipt : Receipt) : Type 0 where
+pub record TellsComplete (w : WriterSeen) (receipt : Receipt) : Type 0 where
   pub put : receipt.put ≡ w.put
   pub bytes : receipt.length ≡ total_length (rows_at_close w)
   pub fragments : receipt.fragments ≡ length (rows_at_close w)
@@ -193,7 +193,7 @@ size_at_close w = vector_size (alternate_at_close w ∷ [])
 
 -- how each answer of an open put comes
 abbrev pub ClosesOpen : (old new : At) → WriterSeen → Result Receipt Refusal → Type 0
-ClosesOpen old new w (Ok receipt) = IsComplete w receipt
+ClosesOpen old new w (Ok receipt) = TellsComplete w receipt
 ClosesOpen old new w (Err (refusal.VectorTooLarge bytes)) = (bytes ≡ size_at_close w) × (budget_of (state_at old).geometry < blocks_of bytes)
 ClosesOpen old new w (Err (refusal.Lost index why)) = why ≡ cause_of_piece (state_at new) (fragment_piece w.key w.put index)
 ClosesOpen old new w (Err (refusal.DeviceFault count)) = count ≤ new.device.faults

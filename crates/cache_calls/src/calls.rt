@@ -9,13 +9,13 @@ ghost use Rattle.call_laws.specs.Contents.{AnyContents, AreRecordedAs, Contents,
 ghost use Rattle.call_laws.specs.Moments.{At, IsToldAt, NothingKnown};
 ghost use Rattle.call_laws.specs.Serves.{ServesFrom, ServesTold};
 ghost use Rattle.cache_calls.specs.Actors.{IsOpenReader, IsWriterOf, ReaderSeen, WriterSeen};
-ghost use Rattle.cache_calls.specs.Adds.{Adds, AddsSoundly, IsOfFlush, IsOfPut, IsOfReader};
+ghost use Rattle.cache_calls.specs.Adds.{AddsOnly, AddsSoundly, IsOfFlush, IsOfPut, IsOfReader};
 ghost use Rattle.cache_calls.specs.Asked.{close_asks, given_up_at, progress_at, unless_wanting, write_asks};
-ghost use Rattle.cache_calls.specs.Keeping.{Goes, IsAtRest, Keeps, StaysUnharmed, state_at};
+ghost use Rattle.cache_calls.specs.Keeping.{Goes, IsAtRest, KeepsUnharmed, StaysUnharmed, state_at};
 ghost use Rattle.cache_calls.specs.Plain.{Flushes, Removes};
 ghost use Rattle.cache_calls.specs.Standing.{GivesAsTold, IsToldClosed, IsToldWritten, StaysStanding};
 ghost use Rattle.cache_calls.specs.Readers.{ClosesReader, HasItsTable, IsOtherNext, IsToldTo, OpensReader, ReaderGoesOn, ReadsNext};
-ghost use Rattle.cache_calls.specs.Writers.{Closes, GivesUp, NumberAtClose, OpensWriter, WriterCloses, WriterGoesOn, Writes, opened_record};
+ghost use Rattle.cache_calls.specs.Writers.{Closes, GivesUp, NumberAtClose, OpensWriter, WriterCloses, WriterGoesOn, Writes, opened_writer_record};
 
 use alternate_vector::Fields;
 use cache_model::Cause;
@@ -150,10 +150,10 @@ pub trait Calls {
             (now : ℕ) → ServesTold now (at self.old) (at self.new) asked
             (progress_at (state_at (at self.old)).next_put asked result) }
         ensures gives { OpensWriter written (at self.old) (at self.new)
-            (opened_record (state_at (at self.old)) actor key request response pin) result }
+            (opened_writer_record (state_at (at self.old)) actor key request response pin) result }
         ensures stands { StaysStanding stands AnyContents self.old self.new }
-        ensures keeps { Keeps at holds self.old self.new }
-        ensures own { Adds (IsOfPut (state_at (at self.old)).next_put) (at self.old) (at self.new) };
+        ensures keeps { KeepsUnharmed at holds self.old self.new }
+        ensures own { AddsOnly (IsOfPut (state_at (at self.old)).next_put) (at self.old) (at self.new) };
 
     /// Takes bytes up to the next cut, and says how many. As soon as a fragment has gathered it is
     /// cut and placed, behind a flush where it has no room, which copies what is due at `now`. Where
@@ -167,7 +167,7 @@ pub trait Calls {
         ensures gives { Writes (at self.old) (at self.new) (written writer.old) bytes.now result }
         ensures stands { StaysStanding stands (IsToldWritten (state_at (at self.old)) (written writer.old)
             bytes.now result) self.old self.new }
-        ensures keeps { Keeps at holds self.old self.new }
+        ensures keeps { KeepsUnharmed at holds self.old self.new }
         ensures own { AddsSoundly (IsOfPut (written writer.old).put) (at self.old) (at self.new) }
         ensures writer { WriterGoesOn (written writer.old) bytes.now result
             (state_at (at self.old)) (state_at (at self.new)) (written writer.new) };
@@ -187,8 +187,8 @@ pub trait Calls {
         ensures gives { Closes (at self.old) (at self.new) (written writer.old) result }
         ensures stands { StaysStanding stands (IsToldClosed (state_at (at self.new))
             (written writer.old)) self.old self.new }
-        ensures keeps { Keeps at holds self.old self.new }
-        ensures own { Adds (IsOfPut (written writer.old).put) (at self.old) (at self.new) }
+        ensures keeps { KeepsUnharmed at holds self.old self.new }
+        ensures own { AddsOnly (IsOfPut (written writer.old).put) (at self.old) (at self.new) }
         ensures writer { WriterCloses (written writer.old) result
             (state_at (at self.new)) (written writer.new) };
 
@@ -201,8 +201,8 @@ pub trait Calls {
             (given_up_at put result) }
         ensures gives { GivesUp (at self.old) (at self.new) (written writer.old) result }
         ensures stands { StaysStanding stands AnyContents self.old self.new }
-        ensures keeps { Keeps at holds self.old self.new }
-        ensures own { Adds (IsOfPut (written writer.old).put) (at self.old) (at self.new) }
+        ensures keeps { KeepsUnharmed at holds self.old self.new }
+        ensures own { AddsOnly (IsOfPut (written writer.old).put) (at self.old) (at self.new) }
         ensures same { writer.new ≡ writer.old }
         ensures writer { IsWriterOf (state_at (at self.new)) (written writer.new) };
 
@@ -213,7 +213,7 @@ pub trait Calls {
             (unless_wanting (Remove key ∷ []) result) }
         ensures gives { Removes (at self.old) (at self.new) key result }
         ensures stands { StaysStanding stands AnyContents self.old self.new }
-        ensures keeps { Keeps at holds self.old self.new };
+        ensures keeps { KeepsUnharmed at holds self.old self.new };
 
     /// Writes the buffer out where it is not empty, begins the next one, and copies into it, within
     /// half a buffer, what the next floor passes of pieces that are pinned past `now` or that an open
@@ -224,7 +224,7 @@ pub trait Calls {
             (progress_at 0 (Flush ∷ []) result) }
         ensures gives { Flushes (at self.old) (at self.new) result }
         ensures stands { StaysStanding stands AnyContents self.old self.new }
-        ensures keeps { Keeps at holds self.old self.new }
+        ensures keeps { KeepsUnharmed at holds self.old self.new }
         ensures own { AddsSoundly IsOfFlush (at self.old) (at self.new) };
 
     /// Looks a key up: a stored alternate that matches the request, or else an open writer, or else
@@ -241,8 +241,8 @@ pub trait Calls {
             (unless_wanting asked result) IsToldAt (HasItsTable reading result) }
         ensures gives { OpensReader reading (at self.old) (at self.new) actor key request result }
         ensures stands { StaysStanding stands AnyContents self.old self.new }
-        ensures keeps { Keeps at holds self.old self.new }
-        ensures own { Adds (IsOfReader (state_at (at self.old)).next_reader)
+        ensures keeps { KeepsUnharmed at holds self.old self.new }
+        ensures own { AddsOnly (IsOfReader (state_at (at self.old)).next_reader)
             (at self.old) (at self.new) };
 
     /// Reads the next fragment to the front of `into`, or says why there is none.
@@ -263,7 +263,8 @@ pub trait Calls {
         ensures keeps { Goes at holds self.old self.new }
         ensures unharmed { StaysUnharmed (at self.old) (at self.new)
             ⊎ IsOtherNext (state_at (at self.old)) (reading reader.old) }
-        ensures own { Adds (IsOfReader (reading reader.old).reader) (at self.old) (at self.new) }
+        ensures own { AddsOnly (IsOfReader (reading reader.old).reader) (at self.old)
+            (at self.new) }
         ensures reader { ReaderGoesOn (reading reader.old) result
             (state_at (at self.old)) (state_at (at self.new)) (reading reader.new) };
 
@@ -276,8 +277,8 @@ pub trait Calls {
             (unless_wanting asked result) }
         ensures gives { ClosesReader reading (at self.old) (at self.new) reader result }
         ensures stands { StaysStanding stands AnyContents self.old self.new }
-        ensures keeps { Keeps at holds self.old self.new }
-        ensures own { Adds (IsOfReader (reading reader).reader) (at self.old) (at self.new) };
+        ensures keeps { KeepsUnharmed at holds self.old self.new }
+        ensures own { AddsOnly (IsOfReader (reading reader).reader) (at self.old) (at self.new) };
 
     /// What `holds` tells of the records, and that the cache does not sync.
     ghost at_rest: { (cache : Self) → holds cache → IsAtRest (at cache) };

@@ -1,12 +1,12 @@
 // Laws of calls, each the contract of a function with an empty body.
 ghost use Rattle.cache_calls.specs.Others.{OthersStay, ReadersStay, ReadsLeaveOthers, WritersStay};
-ghost use Rattle.cache_calls.specs.Keeping.{GoOn, KeepOn, PlainHasSteps};
+ghost use Rattle.cache_calls.specs.Keeping.{GoesBehindCalls, KeepOn, PlainHasSteps};
 
 use crate::calls::Calls;
 
 /// What every call keeps is kept where nothing is done, and behind two calls.
 pub fn calls_keep<S: Calls>()
-    ensures goes { GoOn S.at S.holds }
+    ensures goes { GoesBehindCalls S.at S.holds }
     ensures keeps { KeepOn S.at S.holds }
 {}
 

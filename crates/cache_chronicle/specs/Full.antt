@@ -10,9 +10,9 @@ pub record History : Type 0 where
   pub room : ℕ
 
 -- nothing was forgotten
-abbrev pub kept_of : History → Kept
-kept_of h = all_of h.records
+abbrev pub kept_of_history : History → Kept
+kept_of_history h = all_of h.records
 
 -- what the records stand for
-abbrev pub state_in : History → State
-state_in h = after_all nothing_yet h.records
+abbrev pub state_of_history : History → State
+state_of_history h = after_all nothing_yet h.records

@@ -23,7 +23,7 @@ abbrev pub HasCut : Option Payload → Option TableRow → Type 0
 HasCut kept cut = kept ≡ option_map kept_payload cut
 
 -- a row of this name of which this is kept
-pub record IsRowOf (piece : PieceId) (standing : KeptPiece) (row : Row) : Type 0 where
+pub record IsRowOfPiece (piece : PieceId) (standing : KeptPiece) (row : Row) : Type 0 where
   pub name : row.id ≡ piece
   pub stands : standing ≡ kept_piece row
 

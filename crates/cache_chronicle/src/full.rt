@@ -4,7 +4,7 @@ ghost use Rattle.std.specs.HashMap.{get};
 ghost use Rattle.cache_model.specs.State.{count_of_vector, floor_now, row_of, vector_piece};
 ghost use Rattle.cache_model.specs.Verdict.{cause_of_piece, cause_of_vector, cause_without_vector};
 ghost use Rattle.cache_model.specs.Kept.{all_of};
-ghost use Rattle.cache_chronicle.specs.Full.{state_in, kept_of};
+ghost use Rattle.cache_chronicle.specs.Full.{state_of_history, kept_of_history};
 ghost use Rattle.cache_chronicle.specs.LivePieces.{kept_piece};
 
 use crate::Chronicle;
@@ -37,7 +37,7 @@ impl Model for FullChronicle {
 
 impl FullChronicle {
     pub fn new(alloc: Global) -> FullChronicle
-        ensures { kept_of result ≡ all_of [] }
+        ensures { kept_of_history result ≡ all_of [] }
     {
         FullChronicle {
             records: Vec::new(alloc),
@@ -59,20 +59,20 @@ impl FullChronicle {
     }
 
     fn floor(&self) -> u64
-        ensures { result ≡ floor_now (state_in self.now) }
+        ensures { result ≡ floor_now (state_of_history self.now) }
     {
         self.tables.tape.floor()
     }
 
     // Where a piece stands, also below the floor.
     fn standing_of(&self, id: PieceId) -> Option<KeptPiece>
-        ensures { result ≡ option_map kept_piece (row_of (state_in self.now) id) }
+        ensures { result ≡ option_map kept_piece (row_of (state_of_history self.now) id) }
     {
         self.tables.pieces.get(&id).copied()
     }
 
     fn cause_of_piece(&self, id: PieceId) -> Cause
-        ensures { result ≡ cause_of_piece (state_in self.now) id }
+        ensures { result ≡ cause_of_piece (state_of_history self.now) id }
     {
         if let Some(cause) = self.tables.losses.get(&id).copied() {
             return cause;
@@ -89,7 +89,7 @@ impl FullChronicle {
 
     // How many alternates a vector lists.
     fn count_of(&self, id: PieceId) -> u32
-        ensures { result ≡ count_of_vector (state_in self.now) id }
+        ensures { result ≡ count_of_vector (state_of_history self.now) id }
     {
         match self.tables.counts.get(&id).copied() {
             Some(count) => count,
@@ -98,7 +98,7 @@ impl FullChronicle {
     }
 
     fn cause_of_vector(&self, key: Key, put: u64) -> Cause
-        ensures { result ≡ cause_of_vector (state_in self.now) (vector_piece key put) }
+        ensures { result ≡ cause_of_vector (state_of_history self.now) (vector_piece key put) }
     {
         let id = vector_piece(key, put);
         match self.live_of(id) {
@@ -110,7 +110,7 @@ impl FullChronicle {
     }
 
     fn cause_without_vector(&self, key: Key) -> Cause
-        ensures { result ≡ cause_without_vector (state_in self.now) key }
+        ensures { result ≡ cause_without_vector (state_of_history self.now) key }
     {
         match self.tables.aborts.get(&key).copied() {
             Some(writer) => Cause::Aborted { writer },
@@ -120,9 +120,9 @@ impl FullChronicle {
 }
 
 impl Chronicle for FullChronicle {
-    ghost use Rattle.cache_chronicle.specs.Full.{kept_of};
+    ghost use Rattle.cache_chronicle.specs.Full.{kept_of_history};
 
-    ghost kept = { kept_of };
+    ghost kept = { kept_of_history };
 
     ghost room = { λ c. c.room };
 

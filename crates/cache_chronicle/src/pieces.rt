@@ -2,7 +2,7 @@
 ghost use Rattle.std.specs.Prelude.{◌≡◌, ◌+◌, ◌≤◌, ◌<◌, ◌∷◌, ◌++◌, [], List, map, option_map, option_to_list};
 ghost use Rattle.std.specs.HashMap.{spare};
 ghost use Rattle.cache_model.specs.State.{State, Row, moved_row, row_in, state_after, vector_piece, without, without_earlier};
-ghost use Rattle.cache_chronicle.specs.Tables.{HasCut, HasRows, HasVectors, IsRowOf, told_vector};
+ghost use Rattle.cache_chronicle.specs.Tables.{HasCut, HasRows, HasVectors, IsRowOfPiece, told_vector};
 ghost use Rattle.cache_chronicle.specs.Weight.{weight_of};
 
 use crate::opened::note_found_pieces;
@@ -88,7 +88,7 @@ pub(crate) fn note_piece(
 
 fn put(pieces: &mut Pieces, piece: PieceId, standing: KeptPiece)
     requires { 0 < spare pieces.old }
-    ensures has { (rows : List Row) (row : Row) → IsRowOf piece standing row → HasRows pieces.old rows
+    ensures has { (rows : List Row) (row : Row) → IsRowOfPiece piece standing row → HasRows pieces.old rows
         → HasRows pieces.new (without piece rows ++ row ∷ []) }
     ensures spare { spare pieces.old ≤ spare pieces.new + 1 }
 {

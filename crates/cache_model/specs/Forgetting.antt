@@ -74,34 +74,34 @@ abbrev pub forgotten_puts : ℕ → State → List ℕ
 forgotten_puts cap s = drop cap (filter (is_dead s) (known_puts s))
 
 -- the put is one of these
-abbrev pub is_among : List ℕ → ℕ → Bool
-is_among puts put = list_any (λ n. n == put) puts
+abbrev pub is_among_puts : List ℕ → ℕ → Bool
+is_among_puts puts put = list_any (λ n. n == put) puts
 
 -- the put is forgotten
 abbrev pub is_forgotten : ℕ → State → ℕ → Bool
-is_forgotten cap s put = is_among (forgotten_puts cap s) put
+is_forgotten cap s put = is_among_puts (forgotten_puts cap s) put
 
 -- ---- what is left
 
 -- the key's last vector is that of one of these puts
 abbrev pub is_last_of : List ℕ → State → Key → Bool
-is_last_of puts s key = unwrap_or (option_map (λ last. is_among puts (put_of_last last)) (last_vector s key)) false
+is_last_of puts s key = unwrap_or (option_map (λ last. is_among_puts puts (put_of_last last)) (last_vector s key)) false
 
 -- the piece that was placed last at a place is that of one of these puts
 abbrev pub is_place_of : List ℕ → State → ℕ → Bool
-is_place_of puts s place = unwrap_or (option_map (λ (id : PieceId). is_among puts id.put) (lookup (λ p. p == place) s.places)) false
+is_place_of puts s place = unwrap_or (option_map (λ (id : PieceId). is_among_puts puts id.put) (lookup (λ p. p == place) s.places)) false
 
 -- without these puts. Of a key whose last vector was theirs no vector is left, as an earlier one would count as the last
 abbrev pub without_puts : List ℕ → State → State
 without_puts puts s = record s {
-  rows = filter (λ (row : Row). not (is_among puts row.id.put)) s.rows;
-  places = filter (λ (p : ℕ × PieceId). not (is_among puts p.1.put)) s.places;
+  rows = filter (λ (row : Row). not (is_among_puts puts row.id.put)) s.rows;
+  places = filter (λ (p : ℕ × PieceId). not (is_among_puts puts p.1.put)) s.places;
   unsaved = filter (λ place. not (is_place_of puts s place)) s.unsaved;
-  lost = filter (λ (l : PieceId × Cause). not (is_among puts l.0.put)) s.lost;
-  vectors = filter (λ (v : Key × LastVector). not (is_last_of puts s v.0 || is_among puts (put_of_last v.1))) s.vectors;
-  counts = filter (λ (c : PieceId × ℕ). not (is_among puts c.0.put)) s.counts;
-  puts = filter (λ (p : PutRow). not (is_among puts p.put)) s.puts;
-  aborts = filter (λ (a : Key × ℕ). not (is_among puts a.1)) s.aborts;
+  lost = filter (λ (l : PieceId × Cause). not (is_among_puts puts l.0.put)) s.lost;
+  vectors = filter (λ (v : Key × LastVector). not (is_last_of puts s v.0 || is_among_puts puts (put_of_last v.1))) s.vectors;
+  counts = filter (λ (c : PieceId × ℕ). not (is_among_puts puts c.0.put)) s.counts;
+  puts = filter (λ (p : PutRow). not (is_among_puts puts p.put)) s.puts;
+  aborts = filter (λ (a : Key × ℕ). not (is_among_puts puts a.1)) s.aborts;
   dropped = s.dropped + length puts;
 }
 

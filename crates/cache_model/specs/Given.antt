@@ -129,16 +129,17 @@ abbrev pub is_gate : ℕ → Bool
 is_gate at = at == 1 || at == 2
 
 -- how many blocks the body of a copy has below a content area: both bodies stand from block 3 on
-abbrev pub body_blocks : ℕ → ℕ
-body_blocks area = (area - 3) / 2
+abbrev pub body_blocks_below : ℕ → ℕ
+body_blocks_below area = (area - 3) / 2
 
 -- the first block of the body behind a gate
-abbrev pub body_of : (area opened : ℕ) → ℕ
-body_of area opened = if opened == 1 then 3 else 3 + body_blocks area
+abbrev pub body_behind_gate : (area opened : ℕ) → ℕ
+body_behind_gate area opened = if opened == 1 then 3 else 3 + body_blocks_below area
 
 -- so many blocks from one on are some of that body
 abbrev pub is_in_body : (area opened at blocks : ℕ) → Bool
-is_in_body area opened at blocks = nat_le (body_of area opened) at && nat_le (at + blocks) (body_of area opened + body_blocks area)
+is_in_body area opened at blocks =
+    nat_le (body_behind_gate area opened) at && nat_le (at + blocks) (body_behind_gate area opened + body_blocks_below area)
 
 -- they are some of one body
 abbrev pub is_of_body : (area at blocks : ℕ) → Bool
@@ -213,7 +214,7 @@ opens_gate _ = false
 -- the newest of these calls wrote the last part of the body behind a gate, and some of it
 abbrev pub ends_body : (area opened : ℕ) → List Call → Bool
 ends_body area opened (Wrote at bytes ∷ older) =
-    is_in_body area opened at (length bytes / 512) && nat_lt 511 (length bytes) && at + length bytes / 512 == body_of area opened + body_blocks area
+    is_in_body area opened at (length bytes / 512) && nat_lt 511 (length bytes) && at + length bytes / 512 == body_behind_gate area opened + body_blocks_below area
 ends_body area opened _ = false
 
 -- the device synced behind that
@@ -295,9 +296,9 @@ buffers_begun (rec.Began cursor floor ∷ recs) = 1 + buffers_begun recs
 buffers_begun (r ∷ recs) = buffers_begun recs
 
 -- 1 where the device ended what was asked
-abbrev pub faults_of : Option Reason → ℕ
-faults_of (Some (Faulted count)) = 1
-faults_of _ = 0
+abbrev pub faults_of_reason : Option Reason → ℕ
+faults_of_reason (Some (Faulted count)) = 1
+faults_of_reason _ = 0
 
 -- at a moment of a step what then is left of the buffer is written: no block that stands durably, none that the last sync
 -- that finished names, and none out of its reach
@@ -346,7 +347,7 @@ pub record AreSyncsTold (p : Permit) (s : State) (added : List Rec) (refused : O
   pub effects : syncs_told added ≡ effects_synced p.area p.past false p.events
   pub copies : writes_below p.area p.events ≡ true → has_sync s added ≡ true
   pub content : AreOfBuffers p s added p.events
-  pub writes : content_writes p.area p.events ≤ buffers_begun added + faults_of refused
+  pub writes : content_writes p.area p.events ≤ buffers_begun added + faults_of_reason refused
 
 -- ---- pieces
 

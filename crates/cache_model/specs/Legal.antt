@@ -421,15 +421,15 @@ pub record Course : Type 0 where
   pub refused : Option Reason
 
 -- the calls that the device made in these steps, the newest first
-abbrev pub calls_of : List Course → List Call
-calls_of [] = []
-calls_of (course ∷ later) = calls_of later ++ course.permit.events
+abbrev pub calls_of_courses : List Course → List Call
+calls_of_courses [] = []
+calls_of_courses (course ∷ later) = calls_of_courses later ++ course.permit.events
 
 -- the records of a session up to the end of a step, from a format or an opening on and by its steps, of a stripe of one
 -- setting
 pub data IsLegal (setting : Setting) : List Course → List Rec → Type 0 where
   begins : (geometry : Geometry) → IsLegal setting [] (format_records geometry)
   opens : (geometry : Geometry) (o : Opening) → IsOpening setting.packed geometry o → IsLegal setting [] (opened_records geometry o)
-  steps : {courses : List Course} {before added : List Rec} (course : Course) → IsSetBy setting (calls_of courses) course.permit
+  steps : {courses : List Course} {before added : List Rec} (course : Course) → IsSetBy setting (calls_of_courses courses) course.permit
       → IsLegal setting courses before → IsStep course.permit (after_all nothing_yet before) course.intents added course.refused
       → IsLegal setting (courses ++ course ∷ []) (before ++ added)

@@ -5,7 +5,7 @@ use Rattle.std.proofs.lemmas.Bool.{eqb-true, eq-eqb}
 use Rattle.std.proofs.lemmas.List.{length-append}
 use Rattle.std.specs.Global.{Vec}
 use Rattle.std.specs.Vec.{with_items}
-use Rattle.actor_table.specs.Table.{Seen, number_of, slot_of, with_actor}
+use Rattle.actor_table.specs.Table.{TableSeen, number_of_name, slot_of_actor, with_actor}
 use Rattle.cache_model.specs.Kept.{state_of}
 use Rattle.cache_model.specs.State.{State}
 use Rattle.call_laws.specs.Contents.{Untold}
@@ -16,7 +16,7 @@ use Rattle.call_laws.proofs.Served.{serves_still}
 use Rattle.cache_model.specs.Vectors.{IsVectorAs}
 use Rattle.cache_calls.specs.declared.calls.Calls.{Ghosts as CallsGhosts}
 use Rattle.cache_calls.specs.Adds.{IsAsItWas}
-use Rattle.cache_calls.specs.Keeping.{Goes, IsAtRest, Keeps, state_at}
+use Rattle.cache_calls.specs.Keeping.{Goes, IsAtRest, KeepsUnharmed, state_at}
 use Rattle.cache_calls.proofs.Keeping.{goes_still}
 use Rattle.script_lang.specs.declared.step.Step.{Step}
 use Rattle.script_lang.specs.declared.answer.StepAnswer.{StepAnswer}
@@ -36,7 +36,7 @@ use Rattle.cache_replay.specs.OneLine.{AnswersActor}
 use Rattle.run_promise.specs.Outline.{count_in}
 use Rattle.cache_replay.specs.Plays.{IsHeldAs, PartEnds, PlaysIn, PlaysPart}
 use Rattle.cache_replay.specs.Standing.{OwnStands}
-use Rattle.cache_replay.specs.Session.{AreHeld, HoldingSeen, IsActive, IsHeld, at_in, holding_seen, slots_of, state_in}
+use Rattle.cache_replay.specs.Session.{AreHeld, HoldingSeen, IsActive, IsHeldByActor, at_in, holding_seen, slots_of, state_in_part}
 use Rattle.cache_replay.proofs.Frames.{Changed, leaves_all, part_behind}
 use Rattle.cache_replay.proofs.Plain.{none_else, still_plays}
 use Rattle.cache_replay.proofs.Whole.{moves_line, serves_whole}
@@ -71,8 +71,9 @@ pub changed_to_same : (before after : ℕ → Option HoldingSeen) (n : ℕ) (x :
 changed_to_same before after n x changed had = λ m.
     changed m ∙ (ap (λ (o : Option HoldingSeen). if m == n then o else before m) (sym had) ∙ with_same before n m (m == n) refl)
 
-module _ {S W R : Type 0} (c : CallsGhosts S W R) (before after : Seen (Holding W R)) where
-  pub seen_same : ((n : ℕ) → slot_of after.slots n ≡ slot_of before.slots n) → (n : ℕ) → slots_of c after n ≡ slots_of c before n
+module _ {S W R : Type 0} (c : CallsGhosts S W R) (before after : TableSeen (Holding W R)) where
+  pub seen_same : ((n : ℕ) → slot_of_actor after.slots n ≡ slot_of_actor before.slots n) → (n : ℕ)
+      → slots_of c after n ≡ slots_of c before n
   seen_same same = λ n. ap (option_map (holding_seen c)) (same n)
 
   given : (b : Bool) (x : Holding W R) (o : Option (Holding W R))
@@ -80,15 +81,16 @@ module _ {S W R : Type 0} (c : CallsGhosts S W R) (before after : Seen (Holding 
   given true x o = refl
   given false x o = refl
 
-  pub seen_set : (n : ℕ) (x : Holding W R) → ((m : ℕ) → slot_of after.slots m ≡ (if m == n then Some x else slot_of before.slots m))
+  pub seen_set : (n : ℕ) (x : Holding W R)
+      → ((m : ℕ) → slot_of_actor after.slots m ≡ (if m == n then Some x else slot_of_actor before.slots m))
       → Changed (slots_of c before) (slots_of c after) n (Some (holding_seen c x))
-  seen_set n x set = λ m. ap (option_map (holding_seen c)) (set m) ∙ given (m == n) x (slot_of before.slots m)
+  seen_set n x set = λ m. ap (option_map (holding_seen c)) (set m) ∙ given (m == n) x (slot_of_actor before.slots m)
 
 -- ---- names
 
 -- names do not become more than one more
 pub one_more : (names : List (List ℕ)) (name : List ℕ) → length (with_actor names name) ≤ length names + 1
-one_more names name = by (number_of names name == length names + 1)
+one_more names name = by (number_of_name names name == length names + 1)
   where
     by : (b : Bool) → length (if b then names ++ name ∷ [] else names) ≤ length names + 1
     by true = subst (λ k. k ≤ length names + 1) (sym (length-append names (name ∷ []))) (omega arith)
@@ -102,14 +104,14 @@ pub names_are : (run : Run) (s t : State) (turn : Turn) (step : Step) (name : Li
 names_are run s t turn step name before after actor is new = ap (actors_behind run.actors) actor ∙ (ap (λ names. with_actor names name) is ∙ sym new)
 
 pub held_is : (run : Run) (s t : State) (step : Step) (name : List ℕ) → actor_of step ≡ Some name
-    → held_behind run s t step (actor_of step) ≡ with_value run.held (number_of run.actors name) (holds_behind run s t step name)
+    → held_behind run s t step (actor_of step) ≡ with_value run.held (number_of_name run.actors name) (holds_behind run s t step name)
 held_is run s t step name is = ap (held_behind run s t step) is
 
 -- what all have is what they had, where the actor of the line has
 pub held_still : (run : Run) (s t : State) (step : Step) (name : List ℕ) → actor_of step ≡ Some name → holds_behind run s t step name ≡ held_by run name
     → (m : ℕ) → held_behind run s t step (actor_of step) m ≡ run.held m
 held_still run s t step name actor holds m =
-    let n : ℕ = number_of run.actors name in
+    let n : ℕ = number_of_name run.actors name in
     ap (λ (f : ℕ → Option Held). f m) (held_is run s t step name actor)
     ∙ (ap (λ (x : Option Held). with_value run.held n x m) holds ∙ with_same run.held n m (m == n) refl)
 
@@ -134,7 +136,7 @@ module _ {S W R : Type 0} {c : CallsGhosts S W R} where
   pub same_active : (part : Part S W R c) (slots later : ℕ → Option HoldingSeen) → ((m : ℕ) → later m ≡ slots m) → IsActive part slots → IsActive part later
   same_active part slots later same active = record {
     part_is = active.part_is;
-    held = λ m. subst (λ o. IfSome o (IsHeld (state_in part))) (sym (same m)) (active.held m);
+    held = λ m. subst (λ o. IfSome o (IsHeldByActor (state_in_part part))) (sym (same m)) (active.held m);
     apart = λ m k a b ne ma kb. active.apart m k a b ne (sym (same m) ∙ ma) (sym (same k) ∙ kb);
   }
 
@@ -142,18 +144,19 @@ module _ {S W R : Type 0} {c : CallsGhosts S W R} where
   pub kept_active : (old new : Part S W R c) (slots later : ℕ → Option HoldingSeen) → IsActive old slots → Goes c.at c.holds old.cache new.cache → IsAtRest (at_in new)
       → length new.page.items ≡ length old.page.items → IsAsItWas (at_in old) (at_in new) → ((m : ℕ) → later m ≡ slots m) → IsActive new later
   kept_active old new slots later active goes rest page kept same =
-      let there : state_in new ≡ state_in old = ap state_of kept in
+      let there : state_in_part new ≡ state_in_part old = ap state_of kept in
       let still = same_active old slots later same active in
       record {
-        part_is = part_behind old new active.part_is goes rest page None None (leaves_all None None (state_in old) (state_in new) there);
+        part_is = part_behind old new active.part_is goes rest page None None
+            (leaves_all None None (state_in_part old) (state_in_part new) there);
         held = subst (λ t. AreHeld t later) (sym there) still.held;
         apart = still.apart;
       }
 
   -- ---- a line of an actor for which memory was wanting, and of which nothing is recorded
 
-  pub wanting_line : (now : ℕ) (step : Step) (old new : Part S W R c) (before after : Seen (Holding W R)) (name : List ℕ) (result : Result StepAnswer Stop)
-      → IsErrAnd result (λ why. why ≡ Memory) → IsActive old (slots_of c before) → Keeps c.at c.holds old.cache new.cache → IsAtRest (at_in new)
+  pub wanting_line : (now : ℕ) (step : Step) (old new : Part S W R c) (before after : TableSeen (Holding W R)) (name : List ℕ) (result : Result StepAnswer Stop)
+      → IsErrAnd result (λ why. why ≡ Memory) → IsActive old (slots_of c before) → KeepsUnharmed c.at c.holds old.cache new.cache → IsAtRest (at_in new)
       → length new.page.items ≡ length old.page.items → IsAsItWas (at_in old) (at_in new)
       → ((m : ℕ) → slots_of c after m ≡ slots_of c before m) → after.names ≡ with_actor before.names name
       → AnswersActor now step old new before after result
@@ -170,9 +173,9 @@ module _ {S W R : Type 0} {c : CallsGhosts S W R} where
 
   -- ---- a line of an actor that does nothing
 
-  module _ (part : Part S W R c) (before after : Seen (Holding W R)) (step : Step) (name : List ℕ) (actor : actor_of step ≡ Some name)
+  module _ (part : Part S W R c) (before after : TableSeen (Holding W R)) (step : Step) (name : List ℕ) (actor : actor_of step ≡ Some name)
       (names : after.names ≡ with_actor before.names name) (same : (m : ℕ) → slots_of c after m ≡ slots_of c before m) (active : IsActive part (slots_of c before)) where
-    still_moves : (run : Run) (said : StepAnswer) → PlaysPart run part before → DoesNothing run (state_in part) step name said
+    still_moves : (run : Run) (said : StepAnswer) → PlaysPart run part before → DoesNothing run (state_in_part part) step name said
         → MovesOrShows run step (at_in part) (at_in part) said
     still_moves run said plays none =
         let w : IsWholeStep (Untold (at_in part).device IsVectorAs) run.now [] (at_in part) (at_in part) [] None IsToldAt =
@@ -181,34 +184,37 @@ module _ {S W R : Type 0} {c : CallsGhosts S W R} where
         moves_line run step (at_in part) (at_in part) run.now active.part_is.plain refl [] None [] said none.asks w (none.own turn refl) (λ known. none.says turn)
 
     -- what stands is as it was: the records are, and so is what writers took
-    module _ (run : Run) (said : StepAnswer) (plays : PlaysPart run part before) (none : DoesNothing run (state_in part) step name said)
+    module _ (run : Run) (said : StepAnswer) (plays : PlaysPart run part before)
+        (none : DoesNothing run (state_in_part part) step name said)
         (turn : Turn) where
-      still_own : AreOwn (state_in part) (streams_behind run (state_in part) (state_in part) turn step)
-      still_own = subst (AreOwn (state_in part)) (sym (none.streams turn)) plays.at.own
+      still_own : AreOwn (state_in_part part) (streams_behind run (state_in_part part) (state_in_part part) turn step)
+      still_own = subst (AreOwn (state_in_part part)) (sym (none.streams turn)) plays.at.own
 
-      still_stands : OwnStands (streams_behind run (state_in part) (state_in part) turn step) (state_in part) (c.stands part.cache)
-      still_stands = subst (λ (streams : ℕ → Stream). OwnStands streams (state_in part) (c.stands part.cache)) (sym (none.streams turn)) plays.stands
+      still_stands : OwnStands (streams_behind run (state_in_part part) (state_in_part part) turn step) (state_in_part part)
+          (c.stands part.cache)
+      still_stands = subst (λ (streams : ℕ → Stream). OwnStands streams (state_in_part part) (c.stands part.cache)) (sym (none.streams turn)) plays.stands
 
       -- the run goes on with what its actors have
-      still : PlaysIn (in_session run (state_in part) (state_in part) turn step) (state_in part) (slots_of c before)
+      still : PlaysIn (in_session run (state_in_part part) (state_in_part part) turn step) (state_in_part part) (slots_of c before)
       still =
-          still_plays None None run (in_session run (state_in part) (state_in part) turn step) (state_in part) (state_in part) (slots_of c before)
-          (leaves_all None None (state_in part) (state_in part) refl) (none_else (slots_of c before))
-          (λ q other. ap (λ (f : ℕ → Stream). f q) (none.streams turn)) (held_still run (state_in part) (state_in part) step name actor none.holds)
+          still_plays None None run (in_session run (state_in_part part) (state_in_part part) turn step) (state_in_part part) (state_in_part part) (slots_of c before)
+          (leaves_all None None (state_in_part part) (state_in_part part) refl) (none_else (slots_of c before))
+          (λ q other. ap (λ (f : ℕ → Stream). f q) (none.streams turn)) (held_still run (state_in_part part) (state_in_part part) step name actor none.holds)
           refl plays.at.told still_own plays.at
 
-    still_ends : (run : Run) (said : StepAnswer) → PlaysPart run part before → DoesNothing run (state_in part) step name said → PartEnds run step part part after said
+    still_ends : (run : Run) (said : StepAnswer) → PlaysPart run part before → DoesNothing run (state_in_part part) step name said → PartEnds run step part part after said
     still_ends run said plays none = elim (still_moves run said plays none) [
       | inr pair ↦ inr pair
       | inl m ↦ inl (record {
         moves = m;
         plays = record {
-          names = names_are run (state_in part) (state_in part) m.turn step name before.names after.names actor plays.names names;
+          names = names_are run (state_in_part part) (state_in_part part) m.turn step name before.names after.names actor plays.names names;
           at = record {
             state = refl;
             told = plays.at.told;
             own = still_own run said plays none m.turn;
-            held = λ k. subst (IsHeldAs (in_session run (state_in part) (state_in part) m.turn step) (state_in part) k) (sym (same k))
+            held = λ k. subst (IsHeldAs (in_session run (state_in_part part) (state_in_part part) m.turn step) (state_in_part part) k)
+                (sym (same k))
                 ((still run said plays none m.turn).held k);
           };
           stands = still_stands run said plays none m.turn;
@@ -216,7 +222,7 @@ module _ {S W R : Type 0} {c : CallsGhosts S W R} where
       })
     ]
 
-    pub still_line : (now : ℕ) (said : StepAnswer) → ((run : Run) → PlaysPart run part before → DoesNothing run (state_in part) step name said) → count_in said ≡ 0
+    pub still_line : (now : ℕ) (said : StepAnswer) → ((run : Run) → PlaysPart run part before → DoesNothing run (state_in_part part) step name said) → count_in said ≡ 0
         → AnswersActor now step part part before after (Ok said)
     still_line now said none count = record {
       active = same_active part (slots_of c before) (slots_of c after) same active;

@@ -1,7 +1,7 @@
 -- An actor reads on.
 use Rattle.std.proofs.Common.{◌≡◌, ℕ, List, [], ◌∷◌, length, refl, sym, ◌∙◌, ap, subst, inl, inr, Result, Ok, Err}
 use Rattle.std.specs.Prelude.{Option, Some, None, IfErr, IfOk, if◌then◌else◌, is_some}
-use Rattle.actor_table.specs.Table.{Seen, number_of, with_actor}
+use Rattle.actor_table.specs.Table.{TableSeen, number_of_name, with_actor}
 use Rattle.cache_model.specs.State.{ReaderRow, State}
 use Rattle.cache_model.specs.Permit.{ReadOn}
 use Rattle.cache_calls.specs.declared.calls.Calls.{Ghosts as CallsGhosts}
@@ -22,7 +22,7 @@ use Rattle.cache_replay.specs.declared.stop.Stop.TheVariants.{Memory}
 use Rattle.cache_replay.specs.OneLine.{AnswersActor}
 use Rattle.cache_replay.specs.Plays.{PartEnds, PlaysPart}
 use Rattle.cache_replay.specs.ReaderLines.{IsReadBy, LeavesReader, NextEnds, ReadsOnLine, reader_held}
-use Rattle.cache_replay.specs.Session.{IsActive, IsPart, ReaderHeld, at_in, slots_of, state_in}
+use Rattle.cache_replay.specs.Session.{IsActive, IsPart, ReaderHeld, at_in, slots_of, state_in_part}
 use Rattle.cache_replay.proofs.ActorLines.{changed_again, names_within, still_line}
 use Rattle.cache_replay.proofs.Frames.{Changed, part_behind, reader_leaves}
 use Rattle.cache_replay.proofs.ReaderLines.{Took, Turns, apart_else, held_reader, reader_ends, reads_none, reads_with, still_held, turns_active}
@@ -41,12 +41,12 @@ if_then (Ok x) f h = f x h
 if_then (Err e) f h = h
 
 module _ {S W R : Type 0} {c : CallsGhosts S W R} where
-  module _ (laws : IsLawful c) (old new : Part S W R c) (before mid after : Seen (Holding W R)) (name : List ℕ) (n : ℕ) (r later : ReaderSeen)
-      (number : n ≡ number_of before.names name) (names : after.names ≡ with_actor before.names name) (taken : Took (slots_of c before) (slots_of c mid) n r)
+  module _ (laws : IsLawful c) (old new : Part S W R c) (before mid after : TableSeen (Holding W R)) (name : List ℕ) (n : ℕ) (r later : ReaderSeen)
+      (number : n ≡ number_of_name before.names name) (names : after.names ≡ with_actor before.names name) (taken : Took (slots_of c before) (slots_of c mid) n r)
       (set : Changed (slots_of c mid) (slots_of c after) n (Some (ReaderHeld later))) (active : IsActive old (slots_of c before))
       (leaves : LeavesReader c old.cache new.cache r.reader) (rest : IsAtRest (at_in new)) (page : length new.page.items ≡ length old.page.items)
       (result : Result StepAnswer Stop) (reads : ReadsOnLine c old.cache new.cache r later result) where
-    turns : Turns r.reader (state_in old) (state_in new) (slots_of c before) (slots_of c after) n (Some later)
+    turns : Turns r.reader (state_in_part old) (state_in_part new) (slots_of c before) (slots_of c after) n (Some later)
     turns = record {
       leaves = reader_leaves r.reader (at_in old) (at_in new) leaves.own;
       changed = changed_again (slots_of c before) (slots_of c mid) (slots_of c after) n (Some (ReaderHeld later)) None taken.left set;
@@ -57,7 +57,7 @@ module _ {S W R : Type 0} {c : CallsGhosts S W R} where
     part : IsPart new
     part = part_behind old new active.part_is leaves.goes rest page None (Some r.reader) turns.leaves
 
-    read_by : (run : Run) → PlaysPart run old before → IsReadBy run name (state_in old) r
+    read_by : (run : Run) → PlaysPart run old before → IsReadBy run name (state_in_part old) r
     read_by run plays = record {
       held = reads_with run old before name n number plays r taken.had;
       told = plays.at.told;
@@ -70,7 +70,7 @@ module _ {S W R : Type 0} {c : CallsGhosts S W R} where
     ends run said plays (inr pair) = inr pair
     ends run said plays (inl m) =
         reader_ends laws run (step.Next name) name refl old new before after n number names active part leaves.stands plays r.reader (Some later) turns (λ turn. refl)
-        (next_has run (state_in new) name r later (held_reader run old before name n number plays r taken.had).0 reads.same m.keeps) m.keeps said m.moves
+        (next_has run (state_in_part new) name r later (held_reader run old before name n number plays r taken.had).0 reads.same m.keeps) m.keeps said m.moves
 
     pub next_line : (now : ℕ) → IfErr result (λ why. why ≡ Memory) → AnswersActor now (step.Next name) old new before after result
     next_line now stop = record {
@@ -84,17 +84,18 @@ module _ {S W R : Type 0} {c : CallsGhosts S W R} where
     }
 
   -- an actor without a reader
-  pub next_idle : (now : ℕ) (part : Part S W R c) (before after : Seen (Holding W R)) (name : List ℕ) (n : ℕ) (said : StepAnswer) → said ≡ says.idle
-      → n ≡ number_of before.names name → after.names ≡ with_actor before.names name → ((m : ℕ) → slots_of c after m ≡ slots_of c before m)
+  pub next_idle : (now : ℕ) (part : Part S W R c) (before after : TableSeen (Holding W R)) (name : List ℕ) (n : ℕ) (said : StepAnswer) → said ≡ says.idle
+      → n ≡ number_of_name before.names name → after.names ≡ with_actor before.names name
+      → ((m : ℕ) → slots_of c after m ≡ slots_of c before m)
       → None ≡ reader_held (slots_of c before n) → IsActive part (slots_of c before) → AnswersActor now (step.Next name) part part before after (Ok said)
   next_idle now part before after name n said is number names same none active =
       subst (λ x. AnswersActor now (step.Next name) part part before after (Ok x)) (sym is)
       (still_line part before after (step.Next name) name refl names same active now says.idle (λ run plays.
       let reads = reads_none run part before name n number plays none in
       record {
-        asks = ap (λ (o : Option ℕ). asks.if_has o (λ reader. ReadOn reader ∷ [])) reads;
+        asks = ap (λ (o : Option ℕ). asks.asks_if_has o (λ reader. ReadOn reader ∷ [])) reads;
         holds = still_held run part before name n number plays active;
         streams = λ turn. refl;
-        own = λ turn given. subst (IsNextPiece run (state_in part) turn) (sym reads) given;
+        own = λ turn given. subst (IsNextPiece run (state_in_part part) turn) (sym reads) given;
         says = λ turn. ap (λ (o : Option ℕ). says.if_has o (λ reader. says.next_said turn.given (told_in turn.added))) reads;
       }) refl)

@@ -3,7 +3,7 @@ use Rattle.std.proofs.Common.{◌≡◌, ℕ, ◌*◌, List, [], ◌∷◌, refl
 use Rattle.std.specs.Prelude.{Option, Some, None, IfSome}
 use Rattle.tape_base.specs.declared.geometries.Geometry.{Geometry}
 use Rattle.tape_base.specs.Geometry.{budget_of}
-use Rattle.logged_disk.specs.Device.{State as Device}
+use Rattle.logged_disk.specs.Device.{DeviceState as Device}
 use Rattle.cache_model.specs.State.{State, after_all, nothing_yet}
 use Rattle.cache_model.specs.Kept.{state_of}
 use Rattle.cache_model.specs.Legal.{format_records}
@@ -13,7 +13,7 @@ use Rattle.cache_calls.specs.declared.calls.Calls.{Ghosts as CallsGhosts}
 use Rattle.cache_calls.specs.Begins.{Begins}
 use Rattle.cache_calls.specs.Keeping.{IsAtRest, IsUnharmed}
 use Rattle.script_run.specs.Run.{Run, no_harm}
-use Rattle.script_run.specs.Behind.{formatted}
+use Rattle.script_run.specs.Behind.{with_format}
 use Rattle.script_run.specs.Ledger.{AreReached}
 use Rattle.script_run.specs.Losses.{NoLossIsAFault}
 use Rattle.script_run.specs.Own.{AreOwn}
@@ -21,16 +21,16 @@ use Rattle.script_run.proofs.Losses.{formats_lose_none}
 use Rattle.script_run.proofs.Reading.{formats_own}
 use Rattle.cache_replay.specs.declared.session.Part.{Part}
 use Rattle.cache_replay.specs.declared.session.Session.{Session}
-use Rattle.cache_replay.specs.Session.{AreApart, AreHeld, HoldingSeen, IsAt, IsHeld, IsPart, IsSession, at_in, names_in, return_in, return_of, slots_in, state_in}
-use Rattle.cache_replay.specs.Plays.{CallsAt, IsHeldAs, IsUnharmedAt, Plays, PlaysAt, PlaysIn, StandsAt}
+use Rattle.cache_replay.specs.Session.{ActorsAreApart, AreHeld, HoldingSeen, IsAt, IsHeldByActor, IsPart, IsSession, at_in, names_in, return_in, return_of, slots_in, state_in_part}
+use Rattle.cache_replay.specs.Plays.{CallsAt, IsHeldAs, IsUnharmedAt, OwnStandsAt, Plays, PlaysAt, PlaysIn}
 
 -- ---- no actor has anything
 
 module _ (slots : ℕ → Option HoldingSeen) (none : (n : ℕ) → slots n ≡ None) where
   none_held : (s : State) → AreHeld s slots
-  none_held s = λ n. subst (λ o. IfSome o (IsHeld s)) (sym (none n)) tt
+  none_held s = λ n. subst (λ o. IfSome o (IsHeldByActor s)) (sym (none n)) tt
 
-  none_apart : AreApart slots
+  none_apart : ActorsAreApart slots
   none_apart = λ m n a b other is too. let no : None ≡ Some a = sym (none m) ∙ is in cc no
 
   none_held_as : (run : Run) (s : State) → ((n : ℕ) → run.held n ≡ None) → (n : ℕ) → IsHeldAs run s n (slots n)
@@ -40,7 +40,7 @@ module _ {S W R : Type 0} {c : CallsGhosts S W R} (geometry : Geometry) (device 
     (begins : Begins c.at c.holds c.stands geometry device part.cache) where
   -- ---- a part
 
-  begun_state : state_in part ≡ after_all nothing_yet (format_records geometry)
+  begun_state : state_in_part part ≡ after_all nothing_yet (format_records geometry)
   begun_state = ap state_of begins.kept
 
   begun_part : IsAtRest (at_in part) → length part.page.items ≡ 512 * budget_of geometry → IsPart part
@@ -59,14 +59,14 @@ module _ {S W R : Type 0} {c : CallsGhosts S W R} (geometry : Geometry) (device 
       (record { made = record { later = []; is = past }; all = λ yes. past; counted = omega arith; unharmed = λ trusted. refl }, tt)
 
   begun_plays : (run : Run) (name : List ℕ) (slots : ℕ → Option HoldingSeen) → ((n : ℕ) → slots n ≡ None)
-      → PlaysIn (formatted run name (format_records geometry)) (state_in part) slots
+      → PlaysIn (with_format run name (format_records geometry)) (state_in_part part) slots
   begun_plays run name slots none =
-      let later : Run = formatted run name (format_records geometry) in
+      let later : Run = with_format run name (format_records geometry) in
       record {
         state = ap Some (sym begun_state);
         told = subst AreTold (sym begun_state) (told_format nothing_yet geometry);
         own = subst (λ s. AreOwn s later.streams) (sym begun_state) (formats_own nothing_yet geometry later.streams);
-        held = none_held_as slots none later (state_in part) (λ n. refl);
+        held = none_held_as slots none later (state_in_part part) (λ n. refl);
       }
 
   begun_unharmed : IsUnharmed (at_in part)
@@ -77,20 +77,20 @@ module _ {S W R : Type 0} {c : CallsGhosts S W R} (geometry : Geometry) (device 
   module _ (new : Session S W R c) (is : new.part ≡ Some part) (none : (n : ℕ) → slots_in new n ≡ None) where
     pub session_begins : IsAtRest (at_in part) → length part.page.items ≡ 512 * budget_of geometry → IsSession new
     session_begins rest page = subst (λ p. IsAt p (slots_in new)) (sym is)
-        (record { part_is = begun_part rest page; held = none_held (slots_in new) none (state_in part); apart = none_apart (slots_in new) none })
+        (record { part_is = begun_part rest page; held = none_held (slots_in new) none (state_in_part part); apart = none_apart (slots_in new) none })
 
     pub session_reached : device.past ≡ [] → AreReached (no_harm ∷ []) (return_in new)
     session_reached past = subst (λ p. AreReached (no_harm ∷ []) (return_of p)) (sym is) (begun_reached past)
 
     pub session_plays : (old : Session S W R c) (run : Run) (name : List ℕ) → names_in new ≡ names_in old → new.now ≡ old.now → device.past ≡ []
-        → Plays run old → Plays (formatted run name (format_records geometry)) new
+        → Plays run old → Plays (with_format run name (format_records geometry)) new
     session_plays old run name names now past plays =
-        let later : Run = formatted run name (format_records geometry) in
+        let later : Run = with_format run name (format_records geometry) in
         record {
           names = plays.names ∙ sym names;
           now = plays.now ∙ sym now;
           at = subst (λ p. PlaysAt later p (slots_in new)) (sym is) (begun_plays run name (slots_in new) none);
           unharmed = subst (λ p. IsUnharmedAt p) (sym is) begun_unharmed;
-          stands = subst (λ p. StandsAt later p) (sym is) (λ contents told. begins.contents contents);
+          stands = subst (λ p. OwnStandsAt later p) (sym is) (λ contents told. begins.contents contents);
           calls = subst (λ p. CallsAt later p) (sym is) (ap (λ (d : Device). d.past) begins.device_is ∙ past);
         }

@@ -26,7 +26,7 @@ use Rattle.cache_calls.specs.declared.calls.Refusal.TheVariants as refusal
 use Rattle.cache_calls.specs.Actors.{WriterSeen}
 use Rattle.cache_calls.specs.Asked.{close_asks, ending_asks, progress_at, rest_asks, rest_rows, rows_at_close}
 use Rattle.cache_calls.specs.Keeping.{plain_setting, state_at}
-use Rattle.cache_calls.specs.Writers.{Closes as ClosesAs, ClosesOpen, CutsRest, IsComplete, KeepsRest, SealsWhere}
+use Rattle.cache_calls.specs.Writers.{Closes as ClosesAs, ClosesOpen, CutsRest, KeepsRest, SealsWhere, TellsComplete}
 use Rattle.script_lang.specs.declared.step.Step.TheVariants as step
 use Rattle.script_lang.specs.declared.answer.Refused.TheVariants as refused
 use Rattle.script_lang.specs.declared.answer.StepAnswer.{StepAnswer}
@@ -38,7 +38,7 @@ use Rattle.script_run.specs.Asked as asks
 use Rattle.script_run.specs.Asked.{asked, close_intents, count_with, rest_intents}
 use Rattle.script_run.specs.Behind.{of_put, sealed_by, still_open, streams_closed}
 use Rattle.script_run.specs.Losses.{NoLossIsAFault}
-use Rattle.run_promise.specs.Outline.{count_in, count_of}
+use Rattle.run_promise.specs.Outline.{count_in, count_of_cause}
 use Rattle.cache_replay.specs.Plays.{IsStreamOf}
 use Rattle.cache_replay.specs.Replies.{closed_answer, receipt_answer}
 use Rattle.cache_replay.specs.Session.{IsOpenWriter}
@@ -135,7 +135,7 @@ closing_ended p s w added why own grows =
     (rows_rest w (cuts_of s w.put) w.gathered ∙ ap (λ (rows : List TableRow). rows ++ rest_rows w.gathered) (cuts_at s w own)) along
 
 -- the answer to a put that is complete
-pub complete_said : (t : State) (w : WriterSeen) (receipt : Receipt) (key : Option Key) → IsComplete w receipt → IsEnded None t w.put (rows_at_close w) key
+pub complete_said : (t : State) (w : WriterSeen) (receipt : Receipt) (key : Option Key) → TellsComplete w receipt → IsEnded None t w.put (rows_at_close w) key
     → put_said t w.put ≡ receipt_answer (Ok receipt)
 complete_said t w receipt key whole end =
     ap (λ (rows : List TableRow). answer.Put w.put (total_length rows) (length rows)) end.1
@@ -159,7 +159,7 @@ module _ (now : ℕ) (a b : At) (plain : a.setting ≡ plain_setting) (quiet : I
 
   closing_asks : (run : Run) (name : List ℕ) → IsPlayed run name s w → asked run s (step.Close name) ≡ ending_asks w
   closing_asks run name played =
-      ap (λ o. asks.if_has o (asks.closing run s)) (has_put run name s w played)
+      ap (λ o. asks.asks_if_has o (asks.closing run s)) (has_put run name s w played)
       ∙ (ap (λ (rows : List TableRow). close_intents w.put (length rows) (gathered_of run s w.put)) (cuts_at s w own)
       ∙ (ap (λ (bytes : List ℕ). close_intents w.put (length w.cuts) bytes) (gathered_at run name s w played own) ∙ same_asks w))
 
@@ -172,7 +172,7 @@ module _ (now : ℕ) (a b : At) (plain : a.setting ≡ plain_setting) (quiet : I
       let has = has_put run name s w played in
       let put_is = rested_put w last rested in
       let x : Stream = sealed_by why (run.streams w.put) in
-      let at : of_put run (Rattle.script_run.specs.Run.writer_of run name) (streams_closed run why) last.put ≡ x =
+      let at : of_put run (Rattle.script_run.specs.Run.put_written_by run name) (streams_closed run why) last.put ≡ x =
       ap (λ o. of_put run o (streams_closed run why) last.put) has ∙ ap (λ (b : Bool). if b then x else run.streams last.put) (eq-eqb last.put w.put put_is) in
       writer_ends run name a b now plain moment Closes (ending_asks w) why left said_ (closing_asks run name played)
       (serves_whole why ends plain quiet played.told serves)
@@ -180,7 +180,7 @@ module _ (now : ℕ) (a b : At) (plain : a.setting ≡ plain_setting) (quiet : I
       let end_ : Ended why = subst (λ x. IsEnded why x w.put (rows_at_close w) (key_of s w.put)) (sym there) (closing_ended _ s w _ why own legal.grows) in
       record {
         held = ap (still_open t) played.held ∙ held_open t w.put last left put_is open_left;
-        stream = of_left (λ v. IsStreamOf (of_put run (Rattle.script_run.specs.Run.writer_of run name) (streams_closed run why) v.put) v) t last left open_left
+        stream = of_left (λ v. IsStreamOf (of_put run (Rattle.script_run.specs.Run.put_written_by run name) (streams_closed run why) v.put) v) t last left open_left
             (λ o. subst (λ y. IsStreamOf y last) (sym at) (stream end_ (run.streams w.put) played.stream (ap (is_writing t) (sym put_is) ∙ o)));
         says = ap (λ o. says.if_has o (λ put. said t None why (put_said t put))) has ∙ is_said end_;
       })
@@ -234,7 +234,7 @@ pub closed_counts : (a b : At) (w : WriterSeen) (result : Result Receipt Refusal
     → IfSome (closed_answer result) (λ said. count_in said ≤ b.device.faults)
 closed_counts a b w (Ok receipt) none how = omega arith
 closed_counts a b w (Err (refusal.VectorTooLarge size)) none how = omega arith
-closed_counts a b w (Err (refusal.Lost index why)) none how = at_most (count_of why) b.device.faults (ap count_of how ∙ loss_counts (state_at b) _ none)
+closed_counts a b w (Err (refusal.Lost index why)) none how = at_most (count_of_cause why) b.device.faults (ap count_of_cause how ∙ loss_counts (state_at b) _ none)
 closed_counts a b w (Err (refusal.DeviceFault count)) none how = how
 closed_counts a b w (Err (refusal.Exhausted number)) none how = omega arith
 closed_counts a b w (Err (refusal.Memory e)) none how = tt

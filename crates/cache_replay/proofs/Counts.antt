@@ -19,58 +19,59 @@ use Rattle.cache_calls.specs.Readers.{IsCountedBreak, IsCountedCause, IsCountedM
 use Rattle.script_run.specs.Answers.{broken_said, miss_said}
 use Rattle.script_run.specs.Losses.{NoLossIsAFault, is_fault}
 use Rattle.cache_replay.specs.Getting.{count_in_piece}
-use Rattle.run_promise.specs.Outline.{count_in, count_of}
+use Rattle.run_promise.specs.Outline.{count_in, count_of_cause}
 use Rattle.cache_replay.specs.ReaderLines.{next_answer, opened_answer}
 
 -- ---- no loss tells a count
 
-no_fault : (why : Cause) → is_fault why ≡ false → count_of why ≡ 0
+no_fault : (why : Cause) → is_fault why ≡ false → count_of_cause why ≡ 0
 no_fault (cause.DeviceFault count) none = cc
 no_fault _ none = refl
 
-found_counts : (b : Bool) (why : Cause) (found : Option Cause) (other : Cause) → is_fault why ≡ false → count_of (unwrap_or found other) ≡ 0
-    → count_of (unwrap_or (cond b (Some why) found) other) ≡ 0
+found_counts : (b : Bool) (why : Cause) (found : Option Cause) (other : Cause) → is_fault why ≡ false
+    → count_of_cause (unwrap_or found other) ≡ 0
+    → count_of_cause (unwrap_or (cond b (Some why) found) other) ≡ 0
 found_counts true why found other none rest = no_fault why none
 found_counts false why found other none rest = rest
 
 lost_counts : (test : PieceId → Bool) (lost : List (PieceId × Cause)) (other : Cause) → AllByRecursion (λ (l : PieceId × Cause). is_fault l.1 ≡ false) lost
-    → count_of other ≡ 0 → count_of (unwrap_or (lookup test lost) other) ≡ 0
+    → count_of_cause other ≡ 0 → count_of_cause (unwrap_or (lookup test lost) other) ≡ 0
 lost_counts test [] other none rest = rest
 lost_counts test (l ∷ lost) other none rest = found_counts (test l.0) l.1 (lookup test lost) other none.0 (lost_counts test lost other none.1 rest)
 
 -- nor is that of what no record speaks of
-beginning_counts : (b : Bool) (opened : Option ℕ) (dropped : ℕ) → count_of (if b then cause_of_beginning opened else cause.Unrecorded dropped) ≡ 0
+beginning_counts : (b : Bool) (opened : Option ℕ) (dropped : ℕ) → count_of_cause (if b then cause_of_beginning opened else cause.Unrecorded dropped) ≡ 0
 beginning_counts true None dropped = refl
 beginning_counts true (Some serial) dropped = refl
 beginning_counts false opened dropped = refl
 
-passed_counts : (s : State) (o : Option Row) → count_of (unwrap_or (option_map (passed s) o) (no_record s)) ≡ 0
+passed_counts : (s : State) (o : Option Row) → count_of_cause (unwrap_or (option_map (passed s) o) (no_record s)) ≡ 0
 passed_counts s None = beginning_counts (s.dropped == 0) s.opened s.dropped
 passed_counts s (Some row) = refl
 
 -- why a piece is not live is no fault
-pub loss_counts : (s : State) (id : PieceId) → NoLossIsAFault s → count_of (cause_of_piece s id) ≡ 0
+pub loss_counts : (s : State) (id : PieceId) → NoLossIsAFault s → count_of_cause (cause_of_piece s id) ≡ 0
 loss_counts s id none = lost_counts (λ lost. same_piece lost id) s.lost (unwrap_or (option_map (passed s) (row_of s id)) (no_record s)) none (passed_counts s (row_of s id))
 
-vector_counts : (s : State) (id : PieceId) (o : Option Row) → NoLossIsAFault s → count_of (unwrap_or (option_map (λ (row : Row). no_match s id) o) (cause_of_piece s id)) ≡ 0
+vector_counts : (s : State) (id : PieceId) (o : Option Row) → NoLossIsAFault s → count_of_cause (unwrap_or (option_map (λ (row : Row). no_match s id) o) (cause_of_piece s id)) ≡ 0
 vector_counts s id None none = loss_counts s id none
 vector_counts s id (Some row) none = refl
 
-last_counts : (s : State) (key : Key) (last : LastVector) → NoLossIsAFault s → count_of (cause_of_last s key last) ≡ 0
+last_counts : (s : State) (key : Key) (last : LastVector) → NoLossIsAFault s → count_of_cause (cause_of_last s key last) ≡ 0
 last_counts s key (Complete put) none = vector_counts s (vector_piece key put) (live_row_of s (vector_piece key put)) none
 last_counts s key (TakenOut put) none = refl
 
-none_counts : (s : State) (o : Option ℕ) → count_of (unwrap_or (option_map cause.Aborted o) (no_record s)) ≡ 0
+none_counts : (s : State) (o : Option ℕ) → count_of_cause (unwrap_or (option_map cause.Aborted o) (no_record s)) ≡ 0
 none_counts s None = beginning_counts (s.dropped == 0) s.opened s.dropped
 none_counts s (Some put) = refl
 
 missed_counts : (s : State) (key : Key) (o : Option LastVector) → NoLossIsAFault s
-    → count_of (unwrap_or (option_map (cause_of_last s key) o) (cause_without_vector s key)) ≡ 0
+    → count_of_cause (unwrap_or (option_map (cause_of_last s key) o) (cause_without_vector s key)) ≡ 0
 missed_counts s key None none = none_counts s (last_abort s key)
 missed_counts s key (Some last) none = last_counts s key last none
 
 -- nor is why a key gives nothing
-pub miss_counts : (s : State) (key : Key) → NoLossIsAFault s → count_of (cause_of_miss s key) ≡ 0
+pub miss_counts : (s : State) (key : Key) → NoLossIsAFault s → count_of_cause (cause_of_miss s key) ≡ 0
 miss_counts s key none = missed_counts s key (last_vector s key) none
 
 -- ---- causes
@@ -79,29 +80,30 @@ miss_counts s key none = missed_counts s key (last_vector s key) none
 pub at_most : (n k : ℕ) → n ≡ 0 → n ≤ k
 at_most n k e = omega (arith, e)
 
-cause_counts : (faults : ℕ) (why : Cause) → IsCountedCause faults why → count_of why ≤ faults
+cause_counts : (faults : ℕ) (why : Cause) → IsCountedCause faults why → count_of_cause why ≤ faults
 cause_counts faults (cause.DeviceFault count) h = h
 cause_counts faults _ h = omega arith
 
 -- a cause that stands, or that is counted
-either_counts : (faults : ℕ) (why other : Cause) → count_of other ≡ 0 → (why ≡ other) ⊎ IsCountedCause faults why → count_of why ≤ faults
-either_counts faults why other none (inl is) = at_most (count_of why) faults (ap count_of is ∙ none)
+either_counts : (faults : ℕ) (why other : Cause) → count_of_cause other ≡ 0 → (why ≡ other) ⊎ IsCountedCause faults why
+    → count_of_cause why ≤ faults
+either_counts faults why other none (inl is) = at_most (count_of_cause why) faults (ap count_of_cause is ∙ none)
 either_counts faults why other none (inr counted) = cause_counts faults why counted
 
 -- ---- answers
 
-miss_said_counts : (why : Cause) → count_in (miss_said why) ≡ count_of why
+miss_said_counts : (why : Cause) → count_in (miss_said why) ≡ count_of_cause why
 miss_said_counts (cause.DeviceFault count) = refl
 miss_said_counts _ = refl
 
-broken_said_counts : (why : Cause) → count_in (broken_said why) ≡ count_of why
+broken_said_counts : (why : Cause) → count_in (broken_said why) ≡ count_of_cause why
 broken_said_counts (cause.DeviceFault count) = refl
 broken_said_counts _ = refl
 
-pub miss_tells : (why : Cause) (n : ℕ) → count_of why ≤ n → count_in (miss_said why) ≤ n
+pub miss_tells : (why : Cause) (n : ℕ) → count_of_cause why ≤ n → count_in (miss_said why) ≤ n
 miss_tells why n h = subst (λ k. k ≤ n) (sym (miss_said_counts why)) h
 
-pub broken_tells : (why : Cause) (n : ℕ) → count_of why ≤ n → count_in (broken_said why) ≤ n
+pub broken_tells : (why : Cause) (n : ℕ) → count_of_cause why ≤ n → count_in (broken_said why) ≤ n
 broken_tells why n h = subst (λ k. k ≤ n) (sym (broken_said_counts why)) h
 
 -- a lookup

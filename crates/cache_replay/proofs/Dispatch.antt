@@ -17,7 +17,7 @@ use Rattle.cache_replay.specs.declared.stop.Stop.{Stop}
 use Rattle.cache_replay.specs.declared.stop.Stop.TheVariants.{NoCache, BayFault, Memory}
 use Rattle.cache_replay.specs.Plays.{DeviceEnds, DeviceMoves, Plays, StepEnds, StepMoves}
 use Rattle.script_run.specs.Ledger.{KeepsOrder, Ledger, ledger_behind}
-use Rattle.cache_replay.specs.Session.{AreLater, IsSession, TellsCount, names_in, return_in, return_of}
+use Rattle.cache_replay.specs.Session.{AnswerTellsCount, AreLater, IsSession, names_in, return_in, return_of}
 use Rattle.cache_replay.specs.Deals.{AnswersStep}
 use Rattle.cache_replay.proofs.Order.{order_same}
 use Rattle.cache_replay.proofs.Outlines.{moment_outlines, no_deals, shown_outlines}
@@ -79,7 +79,7 @@ needs_session _ h k = tt
 
 module _ {S W R : Type 0} {c : CallsGhosts S W R} where
   pub all_ends : (result : Result StepAnswer Stop) (s : Step) (old new : Session S W R c) (ledger : Ledger) → NeedsSession s → IsSession old
-      → AreLater (return_of old.part) (return_of new.part) → IfOk result (TellsCount new.part)
+      → AreLater (return_of old.part) (return_of new.part) → IfOk result (AnswerTellsCount new.part)
       → IfOk result (λ said. (run : Run) → Plays run old → StepEnds run s new said)
       → IfOk result (λ said. (run : Run) → Plays run old → DeviceEnds run s new said ledger ledger)
   all_ends (Ok said) s old new ledger needs is later tells h = λ run plays.

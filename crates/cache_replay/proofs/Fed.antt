@@ -22,12 +22,12 @@ use Rattle.cache_calls.specs.Keeping.{plain_setting, state_at}
 use Rattle.script_lang.specs.declared.answer.Refused.TheVariants as refused
 use Rattle.script_lang.specs.declared.answer.StepAnswer.{StepAnswer}
 use Rattle.script_lang.specs.declared.answer.StepAnswer.TheVariants as answer
-use Rattle.script_run.specs.Run.{Run, Stream, with_value, writer_of}
+use Rattle.script_run.specs.Run.{Run, Stream, put_written_by, with_value}
 use Rattle.script_run.specs.Answers as says
 use Rattle.script_run.specs.Answers.{feed_said, said, took_of}
 use Rattle.script_run.specs.Behind as behind
 use Rattle.script_run.specs.Behind.{fed, of_put, still_open, streams_fed}
-use Rattle.cache_replay.specs.Feeding.{FeedsWhere, IsFed, feed_asks, taken_of}
+use Rattle.cache_replay.specs.Feeding.{FeedsWhere, IsFed, feed_asks, taken_by_feed}
 use Rattle.run_promise.specs.Outline.{count_in}
 use Rattle.cache_replay.specs.Replies.{count_of_refusal, fed_answer, refusal_answer, refused_answer}
 use Rattle.cache_replay.specs.Plays.{IsStreamOf}
@@ -62,7 +62,7 @@ module _ (now : ℕ) (a b : At) (plain : a.setting ≡ plain_setting) (quiet : I
 
   -- how far the fragments that were cut are behind what it had gathered
   abbrev cut_since : ℕ
-  cut_since = taken_of t w body (Some refusal.Sealed)
+  cut_since = taken_by_feed t w body (Some refusal.Sealed)
 
   -- the bytes of which the fragments are cut are those of before, and what it took
   took_is : (run : Run) (name : List ℕ) → IsPlayed run name s w → took_of run t w.put ≡ cut_since
@@ -74,15 +74,15 @@ module _ (now : ℕ) (a b : At) (plain : a.setting ≡ plain_setting) (quiet : I
 
   -- fed, with this reason not to go on
   fed_moves : {o : Progress} (why : Option Reason) (said_ : StepAnswer) → EndsWith o why → w.sealed ≡ false → Serves now a b (feed_asks s w body) o
-      → ((run : Run) → took_of run t w.put ≡ cut_since → behind.taken_of run t body why w.put ≡ taken)
+      → ((run : Run) → took_of run t w.put ≡ cut_since → behind.taken_in_line run t body why w.put ≡ taken)
       → ((run : Run) → took_of run t w.put ≡ cut_since → said t (Some (took_of run t w.put)) why (answer.Took (length body)) ≡ said_)
       → WriterDoes now a b (Feeds body) w left (Some said_)
   fed_moves why said_ ends unsealed serves takes is_said = λ run name moment played.
       let nope : (run.streams w.put).sealed ≡ false = sym played.stream.sealed ∙ unsealed in
       let has = has_put run name s w played in
       let took = took_is run name played in
-      let x : Stream = fed (run.streams w.put) body (behind.taken_of run t body why w.put) in
-      let at : of_put run (writer_of run name) (streams_fed run t body why) last.put ≡ fed (run.streams w.put) body taken =
+      let x : Stream = fed (run.streams w.put) body (behind.taken_in_line run t body why w.put) in
+      let at : of_put run (put_written_by run name) (streams_fed run t body why) last.put ≡ fed (run.streams w.put) body taken =
       ap (λ o. of_put run o (streams_fed run t body why) last.put) has
       ∙ (ap (λ (b : Bool). (if b then run.streams else with_value run.streams w.put x) last.put) nope
       ∙ (ap (λ (b : Bool). if b then x else run.streams last.put) (eq-eqb last.put w.put fed_.put) ∙ ap (fed (run.streams w.put) body) (takes run took))) in
@@ -91,7 +91,7 @@ module _ (now : ℕ) (a b : At) (plain : a.setting ≡ plain_setting) (quiet : I
       (serves_whole why ends plain quiet played.told serves)
       (λ legal there known. record {
         held = ap (still_open t) played.held ∙ held_open t w.put last left fed_.put open_left;
-        stream = of_left (λ v. IsStreamOf (of_put run (writer_of run name) (streams_fed run t body why) v.put) v) t last left open_left
+        stream = of_left (λ v. IsStreamOf (of_put run (put_written_by run name) (streams_fed run t body why) v.put) v) t last left open_left
             (λ o. subst (λ y. IsStreamOf y last) (sym at) (stream_fed (run.streams w.put) w last body taken played.stream fed_ most));
         says = ap (λ o. says.if_has o (feed_said run t body why)) has
             ∙ (ap (λ (b : Bool). if b then answer.Refused refused.Sealed (Some 0) else said t (Some (took_of run t w.put)) why (answer.Took (length body))) nope
@@ -114,7 +114,7 @@ module _ (now : ℕ) (a b : At) (plain : a.setting ≡ plain_setting) (quiet : I
       subst (λ (x : Stream). IsStreamOf x last) (ap (λ (b : List ℕ). let y : Stream = record { bytes = b; sealed = (run.streams w.put).sealed } in y)
       (ap (λ k. (run.streams w.put).bytes ++ take k body) zero ∙ append-nil (run.streams w.put).bytes))
       (stream_fed (run.streams w.put) w last body taken played.stream fed_ most) in
-      let at : of_put run (writer_of run name) (streams_fed run t body None) last.put ≡ run.streams w.put =
+      let at : of_put run (put_written_by run name) (streams_fed run t body None) last.put ≡ run.streams w.put =
       ap (λ o. of_put run o (streams_fed run t body None) last.put) has
       ∙ (ap (λ (b : Bool). (if b then run.streams else with_value run.streams w.put (fed (run.streams w.put) body (length body))) last.put) yea ∙ ap run.streams fed_.put) in
       writer_ends run name a b now plain moment (Feeds body) [] None left (refusal_answer refusal.Sealed (Some taken))
@@ -122,7 +122,8 @@ module _ (now : ℕ) (a b : At) (plain : a.setting ≡ plain_setting) (quiet : I
       (serves_whole None progress.EndsWith.in_full plain quiet played.told serves)
       (λ legal there known. record {
         held = ap (still_open t) played.held ∙ held_open t w.put last left fed_.put open_left;
-        stream = of_left (λ v. IsStreamOf (of_put run (writer_of run name) (streams_fed run t body None) v.put) v) t last left open_left
+        stream =
+            of_left (λ v. IsStreamOf (of_put run (put_written_by run name) (streams_fed run t body None) v.put) v) t last left open_left
             (λ o. subst (λ y. IsStreamOf y last) (sym at) stream);
         says = ap (λ o. says.if_has o (feed_said run t body None)) has
             ∙ (ap (λ (b : Bool). if b then answer.Refused refused.Sealed (Some 0) else said t (Some (took_of run t w.put)) None (answer.Took (length body))) yea
@@ -130,7 +131,7 @@ module _ (now : ℕ) (a b : At) (plain : a.setting ≡ plain_setting) (quiet : I
       })
 
   -- each answer
-  pub feeds_line : (why : Option Refusal) → FeedsWhere now a b w body why → taken ≡ taken_of t w body why
+  pub feeds_line : (why : Option Refusal) → FeedsWhere now a b w body why → taken ≡ taken_by_feed t w body why
       → WriterDoes now a b (Feeds body) w left (fed_answer (length body) taken why)
   feeds_line None h is = fed_moves None _ progress.EndsWith.in_full h.open_still h.serves (λ run took. sym is) (λ run took. refl)
   feeds_line (Some refusal.TooManyFragments) h is = fed_moves (Some (ManyFragments w.put)) _ (progress.EndsWith.refused (ManyFragments w.put)) h.open_still h.serves

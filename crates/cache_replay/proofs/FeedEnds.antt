@@ -16,12 +16,12 @@ use Rattle.call_laws.proofs.Served.{serves_first}
 use Rattle.cache_calls.specs.declared.calls.Refusal.{Refusal}
 use Rattle.cache_calls.specs.declared.calls.Refusal.TheVariants as refusal
 use Rattle.cache_calls.specs.Actors.{WriterSeen}
-use Rattle.cache_calls.specs.Adds.{Adds, IsOfPut}
+use Rattle.cache_calls.specs.Adds.{AddsOnly, IsOfPut}
 use Rattle.cache_calls.specs.Asked.{cuts_next, gathered_with}
 use Rattle.cache_calls.specs.Keeping.{state_at}
 use Rattle.script_run.specs.Asked.{feed_intents, rest_behind, whole_fragments}
 use Rattle.cache_replay.specs.Replies.{count_of_refusal}
-use Rattle.cache_replay.specs.Feeding.{FeedsAsAsked, FeedsWhere, IsCutUp, IsCutWhere, IsFed, IsOpenBehind, feed_progress, taken_of}
+use Rattle.cache_replay.specs.Feeding.{FeedsAsAsked, FeedsWhere, IsCutUp, IsCutWhere, IsFed, IsOpenBehind, feed_progress, taken_by_feed}
 use Rattle.cache_replay.proofs.CutBodies.{cut_first, not_most, rest_first, whole_first}
 use Rattle.cache_replay.proofs.FeedRounds.{Cuts, Wrote, few, serves_later, within}
 use Rattle.cache_replay.proofs.Frames.{adds_then}
@@ -31,11 +31,11 @@ use Rattle.cache_replay.proofs.Frames.{adds_then}
 pub record Ends (now : ℕ) (old new : At) (w v : WriterSeen) (bytes : List ℕ) (taken : ℕ) (why : Option Refusal) : Type 0 where
   pub feeds : FeedsWhere now old new w bytes why
   pub counts : IfSome why (λ refused. count_of_refusal refused ≤ new.device.faults)
-  pub takes : taken ≡ taken_of (state_at new) w bytes why
+  pub takes : taken ≡ taken_by_feed (state_at new) w bytes why
   pub fed : IsFed w bytes taken v
   pub cut : IsCutWhere (state_at old).geometry.fragment w bytes why v
   pub writing : IsOpenBehind (state_at new) w.put why
-  pub own : Adds (IsOfPut w.put) old new
+  pub own : AddsOnly (IsOfPut w.put) old new
   pub grown : total_length w.cuts ≤ total_length (cuts_of (state_at new) w.put)
   pub told : TellsAll new.device → TellsAll old.device
 
@@ -125,8 +125,8 @@ module _ (now : ℕ) (old mid new : At) (w v end : WriterSeen) (bytes : List ℕ
   then_feeds (Some (refusal.VectorTooLarge size)) told rest = absurd rest
   then_feeds (Some (refusal.Lost index cause)) told rest = absurd rest
 
-  then_takes : (more : ℕ) (why : Option Refusal) → total_length v.cuts ≤ total_length (cuts_of (state_at new) v.put) → more ≡ taken_of (state_at new) v (drop n bytes) why
-      → n + more ≡ taken_of (state_at new) w bytes why
+  then_takes : (more : ℕ) (why : Option Refusal) → total_length v.cuts ≤ total_length (cuts_of (state_at new) v.put) → more ≡ taken_by_feed (state_at new) v (drop n bytes) why
+      → n + more ≡ taken_by_feed (state_at new) w bytes why
   then_takes more None grown is =
       let left : length (drop n bytes) ≡ length bytes - n = length-drop n bytes in
       let more_is : more ≡ length (drop n bytes) = is in
@@ -182,7 +182,7 @@ module _ (now : ℕ) (old mid new : At) (w v end : WriterSeen) (bytes : List ℕ
     fed = then_fed more rest.fed;
     cut = then_cut why rest.cut;
     writing = subst (λ q. IsOpenBehind (state_at new) q why) h.gathers.put rest.writing;
-    own = adds_then (IsOfPut w.put) old mid new h.adds (subst (λ q. Adds (IsOfPut q) mid new) h.gathers.put rest.own);
+    own = adds_then (IsOfPut w.put) old mid new h.adds (subst (λ q. AddsOnly (IsOfPut q) mid new) h.gathers.put rest.own);
     grown =
         let up : total_length v.cuts ≤ total_length (cuts_of (state_at new) w.put) =
         subst (λ q. total_length v.cuts ≤ total_length (cuts_of (state_at new) q)) h.gathers.put rest.grown in

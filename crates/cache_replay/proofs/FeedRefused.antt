@@ -21,7 +21,7 @@ use Rattle.call_laws.proofs.Served.{serves_refused}
 use Rattle.cache_calls.specs.declared.calls.Refusal.{Refusal}
 use Rattle.cache_calls.specs.declared.calls.Refusal.TheVariants as refusal
 use Rattle.cache_calls.specs.Actors.{IsWriterOf, WriterSeen}
-use Rattle.cache_calls.specs.Adds.{Adds, IsOfFlush, IsOfPut}
+use Rattle.cache_calls.specs.Adds.{AddsOnly, IsOfFlush, IsOfPut}
 use Rattle.cache_calls.specs.Asked.{cuts_next, gathered_with, next_payload, refused_at, taken_of, write_asks}
 use Rattle.cache_calls.specs.Keeping.{state_at}
 use Rattle.cache_calls.specs.Writers.{IsCutting, Writes}
@@ -79,7 +79,7 @@ module _ (now : ℕ) (old new : At) (w : WriterSeen) (bytes : List ℕ) (own : I
   some : 0 < f
   some = s.geometry.accepted.fragment_fits.0
 
-  flushed : (why : Refusal) → (is_writing t w.put ≡ true → IsOpenBehind t w.put (Some why)) → Adds IsOfFlush old new → LeavesPut s t w.put why
+  flushed : (why : Refusal) → (is_writing t w.put ≡ true → IsOpenBehind t w.put (Some why)) → AddsOnly IsOfFlush old new → LeavesPut s t w.put why
   flushed why stays flush =
       let puts : t.puts ≡ s.puts =
       ap (λ (x : State). x.puts) (state_behind old.kept new.kept flush.added flush.adds) ∙ (flush_leaves s flush.added flush.own).puts in
@@ -152,7 +152,7 @@ module _ (now : ℕ) (old new : At) (w : WriterSeen) (bytes : List ℕ) (own : I
   counted _ gives = omega arith
 
   pub refused_ends : (why : Refusal) → Writes old new w bytes (Err why) → Serves now old new (write_asks s w bytes) (refused_at w.put (write_asks s w bytes) why)
-      → Adds (IsOfPut w.put) old new → (TellsAll new.device → TellsAll old.device) → Ends now old new w w bytes 0 (Some why)
+      → AddsOnly (IsOfPut w.put) old new → (TellsAll new.device → TellsAll old.device) → Ends now old new w w bytes 0 (Some why)
   refused_ends why gives serves adds told =
       let o : IsFoundOpen s w.put = open_row s w.put writing in
       let left : LeavesPut s t w.put why = leaves why gives in

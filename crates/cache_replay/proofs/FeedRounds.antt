@@ -32,10 +32,10 @@ use Rattle.call_laws.proofs.Joined.{state_behind}
 use Rattle.call_laws.proofs.Kept.{untold_later}
 use Rattle.call_laws.proofs.Known.{serves_wider}
 use Rattle.cache_calls.specs.Actors.{IsAtHand, IsWriterOf, WriterSeen}
-use Rattle.cache_calls.specs.Adds.{Adds, IsOfFlush, IsOfPut}
-use Rattle.cache_calls.specs.Asked.{cuts_next, fed_asks, gathered_with, is_cut, is_overflow, next_payload, taken_of, write_asks}
+use Rattle.cache_calls.specs.Adds.{AddsOnly, IsOfFlush, IsOfPut}
+use Rattle.cache_calls.specs.Asked.{cuts_next, fed_asks, fills_fragment, gathered_with, is_overflow, next_payload, taken_of, write_asks}
 use Rattle.cache_calls.specs.Keeping.{state_at}
-use Rattle.cache_calls.specs.Writers.{CutsAs, HasTaken, IsTaking, Takes, fragment_records, next_fragment}
+use Rattle.cache_calls.specs.Writers.{CutsAs, HasTaken, IsTaking, TakesBytes, fragment_records, piece_cut_next}
 use Rattle.script_run.proofs.Ended.{IsFoundOpen, open_row}
 use Rattle.cache_replay.proofs.CutBodies.{not_most}
 
@@ -84,18 +84,18 @@ module _ (s : State) (w : WriterSeen) (bytes : List ℕ) (taking : IsTaking s w)
       ap (λ b. if b && not w.sealed then fed_asks s w bytes else []) taking.0 ∙ ap (λ b. if true && not b then fed_asks s w bytes else []) taking.1
 
   abbrev next : List Intent
-  next = if is_cut s.geometry w (taken_of s.geometry w bytes) then cuts_next w (next_payload s w bytes) ∷ [] else []
+  next = if fills_fragment s.geometry w (taken_of s.geometry w bytes) then cuts_next w (next_payload s w bytes) ∷ [] else []
 
   asks_next : (0 < length bytes → length w.cuts < most_fragments) → write_asks s w bytes ≡ next
   asks_next few = asks_fed ∙ ap (λ b. if b then Overflow w.put ∷ [] else next) (no_overflow w bytes few)
 
   -- the next fragment, where it has gathered
-  pub asks_cut : (0 < length bytes → length w.cuts < most_fragments) → is_cut s.geometry w (taken_of s.geometry w bytes) ≡ true
+  pub asks_cut : (0 < length bytes → length w.cuts < most_fragments) → fills_fragment s.geometry w (taken_of s.geometry w bytes) ≡ true
       → write_asks s w bytes ≡ cuts_next w (next_payload s w bytes) ∷ []
   asks_cut few cut = asks_next few ∙ ap (λ b. if b then cuts_next w (next_payload s w bytes) ∷ [] else []) cut
 
   -- nothing, where it has not
-  pub asks_none : (0 < length bytes → length w.cuts < most_fragments) → is_cut s.geometry w (taken_of s.geometry w bytes) ≡ false → write_asks s w bytes ≡ []
+  pub asks_none : (0 < length bytes → length w.cuts < most_fragments) → fills_fragment s.geometry w (taken_of s.geometry w bytes) ≡ false → write_asks s w bytes ≡ []
   asks_none few cut = asks_next few ∙ ap (λ b. if b then cuts_next w (next_payload s w bytes) ∷ [] else []) cut
 
   -- one fragment too many
@@ -134,10 +134,10 @@ module _ (old new : At) (w : WriterSeen) (payload : List ℕ) (c : CutsAs old ne
   cut = state_after room (rec.Cut w.put (length w.cuts + 1) (length payload) (digest_of payload))
 
   abbrev placed : Rec
-  placed = placed_record room (next_fragment w) w.pin (total_length w.cuts) (length payload) payload
+  placed = placed_record room (piece_cut_next w) w.pin (total_length w.cuts) (length payload) payload
 
   pushed_left : SamePuts cut (after_all cut c.displaced)
-  pushed_left = let p : Permit = permit_of 0 old.setting [] [] in pushed_leave p room cut (next_fragment w) c.displaced (c.pushed p refl)
+  pushed_left = let p : Permit = permit_of 0 old.setting [] [] in pushed_leave p room cut (piece_cut_next w) c.displaced (c.pushed p refl)
 
   cut_state : state_at new ≡ state_after (after_all cut c.displaced) placed
   cut_state =
@@ -168,9 +168,9 @@ serves_later {b = b} last told f = serves_wider (PairsAt b) (PairsAt last) (unto
 
 pub record Wrote (now : ℕ) (old new : At) (w v : WriterSeen) (bytes : List ℕ) (n : ℕ) : Type 0 where
   pub own : IsWriterOf (state_at old) w
-  pub takes : Takes old new w bytes n
+  pub takes : TakesBytes old new w bytes n
   pub serves : Serves now old new (write_asks (state_at old) w bytes) AllDone
-  pub adds : Adds (IsOfPut w.put) old new
+  pub adds : AddsOnly (IsOfPut w.put) old new
   pub gathers : HasTaken (state_at old).geometry w bytes n v
   pub next_own : IsWriterOf (state_at new) v
   pub told : TellsAll new.device → TellsAll old.device
@@ -229,13 +229,13 @@ module _ (now : ℕ) (old new : At) (w v : WriterSeen) (bytes : List ℕ) (n : �
   taken_size = length-append w.gathered (take n bytes) ∙ ap (λ k. length w.gathered + k) (length-take-le n bytes within.0)
 
   -- what it did
-  cut_as : is_cut s.geometry w n ≡ true → CutsAs old new w payload
+  cut_as : fills_fragment s.geometry w n ≡ true → CutsAs old new w payload
   cut_as cut = subst (λ b. MatchBool b (CutsAs old new w payload) (new.kept ≡ old.kept)) cut h.takes.cuts
 
-  as_it_was : is_cut s.geometry w n ≡ false → new.kept ≡ old.kept
+  as_it_was : fills_fragment s.geometry w n ≡ false → new.kept ≡ old.kept
   as_it_was cut = subst (λ b. MatchBool b (CutsAs old new w payload) (new.kept ≡ old.kept)) cut h.takes.cuts
 
-  pub cuts : is_cut s.geometry w n ≡ true → Cuts now old new w v bytes n
+  pub cuts : fills_fragment s.geometry w n ≡ true → Cuts now old new w v bytes n
   cuts cut =
       let o : IsFoundOpen s w.put = open_row s w.put h.takes.taking.0 in
       let c : CutsAs old new w payload = cut_as cut in
@@ -250,7 +250,7 @@ module _ (now : ℕ) (old new : At) (w v : WriterSeen) (bytes : List ℕ) (n : �
         };
         serves =
             subst (λ is. Serves now old new is AllDone)
-            (asks_cut s w bytes h.takes.taking h.takes.few (subst (λ k. is_cut s.geometry w k ≡ true) h.takes.count cut)
+            (asks_cut s w bytes h.takes.taking h.takes.few (subst (λ k. fills_fragment s.geometry w k ≡ true) h.takes.count cut)
             ∙ ap (λ k. cuts_next w (gathered_with w bytes k) ∷ []) (sym h.takes.count)) h.serves;
         full = full;
         row = row_for payload;
@@ -259,7 +259,7 @@ module _ (now : ℕ) (old new : At) (w v : WriterSeen) (bytes : List ℕ) (n : �
         empty = h.gathers.gathered ∙ ap (λ b. if b then [] else payload) cut;
       }
 
-  pub gathers : is_cut s.geometry w n ≡ false → Gathers now old new w v bytes n
+  pub gathers : fills_fragment s.geometry w n ≡ false → Gathers now old new w v bytes n
   gathers cut =
       let o : IsFoundOpen s w.put = open_row s w.put h.takes.taking.0 in
       let state : t ≡ s = ap state_of (as_it_was cut) in
@@ -272,7 +272,8 @@ module _ (now : ℕ) (old new : At) (w v : WriterSeen) (bytes : List ℕ) (n : �
           cuts = cuts_found t w.put o.w found ∙ there.cuts_are;
         };
         serves = subst (λ is. Serves now old new is AllDone)
-            (asks_none s w bytes h.takes.taking h.takes.few (subst (λ k. is_cut s.geometry w k ≡ false) h.takes.count cut)) h.serves;
+            (asks_none s w bytes h.takes.taking h.takes.few
+            (subst (λ k. fills_fragment s.geometry w k ≡ false) h.takes.count cut)) h.serves;
         short = below (length w.gathered + n) s.geometry.fragment cut within.1;
         rows = sym there.cuts_are ∙ (h.own o.w o.found o.is_open).cuts_are;
         items = h.gathers.gathered ∙ ap (λ b. if b then [] else payload) cut;
@@ -282,7 +283,7 @@ module _ (now : ℕ) (old new : At) (w v : WriterSeen) (bytes : List ℕ) (n : �
       below a b ne le = elim (eqb_tells a b) [ inl e ↦ let clash : true ≡ false = sym e.0 ∙ ne in cc | inr e ↦ omega (arith, e.1, le) ]
 
   -- where bytes are left, a fragment was cut
-  pub cut_or_all : n < length bytes → is_cut s.geometry w n ≡ true
+  pub cut_or_all : n < length bytes → fills_fragment s.geometry w n ≡ true
   cut_or_all left = eq-eqb (length w.gathered + n) s.geometry.fragment (all s.geometry.fragment (length w.gathered) (length bytes) n few h.takes.count left)
     where
       all : (f g len k : ℕ) → g < f → k ≡ min len (f - g) → k < len → g + k ≡ f

@@ -10,9 +10,9 @@ use Rattle.call_laws.specs.Moments.{At}
 use Rattle.call_laws.specs.Serves.{Serves}
 use Rattle.cache_calls.specs.declared.calls.Refusal.{Refusal}
 use Rattle.cache_calls.specs.Actors.{IsWriterOf, WriterSeen}
-use Rattle.cache_calls.specs.Adds.{Adds, IsOfPut}
+use Rattle.cache_calls.specs.Adds.{AddsOnly, IsOfPut}
 use Rattle.cache_calls.specs.Asked.{gathered_with, refused_at, write_asks}
-use Rattle.cache_calls.specs.Keeping.{IsAtRest, Keeps, state_at}
+use Rattle.cache_calls.specs.Keeping.{IsAtRest, KeepsUnharmed, state_at}
 use Rattle.cache_calls.specs.Standing.{IsToldNext, IsToldWritten, StaysStanding}
 use Rattle.cache_calls.specs.Writers.{Writes}
 use Rattle.cache_calls.proofs.Keeping.{keeps_then}
@@ -56,7 +56,7 @@ StandsOn at stands first mid w v bytes taken = (contents : Contents) (t : State)
 -- the first cache, and the one behind the writes so far
 pub record Turned {S : Type 0} (at : S → At) (holds : S → Type 0) (stands : S → Contents → Type 0) (now : ℕ) (first mid : S) (w v : WriterSeen)
     (bytes : List ℕ) (taken : ℕ) : Type 0 where
-  pub keeps : Keeps at holds first mid
+  pub keeps : KeepsUnharmed at holds first mid
   pub writer : IsWriterOf (state_at (at mid)) v
   pub writing : is_writing (state_at (at mid)) v.put ≡ true
   pub within : taken ≤ length bytes
@@ -90,7 +90,7 @@ module _ {S : Type 0} (at : S → At) (holds : S → Type 0) (stands : S → Con
 
   pub refuses : (why : Refusal) → Writes (at mid) (at next) v (part bytes taken) (Err why)
       → Serves now (at mid) (at next) (write_asks (state_at (at mid)) v (part bytes taken)) (refused_at v.put (write_asks (state_at (at mid)) v (part bytes taken)) why)
-      → Adds (IsOfPut v.put) (at mid) (at next) → (TellsAll (at next).device → TellsAll (at mid).device) → u ≡ v
+      → AddsOnly (IsOfPut v.put) (at mid) (at next) → (TellsAll (at next).device → TellsAll (at mid).device) → u ≡ v
       → Ends now (at first) (at next) w u bytes taken (Some why)
   refuses why gives serves adds told same =
       subst (λ m. Ends now (at first) (at next) w u bytes m (Some why)) (no_more taken)
@@ -104,11 +104,11 @@ module _ {S : Type 0} (at : S → At) (holds : S → Type 0) (stands : S → Con
       no_more k = omega arith
 
   -- what a refused call leaves of the put, for whatever it records
-  later : IsAtRest (at next) → Adds (IsOfPut v.put) (at mid) (at next) → IsLater (state_at (at mid)) (state_at (at next)) v
+  later : IsAtRest (at next) → AddsOnly (IsOfPut v.put) (at mid) (at next) → IsLater (state_at (at mid)) (state_at (at next)) v
   later rest adds = later_of (state_at (at mid)) (state_at (at next)) v turned.writing turned.writer (put_grows (at mid) (at next) rest v.put v.put adds)
 
   -- nothing was cut that is to be told
-  pub refused_stands : (why : Refusal) → IsAtRest (at next) → Adds (IsOfPut v.put) (at mid) (at next)
+  pub refused_stands : (why : Refusal) → IsAtRest (at next) → AddsOnly (IsOfPut v.put) (at mid) (at next)
       → StaysStanding stands (IsToldWritten (state_at (at mid)) v (part bytes taken) (Err why)) mid next
       → StaysStanding stands (IsToldFrom (state_at (at next)) w bytes) first next
   refused_stands why rest adds stays = λ contents told before. stays contents tt ((turned.told contents (state_at (at next)) (later rest adds) told).0 before)
@@ -166,7 +166,7 @@ module _ {S : Type 0} (at : S → At) (holds : S → Type 0) (stands : S → Con
             subst (λ xs. IsToldFrom t u xs contents) (drop-drop n taken bytes) (others_told now (at mid) (at next) v u left n h c grows t after contents both.1),
           )
 
-    pub goes_on : (taken + n ≡ length bytes → ⊥) → Keeps at holds mid next → IsAtRest (at next)
+    pub goes_on : (taken + n ≡ length bytes → ⊥) → KeepsUnharmed at holds mid next → IsAtRest (at next)
         → StaysStanding stands (IsToldWritten (state_at (at mid)) v (part bytes taken) (Ok n)) mid next
         → Turned at holds stands now first next w u bytes (taken + n)
     goes_on other keeps rest stays = record {

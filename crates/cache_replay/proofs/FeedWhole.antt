@@ -11,7 +11,7 @@ use Rattle.call_laws.specs.Moments.{At}
 use Rattle.call_laws.specs.Progress.{AllDone}
 use Rattle.call_laws.specs.Serves.{Serves}
 use Rattle.cache_calls.specs.Actors.{IsAtHand, WriterSeen}
-use Rattle.cache_calls.specs.Asked.{cuts_next, gathered_with, is_cut}
+use Rattle.cache_calls.specs.Asked.{cuts_next, fills_fragment, gathered_with}
 use Rattle.cache_calls.specs.Keeping.{state_at}
 use Rattle.script_run.specs.Asked.{feed_intents, rest_behind, whole_fragments}
 use Rattle.script_run.proofs.Ended.{IsFoundOpen, open_row}
@@ -119,9 +119,9 @@ module _ (now : ℕ) (old new : At) (w v : WriterSeen) (bytes : List ℕ) (n : �
       may_more zero len both cuts rows sum some more same new = new (omega (arith, sum, some))
       may_more (suc g) len both cuts rows sum some more same new = let up : cuts < most_fragments = more (omega arith) in omega (arith, up, same)
 
-  ends_by : (b : Bool) → is_cut s.geometry w n ≡ b → Ends now old new w v bytes n None
+  ends_by : (b : Bool) → fills_fragment s.geometry w n ≡ b → Ends now old new w v bytes n None
   ends_by true e = last_cut (cuts now old new w v bytes n h e)
   ends_by false e = last_gathers (gathers now old new w v bytes n h e)
 
   pub last_ends : Ends now old new w v bytes n None
-  last_ends = ends_by (is_cut s.geometry w n) refl
+  last_ends = ends_by (fills_fragment s.geometry w n) refl

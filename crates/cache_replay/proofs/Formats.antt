@@ -8,7 +8,7 @@ use Rattle.tape_base.specs.declared.geometries.BadGeometry.{BadGeometry}
 use Rattle.tape_base.specs.Geometry.{HasNumbers, budget_of}
 use Rattle.tape_base.specs.Limits.{first_refusal}
 use Rattle.tape_base.specs.Place.{floor_of}
-use Rattle.logged_disk.specs.Device.{State as Device}
+use Rattle.logged_disk.specs.Device.{DeviceState as Device}
 use Rattle.device_bay.specs.Calls.{BayCall, Gave, TookBack, names_of, out_of, refusals_of, returned_by}
 use Rattle.device_bay.specs.Bay.{IsNewDevice}
 use Rattle.cache_model.specs.Legal.{format_records}
@@ -23,7 +23,7 @@ use Rattle.script_lang.specs.declared.answer.StepAnswer.TheVariants as answer
 use Rattle.script_run.specs.Run.{Harm, Run, no_harm}
 use Rattle.script_run.specs.Turn.{Turn, no_turn}
 use Rattle.script_run.specs.Answers.{format_said, number_of_bad}
-use Rattle.script_run.specs.Behind.{after_format, harm_of, formatted}
+use Rattle.script_run.specs.Behind.{after_format, harm_of, with_format}
 use Rattle.script_run.specs.Ledger.{AreReached, Deals, KeepsOrder, Ledger, ledger_behind}
 use Rattle.script_run.specs.Takes.{FormatTakes}
 use Rattle.cache_replay.specs.declared.session.Part.{Part}
@@ -110,7 +110,7 @@ module _ {S W R : Type 0} {c : CallsGhosts S W R} where
       (before now : Ledger)
       → first_refusal segments buckets content agg reach fragment alternates ≡ None → floor ≡ floor_of g g.content
       → HasNumbers g segments buckets content agg reach fragment generation alternates
-      → Plays (formatted run name (format_records g)) new → Deals before now (harm_of run.calls run.state) (name ∷ [])
+      → Plays (with_format run name (format_records g)) new → Deals before now (harm_of run.calls run.state) (name ∷ [])
       → DeviceMoves run (step.Format name segments buckets content agg reach fragment generation alternates) new (answer.Formatted 1 g.content floor) before now
   format_done run name segments buckets content agg reach fragment generation alternates g floor new before now is floored numbers plays deals = record {
     moves = record {

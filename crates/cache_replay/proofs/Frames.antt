@@ -14,7 +14,7 @@ use Rattle.call_laws.specs.Moments.{At}
 use Rattle.call_laws.proofs.Joined.{state_behind}
 use Rattle.cache_calls.specs.declared.calls.Calls.{Ghosts as CallsGhosts}
 use Rattle.cache_calls.specs.Actors.{IsAtHand, IsWriterOf, WriterSeen}
-use Rattle.cache_calls.specs.Adds.{Adds, AddsAll, IsOfPut, IsOfReader}
+use Rattle.cache_calls.specs.Adds.{AddsAll, AddsOnly, IsOfPut, IsOfReader}
 use Rattle.cache_calls.specs.Keeping.{Goes, IsAtRest, state_at}
 use Rattle.cache_calls.specs.Others.{LeavesOtherReaders, LeavesOthers}
 use Rattle.cache_calls.proofs.Others.{others_stay, readers_stay, reads_leave_others}
@@ -22,7 +22,7 @@ use Rattle.script_run.specs.Losses.{NoLossIsAFault}
 use Rattle.script_run.proofs.Losses.{losses_stay}
 use Rattle.script_run.specs.Run.{Run}
 use Rattle.cache_replay.specs.declared.session.Part.{Part}
-use Rattle.cache_replay.specs.Session.{AreApart, AreHeld, Differ, HoldingSeen, IsHeld, IsPart, LeavesBut, ReaderHeld, WriterHeld, at_in, state_in}
+use Rattle.cache_replay.specs.Session.{ActorsAreApart, AreHeld, Differ, HoldingSeen, IsHeldByActor, IsPart, LeavesBut, ReaderHeld, WriterHeld, at_in, state_in_part}
 use Rattle.cache_replay.specs.Plays.{IsHeldAs, IsStreamOf}
 
 -- ---- what is there
@@ -33,7 +33,7 @@ some_is x y e = cc
 -- ---- what is added
 
 -- records of one kind, and then others
-pub adds_then : (P : Rec → Type 0) (a b c : At) → Adds P a b → Adds P b c → Adds P a c
+pub adds_then : (P : Rec → Type 0) (a b c : At) → AddsOnly P a b → AddsOnly P b c → AddsOnly P a c
 adds_then P a b c f l = record {
   added = f.added ++ l.added;
   adds = l.adds ∙ (ap (λ k. with_records k l.added) f.adds
@@ -80,15 +80,15 @@ pub same_added : (k l : Kept) (a b : List Rec) → l ≡ with_records k a → l 
 same_added k l a b first second = append_cancel_left k.since a b (ap (λ (j : Kept). j.since) (sym first ∙ second))
 
 -- records of one put
-pub put_leaves : (put : ℕ) (old new : At) → Adds (IsOfPut put) old new → LeavesBut (Some put) None (state_at old) (state_at new)
+pub put_leaves : (put : ℕ) (old new : At) → AddsOnly (IsOfPut put) old new → LeavesBut (Some put) None (state_at old) (state_at new)
 put_leaves put old new h = leaves_but_put put (state_at old) (state_at new) (others_stay put old new h) (losses_kept old new h.added h.adds)
 
 -- records of one reader
-pub reader_leaves : (reader : ℕ) (old new : At) → Adds (IsOfReader reader) old new → LeavesBut None (Some reader) (state_at old) (state_at new)
+pub reader_leaves : (reader : ℕ) (old new : At) → AddsOnly (IsOfReader reader) old new → LeavesBut None (Some reader) (state_at old) (state_at new)
 reader_leaves reader old new h = leaves_but_reader reader (state_at old) (state_at new) (reads_leave_others reader old new h) (losses_kept old new h.added h.adds)
 
 -- records that are of any put leave all puts, and all readers
-pub any_leaves : (old new : At) → ((put : ℕ) → Adds (IsOfPut put) old new) → LeavesBut None None (state_at old) (state_at new)
+pub any_leaves : (old new : At) → ((put : ℕ) → AddsOnly (IsOfPut put) old new) → LeavesBut None None (state_at old) (state_at new)
 any_leaves old new adds = record {
   puts = λ q other. (put_leaves (q + 1) old new (adds (q + 1))).puts q (λ same. next_is_other q (some_is (q + 1) q same));
   readers = λ n other. (put_leaves 0 old new (adds 0)).readers n (λ same. cc);
@@ -123,7 +123,7 @@ abbrev pub IsElse : Option ℕ → Option ℕ → HoldingSeen → Type 0
 IsElse put reader (WriterHeld w) = put ≡ Some w.put → ⊥
 IsElse put reader (ReaderHeld r) = reader ≡ Some r.reader → ⊥
 
-pub held_stays : (put reader : Option ℕ) (s t : State) (h : HoldingSeen) → LeavesBut put reader s t → IsElse put reader h → IsHeld s h → IsHeld t h
+pub held_stays : (put reader : Option ℕ) (s t : State) (h : HoldingSeen) → LeavesBut put reader s t → IsElse put reader h → IsHeldByActor s h → IsHeldByActor t h
 held_stays put reader s t (WriterHeld w) leaves other own = record {
   writing = writing_stays s t w.put (leaves.puts w.put other) ∙ own.writing;
   writer = writer_stays s t w (leaves.puts w.put other) leaves.geometry own.writer;
@@ -154,21 +154,21 @@ OthersElse slots n put reader = (m : ℕ) (h : HoldingSeen) → (m == n) ≡ fal
 if_same : (P : HoldingSeen → Type 0) (a b : Option HoldingSeen) → a ≡ b → IfSome b P → IfSome a P
 if_same P a b e p = subst (λ o. IfSome o P) (sym e) p
 
-pub held_one : (s t : State) (o : Option HoldingSeen) → ((h : HoldingSeen) → o ≡ Some h → IsHeld s h → IsHeld t h) → IfSome o (IsHeld s) → IfSome o (IsHeld t)
+pub held_one : (s t : State) (o : Option HoldingSeen) → ((h : HoldingSeen) → o ≡ Some h → IsHeldByActor s h → IsHeldByActor t h) → IfSome o (IsHeldByActor s) → IfSome o (IsHeldByActor t)
 held_one s t None f own = own
 held_one s t (Some h) f own = f h refl own
 
-held_at : (b : Bool) (s t : State) (x o : Option HoldingSeen) → (b ≡ false → (h : HoldingSeen) → o ≡ Some h → IsHeld s h → IsHeld t h) → IfSome x (IsHeld t)
-    → IfSome o (IsHeld s) → IfSome (if b then x else o) (IsHeld t)
+held_at : (b : Bool) (s t : State) (x o : Option HoldingSeen) → (b ≡ false → (h : HoldingSeen) → o ≡ Some h → IsHeldByActor s h → IsHeldByActor t h) → IfSome x (IsHeldByActor t)
+    → IfSome o (IsHeldByActor s) → IfSome (if b then x else o) (IsHeldByActor t)
 held_at true s t x o f mine own = mine
 held_at false s t x o f mine own = held_one s t o (f refl) own
 
 -- what each has is open behind the call, if that of the one actor is
 pub all_held : (put reader : Option ℕ) (s t : State) (slots new : ℕ → Option HoldingSeen) (n : ℕ) (x : Option HoldingSeen) → LeavesBut put reader s t → Changed slots new n x
     → OthersElse slots n put reader
-    → AreHeld s slots → IfSome x (IsHeld t) → AreHeld t new
+    → AreHeld s slots → IfSome x (IsHeldByActor t) → AreHeld t new
 all_held put reader s t slots new n x leaves changed others held mine = λ m.
-    if_same (IsHeld t) (new m) (if m == n then x else slots m) (changed m)
+    if_same (IsHeldByActor t) (new m) (if m == n then x else slots m) (changed m)
     (held_at (m == n) s t x (slots m) (λ no h is own. held_stays put reader s t h leaves (others m h no is) own) mine (held m))
 
 as_at : (b : Bool) (run new : Run) (s t : State) (m : ℕ) (x o : Option HoldingSeen) → (b ≡ true → IsHeldAs new t m x) → (b ≡ false → IsHeldAs new t m o)
@@ -221,7 +221,7 @@ at_by slots n m x a true e is = inl (eqb-true m n e, is)
 at_by slots n m x a false e is = inr (e, is)
 
 apart_by : (put reader : Option ℕ) (slots : ℕ → Option HoldingSeen) (n m k : ℕ) (x : Option HoldingSeen) (a b : HoldingSeen) → OthersElse slots n put reader
-    → ((h : HoldingSeen) → x ≡ Some h → IsMine put reader h) → AreApart slots
+    → ((h : HoldingSeen) → x ≡ Some h → IsMine put reader h) → ActorsAreApart slots
     → (m ≡ k → ⊥) → StandsAt slots n m x a → StandsAt slots n k x b → Differ a b
 apart_by put reader slots n m k x a b others mine apart differ (inl at) (inl too) = absurd (differ (at.0 ∙ sym too.0))
 apart_by put reader slots n m k x a b others mine apart differ (inl at) (inr too) = differs put reader a b (mine a at.1) (others k b too.0 too.1)
@@ -230,7 +230,7 @@ apart_by put reader slots n m k x a b others mine apart differ (inr at) (inr too
 
 -- no two actors have the same behind a line, where the one has nothing that another has
 pub all_apart : (put reader : Option ℕ) (slots new : ℕ → Option HoldingSeen) (n : ℕ) (x : Option HoldingSeen) → Changed slots new n x → OthersElse slots n put reader
-    → ((h : HoldingSeen) → x ≡ Some h → IsMine put reader h) → AreApart slots → AreApart new
+    → ((h : HoldingSeen) → x ≡ Some h → IsMine put reader h) → ActorsAreApart slots → ActorsAreApart new
 all_apart put reader slots new n x changed others mine apart = λ m k a b differ at too.
     apart_by put reader slots n m k x a b others mine apart differ (at_by slots n m x a (m == n) refl (sym (changed m) ∙ at))
     (at_by slots n k x b (k == n) refl (sym (changed k) ∙ too))
@@ -240,7 +240,7 @@ all_apart put reader slots new n x changed others mine apart = λ m k a b differ
 module _ {S W R : Type 0} {c : CallsGhosts S W R} where
   -- behind a call
   pub part_behind : (old new : Part S W R c) → IsPart old → Goes c.at c.holds old.cache new.cache → IsAtRest (at_in new)
-      → length new.page.items ≡ length old.page.items → (put reader : Option ℕ) → LeavesBut put reader (state_in old) (state_in new) → IsPart new
+      → length new.page.items ≡ length old.page.items → (put reader : Option ℕ) → LeavesBut put reader (state_in_part old) (state_in_part new) → IsPart new
   part_behind old new part goes rest page put reader leaves = record {
     holds = goes.holds_then;
     rest = rest;

@@ -7,7 +7,7 @@ use Rattle.cache_model.specs.Verdict.{is_open}
 use Rattle.cache_model.specs.Legal.{is_writing}
 use Rattle.call_laws.specs.Moments.{At}
 use Rattle.cache_calls.specs.Keeping.{FallBelow, IsAtRest, state_at}
-use Rattle.cache_replay.specs.Session.{AreHeld, HoldingSeen, IsHeld, ReaderHeld, WriterHeld}
+use Rattle.cache_replay.specs.Session.{AreHeld, HoldingSeen, IsHeldByActor, ReaderHeld, WriterHeld}
 use Rattle.cache_replay.proofs.Frames.{IsElse, OthersElse}
 use Rattle.cache_replay.proofs.Plain.{AllElse}
 
@@ -42,20 +42,20 @@ module _ (a : At) (rest : IsAtRest a) where
 
 -- ---- what actors have is none of them
 
-not_next_put : (s : State) (h : HoldingSeen) → is_writing s s.next_put ≡ false → IsHeld s h → IsElse (Some s.next_put) None h
+not_next_put : (s : State) (h : HoldingSeen) → is_writing s s.next_put ≡ false → IsHeldByActor s h → IsElse (Some s.next_put) None h
 not_next_put s (WriterHeld w) free held = λ same.
     let is : s.next_put ≡ w.put = cc in
     let clash : true ≡ false = sym held.writing ∙ (ap (is_writing s) (sym is) ∙ free) in cc
 not_next_put s (ReaderHeld r) free held = λ same. cc
 
-not_next_reader : (s : State) (h : HoldingSeen) → reader_of s s.next_reader ≡ None → IsHeld s h → IsElse None (Some s.next_reader) h
+not_next_reader : (s : State) (h : HoldingSeen) → reader_of s s.next_reader ≡ None → IsHeldByActor s h → IsElse None (Some s.next_reader) h
 not_next_reader s (WriterHeld w) free held = λ same. cc
 not_next_reader s (ReaderHeld r) free held = λ same.
     let is : s.next_reader ≡ r.reader = cc in
     let clash : None ≡ Some held.row = sym free ∙ (ap (reader_of s) is ∙ held.found) in cc
 
-held_some : (s : State) (o : Option HoldingSeen) (h : HoldingSeen) → o ≡ Some h → IfSome o (IsHeld s) → IsHeld s h
-held_some s o h is held = subst (λ x. IfSome x (IsHeld s)) is held
+held_some : (s : State) (o : Option HoldingSeen) (h : HoldingSeen) → o ≡ Some h → IfSome o (IsHeldByActor s) → IsHeldByActor s h
+held_some s o h is held = subst (λ x. IfSome x (IsHeldByActor s)) is held
 
 module _ (a : At) (rest : IsAtRest a) (slots : ℕ → Option HoldingSeen) (held : AreHeld (state_at a) slots) where
   pub none_writes_next : AllElse slots (Some (state_at a).next_put) None

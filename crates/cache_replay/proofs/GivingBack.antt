@@ -1,7 +1,7 @@
 -- Devices are given back, and nothing else is done.
 use Rattle.std.proofs.Common.{◌≡◌, ℕ, ◌+◌, ◌-◌, ◌≤◌, List, [], ◌∷◌, refl, sym, subst, arith}
 use Rattle.std.proofs.lemmas.List.{append-nil}
-use Rattle.logged_disk.specs.Device.{State as Device}
+use Rattle.logged_disk.specs.Device.{DeviceState as Device}
 use Rattle.device_bay.specs.Calls.{BayCall, TookBack, out_of, returned_by}
 use Rattle.cache_replay.specs.Deals.{GivesBack}
 use Rattle.cache_replay.proofs.Order.{order_same, order_took}

@@ -15,7 +15,7 @@ use Rattle.cache_model.specs.Legal.{answer_record, live_next, nothing}
 use Rattle.cache_model.specs.Pair.{Documents, IsPairOf}
 use Rattle.cache_model.specs.ToRead.{IsToRead, to_read}
 use Rattle.cache_model.specs.Vectors.{IsVectorAs}
-use Rattle.logged_disk.specs.Device.{State as Device, TellsAll}
+use Rattle.logged_disk.specs.Device.{DeviceState as Device, TellsAll}
 use Rattle.call_laws.specs.Contents.{Contents, Untold}
 use Rattle.call_laws.specs.Moments.{At, NothingKnown, permit_of}
 use Rattle.call_laws.specs.Happens.{Happens}
@@ -29,7 +29,7 @@ use Rattle.cache_calls.specs.declared.calls.NextPiece.TheVariants as piece
 use Rattle.cache_calls.specs.Actors.{IsOpenReader, IsReaderOf, ReaderSeen, as_row, row_by}
 use Rattle.cache_calls.specs.Keeping.{IsAtRest, IsPlain, StaysUnharmed, plain_setting, state_at}
 use Rattle.cache_calls.specs.Standing.{GivesAsTold}
-use Rattle.cache_calls.specs.Readers.{HasRead, IsFragment, IsGiven, IsGivenAs, IsToldTo, cause_records, listed_length, next_trouble, noted, read_adds}
+use Rattle.cache_calls.specs.Readers.{HasRead, IsFragment, IsGivenAs, IsGivenInEachStep, IsToldTo, cause_records, listed_length, next_trouble, noted, read_adds}
 use Rattle.cache_calls.proofs.Keeping.{plain_has_steps}
 use Rattle.script_lang.specs.declared.step.Step.TheVariants as step
 use Rattle.script_lang.specs.declared.answer.StepAnswer.{StepAnswer}
@@ -88,7 +88,7 @@ given_within p s r (piece.Broken why) into h = tt
 
 -- by the step that has the calls of this one alone
 given_in : (now : ℕ) (a b : At) (r : ReaderSeen) (given : NextPiece) (into : List ℕ) (calls : List Call) → IsPlain a.setting → b.device.past ≡ calls ++ a.device.past
-    → IsGiven a b r given into → IsGivenAs (permit_of now a.setting [] calls) (state_at a) r given into
+    → IsGivenInEachStep a b r given into → IsGivenAs (permit_of now a.setting [] calls) (state_at a) r given into
 given_in now a b r given into calls plain past is = is now (permit_of now a.setting [] calls) [] calls past (plain_has_steps a.setting plain now [] calls)
 
 pub read_within : (a b : At) (r : ReaderSeen) (given : NextPiece) (into : List ℕ) (calls : List Call) (added : List Rec) → IsPlain a.setting → Happens a b calls added
@@ -120,7 +120,7 @@ module _ {S W R : Type 0} (c : CallsGhosts S W R) (old new : S) (r later : Reade
   b = c.at new
 
   asked_is : asks.asked run (state_at a) (step.Next name) ≡ ReadOn r.reader ∷ []
-  asked_is = ap (λ (o : Option ℕ). asks.if_has o (λ reader. ReadOn reader ∷ [])) by.held
+  asked_is = ap (λ (o : Option ℕ). asks.asks_if_has o (λ reader. ReadOn reader ∷ [])) by.held
 
   abbrev permit : Permit
   permit = permit_of run.now a.setting [] w.calls

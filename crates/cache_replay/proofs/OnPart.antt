@@ -4,7 +4,7 @@ use Rattle.std.specs.Prelude.{Some, IfErr, IfOk}
 use Rattle.cache_model.specs.State.{State, after_all}
 use Rattle.cache_calls.specs.declared.calls.Calls.{Ghosts as CallsGhosts}
 use Rattle.cache_calls.specs.Keeping.{Goes, IsUnharmed, StaysUnharmed}
-use Rattle.actor_table.specs.Table.{Seen}
+use Rattle.actor_table.specs.Table.{TableSeen}
 use Rattle.script_lang.specs.declared.step.Step.{Step}
 use Rattle.script_lang.specs.declared.step.Step.TheVariants as step
 use Rattle.script_lang.specs.declared.answer.StepAnswer.{StepAnswer}
@@ -19,9 +19,9 @@ use Rattle.cache_replay.specs.declared.session.Part.{Part}
 use Rattle.cache_replay.specs.declared.session.Session.{Session}
 use Rattle.cache_replay.specs.declared.stop.Stop.{Stop}
 use Rattle.cache_replay.specs.declared.stop.Stop.TheVariants.{Memory}
-use Rattle.cache_replay.specs.Session.{AreLater, IsActive, IsAt, IsSession, at_in, past_of, return_of, slots_in, state_in}
+use Rattle.cache_replay.specs.Session.{AreLater, IsActive, IsAt, IsSession, at_in, past_of, return_of, slots_in, state_in_part}
 use Rattle.cache_replay.specs.Moves.{ShowsIn}
-use Rattle.cache_replay.specs.Plays.{CallsAt, IsUnharmedAt, PartEnds, PartMoves, Plays, PlaysAt, PlaysPart, StandsAt}
+use Rattle.cache_replay.specs.Plays.{CallsAt, IsUnharmedAt, OwnStandsAt, PartEnds, PartMoves, Plays, PlaysAt, PlaysPart}
 use Rattle.cache_replay.specs.Plays.{StepEnds, StepMoves, StepPair}
 use Rattle.cache_replay.specs.OneLine.{AnswersActor, AnswersLine}
 use Rattle.run_promise.specs.Needs.{NeedsSession}
@@ -50,7 +50,7 @@ module _ {S W R : Type 0} {c : CallsGhosts S W R} where
   part_plays run session part is plays = record {
     names = plays.names;
     at = subst (λ p. PlaysAt run p (slots_in session)) is plays.at;
-    stands = subst (λ p. StandsAt run p) is plays.stands;
+    stands = subst (λ p. OwnStandsAt run p) is plays.stands;
   }
 
   part_unharmed : (session : Session S W R c) (part : Part S W R c) → session.part ≡ Some part → IsUnharmedAt session.part → IsUnharmed (at_in part)
@@ -61,7 +61,8 @@ module _ {S W R : Type 0} {c : CallsGhosts S W R} where
 
   -- ---- a line on it
 
-  module _ (session : Session S W R c) (before after : Part S W R c) (actors : Seen (Holding W R)) (was : session.part ≡ Some before) where
+  module _ (session : Session S W R c) (before after : Part S W R c) (actors : TableSeen (Holding W R))
+      (was : session.part ≡ Some before) where
     -- the session behind it
     abbrev behind_it : Session S W R c
     behind_it = record session { part = Some after; actors = actors }
@@ -70,11 +71,11 @@ module _ {S W R : Type 0} {c : CallsGhosts S W R} where
     moved : (run : Run) (step : Step) (said : StepAnswer) → NeedsSession step → Plays run session → StaysUnharmed (at_in before) (at_in after)
         → PartMoves run step before after actors said → StepMoves run step behind_it said
     moved run step said needs plays stays m =
-        let s : State = state_in before in
+        let s : State = state_in_part before in
         let turn : Turn = m.moves.turn in
         let on = on_session step needs in
         let state : run.state ≡ Some s = (part_plays run session before was plays).at.state in
-        let later : then.behind run turn (Some s) step ≡ in_session run s (state_in after) turn step =
+        let later : then.behind run turn (Some s) step ≡ in_session run s (state_in_part after) turn step =
         on.behind run s turn ∙ ap (λ t. in_session run s t turn step) (sym m.moves.state) in
         record {
           turn = turn;

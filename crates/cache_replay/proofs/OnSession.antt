@@ -4,7 +4,7 @@ use Rattle.std.specs.Prelude.{Option, Some, None, IfSome, IfOk, ◌==◌, if◌t
 use Rattle.std.proofs.lemmas.Bool.{eq-eqb, eqb-true}
 use Rattle.tape_base.specs.declared.keys.Key.{Key}
 use Rattle.alternate_vector.specs.Field.{Field}
-use Rattle.actor_table.specs.Table.{number_of}
+use Rattle.actor_table.specs.Table.{number_of_name}
 use Rattle.cache_model.specs.State.{PutRow, State, put_of}
 use Rattle.cache_model.specs.Legal.{is_writing}
 use Rattle.call_laws.specs.Contents.{Contents}
@@ -20,11 +20,11 @@ use Rattle.script_run.proofs.Cuts.{HaveCut, have_same}
 use Rattle.cache_replay.specs.declared.session.Part.{Part}
 use Rattle.cache_replay.specs.declared.session.Session.{Session}
 use Rattle.cache_replay.specs.declared.stop.Stop.{Stop}
-use Rattle.cache_replay.specs.Session.{AreHeld, HoldingSeen, IsActive, IsHeld, IsPart, IsSession, ReaderHeld, WriterHeld, at_in, slots_in, state_in}
+use Rattle.cache_replay.specs.Session.{AreHeld, HoldingSeen, IsActive, IsHeldByActor, IsPart, IsSession, ReaderHeld, WriterHeld, at_in, slots_in, state_in_part}
 use Rattle.cache_replay.specs.Moves.{Moves, MovesOrShows, ShowsIn}
 use Rattle.cache_replay.specs.Plays.{IsHeldAs, PartEnds, Plays, PlaysIn, PlaysPart, StepEnds}
 use Rattle.cache_replay.specs.OneLine.{AnswersLine, AnswersPlainly}
-use Rattle.cache_replay.specs.Standing.{IsToldPlainly, OwnStands, TellsPut, body_of}
+use Rattle.cache_replay.specs.Standing.{IsToldPlainly, OwnStands, TellsPut, body_of_step}
 use Rattle.run_promise.specs.Needs.{NeedsSession}
 use Rattle.cache_replay.proofs.Frames.{SameStreams, some_is}
 use Rattle.cache_replay.proofs.Free.{no_next_put, none_reads_next, none_writes_next}
@@ -35,7 +35,7 @@ use Rattle.cache_replay.proofs.Stood.{IsLawful, Stood, stands_then, stood}
 
 -- ---- each put that an actor writes is open
 
-writes_at : (run : Run) (s : State) (n put : ℕ) (o : Option HoldingSeen) → IsHeldAs run s n o → IfSome o (IsHeld s) → option_and_then put_in (run.held n) ≡ Some put
+writes_at : (run : Run) (s : State) (n put : ℕ) (o : Option HoldingSeen) → IsHeldAs run s n o → IfSome o (IsHeldByActor s) → option_and_then put_in (run.held n) ≡ Some put
     → is_writing s put ≡ true
 writes_at run s n put None holds held is = let no : None ≡ Some put = ap (option_and_then put_in) (sym holds) ∙ is in cc no
 writes_at run s n put (Some (WriterHeld w)) holds held is =
@@ -45,7 +45,7 @@ writes_at run s n put (Some (ReaderHeld r)) holds held is = let no : None ≡ So
 
 pub are_writing : (run : Run) (s : State) (slots : ℕ → Option HoldingSeen) → PlaysIn run s slots → AreHeld s slots → AreWriting run s
 are_writing run s slots plays held = λ name put is.
-    let n : ℕ = number_of run.actors name in
+    let n : ℕ = number_of_name run.actors name in
     writes_at run s n put (slots n) (plays.held n) (held n) is
 
 -- ---- what stands behind a line
@@ -53,10 +53,10 @@ are_writing run s slots plays held = λ name put is.
 -- as far as it plays a session
 pub stands_behind : {S W R : Type 0} {c : CallsGhosts S W R} → IsLawful c → (run : Run) (step : Step) (old new : Part S W R c) (said : StepAnswer)
     (m : Moves run step (at_in old) (at_in new) said) (slots : ℕ → Option HoldingSeen) → IsActive old slots → c.holds new.cache
-    → PlaysIn run (state_in old) slots → OwnStands (streams_behind run (state_in old) (state_in new) m.turn step) (state_in new) (c.stands new.cache)
+    → PlaysIn run (state_in_part old) slots → OwnStands (streams_behind run (state_in_part old) (state_in_part new) m.turn step) (state_in_part new) (c.stands new.cache)
     → Stood run step old new said m ⊎ ShowsIn run step (at_in old) (at_in new)
 stands_behind lawful run step old new said m slots a holds plays stands =
-    stood run step old new said m a.part_is.rest plays.told plays.own (are_writing run (state_in old) slots plays a.held) lawful holds stands
+    stood run step old new said m a.part_is.rest plays.told plays.own (are_writing run (state_in_part old) slots plays a.held) lawful holds stands
 
 -- ---- lines that no actor has anything to do with
 
@@ -65,7 +65,7 @@ pub record IsWithout (put reader : Option ℕ) (step : Step) (s : State) : Type 
   pub needs : NeedsSession step
   pub actor : actor_of step ≡ None
   pub streams : (run : Run) (t : State) (turn : Turn) → SameStreams put run (in_session run s t turn step)
-  pub body : (run : Run) (t : State) (turn : Turn) → IfSome put (λ n. ((in_session run s t turn step).streams n).bytes ≡ body_of step)
+  pub body : (run : Run) (t : State) (turn : Turn) → IfSome put (λ n. ((in_session run s t turn step).streams n).bytes ≡ body_of_step step)
   pub fresh : (n : ℕ) → put ≡ Some n → put_of s n ≡ None
   pub others : (slots : ℕ → Option HoldingSeen) → AreHeld s slots → AllElse slots put reader
 
@@ -84,18 +84,18 @@ own_stream streams put body =
 
 module _ {S W R : Type 0} {c : CallsGhosts S W R} where
   pub put_without : (part : Part S W R c) (key : Key) (body : List ℕ) (request response : List Field) → IsPart part
-      → IsWithout (Some (state_in part).next_put) None (step.Put key body request response) (state_in part)
+      → IsWithout (Some (state_in_part part).next_put) None (step.Put key body request response) (state_in_part part)
   put_without part key body request response h = record {
     needs = tt;
     actor = refl;
-    streams = λ run t turn q other. other_stream run.streams (state_in part).next_put q body other;
-    body = λ run t turn. own_stream run.streams (state_in part).next_put body;
-    fresh = λ n is. ap (put_of (state_in part)) (some_is n (state_in part).next_put (sym is)) ∙ no_next_put (at_in part) h.rest;
+    streams = λ run t turn q other. other_stream run.streams (state_in_part part).next_put q body other;
+    body = λ run t turn. own_stream run.streams (state_in_part part).next_put body;
+    fresh = λ n is. ap (put_of (state_in_part part)) (some_is n (state_in_part part).next_put (sym is)) ∙ no_next_put (at_in part) h.rest;
     others = λ slots held. none_writes_next (at_in part) h.rest slots held;
   }
 
   pub get_without : (part : Part S W R c) (key : Key) (request : List Field) → IsPart part
-      → IsWithout None (Some (state_in part).next_reader) (step.Get key request) (state_in part)
+      → IsWithout None (Some (state_in_part part).next_reader) (step.Get key request) (state_in_part part)
   get_without part key request h = record {
     needs = tt;
     actor = refl;
@@ -129,39 +129,40 @@ flush_without s = record {
 
 -- of the put of a line it is told that it cuts the line's body
 told_of_put : (put : Option ℕ) (t : State) (streams : ℕ → Stream) (step : Step) (contents : Contents)
-    → IfSome put (λ n. (streams n).bytes ≡ body_of step) → ((n : ℕ) → TellsPut t n (streams n).bytes contents) → IfSome put (λ n. TellsPut t n (body_of step) contents)
+    → IfSome put (λ n. (streams n).bytes ≡ body_of_step step) → ((n : ℕ) → TellsPut t n (streams n).bytes contents) → IfSome put (λ n. TellsPut t n (body_of_step step) contents)
 told_of_put None t streams step contents body told = tt
 told_of_put (Some n) t streams step contents body told = subst (λ bytes. TellsPut t n bytes contents) body (told n)
 
 module _ {S W R : Type 0} {c : CallsGhosts S W R} (laws : IsLawful c) where
   module _ (session : Session S W R c) (before after : Part S W R c) (was : session.part ≡ Some before) (h : IsSession session)
-      (put reader : Option ℕ) (step : Step) (without : IsWithout put reader step (state_in before)) where
+      (put reader : Option ℕ) (step : Step) (without : IsWithout put reader step (state_in_part before)) where
     abbrev then_ : Run → Turn → Run
-    then_ run turn = in_session run (state_in before) (state_in after) turn step
+    then_ run turn = in_session run (state_in_part before) (state_in_part after) turn step
 
     -- a put that was there is not that of the line
-    other : (n : ℕ) (w : PutRow) → put_of (state_in before) n ≡ Some w → put ≡ Some n → ⊥
+    other : (n : ℕ) (w : PutRow) → put_of (state_in_part before) n ≡ Some w → put ≡ Some n → ⊥
     other n w found is = let clash : None ≡ Some w = sym (without.fresh n is) ∙ found in cc
 
     -- so what it had cut is the same
-    cut : (run : Run) (turn : Turn) (n : ℕ) (w : PutRow) → put_of (state_in before) n ≡ Some w
-        → HaveCut (state_in before).geometry.fragment (length w.cuts) (run.streams n).bytes ((then_ run turn).streams n).bytes
+    cut : (run : Run) (turn : Turn) (n : ℕ) (w : PutRow) → put_of (state_in_part before) n ≡ Some w
+        → HaveCut (state_in_part before).geometry.fragment (length w.cuts) (run.streams n).bytes ((then_ run turn).streams n).bytes
     cut run turn n w found =
-        subst (λ (x : Stream). HaveCut (state_in before).geometry.fragment (length w.cuts) (run.streams n).bytes x.bytes)
-        (sym (without.streams run (state_in after) turn n (other n w found)))
-        (have_same (state_in before).geometry.fragment (length w.cuts) (run.streams n).bytes)
+        subst (λ (x : Stream). HaveCut (state_in_part before).geometry.fragment (length w.cuts) (run.streams n).bytes x.bytes)
+        (sym (without.streams run (state_in_part after) turn n (other n w found)))
+        (have_same (state_in_part before).geometry.fragment (length w.cuts) (run.streams n).bytes)
 
     -- what its writers took stands behind it
     stands_on : (run : Run) (said : StepAnswer) (m : Moves run step (at_in before) (at_in after) said) (now : ℕ) (result : Result StepAnswer Stop)
-        → AnswersPlainly now step put reader before after result → OwnStands run.streams (state_in before) (c.stands before.cache)
-        → OwnStands (then_ run m.turn).streams (state_in after) (c.stands after.cache)
+        → AnswersPlainly now step put reader before after result → OwnStands run.streams (state_in_part before) (c.stands before.cache)
+        → OwnStands (then_ run m.turn).streams (state_in_part after) (c.stands after.cache)
     stands_on run said m now result answers stands =
-        stands_then run step before after said m (IsToldPlainly (state_in after) put step)
-        (λ n. grows_same (state_in before) (state_in after) n (λ w found. answers.leaves.puts n (other n w found)) answers.leaves.geometry)
+        stands_then run step before after said m (IsToldPlainly (state_in_part after) put step)
+        (λ n. grows_same (state_in_part before) (state_in_part after) n (λ w found. answers.leaves.puts n (other n w found))
+        answers.leaves.geometry)
         (cut run m.turn)
         (λ contents told. record {
           vectors = told.vectors;
-          cut = told_of_put put (state_in after) (then_ run m.turn).streams step contents (without.body run (state_in after) m.turn) told.puts;
+          cut = told_of_put put (state_in_part after) (then_ run m.turn).streams step contents (without.body run (state_in_part after) m.turn) told.puts;
         }) answers.stands stands
 
     -- what no actor has to do with is so for the actors
@@ -172,9 +173,10 @@ module _ {S W R : Type 0} {c : CallsGhosts S W R} (laws : IsLawful c) where
         let later : Run = then_ run m.turn in
         record {
           names = ap (Rattle.script_run.specs.Behind.actors_behind run.actors) without.actor ∙ plays.names;
-          at = still_plays put reader run later (state_in before) (state_in after) (slots_in session) answers.leaves
-              (without.others (slots_in session) (active session before was h).held) (without.streams run (state_in after) m.turn)
-              (λ n. ap (λ o. Rattle.script_run.specs.Behind.held_behind run (state_in before) (state_in after) step o n) without.actor)
+          at = still_plays put reader run later (state_in_part before) (state_in_part after) (slots_in session) answers.leaves
+              (without.others (slots_in session) (active session before was h).held) (without.streams run (state_in_part after) m.turn)
+              (λ n. ap (λ o. Rattle.script_run.specs.Behind.held_behind run (state_in_part before) (state_in_part after) step o n)
+              without.actor)
               refl there.told there.own plays.at;
           stands = stands_on run said m now result answers plays.stands;
         }
@@ -209,7 +211,7 @@ module _ {S W R : Type 0} {c : CallsGhosts S W R} (laws : IsLawful c) where
         record {
           session = record {
             part_is = answers.part;
-            held = still_held put reader (state_in before) (state_in after) (slots_in session) answers.leaves (without.others (slots_in session) a.held) a.held;
+            held = still_held put reader (state_in_part before) (state_in_part after) (slots_in session) answers.leaves (without.others (slots_in session) a.held) a.held;
             apart = a.apart;
           };
           ends = plain_ends result answers;

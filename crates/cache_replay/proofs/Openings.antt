@@ -7,7 +7,7 @@ use Rattle.tape_base.specs.declared.keys.Key.{Key}
 use Rattle.tape_base.specs.declared.actors.Actor.{Actor}
 use Rattle.fragment_table.specs.Table.{total_length}
 use Rattle.alternate_vector.specs.Field.{Field}
-use Rattle.actor_table.specs.Table.{number_of}
+use Rattle.actor_table.specs.Table.{number_of_name}
 use Rattle.cache_model.specs.declared.record.Rec.{Rec}
 use Rattle.cache_model.specs.State.{PutRow, State, opened_put, put_of, state_after}
 use Rattle.cache_model.specs.Verdict.{is_open}
@@ -24,7 +24,7 @@ use Rattle.cache_calls.specs.Actors.{IsWriterOf, WriterSeen}
 use Rattle.cache_calls.specs.Adds.{IsAsItWas}
 use Rattle.cache_calls.specs.Asked.{refused_at}
 use Rattle.cache_calls.specs.Keeping.{IsAtRest, plain_setting, state_at}
-use Rattle.cache_calls.specs.Writers.{HasBegun, OpensNone, opened_record}
+use Rattle.cache_calls.specs.Writers.{HasBegun, OpensNone, opened_writer_record}
 use Rattle.script_lang.specs.declared.step.Step.TheVariants as step
 use Rattle.script_lang.specs.declared.answer.StepAnswer.{StepAnswer}
 use Rattle.script_lang.specs.declared.answer.StepAnswer.TheVariants as answer
@@ -45,7 +45,7 @@ use Rattle.cache_replay.proofs.WriterSteps.{writer_ends}
 
 module _ (s : State) (who : Actor) (key : Key) (request response : List Field) (pin : ℕ) where
   abbrev opened : Rec
-  opened = opened_record s who key request response pin
+  opened = opened_writer_record s who key request response pin
 
   abbrev t : State
   t = state_after s opened
@@ -68,25 +68,25 @@ new_stream w rows none open_ =
     record { gathered = none ∙ sym (drop_all (total_length w.cuts) [] (omega arith)); within = omega (arith, total); sealed = open_ }
 
 abbrev free_asks : Option Held → ℕ → Key → List Field → List Field → ℕ → List Intent
-free_asks o n key request response pin = asks.if_free o (Write n key request response pin ∷ [])
+free_asks o n key request response pin = asks.asks_if_free o (Write n key request response pin ∷ [])
 
 opening_asks : (run : Run) (name : List ℕ) (s : State) (who : Actor) (key : Key) (request response : List Field) (pin : ℕ) → held_by run name ≡ None
-    → who.0 ≡ number_of run.actors name
+    → who.0 ≡ number_of_name run.actors name
     → asked run s (step.OpenWrite name key pin request response) ≡ Write who.0 key request response pin ∷ []
 opening_asks run name s who key request response pin none is =
-    ap (λ o. free_asks o (number_of run.actors name) key request response pin) none ∙ ap (λ n. Write n key request response pin ∷ []) (sym is)
+    ap (λ o. free_asks o (number_of_name run.actors name) key request response pin) none ∙ ap (λ n. Write n key request response pin ∷ []) (sym is)
 
 module _ (a b : At) (plain : a.setting ≡ plain_setting) (quiet : IsQuiet (state_at b)) (who : Actor) (key : Key) (request response : List Field) (pin : ℕ) where
   abbrev is : List Intent
   is = Write who.0 key request response pin ∷ []
 
   -- it opens
-  pub opens : (w : WriterSeen) → HasBegun a b (opened_record (state_at a) who key request response pin) w → ((now : ℕ) → ServesTold now a b is AllDone)
+  pub opens : (w : WriterSeen) → HasBegun a b (opened_writer_record (state_at a) who key request response pin) w → ((now : ℕ) → ServesTold now a b is AllDone)
       → OpenDoes a b who.0 (Opens key pin request response) (Some w) (Some (answer.Writer w.put))
   opens w begun serves = λ run name free whose told.
       let s : State = state_at a in
       let t : State = state_at b in
-      let there : t ≡ state_after s (opened_record s who key request response pin) = state_behind a.kept b.kept (opened_record s who key request response pin ∷ []) begun.adds in
+      let there : t ≡ state_after s (opened_writer_record s who key request response pin) = state_behind a.kept b.kept (opened_writer_record s who key request response pin ∷ []) begun.adds in
       let writing : is_writing t s.next_put ≡ true = ap (λ x. is_writing x s.next_put) there ∙ writes_it s who key request response pin in
       let rows : w.cuts ≡ [] = nothing_cut s who key request response pin w begun.put (subst (λ x. IsWriterOf x w) there begun.writer) in
       let at : streams_opened run s (held_by run name) w.put ≡ no_stream =

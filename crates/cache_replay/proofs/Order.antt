@@ -2,7 +2,7 @@
 use Rattle.std.proofs.Common.{◌≡◌, ℕ, suc, ◌+◌, ◌++◌, List, [], ◌∷◌, length, refl, sym, ◌∙◌, ap, subst, arith}
 use Rattle.std.proofs.lemmas.List.{append-nil, append_assoc, length_push, length-append}
 use Rattle.device_log.specs.Faults.{is_untold}
-use Rattle.logged_disk.specs.Device.{State as Device, IsAfter, has_flip, has_cut}
+use Rattle.logged_disk.specs.Device.{DeviceState as Device, IsAfter, has_flip, has_cut}
 use Rattle.logged_disk.proofs.GoingOn.{goes_further}
 use Rattle.device_bay.specs.Calls.{BayCall, Gave, RefusedAttach, TookBack, Gift, gifts_of, number_behind, returned_by}
 use Rattle.device_bay.specs.Bay.{IsNewDevice, Refuses}

@@ -3,7 +3,7 @@ use Rattle.std.proofs.Common.{◌≡◌, ℕ, true, List, [], ◌∷◌, ◌++�
 use Rattle.std.specs.Prelude.{Option, Some, None, IfOk, IfErr, IsSome, map, option_map}
 use Rattle.std.proofs.lemmas.List.{append-nil, append_assoc}
 use Rattle.device_log.specs.Calls.{Call}
-use Rattle.logged_disk.specs.Device.{State as Device, IsAfter}
+use Rattle.logged_disk.specs.Device.{DeviceState as Device, IsAfter}
 use Rattle.logged_disk.proofs.GoingOn.{told_before}
 use Rattle.cache_calls.specs.declared.calls.Calls.{Ghosts as CallsGhosts}
 use Rattle.tape_base.specs.declared.geometries.BadGeometry.{BadGeometry}
@@ -22,12 +22,12 @@ use Rattle.cache_replay.specs.declared.session.Session.{Session}
 use Rattle.cache_replay.specs.declared.session.Part.{Part}
 use Rattle.cache_replay.specs.declared.stop.Stop.{Stop}
 use Rattle.cache_replay.specs.declared.stop.Stop.TheVariants.{BayFault, Memory, NoCache}
-use Rattle.run_promise.specs.Outline.{IsAnswerOf, Outline, begun, begun_by, called, count_in, doubted, format_answer, joined}
+use Rattle.run_promise.specs.Outline.{IsAnswerOf, Outline, begun, begun_by, count_in, doubted, format_answer, with_calls_of, with_told_count}
 use Rattle.run_promise.specs.Outline.{outline_after, outline_in, raised, told_of}
-use Rattle.cache_replay.specs.Session.{AreLater, TellsCount, return_of}
+use Rattle.cache_replay.specs.Session.{AnswerTellsCount, AreLater, return_of}
 use Rattle.run_promise.specs.Needs.{AttachesAs, NeedsSession}
 use Rattle.cache_replay.specs.Stop.{IsSessionStop}
-use Rattle.cache_replay.specs.Plays.{CallsAt, IsLeft, IsOutlined, IsUntoldAt, Outlines, stays, tried}
+use Rattle.cache_replay.specs.Plays.{CallsAt, IsLeftAtEnd, IsOutlined, IsUntoldAt, Outlines, stays, tried}
 use Rattle.script_run.specs.Ledger.{AreReached, Deals, GoesOnFrom, Ledger}
 use Rattle.cache_replay.proofs.Unharming.{reached_loosely}
 
@@ -107,7 +107,7 @@ module _ {S W R : Type 0} {c : CallsGhosts S W R} where
 
   -- the count that is told is one that the device reached
   joins : (session : Option Harm) (count : ℕ) (old new : Option (Part S W R c)) (said : StepAnswer) → count ≡ count_in said → AreLater (Returns old) (Returns new)
-      → TellsCount new said
+      → AnswerTellsCount new said
       → AreReached (told_of session) (Returns old) → AreReached (told_of (option_map (raised count) session)) (Returns new)
   joins session count old None said is later tells h = absurd tells
   joins None count None (Some b) said is later tells h = absurd later
@@ -124,7 +124,7 @@ module _ {S W R : Type 0} {c : CallsGhosts S W R} where
     tt,
   )
 
-  has_session : (session : Option Harm) (old new : Option (Part S W R c)) (said : StepAnswer) → AreLater (Returns old) (Returns new) → TellsCount new said
+  has_session : (session : Option Harm) (old new : Option (Part S W R c)) (said : StepAnswer) → AreLater (Returns old) (Returns new) → AnswerTellsCount new said
       → AreReached (told_of session) (Returns old) → IsSome session
   has_session session old None said later tells h = absurd tells
   has_session None None (Some b) said later tells h = absurd later
@@ -137,7 +137,7 @@ module _ {S W R : Type 0} {c : CallsGhosts S W R} where
       → Outlines o s new said ledger ledger
   joined_outlines o s new said ledger needs some h =
       let same : begun_by o s ≡ o = begun_none o s needs in
-      let after : outline_after o s said ≡ joined o (count_in said) = ap (λ x. joined x (count_in said)) same in
+      let after : outline_after o s said ≡ with_told_count o (count_in said) = ap (λ x. with_told_count x (count_in said)) same in
       record {
         answered = record {
           session = λ x. some;
@@ -154,7 +154,7 @@ module _ {S W R : Type 0} {c : CallsGhosts S W R} where
       }
 
   session_outlines : (o : Outline) (s : Step) (old new : Session S W R c) (said : StepAnswer) (ledger : Ledger) → NeedsSession s
-      → AreLater (Returns old.part) (Returns new.part) → TellsCount new.part said
+      → AreLater (Returns old.part) (Returns new.part) → AnswerTellsCount new.part said
       → IsOutlined o old → Outlines o s new said ledger ledger
   session_outlines o s old new said ledger needs later tells h =
       joined_outlines o s new said ledger needs (has_session o.session old.part new.part said later tells h)
@@ -180,17 +180,18 @@ module _ {S W R : Type 0} {c : CallsGhosts S W R} where
   -- a line on a session that showed a pair: the calls of its turn are told of the device as well, and all that is told of it is
   -- doubted
   pub shown_outlines : (run : Run) (turn : Turn) (s : Step) (old new : Session S W R c) (said : StepAnswer) (ledger : Ledger) → NeedsSession s
-      → AreLater (Returns old.part) (Returns new.part) → TellsCount new.part said
-      → CallsAt (called run turn) new.part → IsUntoldAt new.part → IsOutlined (outline_in run) old
-      → Outlines (doubted (outline_in (called run turn))) s new said ledger ledger
+      → AreLater (Returns old.part) (Returns new.part) → AnswerTellsCount new.part said
+      → CallsAt (with_calls_of run turn) new.part → IsUntoldAt new.part → IsOutlined (outline_in run) old
+      → Outlines (doubted (outline_in (with_calls_of run turn))) s new said ledger ledger
   shown_outlines run turn s old new said ledger needs later tells calls untold h =
-      joined_outlines (doubted (outline_in (called run turn))) s new said ledger needs
-      (some_still run.state run.calls (called run turn).calls (has_session (outline_in run).session old.part new.part said later tells h))
-      (recalled run.state run.calls (called run turn) (count_in said) new.part calls untold
+      joined_outlines (doubted (outline_in (with_calls_of run turn))) s new said ledger needs
+      (some_still run.state run.calls (with_calls_of run turn).calls
+      (has_session (outline_in run).session old.part new.part said later tells h))
+      (recalled run.state run.calls (with_calls_of run turn) (count_in said) new.part calls untold
       (joins (outline_in run).session (count_in said) old.part new.part said refl later tells h))
 
   pub all_outlines : (result : Result StepAnswer Stop) (s : Step) (old new : Session S W R c) (ledger : Ledger) → NeedsSession s → AreLater (Returns old.part) (Returns new.part)
-      → IfOk result (TellsCount new.part)
+      → IfOk result (AnswerTellsCount new.part)
       → IfOk result (λ said. (o : Outline) → IsOutlined o old → Outlines o s new said ledger ledger)
   all_outlines (Ok said) s old new ledger needs later tells = λ o h. session_outlines o s old new said ledger needs later tells h
   all_outlines (Err why) s old new ledger needs later tells = tt
@@ -205,7 +206,7 @@ module _ {S W R : Type 0} {c : CallsGhosts S W R} where
 
   pub all_left : (result : Result StepAnswer Stop) (s : Step) (old new : Session S W R c) (ledger : Ledger) → NeedsSession s → IfErr result (IsSessionStop old)
       → AreLater (Returns old.part) (Returns new.part)
-      → IfErr result (λ why. (harms : List Harm) → AreReached harms (Returns old.part) → IsLeft harms s new ledger ledger why)
+      → IfErr result (λ why. (harms : List Harm) → AreReached harms (Returns old.part) → IsLeftAtEnd harms s new ledger ledger why)
   all_left (Ok said) s old new ledger needs stop later = tt
   all_left (Err Memory) s old new ledger needs stop later = λ harms h. tried needs refl (reached_later harms (Returns old.part) (Returns new.part) later h) refl
   all_left (Err NoCache) s old new ledger needs stop later = λ harms h. stays (none_left harms old.part new.part stop later h) refl
@@ -213,7 +214,7 @@ module _ {S W R : Type 0} {c : CallsGhosts S W R} where
 
   -- a format that ended the run before it did anything, whatever it answered
   pub all_stays_left : {T : Type 0} (result : Result T Stop) (name : List ℕ) (session : Session S W R c) (before now : Ledger) → now ≡ before
-      → IfErr result (λ why. (harms : List Harm) (s : Step) → AttachesAs name s → AreReached harms (Returns session.part) → IsLeft harms s session before now why)
+      → IfErr result (λ why. (harms : List Harm) (s : Step) → AttachesAs name s → AreReached harms (Returns session.part) → IsLeftAtEnd harms s session before now why)
   all_stays_left (Ok x) name session before now same = tt
   all_stays_left (Err why) name session before now same = λ harms s attaches h. stays h same
 
@@ -222,7 +223,8 @@ module _ {S W R : Type 0} {c : CallsGhosts S W R} where
       → IsAnswerOf s said
       → AreReached (told_of o.session) (Returns new.part) → Outlines o s new said ledger ledger
   still_outlines o s new said ledger free same none fixed h =
-      let after : outline_after o s said ≡ joined o 0 = ap (λ x. joined x (count_in said)) same ∙ ap (joined o) none in
+      let after : outline_after o s said ≡ with_told_count o 0 = ap (λ x. with_told_count x (count_in said)) same
+      ∙ ap (with_told_count o) none in
       record {
         answered = record { session = λ needs. absurd (free needs); none = λ gone. none; fixed = fixed };
         outlined = subst (λ (x : Outline). AreReached (told_of x.session) (Returns new.part)) (sym after) (joins_none o.session (Returns new.part) h);
@@ -256,8 +258,8 @@ module _ {S W R : Type 0} {c : CallsGhosts S W R} where
       → Deals before now (told_of o.session) (name ∷ [])
       → Outlines o (step.Format name segments buckets content agg reach fragment generation alternates) new (answer.Formatted 1 cursor floor) before now
   format_outlines o name segments buckets content agg reach fragment generation alternates cursor floor new before now is at low h deals =
-      let after : outline_after o (step.Format name segments buckets content agg reach fragment generation alternates) (answer.Formatted 1 cursor floor) ≡ joined
-      (begun o name None) 0 = ap (λ x. joined (begun o name x) 0) is in
+      let after : outline_after o (step.Format name segments buckets content agg reach fragment generation alternates) (answer.Formatted 1 cursor floor) ≡ with_told_count
+      (begun o name None) 0 = ap (λ x. with_told_count (begun o name x) 0) is in
       record {
         answered = record {
           session = λ needs. absurd needs;

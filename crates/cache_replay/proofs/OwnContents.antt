@@ -16,7 +16,7 @@ use Rattle.cache_calls.specs.declared.calls.NextPiece.TheVariants as piece
 use Rattle.cache_calls.specs.Actors.{ReaderSeen, as_row}
 use Rattle.cache_calls.specs.Standing.{GivesPayload}
 use Rattle.script_run.specs.Run.{Stream}
-use Rattle.script_run.specs.Own.{AreAlternates, AreKept, AreOwn, HasCutPayload, IsOwnRow, piece_of}
+use Rattle.script_run.specs.Own.{AreAlternates, AreOwn, ArePayloadsOwn, HasCutPayload, IsOwnRow, piece_of}
 use Rattle.script_run.proofs.Reading.{live_row}
 use Rattle.cache_replay.specs.Standing.{TellsOwn, own_contents, piece_content}
 
@@ -62,7 +62,7 @@ own_rows s streams (row ∷ rows) payloads listed recorded = (
 )
 
 -- what stands so belongs to what writers took, as soon as it does but for the documents of fragments
-pub kept_is_own : (s : State) (streams : ℕ → Stream) → AreKept s streams → AreRecordedAs (own_contents s.geometry.fragment streams) s
+pub kept_is_own : (s : State) (streams : ℕ → Stream) → ArePayloadsOwn s streams → AreRecordedAs (own_contents s.geometry.fragment streams) s
     → AreOwn s streams
 kept_is_own s streams kept recorded = record {
   puts = kept.puts;

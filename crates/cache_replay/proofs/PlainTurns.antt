@@ -23,8 +23,8 @@ use Rattle.cache_calls.specs.declared.calls.Refusal.{Refusal}
 use Rattle.cache_calls.specs.declared.calls.Refusal.TheVariants as refusal
 use Rattle.cache_calls.specs.Adds.{AddsAll, AddsSoundly, IsAsItWas, IsOfFlush, IsOfPut}
 use Rattle.cache_calls.specs.Asked.{progress_at}
-use Rattle.cache_calls.specs.Keeping.{IsAtRest, Keeps, state_at}
-use Rattle.cache_calls.specs.Plain.{FlushesAs, Tells}
+use Rattle.cache_calls.specs.Keeping.{IsAtRest, KeepsUnharmed, state_at}
+use Rattle.cache_calls.specs.Plain.{FlushesAs, TellsFlushed}
 use Rattle.cache_calls.specs.Standing.{StaysStanding}
 use Rattle.script_lang.specs.declared.step.Step.{Step}
 use Rattle.script_lang.specs.declared.step.Step.TheVariants as step
@@ -36,11 +36,11 @@ use Rattle.script_run.specs.Own.{AreOwn}
 use Rattle.cache_replay.specs.declared.session.Part.{Part}
 use Rattle.cache_replay.specs.declared.stop.Stop.{Stop}
 use Rattle.cache_replay.specs.declared.stop.Stop.TheVariants.{Memory}
-use Rattle.cache_replay.specs.Session.{IsPart, LeavesBut, TellsCount, at_in, state_in}
+use Rattle.cache_replay.specs.Session.{AnswerTellsCount, IsPart, LeavesBut, at_in, state_in_part}
 use Rattle.cache_replay.specs.Moves.{MovesOrShows}
 use Rattle.cache_replay.specs.OneLine.{AnswersPlainly}
 use Rattle.cache_replay.specs.Standing.{OwnStands}
-use Rattle.run_promise.specs.Outline.{count_of}
+use Rattle.run_promise.specs.Outline.{count_of_cause}
 use Rattle.cache_replay.specs.Replies.{flush_refused}
 use Rattle.cache_replay.proofs.Counts.{miss_counts}
 use Rattle.cache_replay.proofs.Frames.{any_leaves, leaves_all, part_behind, same_added}
@@ -50,11 +50,11 @@ module _ {S W R : Type 0} {c : CallsGhosts S W R} where
   -- ---- in general
 
   -- a line that is one call
-  pub one_call : (now : ℕ) (step : Step) (old new : Part S W R c) (result : Result StepAnswer Stop) → IsPart old → Keeps c.at c.holds old.cache new.cache
-      → IsAtRest (at_in new) → LeavesBut None None (state_in old) (state_in new) → length new.page.items ≡ length old.page.items
+  pub one_call : (now : ℕ) (step : Step) (old new : Part S W R c) (result : Result StepAnswer Stop) → IsPart old → KeepsUnharmed c.at c.holds old.cache new.cache
+      → IsAtRest (at_in new) → LeavesBut None None (state_in_part old) (state_in_part new) → length new.page.items ≡ length old.page.items
       → StaysStanding c.stands AnyContents old.cache new.cache
-      → IfOk result (λ said. (run : Run) → run.now ≡ now → AreTold (state_in old) → MovesOrShows run step (at_in old) (at_in new) said)
-      → IfOk result (TellsCount (Some new)) → IfErr result (λ why. why ≡ Memory)
+      → IfOk result (λ said. (run : Run) → run.now ≡ now → AreTold (state_in_part old) → MovesOrShows run step (at_in old) (at_in new) said)
+      → IfOk result (AnswerTellsCount (Some new)) → IfErr result (λ why. why ≡ Memory)
       → AnswersPlainly now step None None old new result
   one_call now step old new result part keeps rest leaves page stands ends counts stop = record {
     part = part_behind old new part keeps.goes_on rest page None None leaves;
@@ -67,9 +67,9 @@ module _ {S W R : Type 0} {c : CallsGhosts S W R} where
     stop = stop;
   }
     where
-      whoever : (given : Result StepAnswer Stop) → IfOk given (λ said. (run : Run) → run.now ≡ now → AreTold (state_in old) → MovesOrShows run step (at_in old) (at_in new) said)
-          → IfOk given (λ said. (run : Run) → run.now ≡ now → AreTold (state_in old) → AreOwn (state_in old) run.streams
-          → OwnStands run.streams (state_in old) (c.stands old.cache) → MovesOrShows run step (at_in old) (at_in new) said)
+      whoever : (given : Result StepAnswer Stop) → IfOk given (λ said. (run : Run) → run.now ≡ now → AreTold (state_in_part old) → MovesOrShows run step (at_in old) (at_in new) said)
+          → IfOk given (λ said. (run : Run) → run.now ≡ now → AreTold (state_in_part old) → AreOwn (state_in_part old) run.streams
+          → OwnStands run.streams (state_in_part old) (c.stands old.cache) → MovesOrShows run step (at_in old) (at_in new) said)
       whoever (Ok said) h = λ run moment told own before. h run moment told
       whoever (Err why) h = tt
 
@@ -77,15 +77,16 @@ module _ {S W R : Type 0} {c : CallsGhosts S W R} where
 
   removes : (now : ℕ) (old new : Part S W R c) (key : Key) (added : List Rec) (said : StepAnswer) → IsPart old → IsAtRest (at_in new)
       → ServesTold now (at_in old) (at_in new) (Remove key ∷ []) AllDone → AddsAll added (at_in old) (at_in new)
-      → remove_said (state_in old) key added ≡ said
-      → (run : Run) → run.now ≡ now → AreTold (state_in old) → MovesOrShows run (step.Remove key) (at_in old) (at_in new) said
+      → remove_said (state_in_part old) key added ≡ said
+      → (run : Run) → run.now ≡ now → AreTold (state_in_part old) → MovesOrShows run (step.Remove key) (at_in old) (at_in new) said
   removes now old new key added said part rest serves adds says run moment told =
       let w = serves_whole None in_full part.plain rest.quiet told serves in
       moves_line run (step.Remove key) (at_in old) (at_in new) now part.plain moment {known = NothingKnown} (Remove key ∷ []) None [] said refl w refl
-      (λ known. ap (remove_said (state_in old) key) (same_added (at_in old).kept (at_in new).kept w.added added w.happens.adds adds) ∙ says)
+      (λ known. ap (remove_said (state_in_part old) key)
+      (same_added (at_in old).kept (at_in new).kept w.added added w.happens.adds adds) ∙ says)
 
   -- an object was removed
-  pub removed : (now : ℕ) (old new : Part S W R c) (key : Key) (put : ℕ) → IsPart old → Keeps c.at c.holds old.cache new.cache → IsAtRest (at_in new)
+  pub removed : (now : ℕ) (old new : Part S W R c) (key : Key) (put : ℕ) → IsPart old → KeepsUnharmed c.at c.holds old.cache new.cache → IsAtRest (at_in new)
       → length new.page.items ≡ length old.page.items → StaysStanding c.stands AnyContents old.cache new.cache
       → ServesTold now (at_in old) (at_in new) (Remove key ∷ []) AllDone → AddsAll (rec.Removed put key ∷ []) (at_in old) (at_in new)
       → AnswersPlainly now (step.Remove key) None None old new (Ok (answer.Removed put))
@@ -95,24 +96,24 @@ module _ {S W R : Type 0} {c : CallsGhosts S W R} where
       (removes now old new key (rec.Removed put key ∷ []) (answer.Removed put) part rest serves adds refl) (omega arith) tt
 
   -- there was none
-  pub absent : (now : ℕ) (old new : Part S W R c) (key : Key) (why : Cause) → IsPart old → Keeps c.at c.holds old.cache new.cache → IsAtRest (at_in new)
+  pub absent : (now : ℕ) (old new : Part S W R c) (key : Key) (why : Cause) → IsPart old → KeepsUnharmed c.at c.holds old.cache new.cache → IsAtRest (at_in new)
       → length new.page.items ≡ length old.page.items → StaysStanding c.stands AnyContents old.cache new.cache
-      → ServesTold now (at_in old) (at_in new) (Remove key ∷ []) AllDone → IsAsItWas (at_in old) (at_in new) → why ≡ cause_of_miss (state_in old) key
+      → ServesTold now (at_in old) (at_in new) (Remove key ∷ []) AllDone → IsAsItWas (at_in old) (at_in new) → why ≡ cause_of_miss (state_in_part old) key
       → AnswersPlainly now (step.Remove key) None None old new (Ok (answer.Absent why))
   absent now old new key why part keeps rest page stands serves same is =
       one_call now (step.Remove key) old new (Ok (answer.Absent why)) part keeps rest
-      (leaves_all None None (state_in old) (state_in new) (ap state_of same)) page stands
+      (leaves_all None None (state_in_part old) (state_in_part new) (ap state_of same)) page stands
       (removes now old new key [] (answer.Absent why) part rest serves (same ∙ nothing_more (at_in old).kept) (ap answer.Absent (sym is)))
-      (omega (arith, ap count_of is ∙ miss_counts (state_in old) key part.losses)) tt
+      (omega (arith, ap count_of_cause is ∙ miss_counts (state_in_part old) key part.losses)) tt
 
   -- memory was wanting
-  pub unremoved : (now : ℕ) (old new : Part S W R c) (key : Key) → IsPart old → Keeps c.at c.holds old.cache new.cache → IsAtRest (at_in new)
+  pub unremoved : (now : ℕ) (old new : Part S W R c) (key : Key) → IsPart old → KeepsUnharmed c.at c.holds old.cache new.cache → IsAtRest (at_in new)
       → length new.page.items ≡ length old.page.items → StaysStanding c.stands AnyContents old.cache new.cache
       → IsAsItWas (at_in old) (at_in new)
       → AnswersPlainly now (step.Remove key) None None old new (Err Memory)
   unremoved now old new key part keeps rest page stands same =
       one_call now (step.Remove key) old new (Err Memory) part keeps rest
-      (leaves_all None None (state_in old) (state_in new) (ap state_of same)) page stands tt tt refl
+      (leaves_all None None (state_in_part old) (state_in_part new) (ap state_of same)) page stands tt tt refl
 
 -- ---- flushes
 
@@ -136,7 +137,7 @@ abbrev pub flush_answer : Result Flushed Refusal → Result StepAnswer Stop
 flush_answer (Ok flushed) = Ok (answer.Flushed flushed.blocks flushed.cursor flushed.floor None)
 flush_answer (Err why) = flush_refused why
 
-flushed_is : (s t : State) (flushed : Flushed) → Tells s t flushed → answer.Flushed s.filled t.cursor (floor_now t) None ≡ answer.Flushed flushed.blocks flushed.cursor
+flushed_is : (s t : State) (flushed : Flushed) → TellsFlushed s t flushed → answer.Flushed s.filled t.cursor (floor_now t) None ≡ answer.Flushed flushed.blocks flushed.cursor
     flushed.floor None
 flushed_is s t flushed tells =
     ap (λ n. answer.Flushed n t.cursor (floor_now t) None) (sym tells.blocks)
@@ -144,21 +145,21 @@ flushed_is s t flushed tells =
 
 module _ {S W R : Type 0} {c : CallsGhosts S W R} (now : ℕ) (old new : Part S W R c) (part : IsPart old) (rest : IsAtRest (at_in new)) where
   flush_moves : (o : Progress) (why : Option Reason) (said : StepAnswer) → EndsWith o why → ServesTold now (at_in old) (at_in new) (Flush ∷ []) o
-      → Rattle.script_run.specs.Answers.flush_said (state_in old) (state_in new) why ≡ said
-      → (run : Run) → run.now ≡ now → AreTold (state_in old) → MovesOrShows run step.Flush (at_in old) (at_in new) said
+      → Rattle.script_run.specs.Answers.flush_said (state_in_part old) (state_in_part new) why ≡ said
+      → (run : Run) → run.now ≡ now → AreTold (state_in_part old) → MovesOrShows run step.Flush (at_in old) (at_in new) said
   flush_moves o why said ends serves says run moment told =
       moves_line run step.Flush (at_in old) (at_in new) now part.plain moment {known = NothingKnown} (Flush ∷ []) why [] said refl
       (serves_whole why ends part.plain rest.quiet told serves) refl (λ known. says)
 
   flush_ends : (result : Result Flushed Refusal) → ServesTold now (at_in old) (at_in new) (Flush ∷ []) (progress_at 0 (Flush ∷ []) result)
       → FlushesAs (at_in old) (at_in new) result
-      → IfOk (flush_answer result) (λ said. (run : Run) → run.now ≡ now → AreTold (state_in old) → MovesOrShows run step.Flush (at_in old) (at_in new) said)
-  flush_ends (Ok flushed) serves gives = flush_moves AllDone None _ in_full serves (flushed_is (state_in old) (state_in new) flushed gives.0)
+      → IfOk (flush_answer result) (λ said. (run : Run) → run.now ≡ now → AreTold (state_in_part old) → MovesOrShows run step.Flush (at_in old) (at_in new) said)
+  flush_ends (Ok flushed) serves gives = flush_moves AllDone None _ in_full serves (flushed_is (state_in_part old) (state_in_part new) flushed gives.0)
   flush_ends (Err (refusal.DeviceFault count)) serves gives = flush_moves (Stops (Faulted count)) (Some (Faulted count)) _ (stopped (Faulted count)) serves refl
   flush_ends (Err (refusal.Exhausted number)) serves gives = flush_moves (Stops Exhausted) (Some Exhausted) _ (stopped Exhausted) serves refl
   flush_ends (Err _) serves gives = tt
 
-  flush_counts : (result : Result Flushed Refusal) → FlushesAs (at_in old) (at_in new) result → IfOk (flush_answer result) (TellsCount (Some new))
+  flush_counts : (result : Result Flushed Refusal) → FlushesAs (at_in old) (at_in new) result → IfOk (flush_answer result) (AnswerTellsCount (Some new))
   flush_counts (Ok flushed) gives = omega arith
   flush_counts (Err (refusal.DeviceFault count)) gives = let is : count ≡ (at_in new).device.faults = gives.0 in omega (arith, is)
   flush_counts (Err (refusal.Exhausted number)) gives = omega arith
@@ -171,7 +172,7 @@ module _ {S W R : Type 0} {c : CallsGhosts S W R} (now : ℕ) (old new : Part S 
   flush_stops (Err _) = refl
 
   pub flushes : (result : Result Flushed Refusal) (said : Result StepAnswer Stop) → said ≡ flush_answer result
-      → Keeps c.at c.holds old.cache new.cache → length new.page.items ≡ length old.page.items
+      → KeepsUnharmed c.at c.holds old.cache new.cache → length new.page.items ≡ length old.page.items
       → StaysStanding c.stands AnyContents old.cache new.cache
       → ServesTold now (at_in old) (at_in new) (Flush ∷ []) (progress_at 0 (Flush ∷ []) result) → FlushesAs (at_in old) (at_in new) result
       → AddsSoundly IsOfFlush (at_in old) (at_in new) → AnswersPlainly now step.Flush None None old new said

@@ -29,9 +29,9 @@ use Rattle.script_lang.specs.declared.answer.StepAnswer.TheVariants as answer
 use Rattle.script_run.specs.Losses.{NoLossIsAFault}
 use Rattle.script_run.specs.Asked.{body_intents, close_intents, feed_intents, rest_behind, whole_fragments}
 use Rattle.cache_replay.specs.Feeding.{FeedsAsAsked, FeedsWhere, IsCutUp, feed_progress}
-use Rattle.run_promise.specs.Outline.{count_of}
+use Rattle.run_promise.specs.Outline.{count_of_cause}
 use Rattle.cache_replay.specs.Replies.{count_of_refusal}
-use Rattle.cache_replay.specs.Putting.{FillsWhere, IsFilledAs, IsFresh, IsOver, Says, progress_with, reason_of}
+use Rattle.cache_replay.specs.Putting.{FillsWhere, IsFilledAs, IsFreshWriter, PutIsOver, Says, progress_with, reason_of}
 use Rattle.cache_replay.specs.Session.{IsOpenWriter}
 use Rattle.cache_replay.proofs.Closings.{asks_ending, cause_at, closing_ended, complete_said, same_asks}
 use Rattle.cache_replay.proofs.Counts.{at_most, loss_counts}
@@ -68,7 +68,7 @@ lost_said t w index why is end = ap (λ c. answer.Refused (refused.Lost index c)
 
 -- ---- all is fed, and the writer closed
 
-module _ (now : ℕ) (old mid new : At) (w v : WriterSeen) (body : List ℕ) (fresh : IsFresh w) (number : v.put ≡ w.put)
+module _ (now : ℕ) (old mid new : At) (w v : WriterSeen) (body : List ℕ) (fresh : IsFreshWriter w) (number : v.put ≡ w.put)
     (cut : IsCutUp (state_at old).geometry.fragment w body v) (own : IsOpenWriter (state_at mid) v) (told : TellsAll new.device → TellsAll mid.device) where
   abbrev f : ℕ
   f = (state_at old).geometry.fragment
@@ -104,7 +104,7 @@ module _ (now : ℕ) (old mid new : At) (w v : WriterSeen) (body : List ℕ) (fr
   module _ (feeds : Serves now old mid (feed_intents f w.put 0 body) AllDone) where
     -- refused for what only the answer tells
     refuses : {known : Facts} (why : Refusal) (reason : Reason) → reason_of v.put (Err why) ≡ Some reason
-        → ((t : State) → Says t v.put (Err why) × IsOver t v.put (Err why))
+        → ((t : State) → Says t v.put (Err why) × PutIsOver t v.put (Err why))
         → ServesFrom (PairsAt new) now mid new (ending_asks v) (Stops reason) IsToldAt known
         → ServesFrom (PairsAt new) now old new (body_intents f w.put body) (progress_with (reason_of w.put (Err why))) IsToldAt (IsFilledAs w.put (Err why))
     refuses why reason is says serves =
@@ -114,7 +114,7 @@ module _ (now : ℕ) (old mid new : At) (w v : WriterSeen) (body : List ℕ) (fr
         → ServesFrom (PairsAt new) now mid new (ending_asks v) (progress_at v.put (ending_asks v) result) IsToldAt known → FillsWhere now old new w body result
     by_answer (Ok receipt) gives serves =
         tells_closed (Ok receipt) AllDone
-        (serves_tells (λ t. Says t v.put (Ok receipt) × IsOver t v.put (Ok receipt)) (λ p added spends.
+        (serves_tells (λ t. Says t v.put (Ok receipt) × PutIsOver t v.put (Ok receipt)) (λ p added spends.
         let end : IsEnded None (after_all (state_at mid) added) v.put (rows_at_close v) (Some v.key) = ends_as p (state_at mid) v added None own spends in
         (complete_said (after_all (state_at mid) added) v receipt (Some v.key) gives.1 end, end.0)) serves) feeds refl
     by_answer (Err (refusal.VectorTooLarge bytes)) gives serves = refuses (refusal.VectorTooLarge bytes) (TooLarge v.put bytes) refl (λ t. (refl, tt)) serves
@@ -158,17 +158,17 @@ pub close_counts : (old new : At) (w : WriterSeen) (result : Result Receipt Refu
     → IfErr result (λ why. NoLossIsAFault (state_at new) → count_of_refusal why ≤ new.device.faults)
 close_counts old new w (Ok receipt) writing gives = tt
 close_counts old new w (Err (refusal.DeviceFault count)) writing gives = λ none. gives.1
-close_counts old new w (Err (refusal.Lost index why)) writing gives = λ none. at_most (count_of why) new.device.faults (ap count_of gives.1 ∙ loss_counts (state_at new) _ none)
+close_counts old new w (Err (refusal.Lost index why)) writing gives = λ none. at_most (count_of_cause why) new.device.faults (ap count_of_cause gives.1 ∙ loss_counts (state_at new) _ none)
 close_counts old new w (Err _) writing gives = λ none. omega arith
 
 -- ---- a write is refused
 
-module _ (now : ℕ) (old new : At) (w : WriterSeen) (body : List ℕ) (fresh : IsFresh w) where
+module _ (now : ℕ) (old new : At) (w : WriterSeen) (body : List ℕ) (fresh : IsFreshWriter w) where
   abbrev g : ℕ
   g = (state_at old).geometry.fragment
 
   stops : (why : Refusal) (reason : Reason) → FeedsAsAsked now old new w body (Some why) → feed_progress w.put (Some why) ≡ Stops reason
-      → ((t : State) → Says t w.put (Err why) × IsOver t w.put (Err why))
+      → ((t : State) → Says t w.put (Err why) × PutIsOver t w.put (Err why))
       → ServesFrom (PairsAt new) now old new (body_intents g w.put body) (Stops reason) IsToldAt (IsFilledAs w.put (Err why))
   stops why reason fed is says =
       serves_known (IsFilledAs w.put (Err why)) (λ past k. says (state_of new.kept))

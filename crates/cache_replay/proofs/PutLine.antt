@@ -14,7 +14,7 @@ use Rattle.cache_calls.specs.declared.calls.Calls.{Ghosts as CallsGhosts}
 use Rattle.cache_calls.specs.declared.calls.Receipt.{Receipt}
 use Rattle.cache_calls.specs.declared.calls.Refusal.{Refusal}
 use Rattle.cache_calls.specs.declared.calls.Refusal.TheVariants as refusal
-use Rattle.cache_calls.specs.Keeping.{IsAtRest, Keeps}
+use Rattle.cache_calls.specs.Keeping.{IsAtRest, KeepsUnharmed}
 use Rattle.cache_calls.specs.Standing.{StaysStanding}
 use Rattle.script_lang.specs.declared.answer.StepAnswer.{StepAnswer}
 use Rattle.script_lang.specs.declared.step.Step.{Step}
@@ -29,7 +29,7 @@ use Rattle.cache_replay.specs.Standing.{IsToldPlainly, TellsPut}
 use Rattle.run_promise.specs.Outline.{count_in}
 use Rattle.cache_replay.specs.Replies.{closed_answer, count_of_refusal, receipt_answer}
 use Rattle.cache_replay.specs.Putting.{IsSaidAs, PutsWhere, TellsOfPut, progress_with, reason_of}
-use Rattle.cache_replay.specs.Session.{IsPart, at_in, state_in}
+use Rattle.cache_replay.specs.Session.{IsPart, at_in, state_in_part}
 use Rattle.cache_replay.proofs.Fed.{refused_counts}
 use Rattle.cache_replay.proofs.Frames.{part_behind, put_leaves}
 use Rattle.cache_replay.proofs.Whole.{moves_line, serves_whole}
@@ -57,20 +57,21 @@ module _ {S W R : Type 0} {c : CallsGhosts S W R} (now : ℕ) (old new : Part S 
   line = step.Put key body request response
 
   abbrev put : ℕ
-  put = (state_in old).next_put
+  put = (state_in_part old).next_put
 
   -- what it was asked has come there, and this is told
   moves : (result : Result Receipt Refusal)
-      → ServesFrom (Untold (at_in new).device IsVectorAs) now (at_in old) (at_in new) (put_intents (state_in old) key body request response)
+      → ServesFrom (Untold (at_in new).device IsVectorAs) now (at_in old) (at_in new)
+      (put_intents (state_in_part old) key body request response)
       (progress_with (reason_of put result)) IsToldAt (IsSaidAs put result)
-      → (run : Run) → run.now ≡ now → AreTold (state_in old) → MovesOrShows run line (at_in old) (at_in new) (receipt_answer result)
+      → (run : Run) → run.now ≡ now → AreTold (state_in_part old) → MovesOrShows run line (at_in old) (at_in new) (receipt_answer result)
   moves result serves run moment told =
-      moves_line run line (at_in old) (at_in new) now part.plain moment {known = IsSaidAs put result} (put_intents (state_in old) key body request response)
+      moves_line run line (at_in old) (at_in new) now part.plain moment {known = IsSaidAs put result} (put_intents (state_in_part old) key body request response)
       (reason_of put result) [] (receipt_answer result) refl (serves_whole (reason_of put result) (ends_with (reason_of put result)) part.plain rest.quiet told serves) refl
       (λ known. known)
 
   puts : (result : Result Receipt Refusal) → PutsWhere now (at_in old) (at_in new) key body request response result
-      → IfSome (closed_answer result) (λ said. (run : Run) → run.now ≡ now → AreTold (state_in old) → MovesOrShows run line (at_in old) (at_in new) said)
+      → IfSome (closed_answer result) (λ said. (run : Run) → run.now ≡ now → AreTold (state_in_part old) → MovesOrShows run line (at_in old) (at_in new) said)
   puts (Ok receipt) serves = moves (Ok receipt) serves
   puts (Err refusal.TooManyWriters) serves = moves (Err refusal.TooManyWriters) serves
   puts (Err refusal.TooManyFragments) serves = moves (Err refusal.TooManyFragments) serves
@@ -82,11 +83,11 @@ module _ {S W R : Type 0} {c : CallsGhosts S W R} (now : ℕ) (old new : Part S 
   puts (Err refusal.Sealed) serves = absurd serves
   puts (Err refusal.NoSuchWriter) serves = absurd serves
 
-  module _ (given : Result Receipt Refusal) (page : length new.page.items ≡ length old.page.items) (keeps : Keeps c.at c.holds old.cache new.cache)
+  module _ (given : Result Receipt Refusal) (page : length new.page.items ≡ length old.page.items) (keeps : KeepsUnharmed c.at c.holds old.cache new.cache)
       (tells : TellsOfPut (at_in old) (at_in new) put given)
-      (stands : StaysStanding c.stands (λ contents. TellsVectors contents × TellsPut (state_in new) put body contents)
+      (stands : StaysStanding c.stands (λ contents. TellsVectors contents × TellsPut (state_in_part new) put body contents)
       old.cache new.cache) where
-    told_so : StaysStanding c.stands (IsToldPlainly (state_in new) (Some put) line) old.cache new.cache
+    told_so : StaysStanding c.stands (IsToldPlainly (state_in_part new) (Some put) line) old.cache new.cache
     told_so contents told before = stands contents (told.vectors, told.cut) before
 
     -- it is answered
@@ -100,7 +101,7 @@ module _ {S W R : Type 0} {c : CallsGhosts S W R} (now : ℕ) (old new : Part S 
           leaves = leaves;
           stands = told_so;
           ends = λ run moment told own before.
-              subst (λ o. IfSome o (λ x. (r : Run) → r.now ≡ now → AreTold (state_in old) → MovesOrShows r line (at_in old) (at_in new) x)) is
+              subst (λ o. IfSome o (λ x. (r : Run) → r.now ≡ now → AreTold (state_in_part old) → MovesOrShows r line (at_in old) (at_in new) x)) is
               (puts given serves) run moment told;
           unharmed = λ run moment told own before. inl keeps.unharmed;
           counts = subst (λ o. IfSome o (λ x. count_in x ≤ (at_in new).device.faults)) is

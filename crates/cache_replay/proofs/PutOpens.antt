@@ -27,10 +27,10 @@ use Rattle.cache_calls.specs.Actors.{IsWriterOf, WriterSeen}
 use Rattle.cache_calls.specs.Adds.{IsAsItWas}
 use Rattle.cache_calls.specs.Asked.{refused_at}
 use Rattle.cache_calls.specs.Keeping.{IsAtRest, state_at}
-use Rattle.cache_calls.specs.Writers.{HasBegun, OpensNone, opened_record}
+use Rattle.cache_calls.specs.Writers.{HasBegun, OpensNone, opened_writer_record}
 use Rattle.script_run.specs.Asked.{body_intents, close_intents, feed_intents, put_intents, rest_behind, whole_fragments}
 use Rattle.cache_replay.specs.Replies.{count_of_refusal}
-use Rattle.cache_replay.specs.Putting.{BodyEndsWhere, IsFresh, IsSaidAs, PutsWhere, Says, ending_intents, progress_with, reason_of}
+use Rattle.cache_replay.specs.Putting.{BodyEndsWhere, IsFreshWriter, IsSaidAs, PutsWhere, Says, ending_intents, progress_with, reason_of}
 use Rattle.cache_replay.specs.Session.{IsOpenWriter}
 use Rattle.cache_replay.proofs.FeedRefused.{feed_cleans_none}
 use Rattle.cache_replay.proofs.FeedRounds.{PairsAt, serves_later}
@@ -43,12 +43,12 @@ use Rattle.cache_replay.proofs.PutWhole.{unless_as}
 -- ---- it is opened
 
 module _ (old mid : At) (who : Actor) (key : Key) (request response : List Field) (w : WriterSeen)
-    (begun : HasBegun old mid (opened_record (state_at old) who key request response 0) w) where
+    (begun : HasBegun old mid (opened_writer_record (state_at old) who key request response 0) w) where
   abbrev s : State
   s = state_at old
 
-  there : state_at mid ≡ state_after s (opened_record s who key request response 0)
-  there = state_behind old.kept mid.kept (opened_record s who key request response 0 ∷ []) begun.adds
+  there : state_at mid ≡ state_after s (opened_writer_record s who key request response 0)
+  there = state_behind old.kept mid.kept (opened_writer_record s who key request response 0 ∷ []) begun.adds
 
   pub is_open : IsOpenWriter (state_at mid) w
   is_open = record {
@@ -56,7 +56,7 @@ module _ (old mid : At) (who : Actor) (key : Key) (request response : List Field
     writer = begun.writer;
   }
 
-  pub is_fresh : IsFresh w
+  pub is_fresh : IsFreshWriter w
   is_fresh =
       record { cuts = nothing_cut s who key request response 0 w begun.put (subst (λ x. IsWriterOf x w) there begun.writer); gathered = begun.empty; unsealed = begun.unsealed }
 

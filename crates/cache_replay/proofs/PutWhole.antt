@@ -23,12 +23,12 @@ use Rattle.cache_calls.specs.declared.calls.Receipt.{Receipt}
 use Rattle.cache_calls.specs.declared.calls.Refusal.{Refusal}
 use Rattle.cache_calls.specs.declared.calls.Refusal.TheVariants as refusal
 use Rattle.cache_calls.specs.Actors.{WriterSeen}
-use Rattle.cache_calls.specs.Adds.{Adds, IsOfPut}
+use Rattle.cache_calls.specs.Adds.{AddsOnly, IsOfPut}
 use Rattle.cache_calls.specs.Asked.{given_up_at}
 use Rattle.cache_calls.specs.Keeping.{state_at}
 use Rattle.cache_calls.specs.Writers.{GivesUp}
 use Rattle.cache_replay.specs.Replies.{count_of_refusal}
-use Rattle.cache_replay.specs.Putting.{BodyEndsWhere, FillsWhere, IsFilledAs, IsOver, IsSaidAs, Says, TellsOfPut, UnlessMemory, progress_with, reason_of, unless_memory}
+use Rattle.cache_replay.specs.Putting.{BodyEndsWhere, FillsWhere, IsFilledAs, IsSaidAs, PutIsOver, Says, TellsOfPut, UnlessMemory, progress_with, reason_of, unless_memory}
 use Rattle.cache_replay.proofs.FeedRounds.{PairsAt, serves_later}
 use Rattle.cache_replay.proofs.Frames.{adds_then}
 use Rattle.cache_replay.proofs.KeptPuts.{leave_puts}
@@ -73,7 +73,7 @@ complete_ends now old new w body receipt quiet fills = serves_ending None w.put 
 -- ---- it is given up
 
 -- what is told of a refused put that is open is told of it behind that
-says_still : (s t : State) (put : ℕ) (why : Refusal) → is_writing s put ≡ true → Says s put (Err why) → IsOver s put (Err why) → Says t put (Err why)
+says_still : (s t : State) (put : ℕ) (why : Refusal) → is_writing s put ≡ true → Says s put (Err why) → PutIsOver s put (Err why) → Says t put (Err why)
 says_still s t put (refusal.Lost index why) writing says over = let clash : true ≡ false = sym writing ∙ over in cc
 says_still s t put refusal.TooManyWriters writing says over = says
 says_still s t put refusal.TooManyFragments writing says over = says
@@ -88,7 +88,7 @@ module _ (now : ℕ) (old mid new : At) (w v : WriterSeen) (body : List ℕ) (so
     (told : TellsAll new.device → TellsAll mid.device) (number : v.put ≡ w.put) where
   -- the clean-up is done, and what was told of the put is told behind it
   ends_with : (why : Refusal) → FillsWhere now old mid w body (Err why)
-      → (Says (state_at mid) w.put (Err why) → IsOver (state_at mid) w.put (Err why) → Says (state_at new) w.put (Err why))
+      → (Says (state_at mid) w.put (Err why) → PutIsOver (state_at mid) w.put (Err why) → Says (state_at new) w.put (Err why))
       → ServesTold now mid new (GiveUp w.put ∷ []) AllDone → BodyEndsWhere now old new w.put body (Err why)
   ends_with why fills says gives =
       unless_as (Err why) (λ (f : ServesFrom (PairsAt mid) now old mid _ (progress_with (reason_of w.put (Err why))) IsToldAt (IsFilledAs w.put (Err why))).
@@ -139,7 +139,7 @@ unless_counts n m end why later h = by end
 
 -- what is told of a put that is given up
 pub tells_ended : (old mid new : At) (put : ℕ) (end : Result ℕ Refusal) (why answer : Refusal) → mid.device.faults ≤ new.device.faults → TellsOfPut old mid put (Err why)
-    → Adds (IsOfPut put) mid new → answer ≡ unless_memory end why → TellsOfPut old new put (Err answer)
+    → AddsOnly (IsOfPut put) mid new → answer ≡ unless_memory end why → TellsOfPut old new put (Err answer)
 tells_ended old mid new put end why answer later tells own is = record {
   own = adds_then (IsOfPut put) old mid new tells.own own;
   counts = λ none. subst (λ r. count_of_refusal r ≤ new.device.faults) (sym is) (unless_counts mid.device.faults new.device.faults end why later (tells.counts none));

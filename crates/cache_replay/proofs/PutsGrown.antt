@@ -16,7 +16,7 @@ use Rattle.cache_model.proofs.Steps.{all_as}
 use Rattle.call_laws.specs.Contents.{Contents}
 use Rattle.call_laws.specs.Moments.{At}
 use Rattle.call_laws.proofs.Joined.{state_behind}
-use Rattle.cache_calls.specs.Adds.{Adds, AddsAll, IsOfPut}
+use Rattle.cache_calls.specs.Adds.{AddsAll, AddsOnly, IsOfPut}
 use Rattle.cache_calls.specs.Keeping.{FallBelow, IsAtRest, state_at}
 use Rattle.cache_replay.specs.Standing.{TellsPut, piece_content}
 use Rattle.cache_replay.proofs.Free.{unheard}
@@ -166,5 +166,5 @@ module _ (old new : At) (rest : IsAtRest new) (put : ℕ) where
   none_of_put n _ h = tt
 
   -- records of a put
-  pub put_grows : (n : ℕ) → Adds (IsOfPut n) old new → GrowsFrom (state_at old) (state_at new) put
+  pub put_grows : (n : ℕ) → AddsOnly (IsOfPut n) old new → GrowsFrom (state_at old) (state_at new) put
   put_grows n h = puts_grow h.added (all_as (IsOfPut n) BeginsNone (none_of_put n) h.added h.own) h.adds

@@ -16,14 +16,14 @@ use Rattle.script_lang.specs.declared.answer.StepAnswer.{StepAnswer}
 use Rattle.script_run.specs.Run.{Run}
 use Rattle.script_run.specs.Asked.{asked}
 use Rattle.script_run.specs.Behind.{Streams, streams_behind}
-use Rattle.script_run.specs.Own.{AreKept, AreOwn, AreWriting, IsPlacedAs}
+use Rattle.script_run.specs.Own.{AreOwn, ArePayloadsOwn, AreWriting, IsPlacedAs}
 use Rattle.script_run.specs.Takes.{streams_with}
 use Rattle.script_run.proofs.Cuts.{HaveCut, have_same}
 use Rattle.script_run.proofs.Fragments.{own_is_kept}
 use Rattle.script_run.proofs.Stepping.{steps_keep}
 use Rattle.cache_replay.specs.declared.session.Part.{Part}
 use Rattle.cache_replay.specs.Moves.{Moves, ShowsIn}
-use Rattle.cache_replay.specs.Session.{at_in, state_in}
+use Rattle.cache_replay.specs.Session.{at_in, state_in_part}
 use Rattle.cache_replay.specs.Standing.{OwnStands, TellsOwn, own_contents, piece_content}
 use Rattle.cache_replay.proofs.KeptPuts.{grown_leaves}
 use Rattle.cache_replay.proofs.Owned.{own_stays, writer_is_ended}
@@ -67,10 +67,10 @@ pub record IsLawful {S W R : Type 0} (c : CallsGhosts S W R) : Type 0 where
 module _ {S W R : Type 0} {c : CallsGhosts S W R} (run : Run) (step : Step) (old new : Part S W R c) (said : StepAnswer)
     (m : Moves run step (at_in old) (at_in new) said) where
   abbrev s : State
-  s = state_in old
+  s = state_in_part old
 
   abbrev t : State
-  t = state_in new
+  t = state_in_part new
 
   abbrev later : Streams
   later = streams_behind run s t m.turn step
@@ -97,11 +97,11 @@ module _ {S W R : Type 0} {c : CallsGhosts S W R} (run : Run) (step : Step) (old
 
   module _ (rest : IsAtRest (at_in old)) (told : AreTold s) (own : AreOwn s run.streams) (writing : AreWriting run s) where
     -- what writers took goes on to be what stands, but for the documents of fragments
-    pub kept_then : AreKept t later
+    pub kept_then : ArePayloadsOwn t later
     kept_then =
         let kept = steps_keep writer_is_ended run s m.turn step rest.sound rest.none rest.quiet (own_is_kept s run.streams own) writing
         m.takes.legal in
-        subst (λ x. AreKept x (streams_behind run s x m.turn step)) (sym m.state) kept.0
+        subst (λ x. ArePayloadsOwn x (streams_behind run s x m.turn step)) (sym m.state) kept.0
 
     -- on a device that tells its content no pair is shown
     stood_told : IsLawful c → c.holds new.cache → OwnStands later t (c.stands new.cache) → TellsAll (at_in new).device → Stood

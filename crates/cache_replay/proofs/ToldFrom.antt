@@ -19,7 +19,7 @@ use Rattle.cache_calls.specs.Standing.{IsToldClosed, IsToldNext}
 use Rattle.script_run.specs.Own.{piece_of}
 use Rattle.script_run.proofs.Ended.{IsFoundOpen, open_row}
 use Rattle.cache_replay.specs.Feeding.{IsFed}
-use Rattle.cache_replay.specs.Putting.{IsFresh}
+use Rattle.cache_replay.specs.Putting.{IsFreshWriter}
 use Rattle.cache_replay.specs.Session.{IsOpenWriter}
 use Rattle.cache_replay.specs.Standing.{IsToldFrom, TellsPut}
 use Rattle.cache_replay.proofs.FeedEnds.{rest_is, rows_count}
@@ -128,7 +128,7 @@ module _ (s t : State) (w : WriterSeen) (body : List ℕ) (later : IsLater s t w
 -- ---- a body that is put whole
 
 -- of what a new writer cuts it is told that it is of what it takes
-pub fresh_told : (s t : State) (w : WriterSeen) (body : List ℕ) (contents : Contents) → IsFresh w → GrowsFrom s t w.put
+pub fresh_told : (s t : State) (w : WriterSeen) (body : List ℕ) (contents : Contents) → IsFreshWriter w → GrowsFrom s t w.put
     → TellsVectors contents × TellsPut t w.put body contents → IsToldFrom s w body contents
 fresh_told s t w body contents fresh grows told =
     told_from s w body body contents (λ row found index behind within.
@@ -139,7 +139,8 @@ fresh_told s t w body contents fresh grows told =
     told.0 (told_grown s t w.put body contents grows told.1)
 
 -- all was fed
-module _ (s t : State) (w v : WriterSeen) (body : List ℕ) (taken : ℕ) (contents : Contents) (fresh : IsFresh w) (fed : IsFed w body taken v)
+module _ (s t : State) (w v : WriterSeen) (body : List ℕ) (taken : ℕ) (contents : Contents) (fresh : IsFreshWriter w)
+    (fed : IsFed w body taken v)
     (whole : taken ≡ length body) (own : IsOpenWriter s v) (grows : GrowsFrom s t v.put) (told : TellsVectors contents × TellsPut t w.put body contents) where
   rest_of_body : v.gathered ≡ drop (total_length v.cuts) body
   rest_of_body =

@@ -18,9 +18,9 @@ use Rattle.cache_model.proofs.Steps.{none_left}
 use Rattle.call_laws.specs.Contents.{Contents}
 use Rattle.cache_calls.specs.Actors.{IsAtHand, WriterSeen}
 use Rattle.cache_calls.specs.Standing.{IsToldClosed}
-use Rattle.script_run.specs.Run.{Holding, Run, Stream, no_stream, with_value, writer_of}
-use Rattle.script_run.specs.Behind.{Streams, fed, of_put, sealed_by, seals, streams_closed, streams_fed, streams_opened, taken_of}
-use Rattle.script_run.specs.Own.{AreCuts, AreKept, AreOwnPuts, IsOwnPut, piece_of}
+use Rattle.script_run.specs.Run.{Holding, Run, Stream, no_stream, put_written_by, with_value}
+use Rattle.script_run.specs.Behind.{Streams, fed, of_put, sealed_by, seals, streams_closed, streams_fed, streams_opened, taken_in_line}
+use Rattle.script_run.specs.Own.{AreCuts, AreOwnPuts, ArePayloadsOwn, IsOwnPut, piece_of}
 use Rattle.script_run.specs.Takes.{offered}
 use Rattle.script_run.proofs.Cuts.{HaveCut, have_longer, have_same, have_shorter, length-piece, total_cuts}
 use Rattle.script_run.proofs.Ended.{IsFoundOpen, open_row}
@@ -97,21 +97,22 @@ module _ (s : State) (streams : Streams) (own : AreOwnPuts s streams) where
       absurd (omega (arith, number, below)))
 
 module _ (run : Run) (s : State) (name : List ℕ) (put : ℕ) (own : AreOwnPuts s run.streams)
-    (has : writer_of run name ≡ Some put) where
+    (has : put_written_by run name ≡ Some put) where
   pub fed_cut : is_writing s put ≡ true → (t : State) (body : List ℕ) (why : Option Reason) (n : ℕ) (w : PutRow) → put_of s n ≡ Some w
-      → Same s run.streams own n w (of_put run (writer_of run name) (streams_fed run t body why) n)
+      → Same s run.streams own n w (of_put run (put_written_by run name) (streams_fed run t body why) n)
   fed_cut writing t body why n w found =
       subst (λ o. Same s run.streams own n w (of_put run o (streams_fed run t body why) n)) (sym has)
-      (fed_by s run.streams own put body (taken_of run t body why put) (run.streams put).sealed refl writing n w found)
+      (fed_by s run.streams own put body (taken_in_line run t body why put) (run.streams put).sealed refl writing n w found)
 
   pub closed_cut : (why : Option Reason) (n : ℕ) (w : PutRow) → put_of s n ≡ Some w
-      → Same s run.streams own n w (of_put run (writer_of run name) (streams_closed run why) n)
+      → Same s run.streams own n w (of_put run (put_written_by run name) (streams_closed run why) n)
   closed_cut why n w found =
       subst (λ o. Same s run.streams own n w (of_put run o (streams_closed run why) n)) (sym has)
       (closed_by s run.streams own put why n w found)
 
   -- a close takes no bytes
-  pub closed_bytes : (why : Option Reason) → (of_put run (writer_of run name) (streams_closed run why) put).bytes ≡ (run.streams put).bytes
+  pub closed_bytes : (why : Option Reason)
+      → (of_put run (put_written_by run name) (streams_closed run why) put).bytes ≡ (run.streams put).bytes
   closed_bytes why =
       let x : Stream = sealed_by why (run.streams put) in
       ap (λ o. (of_put run o (streams_closed run why) put).bytes) has
@@ -191,7 +192,7 @@ module _ (s t : State) (stream : Stream) (w : WriterSeen) (streams : Streams) (l
 
 module _ (run : Run) (s : State) (w : WriterSeen) (body : List ℕ) (at_hand : IsOpenWriter s w)
     (of : IsStreamOf (run.streams w.put) w) (sound : IsSound s) (none : s.displaced ≡ []) (quiet : IsQuiet s)
-    (kept : AreKept s run.streams) (p : Permit) (added : List Rec) (why : Option Reason) where
+    (kept : ArePayloadsOwn s run.streams) (p : Permit) (added : List Rec) (why : Option Reason) where
   abbrev put : ℕ
   put = w.put
 
@@ -245,7 +246,8 @@ module _ (run : Run) (s : State) (w : WriterSeen) (body : List ℕ) (at_hand : I
         (value_here (offered (run.streams put) body) (run.streams put) put put refl) (row_cuts t all_offered put row offered_own found)
 
     -- so it took no less than was cut
-    enough : (o : Option Reason) (row : PutRow) → put_of t put ≡ Some row → total_length row.cuts ≤ length taken + taken_of run t body o put
+    enough : (o : Option Reason) (row : PutRow) → put_of t put ≡ Some row
+        → total_length row.cuts ≤ length taken + taken_in_line run t body o put
     enough None row found =
         let size = length-append taken body in
         let within = (offered_cuts row found).within in
@@ -254,11 +256,12 @@ module _ (run : Run) (s : State) (w : WriterSeen) (body : List ℕ) (at_hand : I
         let same : total_length (cuts_of t put) ≡ total_length row.cuts = ap total_length (cuts_found t put row found) in
         omega (arith, same)
 
-    fed_pieces : (same : t.geometry ≡ s.geometry) (later : Streams) → (later put).bytes ≡ taken ++ take (taken_of run t body why put) body
+    fed_pieces : (same : t.geometry ≡ s.geometry) (later : Streams)
+        → (later put).bytes ≡ taken ++ take (taken_in_line run t body why put) body
         → (row : PutRow) → put_of t put ≡ Some row → (index : ℕ) → length w.cuts < index → index ≤ length row.cuts
         → piece_of t.geometry.fragment (later put).bytes index ≡ piece_of t.geometry.fragment (w.gathered ++ body) (index - length w.cuts)
     fed_pieces same later bytes row found index behind within =
-        let n : ℕ = taken_of run t body why put in
+        let n : ℕ = taken_in_line run t body why put in
         let have : HaveCut t.geometry.fragment (length row.cuts) (taken ++ body) (take (length taken + n) (taken ++ body)) =
         have_shorter t.geometry.fragment (taken ++ body) row.cuts (length taken + n) (offered_cuts row found) (enough why row found) in
         ap (λ (l : List ℕ). piece_of t.geometry.fragment l index) (bytes ∙ sym (take-append-add taken body n))
@@ -280,12 +283,12 @@ module _ (run : Run) (s : State) (w : WriterSeen) (body : List ℕ) (at_hand : I
 
   fed_bytes : (b : Bool) → (run.streams put).sealed ≡ b → IsStep p s (if b then [] else feed_asks s w body) added why
       → t.geometry ≡ s.geometry → (contents : Contents)
-      → TellsOwn (if b then run.streams else with_value run.streams put (fed (run.streams put) body (taken_of run t body why put))) t contents
+      → TellsOwn (if b then run.streams else with_value run.streams put (fed (run.streams put) body (taken_in_line run t body why put))) t contents
       → IsToldFrom t w body contents
   fed_bytes true e step same contents = λ tells.
       told_from t w body taken contents (sealed_pieces step run.streams) tells.vectors (tells.puts put)
   fed_bytes false e step same contents = λ tells.
-      let x : Stream = fed (run.streams put) body (taken_of run t body why put) in
+      let x : Stream = fed (run.streams put) body (taken_in_line run t body why put) in
       let later : Streams = with_value run.streams put x in
       told_from t w body (later put).bytes contents
       (fed_pieces e step same later (ap (λ (y : Stream). y.bytes) (value_here x (run.streams put) put put refl))) tells.vectors (tells.puts put)

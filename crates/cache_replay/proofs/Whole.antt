@@ -2,7 +2,7 @@
 use Rattle.std.proofs.Common.{◌≡◌, ℕ, ◌++◌, ◌∙◌, true, false, List, [], sym, ap, subst, inl, inr}
 use Rattle.std.specs.Prelude.{Option, None}
 use Rattle.device_log.specs.Calls.{Call}
-use Rattle.logged_disk.specs.Device.{IsAfter, State as Device}
+use Rattle.logged_disk.specs.Device.{DeviceState as Device, IsAfter}
 use Rattle.logged_disk.proofs.GoingOn.{told_before}
 use Rattle.cache_model.specs.declared.record.Rec.{Rec}
 use Rattle.cache_model.specs.State.{State}

@@ -38,7 +38,7 @@ use Rattle.script_run.specs.Answers.{miss_said}
 use Rattle.script_run.specs.Own.{IsPlacedAs}
 use Rattle.script_run.proofs.OnlyReading.{reads_own}
 use Rattle.script_lang.specs.declared.answer.StepAnswer.TheVariants as answer
-use Rattle.cache_replay.specs.Getting.{Comes, IsAnswered, IsKnownTo, IsUnderway}
+use Rattle.cache_replay.specs.Getting.{ComesOfCache, GetIsAnswered, IsKnownTo, IsUnderway}
 use Rattle.cache_replay.proofs.Frames.{same_added}
 use Rattle.cache_replay.proofs.Free.{no_next_reader}
 use Rattle.cache_replay.proofs.Lookups.{miss_reads, open_finds, open_tells}
@@ -139,7 +139,7 @@ module _ {S W R : Type 0} (c : CallsGhosts S W R) (a b : S) (rest : IsAtRest (c.
   looked_then : (all : Run → Upshots) (Known : State → Type 0) (x : ReadAnswer) → (c.at b).kept ≡ with_records (c.at a).kept (adds_of x) → Looked Known
       → ((run : Run) (p : Permit) (earlier calls : List Call) → IsKnownTo run old → Known new → Does p old look_of (adds_of x) Done
       → all run (record { step = p; earlier = earlier; calls = calls; state = old; added = adds_of x }))
-      → Comes c a b asks_of all
+      → ComesOfCache c a b asks_of all
   looked_then all Known x adds serves law now run = call_as (λ p earlier calls added step happens h. λ is standing.
       let same : added ≡ adds_of x = same_added (c.at a).kept (c.at b).kept added (adds_of x) happens.adds adds in
       subst (λ recs. all run (record { step = p; earlier = earlier; calls = calls; state = old; added = recs })
@@ -173,7 +173,7 @@ module _ {S W R : Type 0} (c : CallsGhosts S W R) (a b : S) (rest : IsAtRest (c.
 
   pub follow_answered : (put : ℕ) (r : ReaderSeen) → IsQuiet new → (c.at b).kept ≡ with_records (c.at a).kept (adds_of (read.Follow put))
       → r.reader ≡ old.next_reader → r.table ≡ None → Looked (λ t. IsReaderOf t r)
-      → IsAnswered c a b asks_of (StopReading r.reader ∷ []) [] (answer.Follow put)
+      → GetIsAnswered c a b asks_of (StopReading r.reader ∷ []) [] (answer.Follow put)
   follow_answered put r quiet adds number none serves =
       let there : new ≡ after_all old (adds_of (read.Follow put)) = state_behind (c.at a).kept (c.at b).kept (adds_of (read.Follow put)) adds in
       looked_then _ (λ t. IsReaderOf t r) (read.Follow put) adds serves (λ run p earlier calls is own d. record {
@@ -184,7 +184,7 @@ module _ {S W R : Type 0} (c : CallsGhosts S W R) (a b : S) (rest : IsAtRest (c.
       })
 
   pub miss_answered : (why : Cause) → IsQuiet new → (c.at b).kept ≡ with_records (c.at a).kept (adds_of (read.Miss why))
-      → Looked (λ t. Unit {0}) → IsAnswered c a b asks_of [] [] (miss_said why)
+      → Looked (λ t. Unit {0}) → GetIsAnswered c a b asks_of [] [] (miss_said why)
   miss_answered why quiet adds serves =
       let n : ℕ = old.next_reader in
       let there : new ≡ after_all old (adds_of (read.Miss why)) = state_behind (c.at a).kept (c.at b).kept (adds_of (read.Miss why)) adds in

@@ -14,7 +14,7 @@ use Rattle.cache_model.specs.Vectors.{AreTold}
 use Rattle.call_laws.specs.Moments.{At, permit_of}
 use Rattle.call_laws.proofs.Joined.{state_behind}
 use Rattle.cache_calls.specs.declared.calls.Calls.{Ghosts as CallsGhosts}
-use Rattle.cache_calls.specs.Adds.{Adds, IsOfReader}
+use Rattle.cache_calls.specs.Adds.{AddsOnly, IsOfReader}
 use Rattle.cache_calls.specs.Keeping.{IsAtRest, StaysUnharmed, plain_setting, state_at}
 use Rattle.cache_calls.proofs.Keeping.{plain_has_steps}
 use Rattle.cache_calls.proofs.Others.{reads_leave_others}
@@ -23,7 +23,7 @@ use Rattle.script_lang.specs.declared.step.Step.TheVariants as step
 use Rattle.script_run.specs.Run.{Run}
 use Rattle.script_run.specs.Asked.{get_intents}
 use Rattle.script_run.specs.Own.{AreOwn}
-use Rattle.cache_replay.specs.Getting.{IsAnswered, StaysSound}
+use Rattle.cache_replay.specs.Getting.{GetIsAnswered, StaysSound}
 use Rattle.cache_replay.specs.Moves.{MovesOrShows, ShowsIn}
 use Rattle.cache_replay.specs.Standing.{OwnStands}
 use Rattle.cache_replay.proofs.Whole.{shows_line, turn_by}
@@ -38,7 +38,7 @@ module _ {S W R : Type 0} (c : CallsGhosts S W R) (run : Run) (now : ℕ) (a b :
   asks = get_intents (state_at (c.at a)) key request
 
   -- it answers with all that it was asked, or such a pair is shown
-  pub line_gets : (given : List ℕ) (said : StepAnswer) → IsQuiet (state_at (c.at b)) → IsAnswered c a b asks [] given said
+  pub line_gets : (given : List ℕ) (said : StepAnswer) → IsQuiet (state_at (c.at b)) → GetIsAnswered c a b asks [] given said
       → MovesOrShows run (step.Get key request) (c.at a) (c.at b) said
   line_gets given said quiet answered =
       let call = answered now run in
@@ -90,7 +90,7 @@ refilled n xs ws h =
     omega (arith, taken, both, dropped, h)
 
 -- so it still takes any piece
-pub page_refilled : (n : ℕ) (xs ws : List ℕ) (reader : ℕ) (a b : At) → length xs ≡ n → Adds (IsOfReader reader) a b
+pub page_refilled : (n : ℕ) (xs ws : List ℕ) (reader : ℕ) (a b : At) → length xs ≡ n → AddsOnly (IsOfReader reader) a b
     → length xs ≡ 512 * budget_of (state_at a).geometry → length (take n (ws ++ drop (length ws) xs)) ≡ 512 * budget_of (state_at b).geometry
 page_refilled n xs ws reader a b size own fits =
     refilled n xs ws size ∙ (fits ∙ ap (λ (g : Geometry). 512 * budget_of g) (sym (reads_leave_others reader a b own).geometry))

@@ -6,7 +6,7 @@ use Rattle.std.specs.declared.alloc.AllocError.{AllocError}
 use Rattle.std.proofs.Math.Nat.{add-mul}
 use Rattle.std.proofs.Math.Seq.{take-add}
 use Rattle.device_log.specs.Calls.{Call}
-use Rattle.logged_disk.specs.Device.{IsAfter, State as Device, TellsAll}
+use Rattle.logged_disk.specs.Device.{DeviceState as Device, IsAfter, TellsAll}
 use Rattle.tape_base.specs.declared.geometries.Geometry.{Geometry}
 use Rattle.fragment_table.specs.Table.{TableRow}
 use Rattle.cache_model.specs.declared.cause.Cause.{Cause}
@@ -44,9 +44,9 @@ use Rattle.cache_calls.specs.declared.calls.Calls.{Ghosts as CallsGhosts}
 use Rattle.cache_calls.specs.declared.calls.NextPiece.{NextPiece}
 use Rattle.cache_calls.specs.declared.calls.NextPiece.TheVariants as piece
 use Rattle.cache_calls.specs.Actors.{IsReaderOf, ReaderSeen, as_row, row_by}
-use Rattle.cache_calls.specs.Adds.{Adds, IsOfReader}
+use Rattle.cache_calls.specs.Adds.{AddsOnly, IsOfReader}
 use Rattle.cache_calls.specs.Keeping.{IsAtRest, IsPlain, state_at}
-use Rattle.cache_calls.specs.Readers.{GoesOn, GoesOnReading, HasRead, IsFragment, IsGivenAs, IsToldTo, ReaderGoesOn, listed_length, next_trouble, noted, read_adds}
+use Rattle.cache_calls.specs.Readers.{GoesOnReading, HasRead, IsBehindAnswer, IsFragment, IsGivenAs, IsToldTo, ReaderGoesOn, listed_length, next_trouble, noted, read_adds}
 use Rattle.cache_calls.specs.Standing.{GivesAsTold, GivesPayload, StaysStanding}
 use Rattle.cache_calls.proofs.Keeping.{plain_has_steps}
 use Rattle.cache_calls.proofs.Others.{reads_leave_others}
@@ -63,7 +63,7 @@ use Rattle.cache_replay.proofs.NextLine.{later_none}
 use Rattle.cache_replay.proofs.OwnContents.{given_is_own, tells_own}
 use Rattle.cache_replay.proofs.SameGeometry.{grown_same}
 use Rattle.cache_replay.proofs.Whole.{later_shows}
-use Rattle.cache_replay.specs.Getting.{Answers, Comes, IsAnswered, IsHit, IsKnownTo, IsUnderway, Knowing, Underway, rows_left}
+use Rattle.cache_replay.specs.Getting.{AnswersGet, ComesOfCache, GetIsAnswered, IsHit, IsKnownTo, IsUnderway, Knowing, Underway, rows_to_give}
 use Rattle.cache_replay.specs.Standing.{OwnStands, own_contents}
 
 -- ---- what was answered among records
@@ -286,7 +286,7 @@ pub closes_hit : {S W R : Type 0} (c : CallsGhosts S W R) {first a b : S} {asks 
     (n : ℕ) (row : ReaderRow)
     → IsQuiet (state_at (c.at a)) → reader_of (state_at (c.at a)) n ≡ Some row → (c.at b).kept ≡ with_records (c.at a).kept (rec.ReadClosed n ∷ [])
     → IsAfter (c.at a).device (c.at b).device → ((now : ℕ) → IsCall now (c.at a) (c.at b) (served now))
-    → IsAnswered c first a asks (StopReading n ∷ []) given said → IsAnswered c first b asks [] given said
+    → GetIsAnswered c first a asks (StopReading n ∷ []) given said → GetIsAnswered c first b asks [] given said
 closes_hit c {first = first} {a = a} {b = b} {asks = asks} n row quiet found adds goes serves answered = λ now run.
     let closing : IsCall now (c.at a) (c.at b) (Closing n) = call_as (λ p earlier calls added step happens h.
     let is : added ≡ rec.ReadClosed n ∷ [] = same_added (c.at a).kept (c.at b).kept added (rec.ReadClosed n ∷ []) happens.adds adds in
@@ -402,7 +402,7 @@ module _ (p : Permit) (earlier calls : List Call) (run : Run) (last : Device) (a
       (subst (λ x. Does p s (ReadAll r.reader) (adds_of a) (cond x Stays Done)) none (group_of a d))
 
   end_way : (size : ℕ) → IsQuiet s → ReadsAs (piece.End size)
-      → Answers asks (StopReading r.reader ∷ []) body (answer.Got r.put size body) run
+      → AnswersGet asks (StopReading r.reader ∷ []) body (answer.Got r.put size body) run
       (record { step = p; earlier = earlier; calls = calls; state = s0; added = added ++ adds_of (piece.End size) })
   end_way size quiet d =
       let m = reading_of (piece.End size) d in
@@ -422,7 +422,7 @@ module _ (p : Permit) (earlier calls : List Call) (run : Run) (last : Device) (a
       all_of (Some rows) e h none = all_is_given s run.streams r.reader (row_by reader_there.actor r) rows own_there quiet some reader_there.found e none
 
   broken_way : (why : Cause) → ReadsAs (piece.Broken why)
-      → Answers asks (StopReading r.reader ∷ []) [] (broken_said why) run
+      → AnswersGet asks (StopReading r.reader ∷ []) [] (broken_said why) run
       (record { step = p; earlier = earlier; calls = calls; state = s0; added = added ++ adds_of (piece.Broken why) })
   broken_way why d = record {
     grows = stop_grows (piece.Broken why) refl d;
@@ -462,7 +462,7 @@ module _ (p : Permit) (earlier calls : List Call) (run : Run) (last : Device) (a
   ]
 
   piece_way : (index size : ℕ) (into : List ℕ) (r2 : ReaderSeen) → t ≡ after_all s (adds_of (piece.Piece index size)) → t.geometry ≡ s.geometry
-      → GoesOn r (piece.Piece index size) r2 → IsReaderOf t r2 → IsFragment p s r index size into → GivesOwn index size into → ReadsAs (piece.Piece index size)
+      → IsBehindAnswer r (piece.Piece index size) r2 → IsReaderOf t r2 → IsFragment p s r index size into → GivesOwn index size into → ReadsAs (piece.Piece index size)
       → Underway asks r2 (body ++ take size into) run (record { step = p; earlier = earlier; calls = calls; state = s0; added = added ++ adds_of (piece.Piece index size) })
       ⊎ ShowsPair Placed p s0 asks (added ++ adds_of (piece.Piece index size))
   piece_way index size into r2 is geometry goes own f gives d =
@@ -506,7 +506,7 @@ module _ {S W R : Type 0} {c : CallsGhosts S W R} {first a b : S} {asks : List I
       → IsGivenAs p (state_at (c.at a)) r next into → Does p (state_at (c.at a)) (ReadOn r.reader) (read_adds (state_at (c.at a)) r next) Done
       → all run (record { step = p; earlier = earlier; calls = more ++ calls; state = state_at (c.at first); added = added ++ read_adds (state_at (c.at a)) r next })
       ⊎ ShowsPair (Untold (c.at b).device (IsPlacedAs run.streams)) p (state_at (c.at first)) asks (added ++ read_adds (state_at (c.at a)) r next))
-      → Comes c first b asks all
+      → ComesOfCache c first b asks all
   read_then all next reads serves law now run = knows_then goes_on (λ p earlier calls more added others standing way last.
       subst (λ recs. all run (record { step = p; earlier = earlier; calls = more ++ calls; state = state_at (c.at first); added = added ++ recs })
       ⊎ ShowsPair (Untold (c.at b).device (IsPlacedAs run.streams)) p (state_at (c.at first)) asks (added ++ recs)) (sym last.is)
@@ -519,7 +519,7 @@ module _ {S W R : Type 0} {c : CallsGhosts S W R} {first a b : S} {asks : List I
       ])) (under.comes now run) (reads_in reads (serves now))
 
   pub piece_comes : (index size : ℕ) (r2 : ReaderSeen) → HasRead (c.at a) (c.at b) r (piece.Piece index size) into → ServedOn (c.at a) (c.at b) r
-      → Adds (IsOfReader r.reader) (c.at a) (c.at b) → GoesOn r (piece.Piece index size) r2
+      → AddsOnly (IsOfReader r.reader) (c.at a) (c.at b) → IsBehindAnswer r (piece.Piece index size) r2
       → (IsReaderOf (state_at (c.at a)) r → IsReaderOf (state_at (c.at b)) r2)
       → GivesAsTold c.at c.stands a b r (Ok (piece.Piece index size)) into → StaysStanding c.stands AnyContents a b
       → IsUnderway c first b asks r2 (body ++ take size into)
@@ -544,18 +544,18 @@ module _ {S W R : Type 0} {c : CallsGhosts S W R} {first a b : S} {asks : List I
       ]
 
   pub end_comes : (size : ℕ) → HasRead (c.at a) (c.at b) r (piece.End size) into → ServedOn (c.at a) (c.at b) r
-      → IsAnswered c first b asks (StopReading r.reader ∷ []) body (answer.Got r.put size body)
+      → GetIsAnswered c first b asks (StopReading r.reader ∷ []) body (answer.Got r.put size body)
   end_comes size reads serves = read_then _ (piece.End size) reads serves (λ run p earlier calls more added at standing way given d.
       inl (end_way p earlier (more ++ calls) run (c.at b).device asks (state_at (c.at first)) (state_at (c.at a)) (state_at (c.at b)) added r body at
       (record { grows = way.grows; known = way.known; reader = way.reader; hit = way.hit; front = way.front }) hit some size rest.quiet d))
 
   pub broken_comes : (why : Cause) → HasRead (c.at a) (c.at b) r (piece.Broken why) into → ServedOn (c.at a) (c.at b) r
-      → IsAnswered c first b asks (StopReading r.reader ∷ []) [] (broken_said why)
+      → GetIsAnswered c first b asks (StopReading r.reader ∷ []) [] (broken_said why)
   broken_comes why reads serves = read_then _ (piece.Broken why) reads serves (λ run p earlier calls more added at standing way given d.
       inl (broken_way p earlier (more ++ calls) run (c.at b).device asks (state_at (c.at first)) (state_at (c.at a)) (state_at (c.at b)) added r body at
       (record { grows = way.grows; known = way.known; reader = way.reader; hit = way.hit; front = way.front }) hit some why d))
 
-  pub waits_comes : (all : Run → Upshots) (cut : ℕ) → HasRead (c.at a) (c.at b) r (piece.NotYet cut) into → ServedOn (c.at a) (c.at b) r → Comes c first b asks all
+  pub waits_comes : (all : Run → Upshots) (cut : ℕ) → HasRead (c.at a) (c.at b) r (piece.NotYet cut) into → ServedOn (c.at a) (c.at b) r → ComesOfCache c first b asks all
   waits_comes all cut reads serves = read_then all (piece.NotYet cut) reads serves (λ run p earlier calls more added at standing way given d.
       waits_way p earlier calls run (c.at b).device asks (state_at (c.at first)) (state_at (c.at a)) (state_at (c.at b)) added r body at way hit some cut d)
 
@@ -588,7 +588,8 @@ module _ {a b : At} {r : ReaderSeen} {index size : ℕ} {into : List ℕ} (reads
       let taken : length (take size into) ≡ min size (length into) = length-take size into in
       omega (arith, taken_is, taken)
 
-  pub nearer : (r2 : ReaderSeen) → GoesOn r (piece.Piece index size) r2 → is_some r.table ≡ true → 1 ≤ r.next → rows_left r2 < rows_left r
+  pub nearer : (r2 : ReaderSeen) → IsBehindAnswer r (piece.Piece index size) r2 → is_some r.table ≡ true → 1 ≤ r.next
+      → rows_to_give r2 < rows_to_give r
   nearer r2 goes hit some =
       let f = fragment_of in
       let cut : r.next - 1 < length (unwrap_or r.table []) = rows_cut (state_at a) r r.table f.entry refl hit f.cut in
@@ -598,9 +599,9 @@ module _ {a b : At} {r : ReaderSeen} {index size : ℕ} {into : List ℕ} (reads
 
 -- the same answer of the reader and under other names
 pub answered_as : {S W R : Type 0} (c : CallsGhosts S W R) {first new : S} {asks : List Intent} {given : List ℕ} (n m : ℕ) (said other : StepAnswer) → n ≡ m
-    → said ≡ other → IsAnswered c first new asks (StopReading n ∷ []) given said → IsAnswered c first new asks (StopReading m ∷ []) given other
+    → said ≡ other → GetIsAnswered c first new asks (StopReading n ∷ []) given said → GetIsAnswered c first new asks (StopReading m ∷ []) given other
 answered_as c {first = first} {new = new} {asks = asks} {given = given} n m said other same is h =
-    subst (λ x. IsAnswered c first new asks (StopReading m ∷ []) given x) is (subst (λ i. IsAnswered c first new asks (StopReading i ∷ []) given said) same h)
+    subst (λ x. GetIsAnswered c first new asks (StopReading m ∷ []) given x) is (subst (λ i. GetIsAnswered c first new asks (StopReading i ∷ []) given said) same h)
 
 -- ---- the reader behind it
 

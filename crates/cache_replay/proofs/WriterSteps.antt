@@ -24,20 +24,20 @@ use Rattle.script_run.specs.Answers.{session_said}
 use Rattle.script_run.specs.Asked as asks
 use Rattle.script_run.specs.Asked.{asked, feed_intents}
 use Rattle.script_run.specs.Behind.{holds_behind, still_open, streams_behind}
-use Rattle.script_run.specs.Run.{Run, Writes, gathered_of, put_in, writer_of}
+use Rattle.script_run.specs.Run.{Run, Writes, gathered_of, put_in, put_written_by}
 use Rattle.script_run.specs.Takes.{GivesOwn, streams_with}
 use Rattle.script_run.specs.Turn.{Turn}
 use Rattle.script_run.proofs.Ended.{IsFoundOpen, open_row}
 use Rattle.cache_replay.specs.Feeding.{feed_asks}
 use Rattle.cache_replay.specs.Plays.{IsStreamOf}
 use Rattle.cache_replay.specs.Session.{IsOpenWriter}
-use Rattle.cache_replay.specs.WriterLines.{Closes, Feeds, GivesUp, IsLeft, IsPlayed, Opens, WriterDoes, WriterEnds, WriterLine, step_of, writes_in}
+use Rattle.cache_replay.specs.WriterLines.{Closes, Feeds, GivesUp, IsPlayed, IsWriterLeft, Opens, WriterDoes, WriterEnds, WriterLine, step_of_writer, writes_in}
 use Rattle.cache_replay.proofs.Owned.{writer_is_ended}
 use Rattle.cache_replay.proofs.Whole.{serves_whole, shows_line, shows_piece, takes_line, turn_by}
 
 -- ---- the put of an actor
 
-pub has_put : (run : Run) (name : List ℕ) (s : State) (w : WriterSeen) → IsPlayed run name s w → writer_of run name ≡ Some w.put
+pub has_put : (run : Run) (name : List ℕ) (s : State) (w : WriterSeen) → IsPlayed run name s w → put_written_by run name ≡ Some w.put
 has_put run name s w played = ap (option_and_then put_in) played.held
 
 pub cuts_at : (s : State) (w : WriterSeen) → IsOpenWriter s w → cuts_of s w.put ≡ w.cuts
@@ -56,9 +56,9 @@ gathered_at run name s w played own =
 
 -- a writer that is not sealed is asked for the whole fragments among what it has gathered with these bytes
 pub feeding_asks : (run : Run) (name : List ℕ) (s : State) (w : WriterSeen) (body : List ℕ) → IsPlayed run name s w → IsOpenWriter s w
-    → asked run s (step_of (Feeds body) name) ≡ (if (run.streams w.put).sealed then [] else feed_asks s w body)
+    → asked run s (step_of_writer (Feeds body) name) ≡ (if (run.streams w.put).sealed then [] else feed_asks s w body)
 feeding_asks run name s w body played own =
-    ap (λ o. asks.if_has o (asks.feeding run s body)) (has_put run name s w played)
+    ap (λ o. asks.asks_if_has o (asks.feeding run s body)) (has_put run name s w played)
     ∙ (ap (λ (rows : List TableRow). if (run.streams w.put).sealed then [] else feed_intents s.geometry.fragment w.put (length rows) (gathered_of run s w.put ++ body))
     (cuts_at s w own)
     ∙ ap (λ (bytes : List ℕ). if (run.streams w.put).sealed then [] else feed_intents s.geometry.fragment w.put (length w.cuts) (bytes ++ body))
@@ -68,11 +68,11 @@ feeding_asks run name s w body played own =
 
 -- what the run has behind it
 pub record IsBehind (run : Run) (name : List ℕ) (a b : At) (line : WriterLine) (turn : Turn) (left : Option WriterSeen) (said : StepAnswer) : Type 0 where
-  pub held : holds_behind run (state_at a) (state_at b) (step_of line name) name ≡ writes_in left
-  pub stream : IfSome left (λ w. IsStreamOf (streams_behind run (state_at a) (state_at b) turn (step_of line name) w.put) w)
-  pub says : session_said run (state_at a) (state_at b) turn (step_of line name) ≡ said
+  pub held : holds_behind run (state_at a) (state_at b) (step_of_writer line name) name ≡ writes_in left
+  pub stream : IfSome left (λ w. IsStreamOf (streams_behind run (state_at a) (state_at b) turn (step_of_writer line name) w.put) w)
+  pub says : session_said run (state_at a) (state_at b) turn (step_of_writer line name) ≡ said
 
-pub given_none : (line : WriterLine) (run : Run) (s : State) (name : List ℕ) (turn : Turn) → turn.given ≡ [] → GivesOwn run s turn (step_of line name)
+pub given_none : (line : WriterLine) (run : Run) (s : State) (name : List ℕ) (turn : Turn) → turn.given ≡ [] → GivesOwn run s turn (step_of_writer line name)
 given_none (Feeds body) run s name turn h = h
 given_none Closes run s name turn h = h
 given_none GivesUp run s name turn h = h
@@ -80,24 +80,24 @@ given_none (Opens key pin request response) run s name turn h = h
 
 module _ (run : Run) (name : List ℕ) (a b : At) (now : ℕ) (plain : a.setting ≡ plain_setting) (moment : run.now ≡ now) (line : WriterLine) where
   pub writer_ends : {known : Facts} (is : List Intent) (why : Option Reason) (left : Option WriterSeen) (said : StepAnswer)
-      → asked run (state_at a) (step_of line name) ≡ is
+      → asked run (state_at a) (step_of_writer line name) ≡ is
       → (w : IsWholeStep (Untold b.device IsVectorAs) now [] a b is why known)
       → (IsStep (permit_of now a.setting [] w.calls) (state_at a) is w.added why → state_at b ≡ after_all (state_at a) w.added
       → known (w.calls ++ []) (state_at b)
-      → IsBehind run name a b line (turn_by run (step_of line name) a b now plain moment w.added why w.calls []) left said)
+      → IsBehind run name a b line (turn_by run (step_of_writer line name) a b now plain moment w.added why w.calls []) left said)
       → WriterEnds run name a b line left said
   writer_ends is why left said same w then_ =
       let p = permit_of now a.setting [] w.calls in
-      let turn : Turn = turn_by run (step_of line name) a b now plain moment w.added why w.calls [] in
+      let turn : Turn = turn_by run (step_of_writer line name) a b now plain moment w.added why w.calls [] in
       elim w.ends [
-        | inr pair ↦ inr (shows_line run (step_of line name) a b now plain moment is w.calls w.added same w.happens.past
-            (shows_piece (streams_with run (state_at a) (step_of line name)) b.device p (state_at a) is w.added pair))
+        | inr pair ↦ inr (shows_line run (step_of_writer line name) a b now plain moment is w.calls w.added same w.happens.past
+            (shows_piece (streams_with run (state_at a) (step_of_writer line name)) b.device p (state_at a) is w.added pair))
         | inl v ↦
             let behind : IsBehind run name a b line turn left said = then_ v.0 (state_behind a.kept b.kept w.added w.happens.adds) v.1 in
             inl (record {
               moves = record {
                 turn = turn;
-                takes = takes_line run (step_of line name) a b now plain moment is why [] same w (given_none line run (state_at a) name turn refl) v.0;
+                takes = takes_line run (step_of_writer line name) a b now plain moment is why [] same w (given_none line run (state_at a) name turn refl) v.0;
                 calls = w.happens.past;
                 state = state_behind a.kept b.kept w.added w.happens.adds;
                 says = behind.says;
@@ -120,7 +120,7 @@ gives_up a b w put plain quiet is serves now = λ run name moment played.
     let t : State = state_at b in
     let has = has_put run name s w played in
     writer_ends run name a b now plain moment GivesUp (GiveUp w.put ∷ []) None None (answer.Aborted put)
-    (ap (λ o. asks.if_has o (λ n. GiveUp n ∷ [])) has)
+    (ap (λ o. asks.asks_if_has o (λ n. GiveUp n ∷ [])) has)
     (serves_whole None progress.EndsWith.in_full plain quiet played.told (serves now))
     (λ legal there known. record {
       held = ap (still_open t) played.held ∙ ended_at t w.put (ap (λ x. is_writing x w.put) there ∙ writer_is_ended _ s (GiveUp w.put ∷ []) _ None w.put refl legal);
@@ -154,7 +154,7 @@ of_left P t w left l h = by (is_writing t w.put) refl
     by : (b : Bool) → is_writing t w.put ≡ b → IfSome left P
     by b e = stream_by P w left b (l ∙ ap (λ (c : Bool). if c then Some w else None) e) (λ yea. h (e ∙ yea))
 
-pub is_left : (t : State) (put : ℕ) (w : WriterSeen) (left : Option WriterSeen) → w.put ≡ put → IsWriterOf t w → LeftOpen t w left → IsLeft t put left
+pub is_left : (t : State) (put : ℕ) (w : WriterSeen) (left : Option WriterSeen) → w.put ≡ put → IsWriterOf t w → LeftOpen t w left → IsWriterLeft t put left
 is_left t put w left is own l = of_left (λ w. (w.put ≡ put) × IsOpenWriter t w) t w left l (λ o. (is, record { writing = o; writer = own }))
 
 -- as a function answers it

@@ -11,7 +11,7 @@ use Rattle.call_laws.specs.Serves.{Serves}
 use Rattle.cache_calls.specs.declared.calls.Refusal.{Refusal}
 use Rattle.cache_calls.specs.declared.calls.Refusal.TheVariants as refusal
 use Rattle.cache_calls.specs.Actors.{IsWriterOf, WriterSeen}
-use Rattle.cache_calls.specs.Adds.{Adds, IsAsItWas, IsOfPut}
+use Rattle.cache_calls.specs.Adds.{AddsOnly, IsAsItWas, IsOfPut}
 use Rattle.cache_calls.specs.Keeping.{state_at}
 use Rattle.script_run.specs.Asked.{feed_intents, rest_behind, whole_fragments}
 use Rattle.cache_replay.specs.Replies.{count_of_refusal}
@@ -48,9 +48,9 @@ FeedsWhere now old new w bytes why = FeedsAsAsked now old new w bytes why
 -- ---- how far it comes
 
 -- all bytes are taken where nothing is refused, and else those of the fragments that were cut
-abbrev pub taken_of : State → WriterSeen → List ℕ → Option Refusal → ℕ
-taken_of t w bytes None = length bytes
-taken_of t w bytes (Some why) = total_length (cuts_of t w.put) - (total_length w.cuts + length w.gathered)
+abbrev pub taken_by_feed : State → WriterSeen → List ℕ → Option Refusal → ℕ
+taken_by_feed t w bytes None = length bytes
+taken_by_feed t w bytes (Some why) = total_length (cuts_of t w.put) - (total_length w.cuts + length w.gathered)
 
 -- the writer is open unless it had one fragment too many
 abbrev pub IsOpenBehind : State → ℕ → Option Refusal → Type 0
@@ -78,11 +78,11 @@ IsCutWhere fragment w bytes (Some why) new = Unit {0}
 
 -- what a writer is behind it, and what its records tell
 pub record HasFed (old new : At) (w : WriterSeen) (bytes : List ℕ) (taken : ℕ) (why : Option Refusal) (later : WriterSeen) : Type 0 where
-  pub own : Adds (IsOfPut w.put) old new
+  pub own : AddsOnly (IsOfPut w.put) old new
   pub writer : IsWriterOf (state_at new) later
   pub fed : IsFed w bytes taken later
   pub most : taken ≤ length bytes
-  pub taken_is : taken ≡ taken_of (state_at new) w bytes why
+  pub taken_is : taken ≡ taken_by_feed (state_at new) w bytes why
   pub cut : IsCutWhere (state_at old).geometry.fragment w bytes why later
   pub writing : IsOpenBehind (state_at new) w.put why
   pub counts : IfSome why (λ refused. count_of_refusal refused ≤ new.device.faults)

@@ -6,7 +6,7 @@ use Rattle.device_log.specs.Calls.{Call}
 use Rattle.alternate_vector.specs.Field.{Field}
 use Rattle.cache_model.specs.declared.answer.ReadAnswer.TheVariants as read
 use Rattle.cache_model.specs.declared.record.Rec.{Rec}
-use Rattle.logged_disk.specs.Device.{State as Device}
+use Rattle.logged_disk.specs.Device.{DeviceState as Device}
 use Rattle.cache_model.specs.State.{State, after_all}
 use Rattle.cache_model.specs.Permit.{Intent, Permit, ReadAll, StopReading, to_do}
 use Rattle.cache_model.specs.Legal.{MayGrow}
@@ -33,7 +33,7 @@ use Rattle.script_run.specs.Takes.{IsBody}
 use Rattle.cache_replay.specs.Standing.{OwnStands}
 use Rattle.cache_replay.specs.declared.getting.Got.{Got}
 use Rattle.cache_replay.specs.declared.getting.Got.TheVariants as got
-use Rattle.run_promise.specs.Outline.{count_in, count_of}
+use Rattle.run_promise.specs.Outline.{count_in, count_of_cause}
 
 -- ---- answers
 
@@ -51,7 +51,7 @@ got_answer (got.Miss why) = miss_said why
 
 -- the count of the device fault for which a reader breaks; 0 where it does not break so
 abbrev pub count_in_piece : NextPiece → ℕ
-count_in_piece (piece.Broken why) = count_of why
+count_in_piece (piece.Broken why) = count_of_cause why
 count_in_piece _ = 0
 
 -- ---- what is known of a run
@@ -81,7 +81,7 @@ pub record ShowsBy (run : Run) (last : Device) (p : Permit) (s : State) (asks : 
 -- ---- a whole read
 
 -- by these records as much was done as leaves this, with this answer and these bytes: those that the put's writer took
-pub record Answers (asks left : List Intent) (given : List ℕ) (said : StepAnswer) (run : Run) (k : InStep) : Type 0 where
+pub record AnswersGet (asks left : List Intent) (given : List ℕ) (said : StepAnswer) (run : Run) (k : InStep) : Type 0 where
   pub grows : MayGrow k.step k.state (to_do asks) k.added (to_do left)
   pub body : IsBody run given (told_in k.added) (lookup_in k.added)
   pub says : get_said given (told_in k.added) (lookup_in k.added) ≡ said
@@ -101,18 +101,18 @@ pub record IsHit (s : State) (r : ReaderSeen) (put : ℕ) : Type 0 where
   pub put_is : put ≡ r.put
 
 -- how many fragments of what it hit it was not given yet
-abbrev pub rows_left : ReaderSeen → ℕ
-rows_left r = length (unwrap_or r.table []) + 1 - r.next
+abbrev pub rows_to_give : ReaderSeen → ℕ
+rows_to_give r = length (unwrap_or r.table []) + 1 - r.next
 
 -- a fragment that was given leaves fewer to be given, so that the read ends
 abbrev pub IsNearer : ReaderSeen → NextPiece → ReaderSeen → Type 0
-IsNearer old (piece.Piece index size) new = rows_left new < rows_left old
+IsNearer old (piece.Piece index size) new = rows_to_give new < rows_to_give old
 IsNearer old _ new = Unit {0}
 
 module _ {S W R : Type 0} (c : CallsGhosts S W R) where
   -- what comes of a cache from the moment on at which it was asked, beside any run
-  abbrev pub Comes : (origin new : S) → List Intent → (Run → Upshots) → Type 0
-  Comes origin new asks comes = (now : ℕ) (run : Run)
+  abbrev pub ComesOfCache : (origin new : S) → List Intent → (Run → Upshots) → Type 0
+  ComesOfCache origin new asks comes = (now : ℕ) (run : Run)
       → IsCall now (c.at origin) (c.at new) (Knowing (c.stands origin) (c.at new).device run asks (comes run))
 
   -- what was asked from the first of three moments on leaves the cache unharmed between the other two, where that is known
@@ -123,29 +123,30 @@ module _ {S W R : Type 0} (c : CallsGhosts S W R) where
       → StaysUnharmed (c.at old) (c.at new) ⊎ ShowsBy run (c.at new).device p (state_at (c.at origin)) asks
 
   -- it was answered so, with these bytes
-  abbrev pub IsAnswered : (origin new : S) → (asks left : List Intent) → List ℕ → StepAnswer → Type 0
-  IsAnswered origin new asks left given said = Comes origin new asks (Answers asks left given said)
+  abbrev pub GetIsAnswered : (origin new : S) → (asks left : List Intent) → List ℕ → StepAnswer → Type 0
+  GetIsAnswered origin new asks left given said = ComesOfCache origin new asks (AnswersGet asks left given said)
 
   -- it was read so far, and what stood stands
   pub record IsUnderway (origin new : S) (asks : List Intent) (r : ReaderSeen) (body : List ℕ) : Type 0 where
-    pub comes : Comes origin new asks (Underway asks r body)
+    pub comes : ComesOfCache origin new asks (Underway asks r body)
     pub stands : StaysStanding c.stands AnyContents origin new
 
   -- what reading a hit to its end came to, whatever was asked before it: an answer, and that nothing is harmed meanwhile
   pub record ReadsWhole (old new : S) (r : ReaderSeen) (left : List Intent) (result : Result Got AllocError) : Type 0 where
     pub answers : IfOk result (λ got. (origin : S) (asks : List Intent)
-        → IsUnderway origin old asks r [] → IsAnswered origin new asks left (given_in got) (got_answer got))
+        → IsUnderway origin old asks r [] → GetIsAnswered origin new asks left (given_in got) (got_answer got))
     pub unharmed : (origin : S) (asks : List Intent) → IsUnderway origin old asks r [] → StaysSound origin old new asks
     pub counts : IfOk result (λ got. NoLossIsAFault (state_at (c.at old)) → count_in (got_answer got) ≤ (c.at new).device.faults)
 
   -- a reader of a hit is closed: what was left to be done of a read is done
   abbrev pub ClosesHit : (old new : S) → ℕ → Type 0
   ClosesHit old new reader = (origin : S) (asks : List Intent) (given : List ℕ) (said : StepAnswer)
-      → IsAnswered origin old asks (StopReading reader ∷ []) given said → IsAnswered origin new asks [] given said
+      → GetIsAnswered origin old asks (StopReading reader ∷ []) given said → GetIsAnswered origin new asks [] given said
 
   -- what a whole read came to
   pub record Gets (old new : S) (key : Key) (request : List Field) (result : Result Got AllocError) : Type 0 where
-    pub answers : IfOk result (λ got. IsAnswered old new (get_intents (state_at (c.at old)) key request) [] (given_in got) (got_answer got))
+    pub answers : IfOk result
+        (λ got. GetIsAnswered old new (get_intents (state_at (c.at old)) key request) [] (given_in got) (got_answer got))
     pub unharmed : StaysSound old old new (get_intents (state_at (c.at old)) key request)
     pub counts : IfOk result (λ got. NoLossIsAFault (state_at (c.at old)) → count_in (got_answer got) ≤ (c.at new).device.faults)
 
@@ -154,9 +155,9 @@ module _ {S W R : Type 0} (c : CallsGhosts S W R) where
   -- what comes of the next one, by what the reader was told; none that hit something waits
   abbrev pub ComesOf : (origin new : S) → List Intent → ℕ → ReaderSeen → List ℕ → NextPiece → Type 0
   ComesOf origin new asks put r body (piece.Piece index size) = IsUnderway origin new asks r body
-  ComesOf origin new asks put r body (piece.End size) = IsAnswered origin new asks (StopReading r.reader ∷ []) body (answer.Got put size body)
-  ComesOf origin new asks put r body (piece.NotYet cut) = IsAnswered origin new asks (StopReading r.reader ∷ []) [] (answer.Follow put)
-  ComesOf origin new asks put r body (piece.Broken why) = IsAnswered origin new asks (StopReading r.reader ∷ []) [] (broken_said why)
+  ComesOf origin new asks put r body (piece.End size) = GetIsAnswered origin new asks (StopReading r.reader ∷ []) body (answer.Got put size body)
+  ComesOf origin new asks put r body (piece.NotYet cut) = GetIsAnswered origin new asks (StopReading r.reader ∷ []) [] (answer.Follow put)
+  ComesOf origin new asks put r body (piece.Broken why) = GetIsAnswered origin new asks (StopReading r.reader ∷ []) [] (broken_said why)
 
   -- what reading the next fragment came to: what comes of the read, the reader of the same hit, and that nothing is harmed where
   -- the fragment belongs to what its writer took

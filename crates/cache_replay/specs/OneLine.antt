@@ -4,7 +4,7 @@ use Rattle.cache_model.specs.Vectors.{AreTold}
 use Rattle.cache_calls.specs.declared.calls.Calls.{Ghosts as CallsGhosts}
 use Rattle.cache_calls.specs.Keeping.{Goes, StaysUnharmed}
 use Rattle.cache_calls.specs.Standing.{StaysStanding}
-use Rattle.actor_table.specs.Table.{Seen}
+use Rattle.actor_table.specs.Table.{TableSeen}
 use Rattle.script_lang.specs.declared.step.Step.{Step}
 use Rattle.script_lang.specs.declared.answer.StepAnswer.{StepAnswer}
 use Rattle.script_run.specs.Own.{AreOwn}
@@ -14,7 +14,7 @@ use Rattle.cache_replay.specs.declared.session.Part.{Part}
 use Rattle.cache_replay.specs.declared.session.Session.{Session}
 use Rattle.cache_replay.specs.declared.stop.Stop.{Stop}
 use Rattle.cache_replay.specs.declared.stop.Stop.TheVariants.{Memory}
-use Rattle.cache_replay.specs.Session.{AreLater, IsActive, IsPart, IsSession, LeavesBut, TellsCount, at_in, devices_of, names_in, return_in, slots_of, state_in}
+use Rattle.cache_replay.specs.Session.{AnswerTellsCount, AreLater, IsActive, IsPart, IsSession, LeavesBut, at_in, devices_of, names_in, return_in, slots_of, state_in_part}
 use Rattle.cache_replay.specs.Moves.{MovesOrShows, ShowsIn}
 use Rattle.cache_replay.specs.Plays.{PartEnds, Plays, PlaysPart, StepEnds}
 use Rattle.cache_replay.specs.Standing.{IsToldPlainly, OwnStands}
@@ -25,19 +25,19 @@ module _ {S W R : Type 0} {c : CallsGhosts S W R} where
   pub record AnswersLine (step : Step) (old new : Session S W R c) (result : Result StepAnswer Stop) : Type 0 where
     pub session : IsSession new
     pub ends : IfOk result (λ said. (run : Run) → Plays run old → StepEnds run step new said)
-    pub counts : IfOk result (TellsCount new.part)
+    pub counts : IfOk result (AnswerTellsCount new.part)
     pub device : AreLater (return_in old) (return_in new)
     pub stop : IfErr result (IsSessionStop old)
     pub devices : devices_of new ≡ devices_of old
     pub names : length (names_in new) ≤ length (names_in old) + 1
 
   -- the same of a line of an actor, on a part with what the actors have, at a moment
-  pub record AnswersActor (now : ℕ) (step : Step) (old new : Part S W R c) (actors later : Seen (Holding W R)) (result : Result StepAnswer Stop) : Type 0 where
+  pub record AnswersActor (now : ℕ) (step : Step) (old new : Part S W R c) (actors later : TableSeen (Holding W R)) (result : Result StepAnswer Stop) : Type 0 where
     pub active : IsActive new (slots_of c later)
     pub goes : Goes c.at c.holds old.cache new.cache
     pub ends : IfOk result (λ said. (run : Run) → run.now ≡ now → PlaysPart run old actors → PartEnds run step old new later said)
     pub unharmed : (run : Run) → PlaysPart run old actors → StaysUnharmed (at_in old) (at_in new)
-    pub counts : IfOk result (TellsCount (Some new))
+    pub counts : IfOk result (AnswerTellsCount (Some new))
     pub stop : IfErr result (λ why. why ≡ Memory)
     pub names : length later.names ≤ length actors.names + 1
 
@@ -45,13 +45,13 @@ module _ {S W R : Type 0} {c : CallsGhosts S W R} where
   pub record AnswersPlainly (now : ℕ) (step : Step) (put reader : Option ℕ) (old new : Part S W R c) (result : Result StepAnswer Stop) : Type 0 where
     pub part : IsPart new
     pub goes : Goes c.at c.holds old.cache new.cache
-    pub leaves : LeavesBut put reader (state_in old) (state_in new)
-    pub stands : StaysStanding c.stands (IsToldPlainly (state_in new) put step) old.cache new.cache
-    pub ends : IfOk result (λ said. (run : Run) → run.now ≡ now → AreTold (state_in old) → AreOwn (state_in old) run.streams
-        → OwnStands run.streams (state_in old) (c.stands old.cache)
+    pub leaves : LeavesBut put reader (state_in_part old) (state_in_part new)
+    pub stands : StaysStanding c.stands (IsToldPlainly (state_in_part new) put step) old.cache new.cache
+    pub ends : IfOk result (λ said. (run : Run) → run.now ≡ now → AreTold (state_in_part old) → AreOwn (state_in_part old) run.streams
+        → OwnStands run.streams (state_in_part old) (c.stands old.cache)
         → MovesOrShows run step (at_in old) (at_in new) said)
-    pub unharmed : (run : Run) → run.now ≡ now → AreTold (state_in old) → AreOwn (state_in old) run.streams
-        → OwnStands run.streams (state_in old) (c.stands old.cache)
+    pub unharmed : (run : Run) → run.now ≡ now → AreTold (state_in_part old) → AreOwn (state_in_part old) run.streams
+        → OwnStands run.streams (state_in_part old) (c.stands old.cache)
         → StaysUnharmed (at_in old) (at_in new) ⊎ ShowsIn run step (at_in old) (at_in new)
-    pub counts : IfOk result (TellsCount (Some new))
+    pub counts : IfOk result (AnswerTellsCount (Some new))
     pub stop : IfErr result (λ why. why ≡ Memory)

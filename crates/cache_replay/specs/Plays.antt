@@ -7,7 +7,7 @@ use Rattle.cache_model.specs.Vectors.{AreTold}
 use Rattle.cache_calls.specs.declared.calls.Calls.{Ghosts as CallsGhosts}
 use Rattle.cache_calls.specs.Actors.{IsReaderOf, WriterSeen}
 use Rattle.cache_calls.specs.Keeping.{IsUnharmed}
-use Rattle.actor_table.specs.Table.{Seen}
+use Rattle.actor_table.specs.Table.{TableSeen}
 use Rattle.script_lang.specs.declared.answer.StepAnswer.{StepAnswer}
 use Rattle.script_lang.specs.declared.step.Step.{Step}
 use Rattle.script_run.specs.Run.{Harm, Run, Stream, Writes, Reads, loosened, no_harm}
@@ -22,10 +22,10 @@ use Rattle.cache_replay.specs.declared.session.Part.{Part}
 use Rattle.cache_replay.specs.declared.session.Session.{Session}
 use Rattle.cache_replay.specs.declared.stop.Stop.{Stop}
 use Rattle.cache_replay.specs.declared.stop.Stop.TheVariants.{Memory}
-use Rattle.cache_replay.specs.Session.{HoldingSeen, IsSession, ReaderHeld, WriterHeld, at_in, names_in, past_of, return_in, slots_in, slots_of, state_in}
+use Rattle.cache_replay.specs.Session.{HoldingSeen, IsSession, ReaderHeld, WriterHeld, at_in, names_in, past_of, return_in, slots_in, slots_of, state_in_part}
 use Rattle.cache_replay.specs.Moves.{Moves, ShowsIn}
 use Rattle.cache_replay.specs.Standing.{OwnStands}
-use Rattle.run_promise.specs.Outline.{IsAnswered, Outline, called, doubted, outline_after, outline_in, told_of}
+use Rattle.run_promise.specs.Outline.{IsAnswered, Outline, doubted, outline_after, outline_in, told_of, with_calls_of}
 use Rattle.run_promise.specs.Needs.{AttachesAs, NeedsSession}
 
 -- ---- a session beside a run
@@ -58,7 +58,7 @@ module _ {S W R : Type 0} {c : CallsGhosts S W R} where
   -- the run beside a session's part, or beside a session that has none
   abbrev pub PlaysAt : Run → Option (Part S W R c) → (ℕ → Option HoldingSeen) → Type 0
   PlaysAt run None slots = PlaysNone run
-  PlaysAt run (Some part) slots = PlaysIn run (state_in part) slots
+  PlaysAt run (Some part) slots = PlaysIn run (state_in_part part) slots
 
   -- no piece of its part was told as damaged, where the device of that tells its content
   abbrev pub IsUnharmedAt : Option (Part S W R c) → Type 0
@@ -71,9 +71,9 @@ module _ {S W R : Type 0} {c : CallsGhosts S W R} where
   CallsAt run (Some part) = past_of part ≡ run.calls
 
   -- what is told of its pieces, by what writers took, stands
-  abbrev pub StandsAt : Run → Option (Part S W R c) → Type 0
-  StandsAt run None = Unit {0}
-  StandsAt run (Some part) = OwnStands run.streams (state_in part) (c.stands part.cache)
+  abbrev pub OwnStandsAt : Run → Option (Part S W R c) → Type 0
+  OwnStandsAt run None = Unit {0}
+  OwnStandsAt run (Some part) = OwnStands run.streams (state_in_part part) (c.stands part.cache)
 
   -- its device did not tell its content
   abbrev pub IsUntoldAt : Option (Part S W R c) → Type 0
@@ -87,7 +87,7 @@ module _ {S W R : Type 0} {c : CallsGhosts S W R} where
     pub at : PlaysAt run session.part (slots_in session)
     -- of a device that tells its content no piece was told as damaged
     pub unharmed : IsUnharmedAt session.part
-    pub stands : StandsAt run session.part
+    pub stands : OwnStandsAt run session.part
     -- all calls of its device are those of the lines since its attach
     pub calls : CallsAt run session.part
 
@@ -109,7 +109,7 @@ module _ {S W R : Type 0} {c : CallsGhosts S W R} where
   pub record StepPair (run : Run) (step : Step) (new : Session S W R c) : Type 0 where
     pub turn : Turn
     pub shows : StepShows run turn run.state step
-    pub calls : CallsAt (called run turn) new.part
+    pub calls : CallsAt (with_calls_of run turn) new.part
     pub untold : IsUntoldAt new.part
 
   -- it did what it must, or shows such a pair
@@ -125,18 +125,19 @@ module _ {S W R : Type 0} (c : CallsGhosts S W R) where
 
 module _ {S W R : Type 0} {c : CallsGhosts S W R} where
   -- a part and the actors as the run has them
-  pub record PlaysPart (run : Run) (part : Part S W R c) (actors : Seen (Holding W R)) : Type 0 where
+  pub record PlaysPart (run : Run) (part : Part S W R c) (actors : TableSeen (Holding W R)) : Type 0 where
     pub names : run.actors ≡ actors.names
-    pub at : PlaysIn run (state_in part) (slots_of c actors)
-    pub stands : OwnStands run.streams (state_in part) (c.stands part.cache)
+    pub at : PlaysIn run (state_in_part part) (slots_of c actors)
+    pub stands : OwnStands run.streams (state_in_part part) (c.stands part.cache)
 
   -- a line on a part did what it must, this is its answer, and the part and the actors are what the run behind it says
-  pub record PartMoves (run : Run) (step : Step) (old new : Part S W R c) (actors : Seen (Holding W R)) (said : StepAnswer) : Type 0 where
+  pub record PartMoves (run : Run) (step : Step) (old new : Part S W R c) (actors : TableSeen (Holding W R))
+      (said : StepAnswer) : Type 0 where
     pub moves : Moves run step (at_in old) (at_in new) said
-    pub plays : PlaysPart (in_session run (state_in old) (state_in new) moves.turn step) new actors
+    pub plays : PlaysPart (in_session run (state_in_part old) (state_in_part new) moves.turn step) new actors
 
   -- so it is, or two documents of one SHA-256 are shown
-  abbrev pub PartEnds : Run → Step → (old new : Part S W R c) → Seen (Holding W R) → StepAnswer → Type 0
+  abbrev pub PartEnds : Run → Step → (old new : Part S W R c) → TableSeen (Holding W R) → StepAnswer → Type 0
   PartEnds run step old new actors said = PartMoves run step old new actors said ⊎ ShowsIn run step (at_in old) (at_in new)
 
 -- ---- devices
@@ -172,12 +173,12 @@ module _ {S W R : Type 0} {c : CallsGhosts S W R} where
   -- are as they were; or the line works on the session and wanted memory, and may have made calls of the device; or, of a
   -- format that wanted memory once its device was attached, both devices came back, that of the session first, and there is
   -- no session.
-  pub data IsLeft (harms : List Harm) (step : Step) (new : Session S W R c) (before now : Ledger) (why : Stop) : Type 0 where
-    stays : AreReached harms (return_in new) → now ≡ before → IsLeft harms step new before now why
+  pub data IsLeftAtEnd (harms : List Harm) (step : Step) (new : Session S W R c) (before now : Ledger) (why : Stop) : Type 0 where
+    stays : AreReached harms (return_in new) → now ≡ before → IsLeftAtEnd harms step new before now why
     tried : NeedsSession step → why ≡ Memory → AreReached (map loosened harms) (return_in new) → now ≡ before
-        → IsLeft harms step new before now why
+        → IsLeftAtEnd harms step new before now why
     ended : (name : List ℕ) → AttachesAs name step → new.part ≡ None → Deals before now (harms ++ no_harm ∷ []) (name ∷ []) → why ≡ Memory
-        → IsLeft harms step new before now why
+        → IsLeftAtEnd harms step new before now why
 
 -- ---- a step that did what it must, or shows a pair
 
@@ -187,7 +188,7 @@ module _ {S W R : Type 0} {c : CallsGhosts S W R} where
   pub record DeviceShows (run : Run) (step : Step) (new : Session S W R c) (said : StepAnswer) (before now : Ledger) : Type 0 where
     pub turn : Turn
     pub shows : StepShows run turn run.state step
-    pub outlines : Outlines (doubted (outline_in (called run turn))) step new said before now
+    pub outlines : Outlines (doubted (outline_in (with_calls_of run turn))) step new said before now
 
   -- it did what it must, or shows such a pair
   abbrev pub DeviceEnds : Run → Step → Session S W R c → StepAnswer → (before now : Ledger) → Type 0

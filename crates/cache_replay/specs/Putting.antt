@@ -14,7 +14,7 @@ use Rattle.cache_calls.specs.declared.calls.Receipt.{Receipt}
 use Rattle.cache_calls.specs.declared.calls.Refusal.{Refusal}
 use Rattle.cache_calls.specs.declared.calls.Refusal.TheVariants as refusal
 use Rattle.cache_calls.specs.Actors.{WriterSeen}
-use Rattle.cache_calls.specs.Adds.{Adds, IsOfPut}
+use Rattle.cache_calls.specs.Adds.{AddsOnly, IsOfPut}
 use Rattle.cache_calls.specs.Keeping.{state_at}
 use Rattle.script_run.specs.Answers.{put_said, said}
 use Rattle.script_run.specs.Asked.{body_intents, put_intents}
@@ -44,10 +44,10 @@ abbrev pub Says : State → ℕ → Result Receipt Refusal → Type 0
 Says t put result = said t None (reason_of put result) (put_said t put) ≡ receipt_answer result
 
 -- it is not open any more where it is complete or lost
-abbrev pub IsOver : State → ℕ → Result Receipt Refusal → Type 0
-IsOver t put (Ok receipt) = is_writing t put ≡ false
-IsOver t put (Err (refusal.Lost index cause)) = is_writing t put ≡ false
-IsOver t put (Err _) = Unit {0}
+abbrev pub PutIsOver : State → ℕ → Result Receipt Refusal → Type 0
+PutIsOver t put (Ok receipt) = is_writing t put ≡ false
+PutIsOver t put (Err (refusal.Lost index cause)) = is_writing t put ≡ false
+PutIsOver t put (Err _) = Unit {0}
 
 -- where memory is wanting, nothing is said; a put is not refused for what only a line on a writer meets
 abbrev pub UnlessMemory : Result Receipt Refusal → Type 0 → Type 0
@@ -59,14 +59,14 @@ UnlessMemory result So = So
 -- ---- a body that is fed and closed
 
 -- a writer that took nothing yet
-pub record IsFresh (w : WriterSeen) : Type 0 where
+pub record IsFreshWriter (w : WriterSeen) : Type 0 where
   pub cuts : w.cuts ≡ []
   pub gathered : w.gathered ≡ []
   pub unsealed : w.sealed ≡ false
 
 -- known behind it, unless two documents of one SHA-256 are shown: what is told of the put
 abbrev pub IsFilledAs : ℕ → Result Receipt Refusal → Facts
-IsFilledAs put result = OfState (λ t. Says t put result × IsOver t put result)
+IsFilledAs put result = OfState (λ t. Says t put result × PutIsOver t put result)
 
 -- a body is fed and closed as far as that comes, with this answer
 abbrev pub FillsWhere : (now : ℕ) (old new : At) → WriterSeen → List ℕ → Result Receipt Refusal → Type 0
@@ -105,5 +105,5 @@ PutsWhere now old new key body request response result = UnlessMemory result
 
 -- whose records there are, and that no answer tells a count to which the device has not come
 pub record TellsOfPut (old new : At) (put : ℕ) (result : Result Receipt Refusal) : Type 0 where
-  pub own : Adds (IsOfPut put) old new
+  pub own : AddsOnly (IsOfPut put) old new
   pub counts : IfErr result (λ why. NoLossIsAFault (state_at old) → count_of_refusal why ≤ new.device.faults)

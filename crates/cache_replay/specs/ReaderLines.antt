@@ -11,7 +11,7 @@ use Rattle.cache_calls.specs.declared.calls.NextPiece.TheVariants as piece
 use Rattle.cache_calls.specs.declared.calls.Opened.{Opened}
 use Rattle.cache_calls.specs.declared.calls.Opened.TheVariants as opened
 use Rattle.cache_calls.specs.Actors.{IsOpenReader, IsReaderOf, ReaderSeen}
-use Rattle.cache_calls.specs.Adds.{Adds, IsOfReader}
+use Rattle.cache_calls.specs.Adds.{AddsOnly, IsOfReader}
 use Rattle.cache_calls.specs.Keeping.{Goes, StaysUnharmed, state_at}
 use Rattle.cache_calls.specs.Standing.{StaysStanding}
 use Rattle.script_lang.specs.declared.answer.StepAnswer.{StepAnswer}
@@ -40,10 +40,10 @@ reader_held (Some (WriterHeld w)) = None
 reader_held (Some (ReaderHeld r)) = Some r
 
 -- what is left where its reader is taken
-abbrev pub without_reader : Option HoldingSeen → Option HoldingSeen
-without_reader None = None
-without_reader (Some (WriterHeld w)) = Some (WriterHeld w)
-without_reader (Some (ReaderHeld r)) = None
+abbrev pub left_without_reader : Option HoldingSeen → Option HoldingSeen
+left_without_reader None = None
+left_without_reader (Some (WriterHeld w)) = Some (WriterHeld w)
+left_without_reader (Some (ReaderHeld r)) = None
 
 -- ---- answers
 
@@ -75,7 +75,7 @@ IsWithin _ into = Unit {0}
 
 module _ {S W R : Type 0} (c : CallsGhosts S W R) where
   -- a cache between calls, and a page that takes any piece
-  pub record IsReady (cache : S) (page : List ℕ) : Type 0 where
+  pub record IsReadyToRead (cache : S) (page : List ℕ) : Type 0 where
     pub holds : c.holds cache
     pub page_is : length page ≡ 512 * budget_of (state_at (c.at cache)).geometry
 
@@ -83,7 +83,7 @@ module _ {S W R : Type 0} (c : CallsGhosts S W R) where
   pub record LeavesReader (old new : S) (number : ℕ) : Type 0 where
     pub goes : Goes c.at c.holds old new
     pub stands : StaysStanding c.stands AnyContents old new
-    pub own : Adds (IsOfReader number) (c.at old) (c.at new)
+    pub own : AddsOnly (IsOfReader number) (c.at old) (c.at new)
 
 -- it is the reader that the run says that the actor has, and what stands belongs to what writers took
 pub record IsReadBy (run : Run) (name : List ℕ) (s : State) (r : ReaderSeen) : Type 0 where

@@ -6,7 +6,7 @@ use Rattle.cache_calls.specs.declared.calls.Refusal.TheVariants as refusal
 use Rattle.script_lang.specs.declared.answer.Refused.TheVariants as refused
 use Rattle.script_lang.specs.declared.answer.StepAnswer.{StepAnswer}
 use Rattle.script_lang.specs.declared.answer.StepAnswer.TheVariants as answer
-use Rattle.run_promise.specs.Outline.{count_of}
+use Rattle.run_promise.specs.Outline.{count_of_cause}
 use Rattle.cache_replay.specs.declared.stop.Stop.{Stop}
 use Rattle.cache_replay.specs.declared.stop.Stop.TheVariants as stop
 
@@ -58,5 +58,5 @@ flush_refused _ = Err stop.Memory
 -- the count of the device fault that a refusal tells; 0 where it tells none
 abbrev pub count_of_refusal : Refusal → ℕ
 count_of_refusal (refusal.DeviceFault count) = count
-count_of_refusal (refusal.Lost index why) = count_of why
+count_of_refusal (refusal.Lost index why) = count_of_cause why
 count_of_refusal _ = 0

@@ -2,14 +2,14 @@
 use Rattle.std.specs.Prelude.{ℕ, ◌≡◌, ◌*◌, ◌≤◌, ⊤, true, List, [], ◌∷◌, length, Option, Some, None, IfSome, option_map}
 use Rattle.tape_base.specs.Geometry.{budget_of}
 use Rattle.device_log.specs.Calls.{Call}
-use Rattle.logged_disk.specs.Device.{State as Device, IsAfter}
+use Rattle.logged_disk.specs.Device.{DeviceState as Device, IsAfter}
 use Rattle.cache_model.specs.State.{State, put_of, reader_of}
 use Rattle.cache_model.specs.Legal.{is_writing}
 use Rattle.call_laws.specs.Moments.{At}
 use Rattle.cache_calls.specs.declared.calls.Calls.{Ghosts as CallsGhosts}
 use Rattle.cache_calls.specs.Actors.{IsOpenReader, IsWriterOf, ReaderSeen, WriterSeen}
 use Rattle.cache_calls.specs.Keeping.{IsAtRest, plain_setting, state_at}
-use Rattle.actor_table.specs.Table.{Seen, slot_of}
+use Rattle.actor_table.specs.Table.{TableSeen, slot_of_actor}
 use Rattle.script_lang.specs.declared.answer.StepAnswer.{StepAnswer}
 use Rattle.script_run.specs.Losses.{NoLossIsAFault}
 use Rattle.cache_replay.specs.declared.session.Holding.{Holding}
@@ -31,13 +31,13 @@ pub record IsOpenWriter (s : State) (w : WriterSeen) : Type 0 where
   pub writer : IsWriterOf s w
 
 -- what an actor has is open
-abbrev pub IsHeld : State → HoldingSeen → Type 0
-IsHeld s (WriterHeld w) = IsOpenWriter s w
-IsHeld s (ReaderHeld r) = IsOpenReader s r
+abbrev pub IsHeldByActor : State → HoldingSeen → Type 0
+IsHeldByActor s (WriterHeld w) = IsOpenWriter s w
+IsHeldByActor s (ReaderHeld r) = IsOpenReader s r
 
 -- so it is of each actor that has something
 abbrev pub AreHeld : State → (ℕ → Option HoldingSeen) → Type 0
-AreHeld s slots = (n : ℕ) → IfSome (slots n) (IsHeld s)
+AreHeld s slots = (n : ℕ) → IfSome (slots n) (IsHeldByActor s)
 
 -- two of them are writers of two puts, or two readers, or one of each
 abbrev pub Differ : HoldingSeen → HoldingSeen → Type 0
@@ -46,8 +46,8 @@ Differ (ReaderHeld r) (ReaderHeld q) = r.reader ≡ q.reader → ⊥
 Differ _ _ = ⊤
 
 -- no two actors have the same
-abbrev pub AreApart : (ℕ → Option HoldingSeen) → Type 0
-AreApart slots = (m n : ℕ) (a b : HoldingSeen) → (m ≡ n → ⊥) → slots m ≡ Some a → slots n ≡ Some b → Differ a b
+abbrev pub ActorsAreApart : (ℕ → Option HoldingSeen) → Type 0
+ActorsAreApart slots = (m n : ℕ) (a b : HoldingSeen) → (m ≡ n → ⊥) → slots m ≡ Some a → slots n ≡ Some b → Differ a b
 
 -- ---- a session
 
@@ -58,8 +58,8 @@ module _ {S W R : Type 0} (c : CallsGhosts S W R) where
   holding_seen (holding.Reader r) = ReaderHeld (c.reading r)
 
   -- what the actor of a number has, from 1; nothing where there is no such actor
-  abbrev pub slots_of : Seen (Holding W R) → ℕ → Option HoldingSeen
-  slots_of actors n = option_map holding_seen (slot_of actors.slots n)
+  abbrev pub slots_of : TableSeen (Holding W R) → ℕ → Option HoldingSeen
+  slots_of actors n = option_map holding_seen (slot_of_actor actors.slots n)
 
 module _ {S W R : Type 0} {c : CallsGhosts S W R} where
   -- the records of a part and its device
@@ -67,8 +67,8 @@ module _ {S W R : Type 0} {c : CallsGhosts S W R} where
   at_in part = c.at part.cache
 
   -- what these records stand for
-  abbrev pub state_in : Part S W R c → State
-  state_in part = state_at (at_in part)
+  abbrev pub state_in_part : Part S W R c → State
+  state_in_part part = state_at (at_in part)
 
   -- the calls that the device of a part made since its attach, the newest first
   abbrev pub past_of : Part S W R c → List Call
@@ -87,14 +87,14 @@ module _ {S W R : Type 0} {c : CallsGhosts S W R} where
     pub holds : c.holds part.cache
     pub rest : IsAtRest (at_in part)
     pub plain : (at_in part).setting ≡ plain_setting
-    pub losses : NoLossIsAFault (state_in part)
-    pub page : length part.page.items ≡ 512 * budget_of (state_in part).geometry
+    pub losses : NoLossIsAFault (state_in_part part)
+    pub page : length part.page.items ≡ 512 * budget_of (state_in_part part).geometry
 
   -- a part beside what the actors have, which is open in it, and no two have the same
   pub record IsActive (part : Part S W R c) (slots : ℕ → Option HoldingSeen) : Type 0 where
     pub part_is : IsPart part
-    pub held : AreHeld (state_in part) slots
-    pub apart : AreApart slots
+    pub held : AreHeld (state_in_part part) slots
+    pub apart : ActorsAreApart slots
 
   -- without a cache no actor has anything
   abbrev pub IsAt : Option (Part S W R c) → (ℕ → Option HoldingSeen) → Type 0
@@ -119,14 +119,14 @@ module _ {S W R : Type 0} {c : CallsGhosts S W R} where
   devices_of session = length (return_in session)
 
   -- the count of a fault that an answer tells is no higher than that of the session's device
-  abbrev pub TellsCount : Option (Part S W R c) → StepAnswer → Type 0
-  TellsCount None said = ⊥
-  TellsCount (Some part) said = count_in said ≤ (at_in part).device.faults
+  abbrev pub AnswerTellsCount : Option (Part S W R c) → StepAnswer → Type 0
+  AnswerTellsCount None said = ⊥
+  AnswerTellsCount (Some part) said = count_in said ≤ (at_in part).device.faults
 
 -- ---- a device that goes on
 
 -- it counts no less than before, and is the same but for what it was called for since
-pub record IsLater (old new : Device) : Type 0 where
+pub record IsLaterDevice (old new : Device) : Type 0 where
   pub faults : old.faults ≤ new.faults
   pub goes : IsAfter old new
 
@@ -135,7 +135,7 @@ abbrev pub AreLater : List Device → List Device → Type 0
 AreLater [] [] = ⊤
 AreLater [] (new ∷ others) = ⊥
 AreLater (old ∷ devices) [] = ⊥
-AreLater (old ∷ devices) (new ∷ others) = IsLater old new × AreLater devices others
+AreLater (old ∷ devices) (new ∷ others) = IsLaterDevice old new × AreLater devices others
 
 -- ---- what a call leaves
 

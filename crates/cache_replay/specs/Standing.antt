@@ -37,14 +37,14 @@ own_contents fragment streams id alternates =
 -- ---- what is placed
 
 -- the body that a line puts whole
-abbrev pub body_of : Step → List ℕ
-body_of (step.Put key body request response) = body
-body_of _ = []
+abbrev pub body_of_step : Step → List ℕ
+body_of_step (step.Put key body request response) = body
+body_of_step _ = []
 
 -- of the put of a line, where it has one, it is told that it cuts that body
 pub record IsToldPlainly (t : State) (put : Option ℕ) (step : Step) (contents : Contents) : Type 0 where
   pub vectors : TellsVectors contents
-  pub cut : IfSome put (λ n. TellsPut t n (body_of step) contents)
+  pub cut : IfSome put (λ n. TellsPut t n (body_of_step step) contents)
 
 -- of the fragments that a writer has cut since then it is told that they are those of what it had gathered and took
 pub record IsToldFrom (t : State) (w : WriterSeen) (bytes : List ℕ) (contents : Contents) : Type 0 where

@@ -7,9 +7,9 @@ use Rattle.cache_model.specs.Vectors.{AreTold}
 use Rattle.call_laws.specs.Moments.{At}
 use Rattle.cache_calls.specs.declared.calls.Calls.{Ghosts as CallsGhosts}
 use Rattle.cache_calls.specs.Actors.{WriterSeen}
-use Rattle.cache_calls.specs.Adds.{Adds, IsOfPut}
-use Rattle.cache_calls.specs.Keeping.{Keeps, state_at}
-use Rattle.actor_table.specs.Table.{Seen, number_of}
+use Rattle.cache_calls.specs.Adds.{AddsOnly, IsOfPut}
+use Rattle.cache_calls.specs.Keeping.{KeepsUnharmed, state_at}
+use Rattle.actor_table.specs.Table.{TableSeen, number_of_name}
 use Rattle.script_lang.specs.declared.step.Step.{Step}
 use Rattle.script_lang.specs.declared.step.Step.TheVariants as step
 use Rattle.script_lang.specs.declared.answer.StepAnswer.{StepAnswer}
@@ -32,11 +32,11 @@ pub data WriterLine : Type 0 where
   Opens : (key : Key) (pin : ℕ) (request response : List Field) → WriterLine
 
 -- the step of the script that asks so of the actor of this name
-abbrev pub step_of : WriterLine → List ℕ → Step
-step_of (Feeds body) name = step.Feed name body
-step_of Closes name = step.Close name
-step_of GivesUp name = step.Abort name
-step_of (Opens key pin request response) name = step.OpenWrite name key pin request response
+abbrev pub step_of_writer : WriterLine → List ℕ → Step
+step_of_writer (Feeds body) name = step.Feed name body
+step_of_writer Closes name = step.Close name
+step_of_writer GivesUp name = step.Abort name
+step_of_writer (Opens key pin request response) name = step.OpenWrite name key pin request response
 
 -- ---- a writer
 
@@ -56,18 +56,19 @@ writes_in None = None
 writes_in (Some w) = Some (Writes w.put)
 
 -- a writer that is left writes the same put, which is open
-abbrev pub IsLeft : State → ℕ → Option WriterSeen → Type 0
-IsLeft t put left = IfSome left (λ w. (w.put ≡ put) × IsOpenWriter t w)
+abbrev pub IsWriterLeft : State → ℕ → Option WriterSeen → Type 0
+IsWriterLeft t put left = IfSome left (λ w. (w.put ≡ put) × IsOpenWriter t w)
 
 -- a line did what it must, this writer is left, and this is its answer
 pub record WriterMoves (run : Run) (name : List ℕ) (old new : At) (line : WriterLine) (left : Option WriterSeen) (said : StepAnswer) : Type 0 where
-  pub moves : Moves run (step_of line name) old new said
-  pub held : holds_behind run (state_at old) (state_at new) (step_of line name) name ≡ writes_in left
-  pub stream : IfSome left (λ w. IsStreamOf (streams_behind run (state_at old) (state_at new) moves.turn (step_of line name) w.put) w)
+  pub moves : Moves run (step_of_writer line name) old new said
+  pub held : holds_behind run (state_at old) (state_at new) (step_of_writer line name) name ≡ writes_in left
+  pub stream : IfSome left
+      (λ w. IsStreamOf (streams_behind run (state_at old) (state_at new) moves.turn (step_of_writer line name) w.put) w)
 
 -- so it is, or two documents of one SHA-256 are shown
 abbrev pub WriterEnds : Run → List ℕ → (old new : At) → WriterLine → Option WriterSeen → StepAnswer → Type 0
-WriterEnds run name old new line left said = WriterMoves run name old new line left said ⊎ ShowsIn run (step_of line name) old new
+WriterEnds run name old new line left said = WriterMoves run name old new line left said ⊎ ShowsIn run (step_of_writer line name) old new
 
 -- at a moment; where memory is wanting nothing is answered
 abbrev pub WriterDoes : ℕ → (old new : At) → WriterLine → WriterSeen → Option WriterSeen → Option StepAnswer → Type 0
@@ -77,7 +78,7 @@ WriterDoes now old new line w left answer = IfSome answer (λ said.
 -- the same, at any moment, of a line that asks for a writer, of an actor that has nothing
 abbrev pub OpenDoes : (old new : At) → ℕ → WriterLine → Option WriterSeen → Option StepAnswer → Type 0
 OpenDoes old new n line left answer = IfSome answer (λ said.
-    (run : Run) (name : List ℕ) → held_by run name ≡ None → n ≡ number_of run.actors name → AreTold (state_at old)
+    (run : Run) (name : List ℕ) → held_by run name ≡ None → n ≡ number_of_name run.actors name → AreTold (state_at old)
     → WriterEnds run name old new line left said)
 
 -- an actor has no writer
@@ -89,15 +90,15 @@ HasNoWriter (Some (ReaderHeld r)) = Unit {0}
 module _ {S W R : Type 0} (c : CallsGhosts S W R) where
   -- what a line on the writer of a put leaves of the cache, and of that writer, and what its answer tells of the device
   pub record LeavesWriter (old new : S) (put : ℕ) (left : Option W) (answer : Option StepAnswer) : Type 0 where
-    pub keeps : Keeps c.at c.holds old new
-    pub own : Adds (IsOfPut put) (c.at old) (c.at new)
-    pub left_is : IsLeft (state_at (c.at new)) put (option_map c.written left)
+    pub keeps : KeepsUnharmed c.at c.holds old new
+    pub own : AddsOnly (IsOfPut put) (c.at old) (c.at new)
+    pub left_is : IsWriterLeft (state_at (c.at new)) put (option_map c.written left)
     pub counts : IfSome answer (λ said. NoLossIsAFault (state_at (c.at old)) → count_in said ≤ (c.at new).device.faults)
 
   -- ---- what an actor has
 
   -- the writer that an actor had is taken; where it had none, it has what it had
-  abbrev pub TakesWriter : Seen (Holding W R) → Seen (Holding W R) → ℕ → Option W → Type 0
+  abbrev pub TakesWriter : TableSeen (Holding W R) → TableSeen (Holding W R) → ℕ → Option W → Type 0
   TakesWriter old new n None = HasNoWriter (slots_of c old n) × ((m : ℕ) → slots_of c new m ≡ slots_of c old m)
   TakesWriter old new n (Some w) =
       (slots_of c old n ≡ Some (WriterHeld (c.written w))) × ((m : ℕ) → slots_of c new m ≡ (if m == n then None else slots_of c old m))

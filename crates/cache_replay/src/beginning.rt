@@ -3,7 +3,7 @@ ghost use Rattle.std.specs.Prelude.{◌≡◌, ◌+◌, ◌*◌, ◌<◌, ◌≤
 ghost use Rattle.std.specs.Result.{result_err};
 ghost use Rattle.tape_base.specs.Geometry.{HasNumbers, budget_of};
 ghost use Rattle.tape_base.specs.Limits.{first_refusal};
-ghost use Rattle.logged_disk.specs.Device.{State as Device};
+ghost use Rattle.logged_disk.specs.Device.{DeviceState as Device};
 ghost use Rattle.device_bay.specs.Calls.{Gave, out_of, returned_by};
 ghost use Rattle.device_bay.specs.Bay.{IsNewDevice};
 ghost use Rattle.script_lang.specs.declared.step.Step.TheVariants as step;
@@ -11,7 +11,7 @@ ghost use Rattle.script_run.specs.Run.{Harm, fresh};
 ghost use Rattle.script_run.specs.Answers.{number_of_bad};
 ghost use Rattle.script_run.specs.Ledger.{AreReached, ComeBack, KeepsOrder};
 ghost use Rattle.cache_replay.specs.Deals.{AnswersStep, FormatsAs, GivesBack, GivesNone};
-ghost use Rattle.run_promise.specs.Outline.{blank};
+ghost use Rattle.run_promise.specs.Outline.{blank_outline};
 ghost use Rattle.cache_replay.specs.Plays.{IsOutlined, Plays, PlaysReach};
 ghost use Rattle.cache_replay.specs.Session.{IsPart, IsSession, at_in, devices_of, names_in, return_in, return_of, slots_in};
 ghost use Rattle.cache_replay.specs.Stop.{IsFormatStop, RefusesAtStop};
@@ -30,7 +30,7 @@ use tape_base::{BadGeometry, Geometry, alternates_are_last, floor_of};
 pub fn begin<S: Calls>(alloc: Global) -> Session<S>
     ensures session { IsSession result }
     ensures plays { Plays fresh result }
-    ensures outline { IsOutlined blank result }
+    ensures outline { IsOutlined blank_outline result }
     ensures devices { devices_of result ≡ 0 }
     ensures names { names_in result ≡ [] }
 {

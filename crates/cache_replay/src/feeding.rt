@@ -1,5 +1,5 @@
 // Writers are fed: bytes are given until all are taken or the writer is refused.
-ghost use Rattle.cache_calls.specs.Keeping.{Keeps, state_at};
+ghost use Rattle.cache_calls.specs.Keeping.{KeepsUnharmed, state_at};
 ghost use Rattle.cache_calls.specs.Standing.{StaysStanding};
 ghost use Rattle.cache_replay.specs.Feeding.{FeedsWhere, HasFed};
 ghost use Rattle.cache_replay.specs.Session.{IsOpenWriter};
@@ -18,7 +18,7 @@ pub(crate) struct Fed {
 pub(crate) fn feed<S: Calls>(cache: &mut S, writer: &mut S::Writer, bytes: &[u8], now: u64) -> Fed
     requires holds { S.holds cache.old }
     requires writer { IsOpenWriter (state_at (S.at cache.old)) (S.written writer.old) }
-    ensures keeps { Keeps S.at S.holds cache.old cache.new }
+    ensures keeps { KeepsUnharmed S.at S.holds cache.old cache.new }
     ensures feeds { FeedsWhere now (S.at cache.old) (S.at cache.new) (S.written writer.old)
         bytes.now result.refused }
     ensures fed { HasFed (S.at cache.old) (S.at cache.new) (S.written writer.old) bytes.now

@@ -3,13 +3,13 @@ ghost use Rattle.std.specs.Prelude.{◌≡◌, None, Some, [], ◌∷◌, length
 ghost use Rattle.cache_model.specs.Permit.{StopReading};
 ghost use Rattle.call_laws.specs.Contents.{AnyContents};
 ghost use Rattle.cache_calls.specs.Actors.{IsOpenReader};
-ghost use Rattle.cache_calls.specs.Adds.{Adds, IsOfReader};
-ghost use Rattle.cache_calls.specs.Keeping.{Keeps, state_at};
+ghost use Rattle.cache_calls.specs.Adds.{AddsOnly, IsOfReader};
+ghost use Rattle.cache_calls.specs.Keeping.{KeepsUnharmed, state_at};
 ghost use Rattle.cache_calls.specs.Standing.{StaysStanding};
 ghost use Rattle.script_lang.specs.declared.step.Step.TheVariants as step;
 ghost use Rattle.cache_replay.specs.OneLine.{AnswersLine, AnswersPlainly};
-ghost use Rattle.cache_replay.specs.ReaderLines.{IsReady, LeavesReader};
-ghost use Rattle.cache_replay.specs.Session.{IsPart, IsSession, state_in};
+ghost use Rattle.cache_replay.specs.ReaderLines.{IsReadyToRead, LeavesReader};
+ghost use Rattle.cache_replay.specs.Session.{IsPart, IsSession, state_in_part};
 ghost use Rattle.cache_replay.specs.Getting.{ClosesHit, Gets, IsHit, ReadsMore, ReadsWhole, got_answer};
 
 use crate::answers::{broken_said, miss_said};
@@ -45,7 +45,7 @@ pub(crate) fn get<S: Calls>(
     key: Key,
     request: Fields,
 ) -> Result<Got, AllocError>
-    requires ready { IsReady S.Calls cache.old page.old }
+    requires ready { IsReadyToRead S.Calls cache.old page.old }
     ensures leaves { LeavesReader S.Calls cache.old cache.new
         (state_at (S.at cache.old)).next_reader }
     ensures gets { Gets S.Calls cache.old cache.new key request result }
@@ -74,7 +74,7 @@ fn read_whole<S: Calls>(
     put: u64,
     size: u64,
 ) -> Result<Got, AllocError>
-    requires ready { IsReady S.Calls cache.old page.old }
+    requires ready { IsReadyToRead S.Calls cache.old page.old }
     requires hit { IsHit (state_at (S.at cache.old)) (S.reading reader) put }
     ensures leaves { LeavesReader S.Calls cache.old cache.new (S.reading reader).reader }
     ensures reads { ReadsWhole S.Calls cache.old cache.new (S.reading reader) [] result }
@@ -99,7 +99,7 @@ fn read_to_end<S: Calls>(
     put: u64,
     size: u64,
 ) -> Result<Got, AllocError>
-    requires ready { IsReady S.Calls cache.old page.old }
+    requires ready { IsReadyToRead S.Calls cache.old page.old }
     requires hit { IsHit (state_at (S.at cache.old)) (S.reading reader.old) put }
     ensures leaves { LeavesReader S.Calls cache.old cache.new (S.reading reader.old).reader }
     ensures reads { ReadsWhole S.Calls cache.old cache.new (S.reading reader.old)
@@ -126,7 +126,7 @@ fn read_more<S: Calls>(
     reader: &mut S::Reader,
     body: &mut Vec<u8>,
 ) -> Result<NextPiece, AllocError>
-    requires ready { IsReady S.Calls cache.old page.old }
+    requires ready { IsReadyToRead S.Calls cache.old page.old }
     requires hit { let r = S.reading reader.old in IsHit (state_at (S.at cache.old)) r r.put }
     ensures leaves { LeavesReader S.Calls cache.old cache.new (S.reading reader.old).reader }
     ensures reads { ReadsMore S.Calls cache.old cache.new (S.reading reader.old)
@@ -148,8 +148,8 @@ fn read_more<S: Calls>(
 fn close<S: Calls>(cache: &mut S, reader: S::Reader) -> Result<(), AllocError>
     requires holds { S.holds cache.old }
     requires reader { IsOpenReader (state_at (S.at cache.old)) (S.reading reader) }
-    ensures keeps { Keeps S.at S.holds cache.old cache.new }
-    ensures own { Adds (IsOfReader (S.reading reader).reader)
+    ensures keeps { KeepsUnharmed S.at S.holds cache.old cache.new }
+    ensures own { AddsOnly (IsOfReader (S.reading reader).reader)
         (S.at cache.old) (S.at cache.new) }
     ensures closes { OnOk result (ClosesHit S.Calls cache.old cache.new
         (S.reading reader).reader) }
@@ -186,7 +186,7 @@ fn get_in_part<S: Calls>(
 ) -> Result<StepAnswer, Stop>
     requires part { IsPart part.old }
     ensures line { AnswersPlainly now (step.Get key request) None
-        (Some (state_in part.old).next_reader) part.old part.new result }
+        (Some (state_in_part part.old).next_reader) part.old part.new result }
 {
     match get(alloc, &mut part.cache, &mut part.page, key, request) {
         Ok(got) => Ok(said_of(got)),

@@ -2,7 +2,7 @@
 ghost use Rattle.std.specs.Prelude.{Some, None};
 ghost use Rattle.script_lang.specs.declared.step.Step.TheVariants as step;
 ghost use Rattle.cache_replay.specs.OneLine.{AnswersLine, AnswersPlainly};
-ghost use Rattle.cache_replay.specs.Session.{IsPart, IsSession, state_in};
+ghost use Rattle.cache_replay.specs.Session.{IsPart, IsSession, state_in_part};
 
 use crate::answers::closed_answer;
 use crate::putting::put;
@@ -42,7 +42,7 @@ fn put_in<S: Calls>(
 ) -> Result<StepAnswer, Stop>
     requires part { IsPart part.old }
     ensures line { AnswersPlainly now (step.Put key body.now request response)
-        (Some (state_in part.old).next_put) None part.old part.new result }
+        (Some (state_in_part part.old).next_put) None part.old part.new result }
 {
     match closed_answer(put(&mut part.cache, key, body, request, response, now)) {
         Some(said) => Ok(said),

@@ -2,9 +2,9 @@
 ghost use Rattle.std.specs.Prelude.{◌≡◌};
 ghost use Rattle.cache_calls.specs.Actors.{IsWriterOf};
 ghost use Rattle.call_laws.specs.Contents.{TellsVectors};
-ghost use Rattle.cache_calls.specs.Keeping.{Keeps, state_at};
+ghost use Rattle.cache_calls.specs.Keeping.{KeepsUnharmed, state_at};
 ghost use Rattle.cache_calls.specs.Standing.{StaysStanding};
-ghost use Rattle.cache_replay.specs.Putting.{BodyEndsWhere, FillsWhere, IsFresh, PutsWhere, TellsOfPut, unless_memory};
+ghost use Rattle.cache_replay.specs.Putting.{BodyEndsWhere, FillsWhere, IsFreshWriter, PutsWhere, TellsOfPut, unless_memory};
 ghost use Rattle.cache_replay.specs.Session.{IsOpenWriter};
 ghost use Rattle.cache_replay.specs.Standing.{TellsPut};
 
@@ -23,7 +23,7 @@ pub(crate) fn put<S: Calls>(
     now: u64,
 ) -> Result<Receipt, Refusal>
     requires holds { S.holds cache.old }
-    ensures keeps { Keeps S.at S.holds cache.old cache.new }
+    ensures keeps { KeepsUnharmed S.at S.holds cache.old cache.new }
     ensures puts { PutsWhere now (S.at cache.old) (S.at cache.new) key body.now request response
         result }
     ensures tells { let put = (state_at (S.at cache.old)).next_put in
@@ -47,8 +47,8 @@ fn put_open<S: Calls>(
 ) -> Result<Receipt, Refusal>
     requires holds { S.holds cache.old }
     requires writer { IsOpenWriter (state_at (S.at cache.old)) (S.written writer.old) }
-    requires fresh { IsFresh (S.written writer.old) }
-    ensures keeps { Keeps S.at S.holds cache.old cache.new }
+    requires fresh { IsFreshWriter (S.written writer.old) }
+    ensures keeps { KeepsUnharmed S.at S.holds cache.old cache.new }
     ensures ends { BodyEndsWhere now (S.at cache.old) (S.at cache.new) (S.written writer.old).put
         body.now result }
     ensures tells { TellsOfPut (S.at cache.old) (S.at cache.new) (S.written writer.old).put
@@ -85,8 +85,8 @@ fn fill<S: Calls>(
 ) -> Result<Receipt, Refusal>
     requires holds { S.holds cache.old }
     requires writer { IsOpenWriter (state_at (S.at cache.old)) (S.written writer.old) }
-    requires fresh { IsFresh (S.written writer.old) }
-    ensures keeps { Keeps S.at S.holds cache.old cache.new }
+    requires fresh { IsFreshWriter (S.written writer.old) }
+    ensures keeps { KeepsUnharmed S.at S.holds cache.old cache.new }
     ensures writer { IsWriterOf (state_at (S.at cache.new)) (S.written writer.new) }
     ensures put { (S.written writer.new).put ≡ (S.written writer.old).put }
     ensures fills { FillsWhere now (S.at cache.old) (S.at cache.new) (S.written writer.old)

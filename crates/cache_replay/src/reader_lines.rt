@@ -6,7 +6,7 @@ ghost use Rattle.script_lang.specs.declared.step.Step.TheVariants as step;
 ghost use Rattle.script_lang.specs.declared.answer.StepAnswer.TheVariants as answer;
 ghost use Rattle.cache_replay.specs.declared.stop.Stop.TheVariants as stop;
 ghost use Rattle.cache_replay.specs.OneLine.{AnswersActor, AnswersLine};
-ghost use Rattle.cache_replay.specs.ReaderLines.{IsReady, IsWithin, LeavesReader, ReadsOnLine, as_held, next_answer, opened_answer, reader_held, reader_opened, without_reader};
+ghost use Rattle.cache_replay.specs.ReaderLines.{IsReadyToRead, IsWithin, LeavesReader, ReadsOnLine, as_held, left_without_reader, next_answer, opened_answer, reader_held, reader_opened};
 ghost use Rattle.cache_replay.specs.Session.{IsActive, IsSession, names_in, slots_of};
 
 use crate::answers::{broken_said, miss_said};
@@ -141,7 +141,7 @@ fn read_on<S: Calls>(
     page: &mut [u8],
     alloc: Global,
 ) -> Result<StepAnswer, Stop>
-    requires ready { IsReady S.Calls cache.old page.old }
+    requires ready { IsReadyToRead S.Calls cache.old page.old }
     requires plain { (S.at cache.old).setting ≡ plain_setting }
     requires reader { IsOpenReader (state_at (S.at cache.old)) (S.reading reader.old) }
     ensures leaves { LeavesReader S.Calls cache.old cache.new (S.reading reader.old).reader }
@@ -224,7 +224,7 @@ fn take_reader<S: Calls>(
     ensures reader { option_map S.reading result
         ≡ reader_held (slots_of S.Calls actors.old number) }
     ensures names { actors.new.names ≡ actors.old.names }
-    ensures slots { (n : ℕ) → slots_of S.Calls actors.new n ≡ (if n == number then without_reader (slots_of S.Calls actors.old number) else slots_of S.Calls actors.old n) }
+    ensures slots { (n : ℕ) → slots_of S.Calls actors.new n ≡ (if n == number then left_without_reader (slots_of S.Calls actors.old number) else slots_of S.Calls actors.old n) }
 {
     match actors.take(number) {
         Some(Holding::Reader(reader)) => Some(reader),

@@ -9,7 +9,7 @@ use Rattle.edge_io.specs.LineReader.{Answers, AreNeeded, Fails, IsDecided}
 use Rattle.edge_io.specs.declared.reader.LineFault.{LineFault}
 use Rattle.edge_io.specs.declared.reader.LineFault.TheVariants as fault
 use Rattle.cache_calls.specs.declared.calls.Calls.{Ghosts as CallsGhosts}
-use Rattle.logged_disk.specs.Device.{State as Device}
+use Rattle.logged_disk.specs.Device.{DeviceState as Device}
 use Rattle.device_bay.specs.Calls.{BayCall, refusals_of}
 use Rattle.script_lang.specs.declared.line.BadLine.{BadLine}
 use Rattle.script_lang.specs.declared.line.LineAnswer.TheVariants as line
@@ -21,21 +21,21 @@ use Rattle.script_lang.specs.Grammar.{reading_of}
 use Rattle.script_run.specs.Run.{Harm, Run, fresh, no_harm}
 use Rattle.script_run.specs.Behind.{harm_of}
 use Rattle.script_run.specs.Takes.{run_after}
-use Rattle.run_promise.specs.Outline.{Outline, blank, told_of}
+use Rattle.run_promise.specs.Outline.{Outline, blank_outline, told_of}
 use Rattle.run_promise.specs.Lines.{texts_before, texts_of}
 use Rattle.cache_replay.specs.declared.session.Session.{Session}
 use Rattle.cache_replay.specs.declared.stop.Stop.TheVariants as stop
 use Rattle.cache_replay.specs.declared.stop.Stop.{Stop as Stopped}
 use Rattle.cache_replay.specs.Session.{IsSession, devices_of, return_in, return_of}
-use Rattle.cache_replay.specs.Plays.{IsLeft, IsOutlined, stays, tried, ended, Plays}
+use Rattle.cache_replay.specs.Plays.{IsLeftAtEnd, IsOutlined, stays, tried, ended, Plays}
 use Rattle.script_run.specs.Ledger.{AreReached, ComeBack, Deals, Ledger}
 use Rattle.cache_tool.specs.declared.run.Ending.{Ending}
 use Rattle.cache_tool.specs.declared.run.Ending.TheVariants as ending
 use Rattle.cache_tool.specs.declared.run.Halt.{Halt}
 use Rattle.cache_tool.specs.declared.run.Halt.TheVariants.{Stop, WriteFault, Memory}
-use Rattle.run_promise.specs.Story.{Story, Told, Taken, Took, Recorded, ShownAlong, GoesOn, GaveBack, IsReadThrough, Owes, OwesOrGave, SendsAll, SendsBefore, SendsFront, CutsLast, WantsInLine, Refusals, refusals, Because, all_in, own_loosened, told_by, told_in}
-use Rattle.cache_tool.specs.Ending.{Ends, FailedReads, IsOfRun}
-use Rattle.cache_tool.specs.Halt.{Written, Halts, Leaves, ending_of, last_of}
+use Rattle.run_promise.specs.Story.{Story, Told, Taken, Took, Recorded, ShownAlong, GoesOn, GaveBack, IsReadThrough, Owes, OwesOrGave, SendsAll, SendsBefore, SendsFront, CutsLast, WantsInLine, Refusals, refusals_around, Because, all_in, own_loosened, told_by, told_by_records}
+use Rattle.cache_tool.specs.Ending.{EndsRun, FailedReads, IsOfRun}
+use Rattle.cache_tool.specs.Halt.{AnswerIsWritten, StepHalts, StepLeaves, ending_of, last_of}
 use Rattle.cache_tool.proofs.Stories.{step_more, Deals-nothing, Deals-trans, Deals-settled, answered_with, along_with, story_with}
 use Rattle.cache_tool.proofs.Halts.{Took-kept, Took-nothing, Took-trans, cuts_last, plays_reach}
 
@@ -80,7 +80,7 @@ module _ (first now : List SourceRead) (taken_first taken : List SinkWrite) (led
     taken = story.taken;
     counted = story.counted;
     text = text;
-    outline = answered_with blank story.lines story.answers (λ t. Deals ledger_first ledger t.ended t.names) Devices Outlined Behind (λ o deals is. settle (told_by o) deals (reach o is)) behind story.outline;
+    outline = answered_with blank_outline story.lines story.answers (λ t. Deals ledger_first ledger t.ended t.names) Devices Outlined Behind (λ o deals is. settle (told_by o) deals (reach o is)) behind story.outline;
     records = still_recorded Devices Behind settle behind story.records;
   }
 
@@ -91,18 +91,18 @@ module _ (first now : List SourceRead) (taken_first taken : List SinkWrite) (led
   Wants = OwesOrGave ledger_first ledger devices Reached
 
   -- the script was read to its end
-  pub done_ends : (bay : Refusals) → IsReadThrough now unread → Ends first now taken_first taken bay (Owes ledger_first ledger Reached) Wants ending.Done
+  pub done_ends : (bay : Refusals) → IsReadThrough now unread → EndsRun first now taken_first taken bay (Owes ledger_first ledger Reached) Wants ending.Done
   done_ends bay through = record { held = unread; given = given; story = still (SendsAll taken_first taken) _ _ story.text owes (λ o is. through) }
 
-  pub memory_ends : (bay : Refusals) → Ends first now taken_first taken bay (Owes ledger_first ledger Reached) Wants ending.OutOfMemory
+  pub memory_ends : (bay : Refusals) → EndsRun first now taken_first taken bay (Owes ledger_first ledger Reached) Wants ending.OutOfMemory
   memory_ends bay = inl (record { held = unread; given = given; story = still (SendsAll taken_first taken) _ _ story.text (λ t deals reached. inl (owes t deals reached)) (λ o is. tt) })
 
-  stopped : (bay : Refusals) (why : LastLine) → ((o : Outline) → Outlined o → Because bay unread given o why) → Ends first now taken_first taken bay (Owes ledger_first ledger Reached) Wants (ending.Stopped why)
+  stopped : (bay : Refusals) (why : LastLine) → ((o : Outline) → Outlined o → Because bay unread given o why) → EndsRun first now taken_first taken bay (Owes ledger_first ledger Reached) Wants (ending.Stopped why)
   stopped bay why because = record { held = unread; given = given; story = still (SendsAll taken_first taken) _ _ story.text owes because }
 
   -- the reader met a fault
   pub fault_ends : (before : List ℕ) (old more : List SourceRead) (unread' : List ℕ) (bay : Refusals) (f : LineFault) → unread ≡ text_after before more → now ≡ more ++ old → AreNeeded given before more → Fails old now (Err f)
-      → Answers given more unread unread' (Err f) → Ends first now taken_first taken bay (Owes ledger_first ledger Reached) Wants (ending.Stopped (last_of f))
+      → Answers given more unread unread' (Err f) → EndsRun first now taken_first taken bay (Owes ledger_first ledger Reached) Wants (ending.Stopped (last_of f))
   fault_ends before old more unread' bay (fault.LineTooLong number) is grew needed failed known = stopped bay (last.LineTooLong number) (λ o out. (known.0, known.1))
   fault_ends before old more unread' bay fault.TooManyLines is grew needed failed known = stopped bay last.TooManyLines (λ o out. known.0)
   fault_ends before old more unread' bay (fault.ReadFault count) is grew needed failed known =
@@ -111,7 +111,7 @@ module _ (first now : List SourceRead) (taken_first taken : List SinkWrite) (led
   -- the next line
   module _ (bytes unread' : List ℕ) (given' : ℕ) (known : GivesLine given unread bytes unread') (counted : given' ≡ given + 1) where
     pub bad_ends : (bay : Refusals) (bad : BadLine) → reading_of bytes ≡ line.Bad bad
-        → Ends first now taken_first taken bay (Owes ledger_first ledger Reached) Wants (ending.Stopped (last.BadScript given' bad))
+        → EndsRun first now taken_first taken bay (Owes ledger_first ledger Reached) Wants (ending.Stopped (last.BadScript given' bad))
     bad_ends bay bad e =
         stopped bay (last.BadScript given' bad) (λ o out. (counted, record { bytes = bytes; next = (unread', known); bad = e }))
 
@@ -132,7 +132,7 @@ module _ {S W R : Type 0} {c : CallsGhosts S W R} (old : Session S W R c) (first
   Wanting = OwesOrGave ledger_first ledger' (devices_of session) Reaches
 
   -- the run goes on behind it
-  pub step_goes : IsSession old → Written old step session ledger ledger' (Took taken taken')
+  pub step_goes : IsSession old → AnswerIsWritten old step session ledger ledger' (Took taken taken')
       → GoesOn first taken_first ledger_first now unread' given' taken' ledger' (λ o. IsOutlined o session) (λ run. Plays run session)
   step_goes was w =
       step_more first now taken_first taken ledger_first ledger unread unread' given given' _ _ story bytes known counted step asks w.said ledger' session
@@ -143,19 +143,19 @@ module _ {S W R : Type 0} {c : CallsGhosts S W R} (old : Session S W R c) (first
   module _ (was : IsSession old) (is : IsSession session) (bay_old bay_new : List BayCall) where
     -- what the bay refused before and behind the line
     abbrev bay : Refusals
-    bay = refusals (refusals_of bay_old) (refusals_of bay_new)
+    bay = refusals_around (refusals_of bay_old) (refusals_of bay_new)
 
-    written_ends : (Text : List ℕ → Type 0) (Sent : (before all : List ℕ) → Type 0) (Devices : Told → Type 0) (Behind : Outline → Type 0) (w : Written old step session ledger ledger' Text)
+    written_ends : (Text : List ℕ → Type 0) (Sent : (before all : List ℕ) → Type 0) (Devices : Told → Type 0) (Behind : Outline → Type 0) (w : AnswerIsWritten old step session ledger ledger' Text)
         → ((out : List ℕ) → Took taken_first taken out → Sent out (out ++ answer_line w.said)) → ((t : Told) → Owes ledger_first ledger' Reaches t → Devices t) → ((o : Outline) → Behind o)
         → Story first now unread' given' Sent Devices Behind (λ run. Unit {0})
     written_ends Text Sent Devices Behind w sent owed behind =
         step_more first now taken_first taken ledger_first ledger unread unread' given given' _ _ story bytes known counted step asks w.said ledger' session
         Sent Devices Behind (λ run. Unit {0}) w.outlines w.ends sent (λ o reached deals. owed (told_by o) (record { deals = deals; reached = reached }))
-        (λ run plays deals. owed (told_in run) (record { deals = deals; reached = plays_reach session is run plays })) (λ o reached. behind o) (λ run plays. tt)
+        (λ run plays deals. owed (told_by_records run) (record { deals = deals; reached = plays_reach session is run plays })) (λ o reached. behind o) (λ run plays. tt)
 
     -- what a line leaves that was not done
-    left_ends : (why : Stopped) (Devices : Told → Type 0) → ((t : Told) → Deals ledger_first ledger t.ended t.names → IsLeft t.own step session ledger ledger' why → Devices t)
-        → Leaves old step session ledger ledger' why → (Text : (before all : List ℕ) → Type 0) (Behind : Outline → Type 0) → Text (texts_before story.answers) (texts_of story.answers)
+    left_ends : (why : Stopped) (Devices : Told → Type 0) → ((t : Told) → Deals ledger_first ledger t.ended t.names → IsLeftAtEnd t.own step session ledger ledger' why → Devices t)
+        → StepLeaves old step session ledger ledger' why → (Text : (before all : List ℕ) → Type 0) (Behind : Outline → Type 0) → Text (texts_before story.answers) (texts_of story.answers)
         → ((o : Outline) → Before o → Behind o) → Story first now unread given Text Devices Behind (λ run. Unit {0})
     left_ends why Devices settle leaves Text Behind text behind =
         let left : (o : Outline) → Deals ledger_first ledger o.ended o.names → Before o → Devices (told_by o) = λ o deals is. settle (told_by o) deals (leaves (told_of o.session) is) in
@@ -167,11 +167,11 @@ module _ {S W R : Type 0} {c : CallsGhosts S W R} (old : Session S W R c) (first
           taken = story.taken;
           counted = story.counted;
           text = text;
-          outline = answered_with blank story.lines story.answers (λ t. Deals ledger_first ledger t.ended t.names) Devices Before Behind left behind story.outline;
+          outline = answered_with blank_outline story.lines story.answers (λ t. Deals ledger_first ledger t.ended t.names) Devices Before Behind left behind story.outline;
           records = elim story.records [
             | inl r ↦
                 let run : Run = run_after fresh story.lines r.turns in
-                inl (record { turns = r.turns; legal = r.legal; says = r.says; devices = settle (told_in run) r.devices (leaves (harm_of run.calls run.state) (plays_reach old was run r.known)); known = tt })
+                inl (record { turns = r.turns; legal = r.legal; says = r.says; devices = settle (told_by_records run) r.devices (leaves (harm_of run.calls run.state) (plays_reach old was run r.known)); known = tt })
             | inr along ↦ inr (along_with story.lines story.answers (λ t. Deals ledger_first ledger t.ended t.names) Devices Before Behind left behind along)
           ];
         }
@@ -179,7 +179,7 @@ module _ {S W R : Type 0} {c : CallsGhosts S W R} (old : Session S W R c) (first
     stays_owes : (t : Told) → Deals ledger_first ledger t.ended t.names → AreReached t.own (return_in session) → ledger' ≡ ledger → Owes ledger_first ledger' Reaches t
     stays_owes t deals reached same = record { deals = rw same deals; reached = reached }
 
-    not_ended : (by : Stopped) → (by ≡ stop.Memory → ⊥) → (t : Told) → Deals ledger_first ledger t.ended t.names → IsLeft t.own step session ledger ledger' by → Owes ledger_first ledger' Reaches t
+    not_ended : (by : Stopped) → (by ≡ stop.Memory → ⊥) → (t : Told) → Deals ledger_first ledger t.ended t.names → IsLeftAtEnd t.own step session ledger ledger' by → Owes ledger_first ledger' Reaches t
     not_ended stop.Memory other t deals left = absurd (other refl)
     not_ended stop.NoCache other t deals (stays reached same) = stays_owes t deals reached same
     not_ended stop.NoCache other t deals (tried needs wanting reached same) = absurd (other wanting)
@@ -188,8 +188,8 @@ module _ {S W R : Type 0} {c : CallsGhosts S W R} (old : Session S W R c) (first
     not_ended stop.BayFault other t deals (tried needs wanting reached same) = absurd (other wanting)
     not_ended stop.BayFault other t deals (ended name attaches none more wanting) = absurd (other wanting)
 
-    halted : (why : LastLine) (by : Stopped) → (by ≡ stop.Memory → ⊥) → Leaves old step session ledger ledger' by → taken' ≡ taken → ((o : Outline) → Before o → Because bay unread given o why)
-        → Ends first now taken_first taken' bay (Owes ledger_first ledger' Reaches) Wanting (ending.Stopped why)
+    halted : (why : LastLine) (by : Stopped) → (by ≡ stop.Memory → ⊥) → StepLeaves old step session ledger ledger' by → taken' ≡ taken → ((o : Outline) → Before o → Because bay unread given o why)
+        → EndsRun first now taken_first taken' bay (Owes ledger_first ledger' Reaches) Wanting (ending.Stopped why)
     halted why by other leaves keeps because = record {
       held = unread;
       given = given;
@@ -197,7 +197,7 @@ module _ {S W R : Type 0} {c : CallsGhosts S W R} (old : Session S W R c) (first
     }
 
     -- what is owed where memory was wanting
-    wants : (t : Told) → Deals ledger_first ledger t.ended t.names → IsLeft t.own step session ledger ledger' stop.Memory → Wanting unread given t
+    wants : (t : Told) → Deals ledger_first ledger t.ended t.names → IsLeftAtEnd t.own step session ledger ledger' stop.Memory → Wanting unread given t
     wants t deals (stays reached same) = inl (stays_owes t deals reached same)
     wants t deals (tried needs wanting reached same) =
         inr (inl (record { bytes = bytes; next = (unread', known); step = step; asks = asks; needs = needs; devices = stays_owes (own_loosened t) deals reached same }))
@@ -222,8 +222,8 @@ module _ {S W R : Type 0} {c : CallsGhosts S W R} (old : Session S W R c) (first
     none_found : (told : Option Harm) (session : Session S W R c) → session.part ≡ None → AreReached (told_of told) (return_in session) → told ≡ None
     none_found told session none h = none_told told (subst (λ o. AreReached (told_of told) (return_of o)) none h)
 
-    halt_ends : (halt : Halt) → Halts old step session ledger ledger' taken taken' bay_old bay_new halt
-        → Ends first now taken_first taken' bay (Owes ledger_first ledger' Reaches) Wanting (ending_of given' halt)
+    halt_ends : (halt : Halt) → StepHalts old step session ledger ledger' taken taken' bay_old bay_new halt
+        → EndsRun first now taken_first taken' bay (Owes ledger_first ledger' Reaches) Wanting (ending_of given' halt)
     halt_ends (Stop stop.NoCache) h =
         halted (last.NoCache given') stop.NoCache (λ e. absurd cc) h.0 h.1
         (λ o is. (counted, record { bytes = bytes; next = (unread', known); step = step; asks = asks; needs = h.2.0; none = none_found o.session old h.2.1 is }))
@@ -247,8 +247,8 @@ module _ {S W R : Type 0} {c : CallsGhosts S W R} (old : Session S W R c) (first
           (λ out appends. Took-kept taken_first taken taken' out appends h.text) (λ t owes. owes) (λ o. tt);
     })
 
-    pub step_ends : (halt : Halt) → Halts old step session ledger ledger' taken taken' bay_old bay_new halt
-        → Ends first now taken_first taken' bay (Owes ledger_first ledger' Reaches) Wanting (ending_of given' halt)
+    pub step_ends : (halt : Halt) → StepHalts old step session ledger ledger' taken taken' bay_old bay_new halt
+        → EndsRun first now taken_first taken' bay (Owes ledger_first ledger' Reaches) Wanting (ending_of given' halt)
     step_ends halt h = halt_ends halt h
 
 -- no step ends the run with the last line for words that are no command
@@ -276,7 +276,7 @@ module _ (bay bay' : Refusals) (bay_from : bay.before ≡ bay'.before) (bay_to :
   because_earlier held given o last.TooManyLines b = b
   because_earlier held given o (last.NoCache number) b = b
 
-  pub Ends-earlier : (first now : List SourceRead) (old new : List SinkWrite) (Devices : Told → Type 0) (Wanting : List ℕ → ℕ → Told → Type 0) (e : Ending) → Ends first now old new bay Devices Wanting e → Ends first now old new bay' Devices Wanting e
+  pub Ends-earlier : (first now : List SourceRead) (old new : List SinkWrite) (Devices : Told → Type 0) (Wanting : List ℕ → ℕ → Told → Type 0) (e : Ending) → EndsRun first now old new bay Devices Wanting e → EndsRun first now old new bay' Devices Wanting e
   Ends-earlier first now old new Devices Wanting ending.Done h = h
   Ends-earlier first now old new Devices Wanting (ending.Stopped why) h = record { held = h.held; given = h.given; story = story_with first now h.held h.given (SendsAll old new) (SendsAll old new) Devices Devices _ _ _ (λ out all text. text) (λ t d. d) (λ o b. because_earlier h.held h.given o why b) h.story }
   Ends-earlier first now old new Devices Wanting ending.WriteFault h = h
@@ -321,7 +321,7 @@ halt_failed old new number Memory h = h
 nothing_taken : Taken [] [] []
 nothing_taken = record { all = refl; each = tt; within = lit≤ tt }
 
-pub begins : (now : List SourceRead) (taken : List SinkWrite) (ledger : Ledger) (held : List ℕ) (given : ℕ) (Outlined : Outline → Type 0) (Plays' : Run → Type 0) → held ≡ [] → given ≡ 0 → Outlined blank → Plays' fresh → GoesOn now taken ledger now held given taken ledger Outlined Plays'
+pub begins : (now : List SourceRead) (taken : List SinkWrite) (ledger : Ledger) (held : List ℕ) (given : ℕ) (Outlined : Outline → Type 0) (Plays' : Run → Type 0) → held ≡ [] → given ≡ 0 → Outlined blank_outline → Plays' fresh → GoesOn now taken ledger now held given taken ledger Outlined Plays'
 begins now taken ledger held given Outlined Plays' empty none outlined plays = record {
   reads = [];
   since = refl;
@@ -342,7 +342,7 @@ module _ (bay : Refusals) (first now : List SourceRead) (old new : List SinkWrit
       → Story first now held given Text From Behind Known → Story first now held given Text To Behind Known
   settled held given Text From To Behind Known f s = story_with first now held given Text Text From To Behind Behind Known (λ out all text. text) f (λ o b. b) s
 
-  pub Ends-settled : (e : Ending) → Ends first now old new bay Devices Wanting e → Ends first now old new bay Devices' Wanting' e
+  pub Ends-settled : (e : Ending) → EndsRun first now old new bay Devices Wanting e → EndsRun first now old new bay Devices' Wanting' e
   Ends-settled ending.Done h = record { held = h.held; given = h.given; story = settled h.held h.given (SendsAll old new) Devices Devices' _ _ settle h.story }
   Ends-settled (ending.Stopped why) h = record { held = h.held; given = h.given; story = settled h.held h.given (SendsAll old new) Devices Devices' _ _ settle h.story }
   Ends-settled ending.WriteFault h = record { held = h.held; given = h.given; story = settled h.held h.given (CutsLast old new) Devices Devices' _ _ settle h.story }
@@ -366,7 +366,7 @@ nothing_back ledger t none own names = rw (none, own, names) (Deals-nothing ledg
 
 -- nothing was read for want of memory
 pub nothing_ends : (now : List SourceRead) (taken : List SinkWrite) (Devices : Told → Type 0) (Wanting : List ℕ → ℕ → Told → Type 0) → ((t : Told) → t.ended ≡ [] → t.own ≡ [] → t.names ≡ [] → Wanting [] 0 t) → (bay : Refusals)
-    → Ends now now taken taken bay Devices Wanting ending.OutOfMemory
+    → EndsRun now now taken taken bay Devices Wanting ending.OutOfMemory
 nothing_ends now taken Devices Wanting back bay = inl (record {
   held = [];
   given = 0;
@@ -378,8 +378,8 @@ nothing_ends now taken Devices Wanting back bay = inl (record {
     taken = nothing_taken;
     counted = refl;
     text = Took-nothing taken;
-    outline = record { each = tt; devices = back (told_by blank) refl refl refl; behind = tt };
-    records = inl (record { turns = []; legal = tt; says = refl; devices = back (told_in fresh) refl refl refl; known = tt });
+    outline = record { each = tt; devices = back (told_by blank_outline) refl refl refl; behind = tt };
+    records = inl (record { turns = []; legal = tt; says = refl; devices = back (told_by_records fresh) refl refl refl; known = tt });
   };
 })
 

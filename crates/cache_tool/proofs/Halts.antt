@@ -19,7 +19,7 @@ use Rattle.cache_replay.proofs.Unharming.{plays_reached}
 use Rattle.cache_tool.specs.declared.run.Halt.{Halt}
 use Rattle.cache_tool.specs.declared.run.Halt.TheVariants.{Stop, WriteFault, Memory}
 use Rattle.run_promise.specs.Story.{SendsFront, CutsLast, Took}
-use Rattle.cache_tool.specs.Halt.{Halts, IsUnwritten}
+use Rattle.cache_tool.specs.Halt.{AnswerIsUnwritten, StepHalts}
 
 pub OnOk-map : {T E : Type 0} (r : Result T E) (P Q : Type 0) → (P → Q) → OnOk r P → OnOk r Q
 OnOk-map (Ok x) P Q f h = f h
@@ -41,7 +41,7 @@ module _ {S W R : Type 0} {c : CallsGhosts S W R} where
   pub unwritten_halts : (session : Session S W R c) (step : Step) (new : Session S W R c) (said : StepAnswer) (before now : Ledger) (taken_old taken_new : List SinkWrite) (bay_old bay_new : List BayCall)
       → ((o : Outline) → IsOutlined o session → Outlines o step new said before now)
       → ((run : Run) → Plays run session → DeviceEnds run step new said before now)
-      → (halt : Halt) → IsUnwritten taken_old taken_new (answer_line said) halt → Halts session step new before now taken_old taken_new bay_old bay_new halt
+      → (halt : Halt) → AnswerIsUnwritten taken_old taken_new (answer_line said) halt → StepHalts session step new before now taken_old taken_new bay_old bay_new halt
   unwritten_halts session step new said before now taken_old taken_new bay_old bay_new outlines ends WriteFault h = record { said = said; outlines = outlines; ends = ends; text = h }
   unwritten_halts session step new said before now taken_old taken_new bay_old bay_new outlines ends Memory h = record { said = said; outlines = outlines; ends = ends; text = h }
   unwritten_halts session step new said before now taken_old taken_new bay_old bay_new outlines ends (Stop why) h = absurd h

@@ -4,7 +4,7 @@ use Rattle.device_log.specs.Streams.{SourceRead, SinkWrite}
 use Rattle.edge_io.specs.Lines.{AreLines, GivesLine, IsLine}
 use Rattle.edge_io.specs.Text.{spelled, text_after}
 use Rattle.edge_io.proofs.Texts.{spelled_more, text_behind, text_more}
-use Rattle.logged_disk.specs.Device.{State as Device}
+use Rattle.logged_disk.specs.Device.{DeviceState as Device}
 use Rattle.script_lang.specs.declared.line.LineAnswer.TheVariants as line
 use Rattle.script_lang.specs.declared.step.Step.{Step}
 use Rattle.script_lang.specs.declared.answer.StepAnswer.{StepAnswer}
@@ -16,12 +16,12 @@ use Rattle.script_run.specs.Behind.{after_line, after_step}
 use Rattle.script_run.specs.Takes.{LineShows, LineTakes, run_after}
 use Rattle.cache_calls.specs.declared.calls.Calls.{Ghosts as CallsGhosts}
 use Rattle.cache_replay.specs.declared.session.Session.{Session}
-use Rattle.run_promise.specs.Outline.{Outline, blank, called, doubted, outline_after, outline_in}
+use Rattle.run_promise.specs.Outline.{Outline, blank_outline, doubted, outline_after, outline_in, with_calls_of}
 use Rattle.run_promise.specs.Lines.{AreAnswered, answers_of, outline_of, outline_read, reading_answer, text_of, texts_of}
 use Rattle.cache_replay.specs.Plays.{DeviceEnds, IsOutlined, Outlines}
 use Rattle.script_run.specs.Ledger.{ComeBack, Ledger, Deals}
 use Rattle.cache_replay.specs.Plays.{Plays as PlaysNow}
-use Rattle.run_promise.specs.Story.{AnsweredFrom, Story, Told, Taken, Took, Recorded, ShownAlong, GoesOn, SendsAll, told_by, told_in}
+use Rattle.run_promise.specs.Story.{AnsweredFrom, Story, Told, Taken, Took, Recorded, ShownAlong, GoesOn, SendsAll, told_by, told_by_records}
 use Rattle.cache_tool.proofs.Runs.{AreAnswered-more, IsRun-more, answers_of-more, outline_of-more, run_after-more, texts_before-more, texts_of-more, AreReached-append}
 
 -- ---- the bytes of a line
@@ -106,7 +106,7 @@ along_with lines answers From To Behind Behind' settle behind s = record {
   says = s.says;
   turn = s.turn;
   shows = s.shows;
-  outline = answered_with (doubted (outline_in (called (run_after fresh s.before s.earlier) s.turn))) (s.bytes ∷ s.after) s.rest From To Behind Behind' settle behind s.outline;
+  outline = answered_with (doubted (outline_in (with_calls_of (run_after fresh s.before s.earlier) s.turn))) (s.bytes ∷ s.after) s.rest From To Behind Behind' settle behind s.outline;
 }
 
 -- the story, where what is told of its text, its devices and its outline gives something else
@@ -121,7 +121,7 @@ story_with first now held given Text Text' From To Behind Behind' Known text set
   taken = s.taken;
   counted = s.counted;
   text = text _ _ s.text;
-  outline = answered_with blank s.lines s.answers From To Behind Behind' (λ o from is. settle (told_by o) from) behind s.outline;
+  outline = answered_with blank_outline s.lines s.answers From To Behind Behind' (λ o from is. settle (told_by o) from) behind s.outline;
   records = elim s.records [
     | inl r ↦ inl (record { turns = r.turns; legal = r.legal; says = r.says; devices = settle _ r.devices; known = r.known })
     | inr along ↦ inr (along_with s.lines s.answers From To Behind Behind' (λ o from is. settle (told_by o) from) behind along)
@@ -155,12 +155,12 @@ along_more lines answers bytes said From To Behind Behind' follows s = record {
   says = ap (λ l. l ++ said ∷ []) s.says ∙ append_assoc (answers_of fresh s.before s.earlier) s.rest (said ∷ []);
   turn = s.turn;
   shows = s.shows;
-  outline = answered_more (doubted (outline_in (called (run_after fresh s.before s.earlier) s.turn))) (s.bytes ∷ s.after) s.rest bytes said To Behind' s.outline.each (follows _ s.outline.devices s.outline.behind);
+  outline = answered_more (doubted (outline_in (with_calls_of (run_after fresh s.before s.earlier) s.turn))) (s.bytes ∷ s.after) s.rest bytes said To Behind' s.outline.each (follows _ s.outline.devices s.outline.behind);
 }
 
 -- or the last one shows one
 shown_last : (lines : List (List ℕ)) (answers : List (Option StepAnswer)) (From To : Told → Type 0) (Known : Run → Type 0) (Behind : Outline → Type 0) (bytes : List ℕ) (said : Option StepAnswer) (r : Recorded lines answers From Known) (turn : Turn)
-    → LineShows (run_after fresh lines r.turns) turn bytes → AnsweredFrom (doubted (outline_in (called (run_after fresh lines r.turns) turn))) (bytes ∷ []) (said ∷ []) To Behind → ShownAlong (lines ++ bytes ∷ []) (answers ++ said ∷ []) To Behind
+    → LineShows (run_after fresh lines r.turns) turn bytes → AnsweredFrom (doubted (outline_in (with_calls_of (run_after fresh lines r.turns) turn))) (bytes ∷ []) (said ∷ []) To Behind → ShownAlong (lines ++ bytes ∷ []) (answers ++ said ∷ []) To Behind
 shown_last lines answers From To Known Behind bytes said r turn shows outline = record {
   before = lines;
   bytes = bytes;
@@ -184,7 +184,7 @@ module _ (first now : List SourceRead) (taken_first taken : List SinkWrite) (led
   module _ (said : Option StepAnswer) (Text : (before all : List ℕ) → Type 0) (Devices : Told → Type 0) (Behind : Outline → Type 0) (Known : Run → Type 0) where
     -- a line that did what it must
     recorded_more : (r : Recorded story.lines story.answers Dealt Plays) (turn : Turn) → LineTakes (run_after fresh story.lines r.turns) turn bytes
-        → said ≡ reading_answer (run_after fresh story.lines r.turns) turn (reading_of bytes) → Devices (told_in (after_line (run_after fresh story.lines r.turns) turn bytes)) → Known (after_line (run_after fresh story.lines r.turns) turn bytes)
+        → said ≡ reading_answer (run_after fresh story.lines r.turns) turn (reading_of bytes) → Devices (told_by_records (after_line (run_after fresh story.lines r.turns) turn bytes)) → Known (after_line (run_after fresh story.lines r.turns) turn bytes)
         → Recorded (story.lines ++ bytes ∷ []) (story.answers ++ said ∷ []) Devices Known
     recorded_more r turn takes says devices behind =
         let after : run_after fresh (story.lines ++ bytes ∷ []) (r.turns ++ turn ∷ []) ≡ after_line (run_after fresh story.lines r.turns) turn bytes = run_after-more bytes turn fresh story.lines r.turns r.legal in
@@ -192,14 +192,14 @@ module _ (first now : List SourceRead) (taken_first taken : List SinkWrite) (led
           turns = r.turns ++ turn ∷ [];
           legal = IsRun-more bytes turn fresh story.lines r.turns r.legal takes;
           says = ap (λ l. l ++ said ∷ []) r.says ∙ ap (λ a. answers_of fresh story.lines r.turns ++ a ∷ []) says ∙ sym (answers_of-more bytes turn fresh story.lines r.turns r.legal);
-          devices = subst (λ run. Devices (told_in run)) (sym after) devices;
+          devices = subst (λ run. Devices (told_by_records run)) (sym after) devices;
           known = subst Known (sym after) behind;
         }
 
     -- it does, or it shows a pair, and the outline with the calls of that turn goes on, its device doubted
     abbrev EndsRecords : Type 0
     EndsRecords = (r : Recorded story.lines story.answers Dealt Plays)
-        → Recorded (story.lines ++ bytes ∷ []) (story.answers ++ said ∷ []) Devices Known ⊎ ((turn : Turn) × LineShows (run_after fresh story.lines r.turns) turn bytes × AnsweredFrom (doubted (outline_in (called (run_after fresh story.lines r.turns) turn))) (bytes ∷ []) (said ∷ []) Devices Behind)
+        → Recorded (story.lines ++ bytes ∷ []) (story.answers ++ said ∷ []) Devices Known ⊎ ((turn : Turn) × LineShows (run_after fresh story.lines r.turns) turn bytes × AnsweredFrom (doubted (outline_in (with_calls_of (run_after fresh story.lines r.turns) turn))) (bytes ∷ []) (said ∷ []) Devices Behind)
 
     pub line_more : ((o : Outline) → Dealt (told_by o) → Outlined o → AnsweredFrom o (bytes ∷ []) (said ∷ []) Devices Behind) → ((out : List ℕ) → Took taken_first taken out → Text out (out ++ text_of said))
         → EndsRecords → Story first now unread' given' Text Devices Behind Known
@@ -212,7 +212,7 @@ module _ (first now : List SourceRead) (taken_first taken : List SinkWrite) (led
       counted = counted ∙ ap (λ n. n + 1) story.counted ∙ sym (length-append story.lines (bytes ∷ []));
       text = subst (λ (before : List ℕ). Text before (texts_of (story.answers ++ said ∷ []))) (sym (texts_before-more story.answers said))
           (subst (Text (texts_of story.answers)) (sym (texts_of-more story.answers said)) (text (texts_of story.answers) story.text));
-      outline = answered_more blank story.lines story.answers bytes said Devices Behind story.outline.each (follows _ story.outline.devices story.outline.behind);
+      outline = answered_more blank_outline story.lines story.answers bytes said Devices Behind story.outline.each (follows _ story.outline.devices story.outline.behind);
       records = elim story.records [
         | inl r ↦ elim (records r) [
           | inl more ↦ inl more
@@ -252,7 +252,7 @@ module _ (first now : List SourceRead) (taken_first taken : List SinkWrite) (led
           → ((run : Run) → Plays run → DeviceEnds run step new said ledger ledger')
           → ((out : List ℕ) → Took taken_first taken out → Text out (out ++ answer_line said))
           → ((o : Outline) → IsOutlined o new → Deals ledger_first ledger' o.ended o.names → Devices (told_by o))
-          → ((run : Run) → PlaysNow run new → Deals ledger_first ledger' run.ended run.names → Devices (told_in run))
+          → ((run : Run) → PlaysNow run new → Deals ledger_first ledger' run.ended run.names → Devices (told_by_records run))
           → ((o : Outline) → IsOutlined o new → Behind o) → ((run : Run) → PlaysNow run new → Known run)
           → Story first now unread' given' Text Devices Behind Known
       step_more Text Devices Behind Known outlined ends text settle settle_run behind knows =
@@ -262,5 +262,5 @@ module _ (first now : List SourceRead) (taken_first taken : List SinkWrite) (led
                 inl (recorded_more (Some said) Text Devices Behind Known r m.moves.turn (rw asks m.moves.takes) (rw asks (ap Some (sym m.moves.says)))
                 (rw asks (settle_run (after_step run m.moves.turn step) m.moves.plays (deals_all run.ended m.harms run.names m.names _ _ m.ended m.named r.devices m.deals)))
                 (rw asks (knows (after_step run m.moves.turn step) m.moves.plays)))
-            | inr shows ↦ inr (shows.turn, rw asks shows.shows, step_follows Devices Behind (doubted (outline_in (called run shows.turn))) shows.outlines settle behind r.devices)
+            | inr shows ↦ inr (shows.turn, rw asks shows.shows, step_follows Devices Behind (doubted (outline_in (with_calls_of run shows.turn))) shows.outlines settle behind r.devices)
           ])

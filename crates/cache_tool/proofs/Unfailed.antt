@@ -2,7 +2,7 @@
 use Rattle.std.proofs.Common.{ℕ, List, [], ◌∷◌, ◌++◌, subst, arith}
 use Rattle.std.specs.Prelude.{All}
 use Rattle.std.proofs.lemmas.List.Elements.{All-tail}
-use Rattle.logged_disk.specs.Device.{State as Device}
+use Rattle.logged_disk.specs.Device.{DeviceState as Device}
 use Rattle.device_bay.specs.Calls.{BayCall, IsBayLog, IsDevice, returned_by}
 use Rattle.device_bay.proofs.BayLemmas.{untold_has_no_fault}
 use Rattle.script_run.specs.Ledger.{AreLeftAlone, InOrder}

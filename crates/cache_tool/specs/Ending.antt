@@ -8,11 +8,12 @@ use Rattle.cache_tool.specs.declared.run.Ending.TheVariants.{Done, Stopped, Writ
 use Rattle.run_promise.specs.Story.{StoryUpTo, Told, Because, IsReadThrough, Refusals, SendsAll, CutsLast, WantsMemory}
 
 -- what holds of the devices, and what does where memory was wanting for the next line
-abbrev pub Ends : (first now : List SourceRead) (taken_old taken_new : List SinkWrite) (bay : Refusals) (Devices : Told → Type 0) (Wanting : (held : List ℕ) → ℕ → Told → Type 0) → Ending → Type 0
-Ends first now old new bay Devices Wanting Done = StoryUpTo first now (SendsAll old new) (λ held given. Devices) (λ held given o. IsReadThrough now held)
-Ends first now old new bay Devices Wanting (Stopped why) = StoryUpTo first now (SendsAll old new) (λ held given. Devices) (λ held given o. Because bay held given o why)
-Ends first now old new bay Devices Wanting WriteFault = StoryUpTo first now (CutsLast old new) (λ held given. Devices) (λ held given o. ⊤)
-Ends first now old new bay Devices Wanting OutOfMemory = WantsMemory first now old new Devices Wanting
+abbrev pub EndsRun : (first now : List SourceRead) (taken_old taken_new : List SinkWrite) (bay : Refusals) (Devices : Told → Type 0) (Wanting : (held : List ℕ) → ℕ → Told → Type 0) → Ending → Type 0
+EndsRun first now old new bay Devices Wanting Done = StoryUpTo first now (SendsAll old new) (λ held given. Devices) (λ held given o. IsReadThrough now held)
+EndsRun first now old new bay Devices Wanting (Stopped why) = StoryUpTo first now (SendsAll old new) (λ held given. Devices) (λ held given o. Because bay held given o why)
+EndsRun first now old new bay Devices Wanting WriteFault =
+    StoryUpTo first now (CutsLast old new) (λ held given. Devices) (λ held given o. ⊤)
+EndsRun first now old new bay Devices Wanting OutOfMemory = WantsMemory first now old new Devices Wanting
 
 -- which reads failed in a run that ends so: with a read fault the last one alone, by the next count, and else none
 abbrev pub FailedReads : (old new : List SourceRead) → Ending → Type 0

@@ -16,7 +16,7 @@ use Rattle.cache_replay.specs.declared.stop.Stop.TheVariants as stop
 use Rattle.cache_replay.specs.declared.stop.Stop.{Stop as Reason}
 use Rattle.run_promise.specs.Outline.{Outline}
 use Rattle.cache_replay.specs.Session.{return_in}
-use Rattle.cache_replay.specs.Plays.{DeviceEnds, IsLeft, IsOutlined, Outlines, Plays}
+use Rattle.cache_replay.specs.Plays.{DeviceEnds, IsLeftAtEnd, IsOutlined, Outlines, Plays}
 use Rattle.script_run.specs.Ledger.{AreReached, Ledger}
 use Rattle.cache_replay.specs.Stop.{StopsStep, is_bay_stop}
 use Rattle.cache_tool.specs.declared.run.Ending.{Ending}
@@ -28,22 +28,23 @@ use Rattle.run_promise.specs.Story.{SendsFront}
 module _ {S W R : Type 0} {c : CallsGhosts S W R} where
   -- A step was answered so: each outline goes on by the answer, and each run that the session plays, or two documents of one
   -- SHA-256 are shown; and this became of the text.
-  pub record Written (old : Session S W R c) (step : Step) (new : Session S W R c) (before now : Ledger) (Text : List ℕ → Type 0) : Type 0 where
+  pub record AnswerIsWritten (old : Session S W R c) (step : Step) (new : Session S W R c) (before now : Ledger) (Text : List ℕ → Type 0) : Type 0 where
     pub said : StepAnswer
     pub outlines : (o : Outline) → IsOutlined o old → Outlines o step new said before now
     pub ends : (run : Run) → Plays run old → DeviceEnds run step new said before now
     pub text : Text (answer_line said)
 
   -- what a step leaves that was not done, whatever was told of the session's device
-  abbrev pub Leaves : (old : Session S W R c) → Step → (new : Session S W R c) → (before now : Ledger) → Reason → Type 0
-  Leaves old step new before now why =
-      (harms : List Harm) → AreReached harms (return_in old) → IsLeft harms step new before now why
+  abbrev pub StepLeaves : (old : Session S W R c) → Step → (new : Session S W R c) → (before now : Ledger) → Reason → Type 0
+  StepLeaves old step new before now why =
+      (harms : List Harm) → AreReached harms (return_in old) → IsLeftAtEnd harms step new before now why
 
   -- what a step that ends the run leaves
-  abbrev pub Halts : (old : Session S W R c) → Step → (new : Session S W R c) → (before now : Ledger) → (taken_old taken_new : List SinkWrite) → (bay_old bay_new : List BayCall) → Halt → Type 0
-  Halts old step new before now taken_old taken_new bay_old bay_new (Stop why) = Leaves old step new before now why × (taken_new ≡ taken_old) × StopsStep old step bay_old bay_new why
-  Halts old step new before now taken_old taken_new bay_old bay_new WriteFault = Written old step new before now (SendsFront taken_old taken_new [])
-  Halts old step new before now taken_old taken_new bay_old bay_new Memory = Written old step new before now (λ text. taken_new ≡ taken_old)
+  abbrev pub StepHalts : (old : Session S W R c) → Step → (new : Session S W R c) → (before now : Ledger) → (taken_old taken_new : List SinkWrite) → (bay_old bay_new : List BayCall) → Halt → Type 0
+  StepHalts old step new before now taken_old taken_new bay_old bay_new (Stop why) = StepLeaves old step new before now why × (taken_new ≡ taken_old) × StopsStep old step bay_old bay_new why
+  StepHalts old step new before now taken_old taken_new bay_old bay_new WriteFault = AnswerIsWritten old step new before now (SendsFront taken_old taken_new [])
+  StepHalts old step new before now taken_old taken_new bay_old bay_new Memory =
+      AnswerIsWritten old step new before now (λ text. taken_new ≡ taken_old)
 
 -- how the run then ends, at this line
 abbrev pub ending_of : ℕ → Halt → Ending
@@ -60,10 +61,10 @@ last_of fault.TooManyLines = last.TooManyLines
 last_of (fault.ReadFault count) = last.ReadFault
 
 -- why an answer was not written
-abbrev pub IsUnwritten : (old new : List SinkWrite) → List ℕ → Halt → Type 0
-IsUnwritten old new text WriteFault = SendsFront old new [] text
-IsUnwritten old new text Memory = new ≡ old
-IsUnwritten old new text (Stop why) = ⊥
+abbrev pub AnswerIsUnwritten : (old new : List SinkWrite) → List ℕ → Halt → Type 0
+AnswerIsUnwritten old new text WriteFault = SendsFront old new [] text
+AnswerIsUnwritten old new text Memory = new ≡ old
+AnswerIsUnwritten old new text (Stop why) = ⊥
 
 -- an attach was refused, which ends a run
 abbrev pub is_bay_halt : Halt → Bool

@@ -8,8 +8,8 @@ use Rattle.cache_tool.specs.declared.lines.Reading.{Reading}
 use Rattle.cache_tool.specs.declared.lines.Reading.TheVariants.{Line, End, Fault, Memory}
 
 -- the next line was read, or the reader's answer is passed on
-abbrev pub Reads : {S : Type 0} → (S → List SourceRead) → (S → Option (List ℕ)) → LineReader S → LineReader S → Reading → Type 0
-Reads reads left old new (Line answer) = (line : List ℕ) × (answer ≡ reading_of line) × Next reads left old new (Ok (Some line))
-Reads reads left old new End = Next reads left old new (Ok None)
-Reads reads left old new (Fault fault) = Next reads left old new (Err fault)
-Reads reads left old new Memory = (line : List ℕ) × Next reads left old new (Ok (Some line))
+abbrev pub ReadsNextLine : {S : Type 0} → (S → List SourceRead) → (S → Option (List ℕ)) → LineReader S → LineReader S → Reading → Type 0
+ReadsNextLine reads left old new (Line answer) = (line : List ℕ) × (answer ≡ reading_of line) × Next reads left old new (Ok (Some line))
+ReadsNextLine reads left old new End = Next reads left old new (Ok None)
+ReadsNextLine reads left old new (Fault fault) = Next reads left old new (Err fault)
+ReadsNextLine reads left old new Memory = (line : List ℕ) × Next reads left old new (Ok (Some line))

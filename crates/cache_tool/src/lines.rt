@@ -1,5 +1,5 @@
 // The lines of a script, as they are read.
-ghost use Rattle.cache_tool.specs.Lines.{Reads};
+ghost use Rattle.cache_tool.specs.Lines.{ReadsNextLine};
 
 use edge_io::{LineFault, LineReader, Source};
 use script_lang::{LineAnswer, read_line};
@@ -15,7 +15,7 @@ pub(crate) enum Reading {
 }
 
 pub(crate) fn next_reading<S: Source>(alloc: Global, reader: &mut LineReader<'_, S>) -> Reading
-    ensures { Reads S.reads S.left reader.old reader.new result }
+    ensures { ReadsNextLine S.reads S.left reader.old reader.new result }
 {
     match reader.next_line() {
         Ok(Some(line)) => match read_line(alloc, line) {

@@ -7,14 +7,14 @@ ghost use Rattle.edge_io.specs.LineReader.{held, lines_given, source_of};
 ghost use Rattle.device_bay.specs.Calls.{out_of, refusals_of};
 ghost use Rattle.script_lang.specs.Texts.{answer_line};
 ghost use Rattle.script_run.specs.Run.{fresh};
-ghost use Rattle.run_promise.specs.Outline.{blank};
+ghost use Rattle.run_promise.specs.Outline.{blank_outline};
 ghost use Rattle.cache_replay.specs.Session.{IsSession, devices_of, names_in, return_in};
 ghost use Rattle.cache_replay.specs.Plays.{IsOutlined, Plays};
 ghost use Rattle.script_run.specs.Ledger.{AreReached, KeepsOrder, Ledger, ledger_of};
 ghost use Rattle.cache_replay.specs.Stop.{RefusesNone};
-ghost use Rattle.run_promise.specs.Story.{GoesOn, Owes, OwesOrGave, Took, refusals};
-ghost use Rattle.cache_tool.specs.Halt.{IsUnwritten, Written, Halts, is_bay_halt, last_of, ending_of};
-ghost use Rattle.cache_tool.specs.Ending.{Ends, FailedReads, IsOfRun, is_bay_ending};
+ghost use Rattle.run_promise.specs.Story.{GoesOn, Owes, OwesOrGave, Took, refusals_around};
+ghost use Rattle.cache_tool.specs.Halt.{AnswerIsUnwritten, AnswerIsWritten, StepHalts, is_bay_halt, last_of, ending_of};
+ghost use Rattle.cache_tool.specs.Ending.{EndsRun, FailedReads, IsOfRun, is_bay_ending};
 
 use crate::lines::{Reading, next_reading};
 use cache_calls::Formats;
@@ -46,7 +46,7 @@ pub(crate) enum Halt {
 /// Writes an answer out.
 fn write_answer<K: Sink>(alloc: Global, sink: &mut K, said: &StepAnswer) -> Result<(), Halt>
     ensures written { OnOk result (Took (K.writes sink.old) (K.writes sink.new) (answer_line said.now)) }
-    ensures failed { IfErr result (IsUnwritten (K.writes sink.old) (K.writes sink.new) (answer_line said.now)) }
+    ensures failed { IfErr result (AnswerIsUnwritten (K.writes sink.old) (K.writes sink.new) (answer_line said.now)) }
     ensures grows { Grows (K.writes sink.old) (K.writes sink.new) }
 {
     let mut text = Vec::new(alloc);
@@ -70,9 +70,10 @@ fn take_step<K: Sink, B: Bay, C: Formats<B::Dev>>(
     requires session { IsSession session.old }
     requires held { devices_of session.old ≤ out_of (B.past bay.old) }
     requires few { length (names_in session.old) ≤ MAX_LINES }
-    ensures done { OnOk result (Written session.old asked session.new (ledger_of B.Bay bay.old)
+    ensures done { OnOk result
+        (AnswerIsWritten session.old asked session.new (ledger_of B.Bay bay.old)
         (ledger_of B.Bay bay.new) (Took (K.writes sink.old) (K.writes sink.new))) }
-    ensures halted { IfErr result (Halts session.old asked session.new
+    ensures halted { IfErr result (StepHalts session.old asked session.new
         (ledger_of B.Bay bay.old) (ledger_of B.Bay bay.new) (K.writes sink.old) (K.writes sink.new)
         (B.past bay.old) (B.past bay.new)) }
     ensures session { IsSession session.new }
@@ -135,8 +136,8 @@ fn line<S: Source, K: Sink, B: Bay, C: Formats<B::Dev>>(
         (back : Ledger) → GoesOn first told back (S.reads (source_of reader.old).now)
         (held reader.old) (lines_given reader.old) (K.writes sink.old) (ledger_of B.Bay bay.old)
         (λ o. IsOutlined o session.old) (λ run. Plays run session.old)
-        → Ends first (S.reads (source_of reader.new).now) told (K.writes sink.new)
-        (refusals (refusals_of (B.past bay.old)) (refusals_of (B.past bay.new)))
+        → EndsRun first (S.reads (source_of reader.new).now) told (K.writes sink.new)
+        (refusals_around (refusals_of (B.past bay.old)) (refusals_of (B.past bay.new)))
         (Owes back (ledger_of B.Bay bay.new)
         (λ harms. AreReached harms (return_in session.new)))
         (OwesOrGave back (ledger_of B.Bay bay.new) (devices_of session.new)
@@ -186,12 +187,12 @@ pub(crate) fn run_lines<S: Source, K: Sink, B: Bay, C: Formats<B::Dev>>(
     requires held { held reader.old ≡ [] }
     requires session { IsSession session.old }
     requires fresh { Plays fresh session.old }
-    requires blank { IsOutlined blank session.old }
+    requires blank { IsOutlined blank_outline session.old }
     requires none { devices_of session.old ≡ 0 }
     requires names { names_in session.old ≡ [] }
-    ensures ends { Ends (S.reads (source_of reader.old).now) (S.reads (source_of reader.new).now)
+    ensures ends { EndsRun (S.reads (source_of reader.old).now) (S.reads (source_of reader.new).now)
         (K.writes sink.old) (K.writes sink.new)
-        (refusals (refusals_of (B.past bay.old)) (refusals_of (B.past bay.new)))
+        (refusals_around (refusals_of (B.past bay.old)) (refusals_of (B.past bay.new)))
         (Owes (ledger_of B.Bay bay.old) (ledger_of B.Bay bay.new)
         (λ harms. AreReached harms (return_in session.new)))
         (OwesOrGave (ledger_of B.Bay bay.old) (ledger_of B.Bay bay.new) (devices_of session.new)

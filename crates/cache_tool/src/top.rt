@@ -6,8 +6,8 @@ ghost use Rattle.device_bay.specs.Calls.{IsBayLog, gifts_of, out_of, refusals_of
 ghost use Rattle.script_lang.specs.Texts.{last_line};
 ghost use Rattle.script_run.specs.Ledger.{InOrder, ledger_of};
 ghost use Rattle.cache_replay.specs.Stop.{RefusesNone};
-ghost use Rattle.run_promise.specs.Story.{refusals};
-ghost use Rattle.cache_tool.specs.Ending.{Ends, FailedReads, IsOfRun, is_bay_ending};
+ghost use Rattle.run_promise.specs.Story.{refusals_around};
+ghost use Rattle.cache_tool.specs.Ending.{EndsRun, FailedReads, IsOfRun, is_bay_ending};
 ghost use Rattle.run_promise.specs.Top.{IsReplay, WentOut, EachBack, EachBackOrMore, ReadsFailed, status_of, AttachesRefused, ComeBackUnfailed, Concludes};
 
 use crate::run::{Ending, run_lines};
@@ -77,7 +77,7 @@ fn replay<S: Source, K: Sink, B: Bay>(
     sink: &mut K,
     bay: &mut B,
 ) -> Ending
-    ensures ends { Ends (S.reads source.old) (S.reads source.new) (K.writes sink.old) (K.writes sink.new) (refusals (refusals_of (B.past bay.old)) (refusals_of (B.past bay.new)))
+    ensures ends { EndsRun (S.reads source.old) (S.reads source.new) (K.writes sink.old) (K.writes sink.new) (refusals_around (refusals_of (B.past bay.old)) (refusals_of (B.past bay.new)))
         (EachBack (ledger_of B.Bay bay.old) (ledger_of B.Bay bay.new)) (EachBackOrMore (ledger_of B.Bay bay.old) (ledger_of B.Bay bay.new)) result }
     ensures begun { IsOfRun result }
     ensures reads { FailedReads (S.reads source.old) (S.reads source.new) result }
@@ -107,7 +107,7 @@ pub fn cache_main<S: Source, K: Sink, B: Bay>(
     sink: &mut K,
     bay: &mut B,
 ) -> Status
-    ensures concludes { Concludes (S.reads source.old) (S.reads source.new) (K.writes sink.old) (K.writes sink.new) (refusals (refusals_of (B.past bay.old)) (refusals_of (B.past bay.new)))
+    ensures concludes { Concludes (S.reads source.old) (S.reads source.new) (K.writes sink.old) (K.writes sink.new) (refusals_around (refusals_of (B.past bay.old)) (refusals_of (B.past bay.new)))
         (ledger_of B.Bay bay.old) (ledger_of B.Bay bay.new) result }
     ensures usage { (result ≡ Status.Usage) ↔ (IsReplay words.now → ⊥) }
     ensures reads { ReadsFailed (S.reads source.old) (S.reads source.new) result }

@@ -6,7 +6,7 @@ use Rattle.device_log.specs.Calls.{Call, Read, Wrote, RefusedCall, ToRead, ToSyn
 use Rattle.cache_model.specs.declared.record.Rec.{Rec}
 use Rattle.cache_model.specs.declared.record.Rec.TheVariants as rec
 use Rattle.cache_model.specs.State.{State, after_all, state_after}
-use Rattle.cache_model.specs.Given.{AreBeforeWrite, AreOfBuffers, AreUpTo, Effect, Took, Denied, Finished, IsOfBuffer, IsWriteOfRest, begins_sync, buffers_begun, content_writes, denials, effects_in, effects_synced, effects_told, faults_of, has_sync, is_asked_refusal, is_calm, opens_gate, syncs_told, writes_below}
+use Rattle.cache_model.specs.Given.{AreBeforeWrite, AreOfBuffers, AreUpTo, Effect, Took, Denied, Finished, IsOfBuffer, IsWriteOfRest, begins_sync, buffers_begun, content_writes, denials, effects_in, effects_synced, effects_told, faults_of_reason, has_sync, is_asked_refusal, is_calm, opens_gate, syncs_told, writes_below}
 use Rattle.cache_model.specs.Permit.{Intent, Permit, Reason}
 use Rattle.cache_model.proofs.Steps.{after_all-append}
 use Rattle.call_laws.specs.Progress.{AllDone, IfLeaving, Leaves, MayWrite, Progress, Stops, UnlessWanting, Wants}
@@ -317,18 +317,18 @@ buffers_whole p s a (call ∷ c) there firsts h = buffers_whole p s a c (up_to_n
 -- where nothing was written
 pub no_writes : (o : Progress) (begun : ℕ) → MayWrite o begun 0
 no_writes (Leaves left) begun = at_least_none begun
-no_writes (Stops why) begun = at_least_none (begun + faults_of (Some why))
+no_writes (Stops why) begun = at_least_none (begun + faults_of_reason (Some why))
 no_writes Wants begun = tt
 
 -- what is left is asked next
 writes_on : (left : List Intent) (o : Progress) (m n x y : ℕ) → MayWrite (Leaves left) m x → MayWrite o n y → MayWrite o (m + n) (x + y)
 writes_on left (Leaves more) m n x y f l = more_both m n x y f l
-writes_on left (Stops why) m n x y f l = more_each m n x y (faults_of (Some why)) f l
+writes_on left (Stops why) m n x y f l = more_each m n x y (faults_of_reason (Some why)) f l
 writes_on left Wants m n x y f l = tt
 
 -- behind a refusal, which a fault may be
 writes_behind : (why : Reason) (m n x y : ℕ) → MayWrite (Stops why) m x → MayWrite AllDone n y → MayWrite (Stops why) (m + n) (x + y)
-writes_behind why m n x y f l = more_first m n x y (faults_of (Some why)) f l
+writes_behind why m n x y f l = more_first m n x y (faults_of_reason (Some why)) f l
 
 -- of two calls
 writes_both : (area : ℕ) (o : Progress) (c d : List Call) (a b : List Rec)

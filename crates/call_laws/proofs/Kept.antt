@@ -4,7 +4,7 @@ use Rattle.std.proofs.lemmas.Bool.{le-leb, leb-true}
 use Rattle.std.specs.Prelude.{Option, nat_le}
 use Rattle.device_log.specs.Calls.{Call}
 use Rattle.cache_model.specs.declared.record.Rec.{Rec}
-use Rattle.logged_disk.specs.Device.{State as Device, TellsAll, has_flip}
+use Rattle.logged_disk.specs.Device.{DeviceState as Device, TellsAll, has_flip}
 use Rattle.cache_model.specs.State.{Row, State, after_all}
 use Rattle.cache_model.specs.Kept.{state_of}
 use Rattle.cache_model.specs.Permit.{Intent, Permit, Reason, Work}

@@ -2,7 +2,7 @@
 use Rattle.std.proofs.Common.{◌≡◌, ℕ, ◌<◌, ◌≤◌, arith, true, false, List, [], ◌∷◌, ◌++◌, refl, ◌∙◌, inl}
 use Rattle.std.specs.Prelude.{take, Some}
 use Rattle.device_log.specs.Calls.{Call, Read}
-use Rattle.logged_disk.specs.Device.{State as Device}
+use Rattle.logged_disk.specs.Device.{DeviceState as Device}
 use Rattle.tape_base.specs.Digest.{Collide}
 use Rattle.doc_header.specs.Reading.{extent_of}
 use Rattle.cache_model.specs.declared.record.Rec.{Rec}

@@ -6,7 +6,7 @@ use Rattle.cache_model.specs.declared.record.Rec.{Rec}
 use Rattle.cache_model.specs.State.{State, after_all}
 use Rattle.cache_model.specs.Kept.{state_of}
 use Rattle.cache_model.specs.Permit.{HasCopies, Intent, IsSetBy, Permit, Reason, Setting, to_do}
-use Rattle.cache_model.specs.Given.{AreSyncsTold, buffers_begun, content_writes, effects_synced, faults_of}
+use Rattle.cache_model.specs.Given.{AreSyncsTold, buffers_begun, content_writes, effects_synced, faults_of_reason}
 use Rattle.cache_model.specs.Legal.{IsQuiet, MayGrow}
 use Rattle.cache_model.specs.Pair.{Documents}
 use Rattle.call_laws.specs.Moments.{At, Encloses, Facts, permit_of}
@@ -40,7 +40,7 @@ written_whole : (o : Progress) (why : Option Reason) (c : InStep) → EndsWith o
 written_whole o why c Progress.EndsWith.in_full h = h
 written_whole o why c (Progress.EndsWith.refused reason) h = h
 
-writes_whole : (o : Progress) (why : Option Reason) (begun times : ℕ) → EndsWith o why → MayWrite o begun times → times ≤ begun + faults_of why
+writes_whole : (o : Progress) (why : Option Reason) (begun times : ℕ) → EndsWith o why → MayWrite o begun times → times ≤ begun + faults_of_reason why
 writes_whole o why begun times Progress.EndsWith.in_full h = none_more begun times h
 writes_whole o why begun times (Progress.EndsWith.refused reason) h = h
 

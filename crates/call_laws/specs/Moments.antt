@@ -1,7 +1,7 @@
 -- What a caller sees of a cache at a moment, what is known there, and the steps in which a call may stand.
 use Rattle.std.specs.Prelude.{ℕ, ◌≡◌, List, ◌++◌}
 use Rattle.device_log.specs.Calls.{Call}
-use Rattle.logged_disk.specs.Device.{State as Device}
+use Rattle.logged_disk.specs.Device.{DeviceState as Device}
 use Rattle.cache_model.specs.State.{State}
 use Rattle.cache_model.specs.Kept.{Kept}
 use Rattle.cache_model.specs.Permit.{IsSetBy, Permit, Setting}

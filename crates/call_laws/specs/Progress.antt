@@ -3,7 +3,7 @@ use Rattle.std.specs.Prelude.{ℕ, ◌≡◌, ◌+◌, ◌≤◌, Bool, true, fa
 use Rattle.cache_model.specs.declared.record.Rec.{Rec}
 use Rattle.cache_model.specs.State.{State}
 use Rattle.cache_model.specs.Permit.{Permit, Intent, Reason, End, Stays, Done, Fails, Work, is_cleanup, to_do}
-use Rattle.cache_model.specs.Given.{faults_of}
+use Rattle.cache_model.specs.Given.{faults_of_reason}
 use Rattle.cache_model.specs.Legal.{MayGrow}
 use Rattle.call_laws.specs.Moments.{Facts, NothingKnown}
 
@@ -55,7 +55,7 @@ Spends p s asked added Wants = (left : Work) × MayGrow p s (to_do asked) added 
 -- more where the device refused what was asked; where memory was wanting, which ends no step, any number of times
 abbrev pub MayWrite : Progress → (begun times : ℕ) → Type 0
 MayWrite (Leaves left) begun times = times ≤ begun
-MayWrite (Stops why) begun times = times ≤ begun + faults_of (Some why)
+MayWrite (Stops why) begun times = times ≤ begun + faults_of_reason (Some why)
 MayWrite Wants begun times = Unit {0}
 
 -- this is so where memory was not wanting; where it was, no step ends

@@ -5,10 +5,10 @@ use Rattle.tape_base.specs.declared.geometries.Geometry.{Geometry}
 use Rattle.tape_base.specs.Place.{slot_of, next_cursor_of}
 use Rattle.edge_io.specs.declared.source.Failed.{Failed}
 use Rattle.device_log.specs.Calls.{ToRead, ToWrite, Call, Read, Wrote, RefusedCall}
-use Rattle.logged_disk.specs.Device.{State, Logs}
+use Rattle.logged_disk.specs.Device.{DeviceState, Logs}
 use Rattle.agg_buffer.specs.Buffer.{Buffer, filled_of}
-use Rattle.cyclone.specs.Cyclone.{Seen, Reads, SameTape, cursor_next}
-use Rattle.cyclone.specs.Writes.{AreOfBuffer, AreWritten, FreshStandsBehind, IsWritten, LeadTo, NextStandsBehind, ReadStandsBehind, StandsBehind, UncalledStandsBehind, WriteIsOfBuffer, cursor_behind}
+use Rattle.cyclone.specs.Cyclone.{Seen, ReadsBlocks, SameTape, next_buffer_cursor}
+use Rattle.cyclone.specs.Writes.{AreOfBuffer, AreWritten, BufferIsWritten, FreshStandsBehind, LeadTo, NextStandsBehind, ReadStandsBehind, StandsBehind, UncalledStandsBehind, WriteIsOfBuffer, cursor_behind}
 use Rattle.cyclone.proofs.Calls.{either_side}
 
 -- ---- one more call
@@ -64,7 +64,7 @@ lead_as g h from before p q a b geometry past cursor lead =
 pub fresh_stands_behind : FreshStandsBehind
 fresh_stands_behind c g device fresh =
     lead_as g c.geometry g.content device.past device.past c.device.past g.content c.buffer.cursor fresh.geometry
-    (ap (λ (d : State). d.past) fresh.device_is) (ap (λ (b : Buffer). b.cursor) fresh.buffer) (no_call g g.content device.past)
+    (ap (λ (d : DeviceState). d.past) fresh.device_is) (ap (λ (b : Buffer). b.cursor) fresh.buffer) (no_call g g.content device.past)
 
 pub uncalled_stands_behind : UncalledStandsBehind
 uncalled_stands_behind from before old new geometry cursor past lead =
@@ -94,14 +94,15 @@ module _ (from : ℕ) (before : List Call) (old new : Seen) (same : SameTape old
       behind_call old new same from before (RefusedCall (ToRead at (length bytes / 512)) new.device.faults ∷ old.device.past) failed.0
       (refused_read old.geometry from before old.device.past old.buffer.cursor lead at (length bytes / 512) new.device.faults)
 
-  module _ (place blocks : ℕ) (result : Result (Unit {0}) Failed) (bytes : List ℕ) (reads : Reads old new place blocks result bytes) where
+  module _ (place blocks : ℕ) (result : Result (Unit {0}) Failed) (bytes : List ℕ)
+      (reads : ReadsBlocks old new place blocks result bytes) where
     behind_one : ((place < old.buffer.cursor) ⊎ (old.buffer.cursor ≤ place)) → StandsBehind from before new
     behind_one (inl below) = behind_read (slot_of old.geometry place) bytes result (reads.logs below)
-    behind_one (inr above) = behind_call old new same from before old.device.past (ap (λ (d : State). d.past) (reads.none above)) lead
+    behind_one (inr above) = behind_call old new same from before old.device.past (ap (λ (d : DeviceState). d.past) (reads.none above)) lead
 
   module _ (few : filled_of old.buffer ≤ old.geometry.agg) (some : 0 < filled_of old.buffer) where
     behind_write : (r : Result (Unit {0}) Failed) → Logs (Wrote (slot_of old.geometry old.buffer.cursor) old.buffer.bytes) r old.device new.device
-        → MatchResult r (λ _. IsWritten from before new) (λ _. StandsBehind from before new)
+        → MatchResult r (λ _. BufferIsWritten from before new) (λ _. StandsBehind from before new)
     behind_write (Ok x) went = record {
       older = old.device.past;
       wrote = rw (same_geometry old new same, same_buffer old new same) went.past;
@@ -126,5 +127,5 @@ write_is_of_buffer from before old new result turns some same writes lead =
 pub next_stands_behind : NextStandsBehind
 next_stands_behind from before old new begins written =
     lead_as old.geometry new.geometry from before (Wrote (slot_of old.geometry old.buffer.cursor) old.buffer.bytes ∷ written.older) new.device.past
-    (cursor_next old) new.buffer.cursor begins.geometry (ap (λ (d : State). d.past) begins.device ∙ written.wrote) (ap (λ (b : Buffer). b.cursor) begins.buffer)
+    (next_buffer_cursor old) new.buffer.cursor begins.geometry (ap (λ (d : DeviceState). d.past) begins.device ∙ written.wrote) (ap (λ (b : Buffer). b.cursor) begins.buffer)
     (wrote old.geometry from before written.older old.buffer.cursor written.stands old.buffer.bytes written.some written.few)

@@ -4,25 +4,25 @@ use Rattle.edge_io.specs.declared.source.Failed.{Failed}
 use Rattle.tape_base.specs.Place.{slot_of}
 use Rattle.agg_buffer.specs.Buffer.{filled_of}
 use Rattle.device_log.specs.Image.{SameBut}
-use Rattle.logged_disk.specs.Device.{State, IsAfter, IsAsked, SeenStays, seen as content_of}
+use Rattle.logged_disk.specs.Device.{DeviceState, IsAfter, IsAsked, SeenStays, seen as content_of}
 use Rattle.logged_disk.proofs.GoingOn.{goes_by_read, goes_by_write, stays_put}
 use Rattle.logged_disk.proofs.Moments.{read_same, write_others}
-use Rattle.cyclone.specs.Cyclone.{Seen, Reads, WritesBuffer}
+use Rattle.cyclone.specs.Cyclone.{Seen, ReadsBlocks, WritesBuffer}
 
 pub either_side : (a b : ℕ) → ((a < b) ⊎ (b ≤ a))
 either_side a b = grind arith
 
-module _ (old new : Seen) (place blocks : ℕ) (result : Result (Unit {0}) Failed) (bytes : List ℕ) (read : Reads old new place blocks result bytes) where
+module _ (old new : Seen) (place blocks : ℕ) (result : Result (Unit {0}) Failed) (bytes : List ℕ) (read : ReadsBlocks old new place blocks result bytes) where
   goes_by : ((place < old.buffer.cursor) ⊎ (old.buffer.cursor ≤ place)) → IsAfter old.device new.device
   goes_by (inl below) = goes_by_read 0 0 old.device new.device read.keeps result (slot_of old.geometry place) bytes (read.logs below)
-  goes_by (inr above) = subst (λ (d : State). IsAfter old.device d) (sym (read.none above)) (stays_put old.device)
+  goes_by (inr above) = subst (λ (d : DeviceState). IsAfter old.device d) (sym (read.none above)) (stays_put old.device)
 
   pub reads_go_on : IsAfter old.device new.device
   reads_go_on = goes_by (either_side place old.buffer.cursor)
 
   same_by : ((place < old.buffer.cursor) ⊎ (old.buffer.cursor ≤ place)) → SeenStays old.device new.device
   same_by (inl below) j = ap (λ c. c j) (read_same result old.device new.device (slot_of old.geometry place) bytes read.keeps.first (read.logs below))
-  same_by (inr above) j = ap (λ (d : State). content_of d j) (read.none above)
+  same_by (inr above) j = ap (λ (d : DeviceState). content_of d j) (read.none above)
 
   pub reads_same : SeenStays old.device new.device
   reads_same = same_by (either_side place old.buffer.cursor)

@@ -9,14 +9,14 @@ use Rattle.doc_header.specs.declared.documents.Doc.{Doc}
 use Rattle.doc_header.specs.Document.{document_bytes}
 use Rattle.doc_header.specs.Moving.{moved_to}
 use Rattle.tape_base.specs.Blocks.{blocks_of}
-use Rattle.agg_buffer.specs.Buffer.{Buffer, Adds, empty_buffer, next_place_of, blocks_in}
+use Rattle.agg_buffer.specs.Buffer.{Buffer, AddsPiece, empty_buffer, next_place_of, blocks_in}
 use Rattle.dir_table.specs.Rows.{has_row, plain_rows, LosesPlain}
 use Rattle.tape_base.specs.declared.pieces.PieceId.{PieceId}
 use Rattle.dir_table.specs.declared.window.Window.{Window}
-use Rattle.cyclone.specs.Cyclone.{Seen, IsTurning, IsPut, IsMoved, TakesOut, TakesOutStored, BeginsNext, SameButRows, row_of_piece, cursor_next}
+use Rattle.cyclone.specs.Cyclone.{Seen, IsTurning, IsPut, IsMoved, TakesOut, TakesOutStored, BeginsNext, SameButRows, row_of_piece, next_buffer_cursor}
 use Rattle.dir_table.specs.Entering.{TakesRow}
 use Rattle.dir_table.proofs.Plainly.{all_stored}
-use Rattle.dir_table.specs.Wrap.{rows_from}
+use Rattle.dir_table.specs.Wrap.{rows_at_or_above}
 use Rattle.write_cursor.specs.Plan.{FitsInLap}
 use Rattle.tape_base.specs.declared.geometries.Geometry.{Geometry}
 use Rattle.tape_base.specs.Place.{slot_of}
@@ -42,7 +42,7 @@ below_inserted low high row gone old new h there t all =
     (below_more low high t.left h (all_behind low gone t.left (All-permutation (λ (r : DirRow). r.place < low) old (gone ++ t.left) t.parted all))))
 
 -- a cyclone turns on where blocks were added to its buffer, and all that is entered ends there
-added_turns : (old new : Seen) (piece : List ℕ) → IsTurning old → new.geometry ≡ old.geometry → Adds old.buffer new.buffer piece
+added_turns : (old new : Seen) (piece : List ℕ) → IsTurning old → new.geometry ≡ old.geometry → AddsPiece old.buffer new.buffer piece
     → new.window ≡ record old.window { end = next_place_of new.buffer } → new.device ≡ old.device → AllBelow (next_place_of new.buffer) new.rows → IsTurning new
 added_turns old new piece t geometry added window device entered =
     let cursor : new.buffer.cursor ≡ old.buffer.cursor = ap (λ (b : Buffer). b.cursor) added.behind in
@@ -70,9 +70,9 @@ put_turns purges old new doc payload t p at size =
     added_turns old new (document_bytes doc payload) t p.geometry p.buffer p.window p.device
     (below_inserted (next_place_of old.buffer) (next_place_of new.buffer) _ p.gone old.rows new.rows (omega arith) (omega arith) p.rows t.entered)
 
-below_from : (floor low high : ℕ) (old new : List DirRow) → low ≤ high → IsPermutation (rows_from floor old) new → AllBelow low old → AllBelow high new
+below_from : (floor low high : ℕ) (old new : List DirRow) → low ≤ high → IsPermutation (rows_at_or_above floor old) new → AllBelow low old → AllBelow high new
 below_from floor low high old new h kept all =
-    All-permutation (λ (r : DirRow). r.place < high) (rows_from floor old) new kept
+    All-permutation (λ (r : DirRow). r.place < high) (rows_at_or_above floor old) new kept
     (All-filter _ (λ (r : DirRow). r.place < high) old (below_more low high old h all))
 
 begun : (cursor reserved : ℕ) → next_place_of (empty_buffer cursor reserved) ≡ cursor
@@ -83,12 +83,13 @@ pub stored_below : (low high : ℕ) (rows : List StoredRow) → low ≤ high →
 stored_below low high rows h all = all_stored (λ (r : DirRow). r.place < high) rows (below_more low high (plain_rows rows) h all)
 
 -- and when the next buffer begins
-pub next_turns : (old new : Seen) → IsTurning old → BeginsNext old new → FitsInLap old.geometry (cursor_next old) → next_place_of old.buffer ≤ cursor_next old → cursor_next old < 2 ^ 62
+pub next_turns : (old new : Seen) → IsTurning old → BeginsNext old new → FitsInLap old.geometry (next_buffer_cursor old) → next_place_of old.buffer ≤ next_buffer_cursor old → next_buffer_cursor old < 2 ^ 62
     → IsTurning new
 next_turns old new t b fits behind below =
-    let cursor : new.buffer.cursor ≡ cursor_next old = ap (λ (x : Buffer). x.cursor) b.buffer in
+    let cursor : new.buffer.cursor ≡ next_buffer_cursor old = ap (λ (x : Buffer). x.cursor) b.buffer in
     let reserved : new.buffer.reserved ≡ old.buffer.reserved = ap (λ (x : Buffer). x.reserved) b.buffer in
-    let empty : next_place_of new.buffer ≡ cursor_next old = ap next_place_of b.buffer ∙ begun (cursor_next old) old.buffer.reserved in
+    let empty : next_place_of new.buffer ≡ next_buffer_cursor old = ap next_place_of b.buffer
+    ∙ begun (next_buffer_cursor old) old.buffer.reserved in
     record {
       geometry = ap (λ (w : Window). w.geometry) b.window ∙ (t.geometry ∙ sym b.geometry);
       cursor = ap (λ (w : Window). w.cursor) b.window ∙ sym cursor;

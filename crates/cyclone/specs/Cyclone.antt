@@ -11,12 +11,12 @@ use Rattle.edge_io.specs.declared.source.Failed.{Failed}
 use Rattle.std.specs.Prelude.{Result, OnOk}
 use Rattle.device_log.specs.Image.{span}
 use Rattle.device_log.specs.Calls.{Read, Wrote}
-use Rattle.logged_disk.specs.Device.{State, IsTrusted, Keeps, Logs, seen as content_of}
+use Rattle.logged_disk.specs.Device.{DeviceState, IsTrusted, Keeps, Logs, seen as content_of}
 use Rattle.logged_disk.specs.declared.device.Disk.{Ghosts as DiskGhosts}
 use Rattle.doc_header.specs.declared.documents.Doc.{Doc}
 use Rattle.doc_header.specs.Document.{document_bytes}
 use Rattle.doc_header.specs.Moving.{moved_to}
-use Rattle.agg_buffer.specs.Buffer.{Buffer, bytes_at, filled_of, next_place_of, empty_buffer, Adds}
+use Rattle.agg_buffer.specs.Buffer.{Buffer, bytes_at, filled_of, next_place_of, empty_buffer, AddsPiece}
 use Rattle.dir_table.specs.declared.rows.DirRow.{DirRow}
 use Rattle.dir_table.specs.declared.rows.StoredRow.{StoredRow}
 use Rattle.dir_table.specs.declared.window.Window.{Window}
@@ -24,7 +24,7 @@ use Rattle.dir_table.specs.declared.directory.Directory.{Ghosts as DirectoryGhos
 use Rattle.dir_table.specs.Rows.{row_of_key, has_row, plain_rows, LosesPlain}
 use Rattle.dir_table.specs.Displacement.{Displacement, Displaces, none_displaced}
 use Rattle.dir_table.specs.Entering.{PieceEntered, TakesRow, Enters}
-use Rattle.dir_table.specs.Wrap.{rows_from, stored_from}
+use Rattle.dir_table.specs.Wrap.{rows_at_or_above, stored_from}
 use Rattle.tape_base.specs.Blocks.{blocks_of}
 use Rattle.write_cursor.specs.Plan.{FitsInLap}
 use Rattle.cyclone.specs.declared.cyclone.Cyclone.{Cyclone}
@@ -42,12 +42,12 @@ pub record Seen : Type 0 where
   pub spare : ℕ
   -- what the piece that was put last displaced
   pub displaced : Displacement
-  pub device : State
+  pub device : DeviceState
 
 -- a cyclone as contracts see it, by what its directory and its device tell of themselves
 module _ {D R : Type 0} {d : DiskGhosts D} {r : DirectoryGhosts R} where
-  abbrev pub seen : Cyclone D R d r → Seen
-  seen c = record {
+  abbrev pub seen_cyclone : Cyclone D R d r → Seen
+  seen_cyclone c = record {
     geometry = c.geometry;
     buffer = c.buffer;
     window = r.window c.directory;
@@ -75,10 +75,10 @@ pub record IsTurning (c : Seen) : Type 0 where
 
 -- so it is of a cyclone, whatever its directory and its device are
 abbrev pub IsCyclone : {D R : Type 0} {d : DiskGhosts D} {r : DirectoryGhosts R} → Cyclone D R d r → Type 0
-IsCyclone c = IsTurning (seen c)
+IsCyclone c = IsTurning (seen_cyclone c)
 
 -- nothing was put yet
-pub record IsFresh (c : Seen) (g : Geometry) (device : State) : Type 0 where
+pub record IsFresh (c : Seen) (g : Geometry) (device : DeviceState) : Type 0 where
   pub geometry : c.geometry ≡ g
   pub buffer : c.buffer ≡ empty_buffer g.content g.agg
   pub rows : c.rows ≡ []
@@ -88,7 +88,7 @@ pub record IsFresh (c : Seen) (g : Geometry) (device : State) : Type 0 where
 -- a document is in the buffer, and its piece in the directory
 pub record IsPut (purges : Bool) (old new : Seen) (doc : Doc) (payload : List ℕ) : Type 0 where
   pub geometry : new.geometry ≡ old.geometry
-  pub buffer : Adds old.buffer new.buffer (document_bytes doc payload)
+  pub buffer : AddsPiece old.buffer new.buffer (document_bytes doc payload)
   -- the rows that go for it
   pub gone : List DirRow
   pub rows : TakesRow (row_of_key old.geometry (key_of_piece doc.id) doc.place) gone old.rows new.rows
@@ -141,7 +141,7 @@ pub record EntersCopy (purges : Bool) (old new : Seen) (id : PieceId) (from bloc
 -- in place of the row of where it stood
 pub record IsMoved (purges : Bool) (old new : Seen) (id : PieceId) (from : ℕ) (bytes : List ℕ) : Type 0 where
   pub geometry : new.geometry ≡ old.geometry
-  pub buffer : Adds old.buffer new.buffer (moved_to (next_place_of old.buffer) bytes)
+  pub buffer : AddsPiece old.buffer new.buffer (moved_to (next_place_of old.buffer) bytes)
   -- the rows without that of where it stood
   pub left : List DirRow
   pub taken : TakesOut (row_of_piece old id from) old.rows left
@@ -154,16 +154,16 @@ pub record IsMoved (purges : Bool) (old new : Seen) (id : PieceId) (from : ℕ) 
   pub device : new.device ≡ old.device
 
 -- where the next buffer begins
-abbrev pub cursor_next : Seen → ℕ
-cursor_next c = next_cursor_of c.geometry c.buffer.cursor (filled_of c.buffer)
+abbrev pub next_buffer_cursor : Seen → ℕ
+next_buffer_cursor c = next_cursor_of c.geometry c.buffer.cursor (filled_of c.buffer)
 
 -- the next buffer begins, and what it may overwrite is out of range
 pub record BeginsNext (old new : Seen) : Type 0 where
   pub geometry : new.geometry ≡ old.geometry
-  pub buffer : new.buffer ≡ empty_buffer (cursor_next old) old.buffer.reserved
-  pub window : new.window ≡ record old.window { cursor = cursor_next old; floor = floor_of old.geometry (cursor_next old); end = cursor_next old }
-  pub rows : IsPermutation (rows_from (floor_of old.geometry (cursor_next old)) old.rows) new.rows
-  pub stored : IsPermutation (stored_from (floor_of old.geometry (cursor_next old)) old.stored) new.stored
+  pub buffer : new.buffer ≡ empty_buffer (next_buffer_cursor old) old.buffer.reserved
+  pub window : new.window ≡ record old.window { cursor = next_buffer_cursor old; floor = floor_of old.geometry (next_buffer_cursor old); end = next_buffer_cursor old }
+  pub rows : IsPermutation (rows_at_or_above (floor_of old.geometry (next_buffer_cursor old)) old.rows) new.rows
+  pub stored : IsPermutation (stored_from (floor_of old.geometry (next_buffer_cursor old)) old.stored) new.stored
   pub displaced : new.displaced ≡ old.displaced
   pub spare : old.spare ≤ new.spare
   pub device : new.device ≡ old.device
@@ -193,13 +193,13 @@ pub record SameButRows (old new : Seen) : Type 0 where
   pub spare : old.spare ≤ new.spare
 
 -- so many blocks from a place on stand in the buffer, or on the device within one lap
-pub record IsStored (c : Seen) (place blocks : ℕ) : Type 0 where
+pub record BlocksStand (c : Seen) (place blocks : ℕ) : Type 0 where
   pub few : blocks ≤ c.geometry.agg
   pub below : place + blocks ≤ next_place_of c.buffer
   pub lap : place + blocks ≤ lap_end_of c.geometry place
 
 -- what a read of blocks from a place on gives: those of the buffer, or by one call of the device
-pub record Reads (old new : Seen) (place blocks : ℕ) (result : Result (Unit {0}) Failed) (bytes : List ℕ) : Type 0 where
+pub record ReadsBlocks (old new : Seen) (place blocks : ℕ) (result : Result (Unit {0}) Failed) (bytes : List ℕ) : Type 0 where
   pub keeps : Keeps 0 0 old.device new.device
   pub logs : place < old.buffer.cursor → Logs (Read (slot_of old.geometry place) bytes) result old.device new.device
   pub none : old.buffer.cursor ≤ place → new.device ≡ old.device

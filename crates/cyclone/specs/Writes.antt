@@ -5,9 +5,9 @@ use Rattle.tape_base.specs.declared.geometries.Geometry.{Geometry}
 use Rattle.tape_base.specs.Place.{slot_of, next_cursor_of}
 use Rattle.edge_io.specs.declared.source.Failed.{Failed}
 use Rattle.device_log.specs.Calls.{ToRead, ToWrite, ToSync, Call, Read, Wrote, Synced, RefusedCall, Told, PowerCut, Flipped}
-use Rattle.logged_disk.specs.Device.{State}
+use Rattle.logged_disk.specs.Device.{DeviceState}
 use Rattle.agg_buffer.specs.Buffer.{filled_of}
-use Rattle.cyclone.specs.Cyclone.{Seen, IsFresh, IsTurning, BeginsNext, Reads, SameTape, WritesBuffer}
+use Rattle.cyclone.specs.Cyclone.{Seen, IsFresh, IsTurning, BeginsNext, ReadsBlocks, SameTape, WritesBuffer}
 
 -- where the buffer begins behind these calls, the newest first, if one began at this cursor before
 -- them: each write is of a buffer, behind which the next one begins
@@ -56,7 +56,7 @@ abbrev pub StandsBehind : (from : ℕ) (before : List Call) → Seen → Type 0
 StandsBehind from before c = LeadTo c.geometry from before c.device.past c.buffer.cursor
 
 -- so it is, and the last call of the device is the write of this buffer, at its block, with its bytes
-pub record IsWritten (from : ℕ) (before : List Call) (c : Seen) : Type 0 where
+pub record BufferIsWritten (from : ℕ) (before : List Call) (c : Seen) : Type 0 where
   pub older : List Call
   pub wrote : c.device.past ≡ Wrote (slot_of c.geometry c.buffer.cursor) c.buffer.bytes ∷ older
   pub stands : LeadTo c.geometry from before older c.buffer.cursor
@@ -67,7 +67,7 @@ pub record IsWritten (from : ℕ) (before : List Call) (c : Seen) : Type 0 where
 
 -- a new cyclone stands behind no write
 abbrev pub FreshStandsBehind : Type 0
-FreshStandsBehind = (c : Seen) (g : Geometry) (device : State)
+FreshStandsBehind = (c : Seen) (g : Geometry) (device : DeviceState)
     → IsFresh c g device → StandsBehind g.content device.past c
 
 -- and so does each later one whose device was not called, and whose buffer begins there
@@ -81,7 +81,7 @@ UncalledStandsBehind = (from : ℕ) (before : List Call) (old new : Seen)
 abbrev pub ReadStandsBehind : Type 0
 ReadStandsBehind = (from : ℕ) (before : List Call) (old new : Seen) (place blocks : ℕ)
     (result : Result (Unit {0}) Failed) (bytes : List ℕ)
-    → SameTape old new → Reads old new place blocks result bytes
+    → SameTape old new → ReadsBlocks old new place blocks result bytes
     → StandsBehind from before old → StandsBehind from before new
 
 -- a write of the buffer is the one that stands behind the next one; one that failed is none
@@ -91,9 +91,9 @@ WriteIsOfBuffer = (from : ℕ) (before : List Call) (old new : Seen)
     → IsTurning old → 0 < filled_of old.buffer
     → SameTape old new → WritesBuffer old new result
     → StandsBehind from before old
-    → MatchResult result (λ _. IsWritten from before new) (λ _. StandsBehind from before new)
+    → MatchResult result (λ _. BufferIsWritten from before new) (λ _. StandsBehind from before new)
 
 -- a buffer that begins where the one before it was written stands behind that write
 abbrev pub NextStandsBehind : Type 0
 NextStandsBehind = (from : ℕ) (before : List Call) (old new : Seen)
-    → BeginsNext old new → IsWritten from before old → StandsBehind from before new
+    → BeginsNext old new → BufferIsWritten from before old → StandsBehind from before new

@@ -6,7 +6,7 @@ ghost use Rattle.tape_base.specs.Place.{floor_of};
 ghost use Rattle.doc_header.specs.Document.{digest_of_document, document_bytes};
 ghost use Rattle.doc_header.specs.Reading.{document_digest};
 ghost use Rattle.doc_header.specs.Moving.{moved_to};
-ghost use Rattle.agg_buffer.specs.Buffer.{IsWhole as IsWholePiece, blocks_in, filled_of, empty_buffer, next_place_of, room_of};
+ghost use Rattle.agg_buffer.specs.Buffer.{IsWholePiece, blocks_in, filled_of, empty_buffer, next_place_of, room_of};
 ghost use Rattle.std.specs.Prelude.{[], ◌∷◌, false, true, IsOk, IsPermutation};
 ghost use Rattle.std.specs.Bool.{OnTrue};
 ghost use Rattle.logged_disk.specs.Device.{Affords, IsWhole, Keeps};
@@ -42,14 +42,14 @@ pub struct Put {
 }
 
 impl<D: Disk, R: Directory + Drop> Cyclone<D, R> {
-    ghost use Rattle.cyclone.specs.Cyclone.{IsCyclone, HasBuffer, IsFresh, IsPut, EntersDoc, IsMoved, EntersCopy, TakesOutStored, BeginsNext, IsStored, Reads, SameButRoom, SameButRows, SameTape, WritesBuffer, row_of_piece, cursor_next, seen};
+    ghost use Rattle.cyclone.specs.Cyclone.{IsCyclone, HasBuffer, IsFresh, IsPut, EntersDoc, IsMoved, EntersCopy, TakesOutStored, BeginsNext, BlocksStand, ReadsBlocks, SameButRoom, SameButRows, SameTape, WritesBuffer, row_of_piece, next_buffer_cursor, seen_cyclone};
 
     /// An empty cyclone over a device, from the start of its second lap on. A refusal gives the
     /// device back.
     pub fn new(alloc: Global, disk: D, g: Geometry) -> Result<Cyclone<D, R>, (AllocError, D)>
         requires { g.content ≤ (D.state disk).size }
         ensures ok { IfOk result (λ c. IsCyclone c) }
-        ensures fresh { IfOk result (λ c. IsFresh (seen c) g (D.state disk)) }
+        ensures fresh { IfOk result (λ c. IsFresh (seen_cyclone c) g (D.state disk)) }
         ensures back { IfErr result (λ refused. refused.1 ≡ disk) }
     {
         match parts(alloc, &g) {
@@ -65,7 +65,7 @@ impl<D: Disk, R: Directory + Drop> Cyclone<D, R> {
 
     /// Gives the device back.
     pub fn into_disk(self) -> D
-        ensures { D.state result ≡ (seen self).device }
+        ensures { D.state result ≡ (seen_cyclone self).device }
     {
         let Cyclone {
             geometry: _,
@@ -77,34 +77,34 @@ impl<D: Disk, R: Directory + Drop> Cyclone<D, R> {
     }
 
     pub fn disk(&self) -> &D
-        ensures { D.state result.now ≡ (seen self.now).device }
+        ensures { D.state result.now ≡ (seen_cyclone self.now).device }
     {
         &self.disk
     }
 
     pub fn geometry(&self) -> &Geometry
-        ensures { result.now ≡ (seen self.now).geometry }
+        ensures { result.now ≡ (seen_cyclone self.now).geometry }
     {
         &self.geometry
     }
 
     /// Where the buffer begins.
     pub fn cursor(&self) -> u64
-        ensures { result ≡ (seen self.now).buffer.cursor }
+        ensures { result ≡ (seen_cyclone self.now).buffer.cursor }
     {
         self.buffer.cursor()
     }
 
     /// The place of the next piece.
     pub fn next_place(&self) -> u64
-        ensures { result ≡ next_place_of (seen self.now).buffer }
+        ensures { result ≡ next_place_of (seen_cyclone self.now).buffer }
     {
         self.buffer.next_place()
     }
 
     /// How many blocks the buffer still takes.
     pub fn room(&self) -> u32
-        ensures { result ≡ room_of (seen self.now).buffer }
+        ensures { result ≡ room_of (seen_cyclone self.now).buffer }
     {
         self.buffer.room()
     }
@@ -112,7 +112,7 @@ impl<D: Disk, R: Directory + Drop> Cyclone<D, R> {
     /// Where the next buffer begins, if this one is flushed now.
     pub fn next_cursor(&self) -> u64
         requires { IsCyclone self.now }
-        ensures { result ≡ cursor_next (seen self.now) }
+        ensures { result ≡ next_buffer_cursor (seen_cyclone self.now) }
     {
         next_cursor(&self.geometry, self.buffer.cursor(), self.buffer.filled())
     }
@@ -120,7 +120,8 @@ impl<D: Disk, R: Directory + Drop> Cyclone<D, R> {
     /// The least place that may be read.
     pub fn floor(&self) -> u64
         requires { IsCyclone self.now }
-        ensures { result ≡ floor_of (seen self.now).geometry (seen self.now).buffer.cursor }
+        ensures { result
+            ≡ floor_of (seen_cyclone self.now).geometry (seen_cyclone self.now).buffer.cursor }
     {
         floor_of(&self.geometry, self.buffer.cursor())
     }
@@ -129,13 +130,14 @@ impl<D: Disk, R: Directory + Drop> Cyclone<D, R> {
     pub fn prepare(&mut self, pieces: usize, flushes: u32) -> Result<(), AllocError>
         requires turns { IsCyclone self.old }
         ensures turns { IsCyclone self.new }
-        ensures same { SameButRoom (seen self.old) (seen self.new) }
-        ensures pieces { OnOk result (pieces ≤ (seen self.new).spare) }
-        ensures device { let old = (seen self.old).device in
-            OnOk result (Affords flushes (flushes * (seen self.old).geometry.agg) old
-            (seen self.new).device) }
-        ensures none { OnErr result (Affords 0 0 (seen self.old).device (seen self.new).device) }
-        ensures keeps { Keeps 0 0 (seen self.old).device (seen self.new).device }
+        ensures same { SameButRoom (seen_cyclone self.old) (seen_cyclone self.new) }
+        ensures pieces { OnOk result (pieces ≤ (seen_cyclone self.new).spare) }
+        ensures device { let old = (seen_cyclone self.old).device in
+            OnOk result (Affords flushes (flushes * (seen_cyclone self.old).geometry.agg) old
+            (seen_cyclone self.new).device) }
+        ensures none { OnErr result
+            (Affords 0 0 (seen_cyclone self.old).device (seen_cyclone self.new).device) }
+        ensures keeps { Keeps 0 0 (seen_cyclone self.old).device (seen_cyclone self.new).device }
     {
         self.directory.reserve(pieces)?;
         self.disk
@@ -146,13 +148,15 @@ impl<D: Disk, R: Directory + Drop> Cyclone<D, R> {
     /// place, and is not written before the next flush.
     pub fn put(&mut self, doc: &Doc, payload: &[u8]) -> Put
         requires turns { IsCyclone self.old }
-        requires spare { 1 ≤ (seen self.old).spare }
-        requires place { doc.now.place ≡ next_place_of (seen self.old).buffer }
+        requires spare { 1 ≤ (seen_cyclone self.old).spare }
+        requires place { doc.now.place ≡ next_place_of (seen_cyclone self.old).buffer }
         requires size { length payload.now ≤ 2 ^ 31 }
-        requires room { blocks_of (length payload.now) ≤ room_of (seen self.old).buffer }
+        requires room { blocks_of (length payload.now) ≤ room_of (seen_cyclone self.old).buffer }
         ensures turns { IsCyclone self.new }
-        ensures put { IsPut R.purges (seen self.old) (seen self.new) doc.now payload.now }
-        ensures entered { EntersDoc R.purges (seen self.old) (seen self.new) doc.now payload.now }
+        ensures put { IsPut R.purges (seen_cyclone self.old) (seen_cyclone self.new) doc.now
+            payload.now }
+        ensures entered { EntersDoc R.purges (seen_cyclone self.old) (seen_cyclone self.new) doc.now
+            payload.now }
         ensures payload { result.payload ≡ digest_of payload.now }
         ensures document { result.document ≡ digest_of_document doc.now payload.now }
         // Who reads it back finds this digest.
@@ -177,16 +181,18 @@ impl<D: Disk, R: Directory + Drop> Cyclone<D, R> {
     /// ask whether the bytes are a document.
     pub fn move_piece(&mut self, id: PieceId, from: u64, pinned: bool, bytes: &[u8]) -> Digest
         requires turns { IsCyclone self.old }
-        requires spare { 1 ≤ (seen self.old).spare }
+        requires spare { 1 ≤ (seen_cyclone self.old).spare }
         requires whole { IsWholePiece bytes.now }
-        requires room { blocks_in bytes.now ≤ room_of (seen self.old).buffer }
+        requires room { blocks_in bytes.now ≤ room_of (seen_cyclone self.old).buffer }
         ensures turns { IsCyclone self.new }
-        ensures moved { IsMoved R.purges (seen self.old) (seen self.new) id from bytes.now }
-        ensures entered { EntersCopy R.purges (seen self.old) (seen self.new) id from
+        ensures moved { IsMoved R.purges (seen_cyclone self.old) (seen_cyclone self.new) id
+            from bytes.now }
+        ensures entered { EntersCopy R.purges (seen_cyclone self.old)
+            (seen_cyclone self.new) id from
             (blocks_in bytes.now) pinned }
         ensures document { result ≡ document_digest
-            (moved_to (next_place_of (seen self.old).buffer) bytes.now) }
-        ensures size { length (moved_to (next_place_of (seen self.old).buffer) bytes.now)
+            (moved_to (next_place_of (seen_cyclone self.old).buffer) bytes.now) }
+        ensures size { length (moved_to (next_place_of (seen_cyclone self.old).buffer) bytes.now)
             ≡ length bytes.now }
     {
         let place = self.buffer.next_place();
@@ -202,13 +208,14 @@ impl<D: Disk, R: Directory + Drop> Cyclone<D, R> {
     /// device refuses.
     pub fn write_out(&mut self) -> Result<(), Failed>
         requires turns { IsCyclone self.old }
-        requires some { 0 < filled_of (seen self.old).buffer }
-        requires calls { 1 ≤ (seen self.old).device.calls }
-        requires blocks { filled_of (seen self.old).buffer ≤ (seen self.old).device.blocks }
+        requires some { 0 < filled_of (seen_cyclone self.old).buffer }
+        requires calls { 1 ≤ (seen_cyclone self.old).device.calls }
+        requires blocks { filled_of (seen_cyclone self.old).buffer
+            ≤ (seen_cyclone self.old).device.blocks }
         ensures turns { IsCyclone self.new }
-        ensures same { SameTape (seen self.old) (seen self.new) }
-        ensures ok { OnOk result (HasBuffer (seen self.new)) }
-        ensures device { WritesBuffer (seen self.old) (seen self.new) result }
+        ensures same { SameTape (seen_cyclone self.old) (seen_cyclone self.new) }
+        ensures ok { OnOk result (HasBuffer (seen_cyclone self.new)) }
+        ensures device { WritesBuffer (seen_cyclone self.old) (seen_cyclone self.new) result }
     {
         let first = slot(&self.geometry, self.buffer.cursor());
         self.disk.write(first, self.buffer.bytes())
@@ -217,9 +224,9 @@ impl<D: Disk, R: Directory + Drop> Cyclone<D, R> {
     /// Begins the next buffer, and forgets what is in this one.
     pub fn begin_next(&mut self)
         requires turns { IsCyclone self.old }
-        requires below { cursor_next (seen self.old) < 2 ^ 62 }
+        requires below { next_buffer_cursor (seen_cyclone self.old) < 2 ^ 62 }
         ensures turns { IsCyclone self.new }
-        ensures begins { BeginsNext (seen self.old) (seen self.new) }
+        ensures begins { BeginsNext (seen_cyclone self.old) (seen_cyclone self.new) }
     {
         let cursor = self.buffer.cursor();
         let here = Cursor {
@@ -235,14 +242,15 @@ impl<D: Disk, R: Directory + Drop> Cyclone<D, R> {
     pub fn read(&mut self, place: u64, into: &mut [u8]) -> Result<(), Failed>
         requires turns { IsCyclone self.old }
         requires whole { IsWhole (length into.old) }
-        requires stored { IsStored (seen self.old) place (length into.old / 512) }
+        requires stored { BlocksStand (seen_cyclone self.old) place (length into.old / 512) }
         ensures turns { IsCyclone self.new }
-        ensures same { SameTape (seen self.old) (seen self.new) }
-        ensures reads { Reads (seen self.old) (seen self.new) place
+        ensures same { SameTape (seen_cyclone self.old) (seen_cyclone self.new) }
+        ensures reads { ReadsBlocks (seen_cyclone self.old) (seen_cyclone self.new) place
             (length into.old / 512) result into.new }
-        ensures buffered { (seen self.old).buffer.cursor ≤ place → IsOk result }
+        ensures buffered { (seen_cyclone self.old).buffer.cursor ≤ place → IsOk result }
         // What stands in the buffer is read without the device.
-        ensures quiet { (seen self.old).buffer.cursor ≤ place → seen self.new ≡ seen self.old }
+        ensures quiet { (seen_cyclone self.old).buffer.cursor ≤ place
+            → seen_cyclone self.new ≡ seen_cyclone self.old }
     {
         if place < self.buffer.cursor() {
             return self.disk.read(slot(&self.geometry, place), into);
@@ -256,38 +264,40 @@ impl<D: Disk, R: Directory + Drop> Cyclone<D, R> {
     pub fn take_out(&mut self, id: PieceId, place: u64) -> bool
         requires turns { IsCyclone self.old }
         ensures turns { IsCyclone self.new }
-        ensures found { result ≡ has_row (row_of_piece (seen self.old) id place)
-            (seen self.old).rows }
-        ensures same { SameButRows (seen self.old) (seen self.new) }
-        ensures gone { OnTrue result (IsPermutation (seen self.old).rows
-            (row_of_piece (seen self.old) id place ∷ (seen self.new).rows)) }
-        ensures none { result ≡ false → (seen self.new).rows ≡ (seen self.old).rows }
-        ensures stored { TakesOutStored (row_of_piece (seen self.old) id place)
-            (seen self.old).stored (seen self.new).stored }
+        ensures found { result ≡ has_row (row_of_piece (seen_cyclone self.old) id place)
+            (seen_cyclone self.old).rows }
+        ensures same { SameButRows (seen_cyclone self.old) (seen_cyclone self.new) }
+        ensures gone { OnTrue result (IsPermutation (seen_cyclone self.old).rows
+            (row_of_piece (seen_cyclone self.old) id place ∷ (seen_cyclone self.new).rows)) }
+        ensures none { result ≡ false
+            → (seen_cyclone self.new).rows ≡ (seen_cyclone self.old).rows }
+        ensures stored { TakesOutStored (row_of_piece (seen_cyclone self.old) id place)
+            (seen_cyclone self.old).stored (seen_cyclone self.new).stored }
     {
         self.directory.delete(Key::of_piece(id), place)
     }
 
     /// What the piece that was entered last displaced.
     pub fn displaced(&self) -> &Displaced
-        ensures { result.now.told ≡ (seen self.now).displaced }
+        ensures { result.now.told ≡ (seen_cyclone self.now).displaced }
     {
         self.directory.displaced()
     }
 
     /// A law for proofs: where an entry may displace others, each segment has slots for its rows.
     pub fn rows_fit(&self)
-        ensures { R.purges ≡ true → AreFew (seen self.now).window.geometry (seen self.now).rows }
+        ensures { R.purges ≡ true
+            → AreFew (seen_cyclone self.now).window.geometry (seen_cyclone self.now).rows }
     {
         self.directory.rows_fit();
     }
 
     /// The directory, for walks.
     pub fn directory(&self) -> &R
-        ensures rows { plain_rows (R.rows result.now) ≡ (seen self.now).rows }
-        ensures stored { R.rows result.now ≡ (seen self.now).stored }
-        ensures window { R.window result.now ≡ (seen self.now).window }
-        ensures displaced { R.displaced result.now ≡ (seen self.now).displaced }
+        ensures rows { plain_rows (R.rows result.now) ≡ (seen_cyclone self.now).rows }
+        ensures stored { R.rows result.now ≡ (seen_cyclone self.now).stored }
+        ensures window { R.window result.now ≡ (seen_cyclone self.now).window }
+        ensures displaced { R.displaced result.now ≡ (seen_cyclone self.now).displaced }
     {
         &self.directory
     }

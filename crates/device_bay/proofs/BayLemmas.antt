@@ -7,14 +7,14 @@ use Rattle.device_log.specs.Calls.{Call, Read, Wrote, Synced, RefusedCall, Told,
 use Rattle.device_log.specs.Faults.{faults_of, next_count}
 use Rattle.device_log.specs.DeviceLog.{calls_of}
 use Rattle.device_log.proofs.FaultLaws.{untold_has_none}
-use Rattle.logged_disk.specs.Device.{State}
+use Rattle.logged_disk.specs.Device.{DeviceState}
 use Rattle.logged_disk.specs.MemDisk.{mem_state}
 use Rattle.logged_disk.specs.declared.mem_disk.MemDisk.{MemDisk}
 use Rattle.device_bay.specs.Entry.{Entry}
 use Rattle.device_bay.specs.Calls.{BayCall, Gave, RefusedAttach, TookBack, Gift, IsBayLog, IsDevice, are_bay_counts, bay_faults, gifts_of, number_behind, out_of, returned_by}
 use Rattle.device_bay.specs.Bay.{IsNewDevice}
 use Rattle.device_bay.specs.Register.{calls_of_entries}
-use Rattle.device_bay.specs.Returns.{IsMemReturn, has_refusal, ZeroHasNoRefusal, UntoldHasNoFault}
+use Rattle.device_bay.specs.Returns.{IsMemReturn, has_refusal, ZeroHasNoRefusal, UntoldReturnsUnfailed}
 
 -- ---- one more call
 
@@ -34,7 +34,7 @@ refused_is_log name blocks count past next is =
     let same : (count == next_count (bay_faults past)) ≡ true = grind (arith, next) in
     record { counted = ap (λ b. b && are_bay_counts past) same ∙ is.counted; all = is.all; devices = is.devices }
 
-pub took_is_log : (s : State) (past : List BayCall) → IsDevice s → 0 < out_of past → IsBayLog past → IsBayLog (TookBack s ∷ past)
+pub took_is_log : (s : DeviceState) (past : List BayCall) → IsDevice s → 0 < out_of past → IsBayLog past → IsBayLog (TookBack s ∷ past)
 took_is_log s past device out is =
     let more = length_push (returned_by past) s in
     let before = is.all in
@@ -84,7 +84,7 @@ none_refused (Flipped at byte ∷ older) zero = none_refused older zero
 pub zero_has_no_refusal : ZeroHasNoRefusal
 zero_has_no_refusal s is zero = none_refused s.past (sym is.counted ∙ zero)
 
-pub untold_has_no_fault : UntoldHasNoFault
+pub untold_has_no_fault : UntoldReturnsUnfailed
 untold_has_no_fault s is has none =
     is.counted ∙ untold_has_none s.past none (is.obeys has)
 

@@ -3,13 +3,13 @@ use Rattle.std.specs.Prelude.{◌≡◌, ℕ, ◌≤◌, ◌==◌, if◌then◌e
 use Rattle.std.specs.List.{starts_with}
 use Rattle.device_log.specs.Image.{blank}
 use Rattle.device_log.specs.Faults.{next_count}
-use Rattle.logged_disk.specs.Device.{State, IsHonest}
+use Rattle.logged_disk.specs.Device.{DeviceState, IsHonest}
 use Rattle.device_bay.specs.Calls.{BayCall, RefusedAttach, bay_faults, gifts_of, number_behind}
 use Rattle.device_bay.specs.declared.mem_bay.TheConstants.{OWN_BLOCKS}
 
 -- A device as it is attached behind these calls: not smaller than was asked, with the next number,
 -- nothing called yet, and nothing pending.
-pub record IsNewDevice (blocks : ℕ) (past : List BayCall) (device : State) : Type 0 where
+pub record IsNewDevice (blocks : ℕ) (past : List BayCall) (device : DeviceState) : Type 0 where
   pub size : blocks ≤ device.size
   pub number_is : device.number ≡ number_behind (length (gifts_of past))
   pub past_is : device.past ≡ []
@@ -26,7 +26,7 @@ abbrev pub size_for : ℕ → ℕ
 size_for blocks = if blocks == 0 then OWN_BLOCKS else blocks
 
 -- a new device in memory: zeros, trusted in all
-pub record IsNewMemory (size : ℕ) (device : State) : Type 0 where
+pub record IsNewMemory (size : ℕ) (device : DeviceState) : Type 0 where
   pub size_is : device.size ≡ size
   pub honest : IsHonest device
   pub blank_is : device.first ≡ blank

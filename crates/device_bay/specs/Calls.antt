@@ -3,7 +3,7 @@ use Rattle.std.specs.Prelude.{◌≡◌, ℕ, ◌+◌, ◌-◌, ◌^◌, ◌==�
 use Rattle.device_log.specs.Image.{IsImage}
 use Rattle.device_log.specs.Seen.{ReadsAreSeen}
 use Rattle.device_log.specs.Faults.{IsLog, faults_of, next_count, obeys_switch}
-use Rattle.logged_disk.specs.Device.{State, IsTrusted}
+use Rattle.logged_disk.specs.Device.{DeviceState, IsTrusted}
 
 -- one call of a bay
 pub data BayCall : Type 0 where
@@ -12,7 +12,7 @@ pub data BayCall : Type 0 where
   -- gave none; the bay's count of faults behind it
   RefusedAttach : (name : List ℕ) (blocks count : ℕ) → BayCall
   -- took a device back, as it was then
-  TookBack : (device : State) → BayCall
+  TookBack : (device : DeviceState) → BayCall
 
 -- a device that was given: its name, and how many blocks were asked
 pub record Gift : Type 0 where
@@ -48,7 +48,7 @@ refusals_of (RefusedAttach name blocks count ∷ older) =
 refusals_of (TookBack device ∷ older) = refusals_of older
 
 -- the devices that came back, whole, in the order in which they came
-abbrev pub returned_by : List BayCall → List State
+abbrev pub returned_by : List BayCall → List DeviceState
 returned_by [] = []
 returned_by (Gave name blocks ∷ older) = returned_by older
 returned_by (RefusedAttach name blocks count ∷ older) = returned_by older
@@ -81,7 +81,7 @@ abbrev pub number_behind : ℕ → ℕ
 number_behind given = min given (2 ^ 64 - 1)
 
 -- what is known of each device, whatever it is
-pub record IsDevice (s : State) : Type 0 where
+pub record IsDevice (s : DeviceState) : Type 0 where
   pub is_log : IsLog s.past
   pub was_image : IsImage s.first
   pub counted : s.faults ≡ faults_of s.past

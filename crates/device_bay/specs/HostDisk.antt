@@ -3,7 +3,7 @@ use Rattle.std.specs.Prelude.{◌≡◌, ℕ, true}
 use Rattle.device_log.specs.Image.{Image, IsImage}
 use Rattle.device_log.specs.Seen.{ReadsAreSeen}
 use Rattle.device_log.specs.Faults.{IsLog, faults_of, obeys_switch}
-use Rattle.logged_disk.specs.Device.{State, IsTrusted}
+use Rattle.logged_disk.specs.Device.{DeviceState, IsTrusted}
 use Rattle.logged_disk.specs.MemDisk.{mem_state}
 use Rattle.logged_disk.specs.MemoryFacts.{memory_is_log, memory_was_image, memory_counted, memory_obeys, memory_reads}
 use Rattle.logged_disk.specs.FileDisk.{file_state, file_is_log, file_counted, file_obeys, file_reads}
@@ -11,7 +11,7 @@ use Rattle.device_bay.specs.declared.host_disk.HostDisk.{HostDisk}
 use Rattle.device_bay.specs.declared.host_disk.HostDisk.TheVariants.{Memory, File}
 
 -- the device at this moment, where a file held the image of its number at its attach
-abbrev pub host_state : {S : Type 0} → (ℕ → Image) → HostDisk S → State
+abbrev pub host_state : {S : Type 0} → (ℕ → Image) → HostDisk S → DeviceState
 host_state first (Memory disk) = mem_state disk
 host_state first (File disk) = file_state first disk
 

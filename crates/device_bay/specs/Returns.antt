@@ -2,11 +2,11 @@
 use Rattle.std.specs.Prelude.{◌≡◌, Bool, true, false, List, [], ◌∷◌}
 use Rattle.device_log.specs.Calls.{Call, Read, Wrote, Synced, RefusedCall, Told, PowerCut, Flipped}
 use Rattle.device_log.specs.Faults.{is_untold, obeys_switch}
-use Rattle.logged_disk.specs.Device.{State}
+use Rattle.logged_disk.specs.Device.{DeviceState}
 use Rattle.device_bay.specs.Calls.{IsDevice}
 
 -- a device in memory failed where its switch was told to, and so nowhere if it was told nothing
-pub record IsMemReturn (s : State) : Type 0 where
+pub record IsMemReturn (s : DeviceState) : Type 0 where
   pub obeys : obeys_switch s.past ≡ true
   pub untold : is_untold s.past ≡ true → s.faults ≡ 0
 
@@ -23,9 +23,9 @@ has_refusal (Flipped at byte ∷ older) = has_refusal older
 
 -- of each device that came back with the count 0 no call was refused
 abbrev pub ZeroHasNoRefusal : Type 0
-ZeroHasNoRefusal = (s : State) → IsDevice s → s.faults ≡ 0 → has_refusal s.past ≡ false
+ZeroHasNoRefusal = (s : DeviceState) → IsDevice s → s.faults ≡ 0 → has_refusal s.past ≡ false
 
 -- a device with a switch that was told nothing came back with the count 0
-abbrev pub UntoldHasNoFault : Type 0
-UntoldHasNoFault = (s : State) → IsDevice s
+abbrev pub UntoldReturnsUnfailed : Type 0
+UntoldReturnsUnfailed = (s : DeviceState) → IsDevice s
     → s.has_switch ≡ true → is_untold s.past ≡ true → s.faults ≡ 0

@@ -3,7 +3,7 @@ ghost use Rattle.std.specs.Prelude.{◌≡◌, ℕ, ◌+◌, ◌/◌, ◌<◌, �
 ghost use Rattle.device_log.specs.Image.{span};
 ghost use Rattle.device_log.specs.Cuts.{left_by};
 ghost use Rattle.device_log.specs.Calls.{Read, Wrote, Synced, Told, Fail, StopAfter, PowerCut, Flipped};
-ghost use Rattle.logged_disk.specs.Device.{seen, IsTrusted, IsHonest, IsWhole, Keeps, Affords, Adds, Logs, Leaves};
+ghost use Rattle.logged_disk.specs.Device.{seen, IsTrusted, IsHonest, IsWhole, Keeps, Affords, Adds, Logs, CutLeaves};
 
 use device_log::CutChoice;
 use edge_io::Failed;
@@ -93,7 +93,7 @@ impl<S: FileStart> PowerDisk for HostDisk<S> {
         ensures logs { (left : List ℕ) × Adds (PowerCut choice left)
             (host_state S.first self.old) (host_state S.first self.new) }
         ensures leaves { IsHonest (host_state S.first self.new)
-            → Leaves (host_state S.first self.old) (seen (host_state S.first self.new)) }
+            → CutLeaves (host_state S.first self.old) (seen (host_state S.first self.new)) }
         ensures exact { (j : ℕ) → j < (host_state S.first self.old).size
             → seen (host_state S.first self.new) j
             ≡ left_by choice (host_state S.first self.old).first

@@ -1,8 +1,8 @@
 // Laws for proofs. These functions do nothing when they run.
-ghost use Rattle.device_bay.specs.Returns.{ZeroHasNoRefusal, UntoldHasNoFault};
+ghost use Rattle.device_bay.specs.Returns.{ZeroHasNoRefusal, UntoldReturnsUnfailed};
 
 /// What the count of a device that came back and its log say of each other.
 pub fn returns_tell()
     ensures zero { ZeroHasNoRefusal }
-    ensures untold { UntoldHasNoFault }
+    ensures untold { UntoldReturnsUnfailed }
 {}

@@ -2,7 +2,7 @@
 use Rattle.std.proofs.Common.{◌≡◌, ℕ, ◌+◌, ◌==◌, ◌||◌, Bool, true, false, if◌then◌else◌, List, [], ◌∷◌, refl, sym, ◌∙◌, ap, arith}
 use Rattle.std.proofs.lemmas.Bool.{and_parts}
 use Rattle.device_log.specs.Calls.{Asked, Call, Read, Wrote, Synced, RefusedCall, Told, PowerCut, Flipped}
-use Rattle.device_log.specs.Faults.{IsLog, are_counted, faults_of, next_count, is_due, is_stopped, fails_next, is_untold, obeys_switch}
+use Rattle.device_log.specs.Faults.{IsLog, are_counted, faults_of, next_count, is_fail_due, is_stopped, fails_next, is_untold, obeys_switch}
 
 -- a call that failed has the count behind it
 pub refused_has_count : (what : Asked) (count : ℕ) (older : List Call) → IsLog (RefusedCall what count ∷ older) → count ≡ next_count (faults_of older)
@@ -11,8 +11,8 @@ refused_has_count what count older is =
     let both = and_parts (count == next_count (faults_of older)) (are_counted older) is.counted in
     let same = both.0 in grind (arith, same)
 
-never_due : (made : ℕ) (past : List Call) → is_untold past ≡ true → is_due made past ≡ false
-unfolding is_untold is_due
+never_due : (made : ℕ) (past : List Call) → is_untold past ≡ true → is_fail_due made past ≡ false
+unfolding is_untold is_fail_due
 never_due made [] none = refl
 never_due made (Read at bytes ∷ older) none = never_due (made + 1) older none
 never_due made (Wrote at bytes ∷ older) none = never_due (made + 1) older none

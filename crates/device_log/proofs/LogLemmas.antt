@@ -10,7 +10,7 @@ use Rattle.device_log.specs.Image.{blank, span}
 use Rattle.device_log.specs.Calls.{Call, Read, Wrote, Synced, RefusedCall, Told, PowerCut, Flipped, bytes_of}
 use Rattle.device_log.specs.Cuts.{left_by}
 use Rattle.device_log.specs.Faults.{IsEntry, IsLog, are_counted, faults_of, next_count}
-use Rattle.device_log.specs.Row.{Row, row_of}
+use Rattle.device_log.specs.Row.{CallRow, call_row}
 use Rattle.device_log.specs.Rows.{calls_of_rows, call_of, number_of, choice_of}
 use Rattle.device_log.proofs.Spans.{length-span, span_bytes}
 use Rattle.device_log.proofs.Puts.{blank_is_image}
@@ -43,7 +43,7 @@ still_counted (PowerCut choice left) past has are = are
 still_counted (Flipped at byte) past has are = are
 
 -- one more row
-pub noted : (numbers bytes : List ℕ) (old new : List Row) → new ≡ row_of numbers bytes ∷ old → IsLog (calls_of_rows old)
+pub noted : (numbers bytes : List ℕ) (old new : List CallRow) → new ≡ call_row numbers bytes ∷ old → IsLog (calls_of_rows old)
     → IsEntry (call_of numbers bytes (calls_of_rows old)) → HasCount (call_of numbers bytes (calls_of_rows old)) (calls_of_rows old)
     → IsLog (calls_of_rows new)
 unfolding calls_of_rows
@@ -79,8 +79,8 @@ number_is_of Torn = refl
 number_is_of Junk = refl
 
 -- the row of a cut in memory
-pub cut_noted : (choice : CutChoice) (number blocks : ℕ) (old new : List Row) → number ≡ number_of choice
-    → new ≡ row_of (8 ∷ number ∷ blocks ∷ []) [] ∷ old
+pub cut_noted : (choice : CutChoice) (number blocks : ℕ) (old new : List CallRow) → number ≡ number_of choice
+    → new ≡ call_row (8 ∷ number ∷ blocks ∷ []) [] ∷ old
     → calls_of_rows new ≡ PowerCut choice (span (left_by choice blank (calls_of_rows old)) 0 blocks) ∷ calls_of_rows old
 unfolding calls_of_rows
 cut_noted choice number blocks old new is_number is =

@@ -5,7 +5,7 @@ use Rattle.device_log.specs.declared.choice.CutChoice.TheVariants.{Lost, Torn, J
 use Rattle.device_log.specs.Image.{blank, zeros, junk}
 use Rattle.device_log.specs.Calls.{ToRead, ToWrite, ToSync, Fail, StopAfter, Call, Read, Wrote, Synced, RefusedCall, Told, PowerCut, Flipped}
 use Rattle.device_log.specs.Seen.{seen_of, kept_of, is_pending, flips_of, is_flipped}
-use Rattle.device_log.specs.Faults.{faults_of, is_due, is_stopped, fails_next}
+use Rattle.device_log.specs.Faults.{faults_of, is_fail_due, is_stopped, fails_next}
 use Rattle.device_log.specs.Cuts.{write_over, left_by}
 
 -- two blocks
@@ -110,23 +110,23 @@ abbrev second_fails : List Call
 second_fails = Told (Fail 2) ∷ []
 
 first_goes : fails_next second_fails ≡ false
-unfolding is_due is_stopped
+unfolding is_fail_due is_stopped
 first_goes = refl
 
 then_one_fails : fails_next (Synced ∷ second_fails) ≡ true
-unfolding is_due is_stopped
+unfolding is_fail_due is_stopped
 then_one_fails = refl
 
 each_counts_by_itself : fails_next (RefusedCall ToSync 1 ∷ Told (Fail 1) ∷ second_fails) ≡ true
-unfolding is_due is_stopped
+unfolding is_fail_due is_stopped
 each_counts_by_itself = refl
 
 least_stop_holds : fails_next (Synced ∷ Told (StopAfter 5) ∷ Told (StopAfter 1) ∷ []) ≡ true
-unfolding is_due is_stopped
+unfolding is_fail_due is_stopped
 least_stop_holds = refl
 
 cut_lifts_it : fails_next (PowerCut Lost [] ∷ Told (StopAfter 0) ∷ []) ≡ false
-unfolding is_due is_stopped
+unfolding is_fail_due is_stopped
 cut_lifts_it = refl
 
 two_refused : faults_of (RefusedCall ToSync 2 ∷ Synced ∷ RefusedCall (ToRead 0 1) 1 ∷ []) ≡ 2

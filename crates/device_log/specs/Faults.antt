@@ -42,16 +42,16 @@ pub record IsLog (past : List Call) : Type 0 where
 
 -- A `fail` is due now, where so many reads, writes and syncs were made behind these calls. Each
 -- counts all of them by itself.
-unfoldable pub is_due : ℕ → List Call → Bool
-is_due made [] = false
-is_due made (Read at bytes ∷ older) = is_due (made + 1) older
-is_due made (Wrote at bytes ∷ older) = is_due (made + 1) older
-is_due made (Synced ∷ older) = is_due (made + 1) older
-is_due made (RefusedCall what count ∷ older) = is_due (made + 1) older
-is_due made (Told (Fail nth) ∷ older) = nth == made + 1 || is_due made older
-is_due made (Told (StopAfter calls) ∷ older) = is_due made older
-is_due made (PowerCut choice left ∷ older) = is_due made older
-is_due made (Flipped at byte ∷ older) = is_due made older
+unfoldable pub is_fail_due : ℕ → List Call → Bool
+is_fail_due made [] = false
+is_fail_due made (Read at bytes ∷ older) = is_fail_due (made + 1) older
+is_fail_due made (Wrote at bytes ∷ older) = is_fail_due (made + 1) older
+is_fail_due made (Synced ∷ older) = is_fail_due (made + 1) older
+is_fail_due made (RefusedCall what count ∷ older) = is_fail_due (made + 1) older
+is_fail_due made (Told (Fail nth) ∷ older) = nth == made + 1 || is_fail_due made older
+is_fail_due made (Told (StopAfter calls) ∷ older) = is_fail_due made older
+is_fail_due made (PowerCut choice left ∷ older) = is_fail_due made older
+is_fail_due made (Flipped at byte ∷ older) = is_fail_due made older
 
 -- A stop holds now, where so many reads, writes and syncs were made behind these calls. A cut lifts
 -- each stop, and of several the least holds.
@@ -68,7 +68,7 @@ is_stopped made (Flipped at byte ∷ older) = is_stopped made older
 
 -- the next read, write or sync fails, where the switch alone decides it
 abbrev pub fails_next : List Call → Bool
-fails_next past = is_due 0 past || is_stopped 0 past
+fails_next past = is_fail_due 0 past || is_stopped 0 past
 
 -- no failure was asked of the switch
 unfoldable pub is_untold : List Call → Bool

@@ -3,8 +3,8 @@
 use Rattle.std.specs.Prelude.{ℕ, List}
 
 -- the numbers of a call, and its bytes
-abbrev pub Row : Type 0
-Row = List ℕ × List ℕ
+abbrev pub CallRow : Type 0
+CallRow = List ℕ × List ℕ
 
-abbrev pub row_of : List ℕ → List ℕ → Row
-row_of numbers bytes = (numbers, bytes)
+abbrev pub call_row : List ℕ → List ℕ → CallRow
+call_row numbers bytes = (numbers, bytes)

@@ -2,7 +2,7 @@
 use Rattle.std.specs.Prelude.{ℕ, ◌==◌, if◌then◌else◌, List, [], ◌∷◌, slice_index}
 use Rattle.device_log.specs.declared.choice.CutChoice.{CutChoice}
 use Rattle.device_log.specs.declared.choice.CutChoice.TheVariants.{Lost, Kept, Torn, Junk}
-use Rattle.device_log.specs.Row.{Row}
+use Rattle.device_log.specs.Row.{CallRow}
 use Rattle.device_log.specs.Image.{blank, span}
 use Rattle.device_log.specs.Calls.{ToRead, ToWrite, ToSync, Fail, StopAfter, Call, Read, Wrote, Synced, RefusedCall, Told, PowerCut, Flipped}
 use Rattle.device_log.specs.Cuts.{left_by}
@@ -38,6 +38,6 @@ call_of numbers bytes older =
     else Flipped at more))))))))
 
 -- the calls of rows, both the newest first
-unfoldable pub calls_of_rows : List Row → List Call
+unfoldable pub calls_of_rows : List CallRow → List Call
 calls_of_rows [] = []
 calls_of_rows (row ∷ rows) = call_of row.0 row.1 (calls_of_rows rows) ∷ calls_of_rows rows

@@ -1,6 +1,6 @@
 -- The reads of a source and the writes of a sink, the newest first.
 use Rattle.std.specs.Prelude.{ℕ, ◌-◌, ◌^◌, ◌==◌, min, Bool, true, false, if◌then◌else◌, List, [], ◌∷◌, ◌++◌, length, slice_index}
-use Rattle.device_log.specs.Row.{Row}
+use Rattle.device_log.specs.Row.{CallRow}
 
 -- one read of a source
 pub data SourceRead : Type 0 where
@@ -70,11 +70,11 @@ write_of numbers bytes =
     else RefusedWrite bytes (slice_index numbers 1)
 
 -- the reads of rows, both the newest first
-unfoldable pub reads_of_rows : List Row → List SourceRead
+unfoldable pub reads_of_rows : List CallRow → List SourceRead
 reads_of_rows [] = []
 reads_of_rows (row ∷ rows) = read_of row.0 row.1 ∷ reads_of_rows rows
 
 -- the writes of rows, both the newest first
-unfoldable pub writes_of_rows : List Row → List SinkWrite
+unfoldable pub writes_of_rows : List CallRow → List SinkWrite
 writes_of_rows [] = []
 writes_of_rows (row ∷ rows) = write_of row.0 row.1 ∷ writes_of_rows rows

@@ -2,9 +2,9 @@
 use Rattle.std.proofs.Common.{◌≡◌, ℕ, zero, suc, ◌+◌, ◌*◌, ◌/◌, ◌%◌, ◌^◌, ◌<◌, Bool, true, false, eqb, List, [], ◌∷◌, length, get_or, refl, sym, ap, ◌∙◌, arith}
 use Rattle.std.proofs.lemmas.Nat.{shr-shr, shr_split, mod_below}
 use Rattle.dir_entry.specs.declared.entry.Entry.{Entry}
-use Rattle.dir_entry.specs.Layout.{field, number_of, bytes_of, bit_of, entry_of_word, word_of_entry, entry_of_bytes, bytes_of_entry, IsEntry}
+use Rattle.dir_entry.specs.Layout.{field, number_of_bytes, bytes_of_number, bit_of, entry_of_word, word_of_entry, entry_of_bytes, bytes_of_entry, EntryFits}
 
-number_of-bytes_of : (count n : ℕ) → n < 256 ^ count → number_of (bytes_of count n) ≡ n
+number_of-bytes_of : (count n : ℕ) → n < 256 ^ count → number_of_bytes (bytes_of_number count n) ≡ n
 number_of-bytes_of zero n small = omega arith
 number_of-bytes_of (suc count) n small =
     let rest : n / 256 < 256 ^ count = omega (arith, small) in
@@ -13,13 +13,13 @@ number_of-bytes_of (suc count) n small =
 abbrev AreBytes : List ℕ → Type 0
 AreBytes bytes = (i : ℕ) → get_or bytes i 0 < 256
 
-bytes_of-number_of : (bytes : List ℕ) → AreBytes bytes → bytes_of (length bytes) (number_of bytes) ≡ bytes
+bytes_of-number_of : (bytes : List ℕ) → AreBytes bytes → bytes_of_number (length bytes) (number_of_bytes bytes) ≡ bytes
 bytes_of-number_of [] fits = refl
 bytes_of-number_of (b ∷ bytes) fits =
     let small : b < 256 = fits 0 in
-    let front : (b + 256 * number_of bytes) % 256 ≡ b = omega arith in
-    let rest : (b + 256 * number_of bytes) / 256 ≡ number_of bytes = omega arith in
-    let again : bytes_of (length bytes) (number_of bytes) ≡ bytes = bytes_of-number_of bytes (λ i. fits (suc i)) in
+    let front : (b + 256 * number_of_bytes bytes) % 256 ≡ b = omega arith in
+    let rest : (b + 256 * number_of_bytes bytes) / 256 ≡ number_of_bytes bytes = omega arith in
+    let again : bytes_of_number (length bytes) (number_of_bytes bytes) ≡ bytes = bytes_of-number_of bytes (λ i. fits (suc i)) in
     rw (front, rest, again) refl
 
 is_set : (b : Bool) → eqb (bit_of b) 1 ≡ b
@@ -51,7 +51,7 @@ word-again n small =
     rw (phase, head, pinned, token, low, high)
     (omega (arith, top, above 0 24 n, above 24 2 n, above 26 6 n, above 32 12 n, above 44 1 n, above 45 1 n, above 46 1 n, above 47 1 n, above 48 16 n))
 
-pub entry-again : (e : Entry) → IsEntry e → entry_of_word (word_of_entry e) ≡ e
+pub entry-again : (e : Entry) → EntryFits e → entry_of_word (word_of_entry e) ≡ e
 entry-again e fits =
     let w = word_of_entry e in
     let p = bit_below e.phase in
@@ -80,14 +80,15 @@ entry-again e fits =
       next = next k;
     }
 
-word-below : (e : Entry) → IsEntry e → word_of_entry e < 256 ^ 10
+word-below : (e : Entry) → EntryFits e → word_of_entry e < 256 ^ 10
 word-below e fits = omega (arith, fits, bit_below e.phase, bit_below e.head, bit_below e.pinned, bit_below e.token)
 
-pub encoded-again : (e : Entry) → IsEntry e → entry_of_bytes (bytes_of_entry e) ≡ e
+pub encoded-again : (e : Entry) → EntryFits e → entry_of_bytes (bytes_of_entry e) ≡ e
 unfolding entry_of_bytes bytes_of_entry
 encoded-again e fits = rw (number_of-bytes_of 10 (word_of_entry e) (word-below e fits)) (entry-again e fits)
 
-pub decoded-again : (bytes : List ℕ) → length bytes ≡ 10 → AreBytes bytes → number_of bytes < 2 ^ 80 → bytes_of_entry (entry_of_bytes bytes) ≡ bytes
+pub decoded-again : (bytes : List ℕ) → length bytes ≡ 10 → AreBytes bytes → number_of_bytes bytes < 2 ^ 80 → bytes_of_entry (entry_of_bytes bytes) ≡ bytes
 unfolding entry_of_bytes bytes_of_entry
 decoded-again bytes ten fits small =
-    rw (word-again (number_of bytes) small) (ap (λ count. bytes_of count (number_of bytes)) (sym ten) ∙ bytes_of-number_of bytes fits)
+    rw (word-again (number_of_bytes bytes) small)
+    (ap (λ count. bytes_of_number count (number_of_bytes bytes)) (sym ten) ∙ bytes_of-number_of bytes fits)

@@ -3,7 +3,7 @@ use Rattle.std.specs.Prelude.{ℕ, zero, suc, ◌+◌, ◌*◌, ◌/◌, ◌%◌
 use Rattle.dir_entry.specs.declared.entry.Entry.{Entry}
 
 -- a field of `w` bits from bit `lo` up lies in a word of 128 and fits one of 64
-pub record IsPlace (lo w : ℕ) : Type 0 where
+pub record IsFieldPlace (lo w : ℕ) : Type 0 where
   pub some : 0 < w
   pub narrow : w ≤ 64
   pub inside : lo + w ≤ 128
@@ -17,14 +17,14 @@ abbrev pub field : ℕ → ℕ → ℕ → ℕ
 field lo w word = word / 2 ^ lo % 2 ^ w
 
 -- the number that bytes spell, the lowest first
-abbrev pub number_of : List ℕ → ℕ
-number_of [] = 0
-number_of (byte ∷ bytes) = byte + 256 * number_of bytes
+abbrev pub number_of_bytes : List ℕ → ℕ
+number_of_bytes [] = 0
+number_of_bytes (byte ∷ bytes) = byte + 256 * number_of_bytes bytes
 
 -- the lowest `count` bytes of a number, the lowest first
-abbrev pub bytes_of : ℕ → ℕ → List ℕ
-bytes_of zero number = []
-bytes_of (suc count) number = number % 256 ∷ bytes_of count (number / 256)
+abbrev pub bytes_of_number : ℕ → ℕ → List ℕ
+bytes_of_number zero number = []
+bytes_of_number (suc count) number = number % 256 ∷ bytes_of_number count (number / 256)
 
 -- a bit as a number
 abbrev pub bit_of : Bool → ℕ
@@ -52,14 +52,14 @@ word_of_entry e = e.offset % 2 ^ 24 + 2 ^ 24 * e.big + 2 ^ 26 * e.size + 2 ^ 32 
 
 -- the entry of ten bytes, the lowest first
 unfoldable pub entry_of_bytes : List ℕ → Entry
-entry_of_bytes bytes = entry_of_word (number_of bytes)
+entry_of_bytes bytes = entry_of_word (number_of_bytes bytes)
 
 -- the ten bytes of an entry, the lowest first; they spell it where each field is below its width
 unfoldable pub bytes_of_entry : Entry → List ℕ
-bytes_of_entry e = bytes_of 10 (word_of_entry e)
+bytes_of_entry e = bytes_of_number 10 (word_of_entry e)
 
 -- each field of an entry is below its width
-pub record IsEntry (e : Entry) : Type 0 where
+pub record EntryFits (e : Entry) : Type 0 where
   pub offset : e.offset < 2 ^ 40
   pub big : e.big < 2 ^ 2
   pub size : e.size < 2 ^ 6

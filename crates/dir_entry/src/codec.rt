@@ -1,6 +1,6 @@
 // An entry as ten bytes and back.
 ghost use Rattle.std.specs.Prelude.{◌≡◌, ◌<◌, ◌^◌};
-ghost use Rattle.dir_entry.specs.Layout.{IsEntry, number_of, bytes_of, entry_of_word, word_of_entry, entry_of_bytes, bytes_of_entry};
+ghost use Rattle.dir_entry.specs.Layout.{EntryFits, number_of_bytes, bytes_of_number, entry_of_word, word_of_entry, entry_of_bytes, bytes_of_entry};
 
 use crate::bits::Bits;
 use crate::entry::Entry;
@@ -39,7 +39,7 @@ macro_rules! field {
 }
 
 fn word_of(bytes: &[u8; 10]) -> u128
-    ensures value { result ≡ number_of bytes.now }
+    ensures value { result ≡ number_of_bytes bytes.now }
     ensures small { result < 2 ^ 80 }
 {
     let [a, b, c, d, e, f, g, h, i, j] = *bytes;
@@ -47,7 +47,7 @@ fn word_of(bytes: &[u8; 10]) -> u128
 }
 
 fn bytes_of(word: u128) -> [u8; 10]
-    ensures { result ≡ bytes_of 10 word }
+    ensures { result ≡ bytes_of_number 10 word }
 {
     let [a, b, c, d, e, f, g, h, i, j, ..] = word.to_le_bytes();
     [a, b, c, d, e, f, g, h, i, j]
@@ -70,7 +70,7 @@ fn unpack(word: u128) -> Entry
 }
 
 fn pack(e: &Entry) -> u128
-    requires entry { IsEntry e.now }
+    requires entry { EntryFits e.now }
     ensures { result ≡ word_of_entry e.now }
 {
     let word = 0;
@@ -88,7 +88,7 @@ fn pack(e: &Entry) -> u128
 
 /// The ten bytes of an entry.
 pub fn encode(e: &Entry) -> [u8; 10]
-    requires entry { IsEntry e.now }
+    requires entry { EntryFits e.now }
     ensures bytes { result ≡ bytes_of_entry e.now }
     ensures again { entry_of_bytes result ≡ e.now }
 {
@@ -98,7 +98,7 @@ pub fn encode(e: &Entry) -> [u8; 10]
 /// The entry of ten bytes, whichever they are.
 pub fn decode(bytes: &[u8; 10]) -> Entry
     ensures entry { result ≡ entry_of_bytes bytes.now }
-    ensures fits { IsEntry result }
+    ensures fits { EntryFits result }
     ensures again { bytes_of_entry result ≡ bytes.now }
 {
     unpack(word_of(bytes))

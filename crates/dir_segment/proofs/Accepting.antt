@@ -4,8 +4,8 @@ use Rattle.std.specs.Prelude.{not}
 use Rattle.dir_segment.specs.declared.fault.SegmentFault.{SegmentFault}
 use Rattle.std.proofs.lemmas.Bool.{cases_eq, eq-eqb, ne_eqb, lt-ltb}
 use Rattle.dir_entry.specs.declared.entry.Entry.{Entry}
-use Rattle.dir_segment.specs.Lists.{Row, Lists}
-use Rattle.dir_segment.specs.Links.{at, IsChain, IsBucket, IsFreeList, IsSegment, followers, lines, hit, occurrences}
+use Rattle.dir_segment.specs.Lists.{SlotRow, Lists}
+use Rattle.dir_segment.specs.Links.{at, IsChain, IsBucket, IsFreeList, IsSegment, followers, lines, slot_hits, occurrences}
 use Rattle.dir_segment.specs.Image.{Marks, unmarked, marked, ◌>>=◌, is_bad_link, walk, walk_bucket, walk_buckets, counts, walk_all}
 use Rattle.dir_segment.proofs.Counts.{occurrences-append, length-line_le}
 use Rattle.dir_segment.proofs.Moves.{hit_same, own, pair, free_within, chain_within}
@@ -15,9 +15,9 @@ free_path : (slots : List Entry) (slot : ℕ) (xs : List ℕ) → IsFreeList slo
 free_path slots slot [] h = h
 free_path slots slot (x ∷ xs) h = (h.0, h.2, h.1, free_path slots _ xs h.3)
 
-chain_path : (slots : List Entry) (slot : ℕ) (rows : List Row) → IsChain slots slot rows → Path true slots slot (slots_of rows)
+chain_path : (slots : List Entry) (slot : ℕ) (rows : List SlotRow) → IsChain slots slot rows → Path true slots slot (slots_of rows)
 chain_path slots slot [] h = h
-chain_path slots slot (r ∷ rows) h = (h.0, ap (λ (q : Row). q.slot) h.2, h.1, chain_path slots _ rows h.3)
+chain_path slots slot (r ∷ rows) h = (h.0, ap (λ (q : SlotRow). q.slot) h.2, h.1, chain_path slots _ rows h.3)
 
 -- a slot that a link may lead to
 abbrev MayLink : List Entry → ℕ → Type 0
@@ -56,11 +56,11 @@ goes used slots [] most slot marks path long size may free = record {
 }
 goes used slots (x ∷ xs) zero slot marks path long size may free = absurd (omega (arith, long))
 goes used slots (x ∷ xs) (suc most) slot marks path long size may free =
-    let one : hit x slot ≡ 1 = rw path.1 (hit_same slot) in
+    let one : slot_hits x slot ≡ 1 = rw path.1 (hit_same slot) in
     let may_slot : MayLink slots slot = may slot (omega (arith, one)) in
     let new : get_or marks slot false ≡ false = no_mark marks slot (omega (arith, free slot, one)) in
     let within : slot < length marks = omega (arith, may_slot.0, size) in
-    let same : (s : ℕ) → hit x s ≡ hit slot s = λ s. ap (λ k. hit k s) path.1 in
+    let same : (s : ℕ) → slot_hits x s ≡ slot_hits slot s = λ s. ap (λ k. slot_hits k s) path.1 in
     let rest = goes used slots xs most (at slots slot).next (set marks slot true) path.3 (omega (arith, long)) (length-set marks slot true ∙ size)
     (λ s some. may s (omega (arith, some))) (λ s. omega (arith, free s, set_mark marks slot within new s, same s)) in
     let ne : slot ≢ 0 = omega (arith, path.0) in
@@ -72,15 +72,15 @@ goes used slots (x ∷ xs) (suc most) slot marks path long size may free =
       size = rest.size ∙ length-set marks slot true;
     }
 
-record GoesBucket (slots : List Entry) (b : ℕ) (marks : Marks) (rows : List Row) : Type 0 where
+record GoesBucket (slots : List Entry) (b : ℕ) (marks : Marks) (rows : List SlotRow) : Type 0 where
   after : Marks
   walks : walk_bucket slots b marks ≡ Ok after
-  each : (s : ℕ) → mark_at after s ≡ mark_at marks s + (hit (4 * b) s + occurrences s (followers rows))
+  each : (s : ℕ) → mark_at after s ≡ mark_at marks s + (slot_hits (4 * b) s + occurrences s (followers rows))
   total : marked after ≡ marked marks + suc (length (followers rows))
   size : length after ≡ length marks
 
-goes_bucket : (slots : List Entry) (b : ℕ) (marks : Marks) (rows : List Row) → IsBucket slots b rows → length (followers rows) ≤ length slots → 4 * b < length slots → length marks ≡ length slots
-    → ((s : ℕ) → 0 < occurrences s (followers rows) → MayLink slots s) → ((s : ℕ) → mark_at marks s + (hit (4 * b) s + occurrences s (followers rows)) ≤ 1) → GoesBucket slots b marks rows
+goes_bucket : (slots : List Entry) (b : ℕ) (marks : Marks) (rows : List SlotRow) → IsBucket slots b rows → length (followers rows) ≤ length slots → 4 * b < length slots → length marks ≡ length slots
+    → ((s : ℕ) → 0 < occurrences s (followers rows) → MayLink slots s) → ((s : ℕ) → mark_at marks s + (slot_hits (4 * b) s + occurrences s (followers rows)) ≤ 1) → GoesBucket slots b marks rows
 goes_bucket slots b marks [] bucket long lt size may free =
     let within : 4 * b < length marks = omega (arith, lt, size) in
     let new : get_or marks (4 * b) false ≡ false = no_mark marks (4 * b) (omega (arith, free (4 * b), hit_same (4 * b))) in
@@ -105,14 +105,14 @@ goes_bucket slots b marks (r ∷ rows) bucket long lt size may free =
       size = rest.size ∙ length-set marks (4 * b) true;
     }
 
-record GoesBuckets (slots : List Entry) (b n : ℕ) (marks : Marks) (chains : List (List Row)) : Type 0 where
+record GoesBuckets (slots : List Entry) (b n : ℕ) (marks : Marks) (chains : List (List SlotRow)) : Type 0 where
   after : Marks
   walks : walk_buckets slots b n marks ≡ Ok after
   each : (s : ℕ) → mark_at after s ≡ mark_at marks s + occurrences s (lines b chains)
   total : marked after ≡ marked marks + length (lines b chains)
   size : length after ≡ length marks
 
-goes_buckets : (slots : List Entry) (b : ℕ) (chains : List (List Row)) (n : ℕ) (marks : Marks) → length chains ≡ n → ((j : ℕ) → j < n → IsBucket slots (b + j) (get_or chains j []))
+goes_buckets : (slots : List Entry) (b : ℕ) (chains : List (List SlotRow)) (n : ℕ) (marks : Marks) → length chains ≡ n → ((j : ℕ) → j < n → IsBucket slots (b + j) (get_or chains j []))
     → ((j : ℕ) → j < n → length (followers (get_or chains j [])) ≤ length slots) → 4 * (b + n) ≤ length slots → length marks ≡ length slots
     → ((j s : ℕ) → j < n → 0 < occurrences s (followers (get_or chains j [])) → MayLink slots s) → ((s : ℕ) → mark_at marks s + occurrences s (lines b chains) ≤ 1) → GoesBuckets slots b n marks chains
 goes_buckets slots b [] zero marks width buckets short fit size may free = record { after = marks; walks = refl; each = λ s. omega arith; total = omega arith; size = refl }
@@ -140,8 +140,8 @@ root_of : (s : ℕ) → s % 4 ≡ 0 → s ≡ 4 * (s / 4)
 root_of s h = omega (arith, h)
 
 module _ (slots : List Entry) (head spare taken buckets : ℕ) (lists : Lists) (h : IsSegment slots head spare taken buckets lists) where
-  hits_root : (s : ℕ) → s % 4 ≡ 0 → hit (4 * (s / 4)) s ≡ 1
-  hits_root s root = subst (λ k. hit k s ≡ 1) (root_of s root) (hit_same s)
+  hits_root : (s : ℕ) → s % 4 ≡ 0 → slot_hits (4 * (s / 4)) s ≡ 1
+  hits_root s root = subst (λ k. slot_hits k s ≡ 1) (root_of s root) (hit_same s)
 
   follower_links : (b s : ℕ) → b < buckets → 0 < occurrences s (followers (get_or lists.chains b [])) → MayLink slots s
   follower_links b s lt some =
@@ -149,10 +149,10 @@ module _ (slots : List Entry) (head spare taken buckets : ℕ) (lists : Lists) (
         omega (arith, within, h.size),
         λ root.
             let k : ℕ = s / 4 in
-            let one : hit (4 * k) s ≡ 1 = hits_root s root in
+            let one : slot_hits (4 * k) s ≡ 1 = hits_root s root in
             elim (cases_eq k b) [
               | inl e ↦
-                  let one' : hit (4 * b) s ≡ 1 = subst (λ n. hit (4 * n) s ≡ 1) e one in
+                  let one' : slot_hits (4 * b) s ≡ 1 = subst (λ n. slot_hits (4 * n) s ≡ 1) e one in
                   absurd (omega (arith, own slots head spare taken buckets lists h s b lt, some, one'))
               | inr ne ↦ absurd (omega (arith, pair slots head spare taken buckets lists h s b k ne lt (omega (arith, within)), some, one))
             ],
@@ -163,7 +163,7 @@ module _ (slots : List Entry) (head spare taken buckets : ℕ) (lists : Lists) (
       let within = free_within slots head spare taken buckets lists h s some in (
         omega (arith, within, h.size),
         λ root.
-            let one : hit (4 * (s / 4)) s ≡ 1 = hits_root s root in
+            let one : slot_hits (4 * (s / 4)) s ≡ 1 = hits_root s root in
             absurd (omega (arith, own slots head spare taken buckets lists h s (s / 4) (omega (arith, within)), some, one)),
       )
 

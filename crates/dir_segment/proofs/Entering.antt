@@ -6,20 +6,20 @@ use Rattle.std.proofs.lemmas.Bool.{cases_eq, cases_lt}
 use Rattle.std.proofs.lemmas.List.{set-get_or, get_or_past}
 use Rattle.std.proofs.lemmas.List.Elements.{All-head, All-tail}
 use Rattle.dir_entry.specs.declared.entry.Entry.{Entry}
-use Rattle.dir_segment.specs.Lists.{Row, Lists, row, unlinked, with_chain, take_root, removed, freed, delete_at, deleted, passes}
+use Rattle.dir_segment.specs.Lists.{SlotRow, Lists, row, unlinked, with_chain, take_root, removed, freed, delete_at, deleted, passes}
 use Rattle.dir_segment.specs.Cleaning.{freed_by, clean_from, clean_chain, clean_bucket, clean_buckets, each_bucket}
-use Rattle.dir_segment.specs.Entries.{bucket_entries, IsStored, AreStored, SetsEntries, without_first}
+use Rattle.dir_segment.specs.Entries.{bucket_entries, IsStoredEntry, EntriesAreStored, SetsEntries, without_first}
 use Rattle.dir_segment.proofs.Searching.{deleted_none}
 
-abbrev entries_of : List Row → List Entry
-entries_of = map (λ (r : Row). r.entry)
+abbrev entries_of : List SlotRow → List Entry
+entries_of = map (λ (r : SlotRow). r.entry)
 
-abbrev AreRows : List Row → Type 0
-AreRows = All (λ (r : Row). IsStored r.entry)
+abbrev AreRows : List SlotRow → Type 0
+AreRows = All (λ (r : SlotRow). IsStoredEntry r.entry)
 
 -- ---- a delete
 
-sets : (lists : Lists) (b : ℕ) (chain : List Row) (free : List ℕ) (entries : List Entry) → b < length lists.chains → entries_of chain ≡ entries
+sets : (lists : Lists) (b : ℕ) (chain : List SlotRow) (free : List ℕ) (entries : List Entry) → b < length lists.chains → entries_of chain ≡ entries
     → SetsEntries b entries lists (with_chain lists b chain free)
 sets lists b chain free entries lt is = record {
   here = ap entries_of (get_or-set_same lists.chains b chain [] lt) ∙ is;
@@ -27,35 +27,35 @@ sets lists b chain free entries lt is = record {
   width = length-set lists.chains b chain;
 }
 
-root_taken : (lists : Lists) (b : ℕ) (root : Row) (rows : List Row) → AreRows rows → b < length lists.chains
+root_taken : (lists : Lists) (b : ℕ) (root : SlotRow) (rows : List SlotRow) → AreRows rows → b < length lists.chains
     → SetsEntries b (entries_of rows) lists (take_root lists b (root ∷ rows))
 root_taken lists b root [] stored lt = sets lists b [] lists.free [] lt refl
 root_taken lists b root (r ∷ rows) stored lt =
-    let same : unlinked r.entry ≡ r.entry = (All-head (λ (q : Row). IsStored q.entry) r rows stored).unlinked in
+    let same : unlinked r.entry ≡ r.entry = (All-head (λ (q : SlotRow). IsStoredEntry q.entry) r rows stored).unlinked in
     sets lists b (row root.slot r.entry ∷ rows) (r.slot ∷ lists.free) (r.entry ∷ entries_of rows) lt (ap (λ (e : Entry). e ∷ entries_of rows) same)
 
-removed-entries : (test : Entry → Bool) (rows : List Row) → entries_of (removed test rows) ≡ without_first test (entries_of rows)
+removed-entries : (test : Entry → Bool) (rows : List SlotRow) → entries_of (removed test rows) ≡ without_first test (entries_of rows)
 removed-entries test [] = refl
 removed-entries test (r ∷ rows) =
     elim (test r.entry) as (λ t. entries_of (cond t rows (r ∷ removed test rows)) ≡ cond t (entries_of rows) (r.entry ∷ without_first test (entries_of rows)))
     [ true ↦ refl | false ↦ ap (λ (q : List Entry). r.entry ∷ q) (removed-entries test rows) ]
 
-taken_at : (lists : Lists) (b : ℕ) (test : Entry → Bool) (chain : List Row) → get_or lists.chains b [] ≡ chain → AreRows chain → b < length lists.chains
+taken_at : (lists : Lists) (b : ℕ) (test : Entry → Bool) (chain : List SlotRow) → get_or lists.chains b [] ≡ chain → AreRows chain → b < length lists.chains
     → SetsEntries b (without_first test (entries_of chain)) lists (delete_at lists b test chain)
 taken_at lists b test [] is stored lt = record { here = ap entries_of is; others = λ k ne. refl; width = refl }
 taken_at lists b test (root ∷ rows) is stored lt =
     elim (test root.entry) as (λ t. SetsEntries b (cond t (entries_of rows) (root.entry ∷ without_first test (entries_of rows))) lists
     (cond t (take_root lists b (root ∷ rows)) (with_chain lists b (root ∷ removed test rows) (freed test rows lists.free)))) [
-      | true ↦ root_taken lists b root rows (All-tail (λ (q : Row). IsStored q.entry) root rows stored) lt
+      | true ↦ root_taken lists b root rows (All-tail (λ (q : SlotRow). IsStoredEntry q.entry) root rows stored) lt
       | false ↦ sets lists b (root ∷ removed test rows) (freed test rows lists.free) (root.entry ∷ without_first test (entries_of rows)) lt
           (ap (λ (q : List Entry). root.entry ∷ q) (removed-entries test rows))
     ]
 
-pub delete_takes_lem : (lists : Lists) (bucket : ℕ) (test : Entry → Bool) → AreStored lists → bucket < length lists.chains
+pub delete_takes_lem : (lists : Lists) (bucket : ℕ) (test : Entry → Bool) → EntriesAreStored lists → bucket < length lists.chains
     → SetsEntries bucket (without_first test (bucket_entries lists bucket)) lists (deleted lists bucket test)
 delete_takes_lem lists bucket test stored lt = taken_at lists bucket test (get_or lists.chains bucket []) refl (stored bucket) lt
 
-any-entries : (test : Entry → Bool) (rows : List Row) → list_any (passes test) rows ≡ list_any test (entries_of rows)
+any-entries : (test : Entry → Bool) (rows : List SlotRow) → list_any (passes test) rows ≡ list_any test (entries_of rows)
 any-entries test [] = refl
 any-entries test (r ∷ rows) = rw (any-entries test rows) refl
 
@@ -64,7 +64,7 @@ missed_stays_lem lists bucket test none = sym (deleted_none lists bucket test (a
 
 -- ---- what is done to one bucket after another
 
-module _ (step : Lists → ℕ → Lists) (change : List Row → List Row) (nothing : change [] ≡ [])
+module _ (step : Lists → ℕ → Lists) (change : List SlotRow → List SlotRow) (nothing : change [] ≡ [])
     (here : (lists : Lists) (b : ℕ) → b < length lists.chains → get_or (step lists b).chains b [] ≡ change (get_or lists.chains b []))
     (other : (lists : Lists) (b k : ℕ) → k ≢ b → get_or (step lists b).chains k [] ≡ get_or lists.chains k [])
     (wide : (lists : Lists) (b : ℕ) → length (step lists b).chains ≡ length lists.chains) where
@@ -96,15 +96,15 @@ module _ (step : Lists → ℕ → Lists) (change : List Row → List Row) (noth
 -- ---- a clean
 
 module _ (test : Entry → Bool) where
-  cleaned_from : Row → List Row → List Row
+  cleaned_from : SlotRow → List SlotRow → List SlotRow
   cleaned_from root [] = cond (test root.entry) (root ∷ []) []
   cleaned_from root (r ∷ rows) = cond (test root.entry) (root ∷ filter (passes test) (r ∷ rows)) (cleaned_from (row root.slot r.entry) rows)
 
-  cleaned : List Row → List Row
+  cleaned : List SlotRow → List SlotRow
   cleaned [] = []
   cleaned (root ∷ rows) = cleaned_from root rows
 
-  from_here : (lists : Lists) (b : ℕ) (root : Row) (rows : List Row) (free : List ℕ) → b < length lists.chains
+  from_here : (lists : Lists) (b : ℕ) (root : SlotRow) (rows : List SlotRow) (free : List ℕ) → b < length lists.chains
       → (get_or (clean_from test lists b root rows free).chains b [] ≡ cleaned_from root rows)
   unfolding cleaned_from
   from_here lists b root [] free lt =
@@ -117,7 +117,7 @@ module _ (test : Entry → Bool) where
         | false ↦ from_here lists b (row root.slot r.entry) rows (r.slot ∷ free) lt
       ]
 
-  from_other : (lists : Lists) (b k : ℕ) (root : Row) (rows : List Row) (free : List ℕ) → k ≢ b
+  from_other : (lists : Lists) (b k : ℕ) (root : SlotRow) (rows : List SlotRow) (free : List ℕ) → k ≢ b
       → get_or (clean_from test lists b root rows free).chains k [] ≡ get_or lists.chains k []
   from_other lists b k root [] free ne =
       elim (test root.entry) as (λ t. get_or (cond t (with_chain lists b (root ∷ []) free) (with_chain lists b [] free)).chains k [] ≡ get_or lists.chains k [])
@@ -129,7 +129,7 @@ module _ (test : Entry → Bool) where
         | false ↦ from_other lists b k (row root.slot r.entry) rows (r.slot ∷ free) ne
       ]
 
-  from_wide : (lists : Lists) (b : ℕ) (root : Row) (rows : List Row) (free : List ℕ) → length (clean_from test lists b root rows free).chains ≡ length lists.chains
+  from_wide : (lists : Lists) (b : ℕ) (root : SlotRow) (rows : List SlotRow) (free : List ℕ) → length (clean_from test lists b root rows free).chains ≡ length lists.chains
   from_wide lists b root [] free =
       elim (test root.entry) as (λ t. length (cond t (with_chain lists b (root ∷ []) free) (with_chain lists b [] free)).chains ≡ length lists.chains)
       [ true ↦ length-set lists.chains b (root ∷ []) | false ↦ length-set lists.chains b [] ]
@@ -140,16 +140,16 @@ module _ (test : Entry → Bool) where
         | false ↦ from_wide lists b (row root.slot r.entry) rows (r.slot ∷ free)
       ]
 
-  chain_here : (lists : Lists) (b : ℕ) (c : List Row) → get_or lists.chains b [] ≡ c → b < length lists.chains → get_or (clean_chain test lists b c).chains b [] ≡ cleaned c
+  chain_here : (lists : Lists) (b : ℕ) (c : List SlotRow) → get_or lists.chains b [] ≡ c → b < length lists.chains → get_or (clean_chain test lists b c).chains b [] ≡ cleaned c
   unfolding cleaned
   chain_here lists b [] is lt = is
   chain_here lists b (root ∷ rows) is lt = from_here lists b root rows lists.free lt
 
-  chain_other : (lists : Lists) (b k : ℕ) (c : List Row) → k ≢ b → get_or (clean_chain test lists b c).chains k [] ≡ get_or lists.chains k []
+  chain_other : (lists : Lists) (b k : ℕ) (c : List SlotRow) → k ≢ b → get_or (clean_chain test lists b c).chains k [] ≡ get_or lists.chains k []
   chain_other lists b k [] ne = refl
   chain_other lists b k (root ∷ rows) ne = from_other lists b k root rows lists.free ne
 
-  chain_wide : (lists : Lists) (b : ℕ) (c : List Row) → length (clean_chain test lists b c).chains ≡ length lists.chains
+  chain_wide : (lists : Lists) (b : ℕ) (c : List SlotRow) → length (clean_chain test lists b c).chains ≡ length lists.chains
   chain_wide lists b [] = refl
   chain_wide lists b (root ∷ rows) = from_wide lists b root rows lists.free
 
@@ -169,55 +169,55 @@ module _ (test : Entry → Bool) where
   unfolding cleaned
   cleaned_nothing = refl
 
-  filter-entries : (rows : List Row) → entries_of (filter (passes test) rows) ≡ filter test (entries_of rows)
+  filter-entries : (rows : List SlotRow) → entries_of (filter (passes test) rows) ≡ filter test (entries_of rows)
   filter-entries [] = refl
   filter-entries (r ∷ rows) =
       elim (test r.entry) as (λ t. entries_of (cond t (r ∷ filter (passes test) rows) (filter (passes test) rows)) ≡ cond t (r.entry ∷ filter test (entries_of rows)) (filter test (entries_of rows)))
       [ true ↦ ap (λ (q : List Entry). r.entry ∷ q) (filter-entries rows) | false ↦ filter-entries rows ]
 
-  from_entries : (root : Row) (rows : List Row) → AreRows rows → entries_of (cleaned_from root rows) ≡ filter test (root.entry ∷ entries_of rows)
+  from_entries : (root : SlotRow) (rows : List SlotRow) → AreRows rows → entries_of (cleaned_from root rows) ≡ filter test (root.entry ∷ entries_of rows)
   unfolding cleaned_from
   from_entries root [] stored =
       elim (test root.entry) as (λ t. entries_of (cond t (root ∷ []) []) ≡ cond t (root.entry ∷ []) []) [ true ↦ refl | false ↦ refl ]
   from_entries root (r ∷ rows) stored =
-      let same : unlinked r.entry ≡ r.entry = (All-head (λ (q : Row). IsStored q.entry) r rows stored).unlinked in
+      let same : unlinked r.entry ≡ r.entry = (All-head (λ (q : SlotRow). IsStoredEntry q.entry) r rows stored).unlinked in
       elim (test root.entry) as (λ t. entries_of (cond t (root ∷ filter (passes test) (r ∷ rows)) (cleaned_from (row root.slot r.entry) rows))
       ≡ cond t (root.entry ∷ filter test (r.entry ∷ entries_of rows)) (filter test (r.entry ∷ entries_of rows))) [
         | true ↦ ap (λ (q : List Entry). root.entry ∷ q) (filter-entries (r ∷ rows))
-        | false ↦ from_entries (row root.slot r.entry) rows (All-tail (λ (q : Row). IsStored q.entry) r rows stored) ∙ ap (λ (e : Entry). filter test (e ∷ entries_of rows)) same
+        | false ↦ from_entries (row root.slot r.entry) rows (All-tail (λ (q : SlotRow). IsStoredEntry q.entry) r rows stored) ∙ ap (λ (e : Entry). filter test (e ∷ entries_of rows)) same
       ]
 
-  cleaned_entries : (c : List Row) → AreRows c → entries_of (cleaned c) ≡ filter test (entries_of c)
+  cleaned_entries : (c : List SlotRow) → AreRows c → entries_of (cleaned c) ≡ filter test (entries_of c)
   unfolding cleaned
   cleaned_entries [] stored = refl
-  cleaned_entries (root ∷ rows) stored = from_entries root rows (All-tail (λ (q : Row). IsStored q.entry) root rows stored)
+  cleaned_entries (root ∷ rows) stored = from_entries root rows (All-tail (λ (q : SlotRow). IsStoredEntry q.entry) root rows stored)
 
   -- all pass
-  rows_passed : (rows : List Row) → All (λ (e : Entry). test e ≡ true) (entries_of rows) → filter (passes test) rows ≡ rows
+  rows_passed : (rows : List SlotRow) → All (λ (e : Entry). test e ≡ true) (entries_of rows) → filter (passes test) rows ≡ rows
   rows_passed [] h = refl
   rows_passed (r ∷ rows) h =
       let first : test r.entry ≡ true = All-head (λ (e : Entry). test e ≡ true) r.entry (entries_of rows) h in
-      rw first (ap (λ (q : List Row). r ∷ q) (rows_passed rows (All-tail (λ (e : Entry). test e ≡ true) r.entry (entries_of rows) h)))
+      rw first (ap (λ (q : List SlotRow). r ∷ q) (rows_passed rows (All-tail (λ (e : Entry). test e ≡ true) r.entry (entries_of rows) h)))
 
-  none_freed : (rows : List Row) (free : List ℕ) → All (λ (e : Entry). test e ≡ true) (entries_of rows) → freed_by (passes test) rows free ≡ free
+  none_freed : (rows : List SlotRow) (free : List ℕ) → All (λ (e : Entry). test e ≡ true) (entries_of rows) → freed_by (passes test) rows free ≡ free
   none_freed [] free h = refl
   none_freed (r ∷ rows) free h =
       let first : test r.entry ≡ true = All-head (λ (e : Entry). test e ≡ true) r.entry (entries_of rows) h in
       rw first (none_freed rows free (All-tail (λ (e : Entry). test e ≡ true) r.entry (entries_of rows) h))
 
-  from_passed : (lists : Lists) (b : ℕ) (root : Row) (rows : List Row) → get_or lists.chains b [] ≡ root ∷ rows → All (λ (e : Entry). test e ≡ true) (root.entry ∷ entries_of rows)
+  from_passed : (lists : Lists) (b : ℕ) (root : SlotRow) (rows : List SlotRow) → get_or lists.chains b [] ≡ root ∷ rows → All (λ (e : Entry). test e ≡ true) (root.entry ∷ entries_of rows)
       → clean_from test lists b root rows lists.free ≡ lists
   from_passed lists b root rows is h =
       let first : test root.entry ≡ true = All-head (λ (e : Entry). test e ≡ true) root.entry (entries_of rows) h in
       let rest : All (λ (e : Entry). test e ≡ true) (entries_of rows) = All-tail (λ (e : Entry). test e ≡ true) root.entry (entries_of rows) h in
-      let chains : set lists.chains b (root ∷ rows) ≡ lists.chains = ap (λ (q : List Row). set lists.chains b q) (sym is) ∙ set-get_or lists.chains b [] in
+      let chains : set lists.chains b (root ∷ rows) ≡ lists.chains = ap (λ (q : List SlotRow). set lists.chains b q) (sym is) ∙ set-get_or lists.chains b [] in
       go rows first (rows_passed rows rest) (none_freed rows lists.free rest) chains where
-        go : (qs : List Row) → test root.entry ≡ true → filter (passes test) qs ≡ qs → freed_by (passes test) qs lists.free ≡ lists.free → set lists.chains b (root ∷ qs) ≡ lists.chains
+        go : (qs : List SlotRow) → test root.entry ≡ true → filter (passes test) qs ≡ qs → freed_by (passes test) qs lists.free ≡ lists.free → set lists.chains b (root ∷ qs) ≡ lists.chains
             → clean_from test lists b root qs lists.free ≡ lists
         go [] first same free chains = rw first (λ i. record { chains = chains i; free = lists.free })
-        go (q ∷ qs) first same free chains = rw first (λ i. record { chains = (ap (λ (ps : List Row). set lists.chains b (root ∷ ps)) same ∙ chains) i; free = free i })
+        go (q ∷ qs) first same free chains = rw first (λ i. record { chains = (ap (λ (ps : List SlotRow). set lists.chains b (root ∷ ps)) same ∙ chains) i; free = free i })
 
-  chain_passed : (lists : Lists) (b : ℕ) (c : List Row) → get_or lists.chains b [] ≡ c → All (λ (e : Entry). test e ≡ true) (entries_of c) → clean_chain test lists b c ≡ lists
+  chain_passed : (lists : Lists) (b : ℕ) (c : List SlotRow) → get_or lists.chains b [] ≡ c → All (λ (e : Entry). test e ≡ true) (entries_of c) → clean_chain test lists b c ≡ lists
   chain_passed lists b [] is h = refl
   chain_passed lists b (root ∷ rows) is h = from_passed lists b root rows is h
 
@@ -229,7 +229,7 @@ module _ (test : Entry → Bool) where
   buckets_passed zero b lists h = refl
   buckets_passed (suc n) b lists h = ap (λ (q : Lists). clean_buckets test (suc b) n q) (bucket_passed lists b (h b)) ∙ buckets_passed n (suc b) lists h
 
-pub clean_keeps_lem : (lists : Lists) (test : Entry → Bool) (bucket : ℕ) → AreStored lists
+pub clean_keeps_lem : (lists : Lists) (test : Entry → Bool) (bucket : ℕ) → EntriesAreStored lists
     → bucket_entries (clean_buckets test 0 (length lists.chains) lists) bucket ≡ filter test (bucket_entries lists bucket)
 clean_keeps_lem lists test bucket stored =
     ap entries_of (each_chain (clean_bucket test) (cleaned test) (cleaned_nothing test) (bucket_here test) (bucket_other test) (bucket_wide test) lists bucket)

@@ -3,8 +3,8 @@ use Rattle.std.proofs.Common.{◌≡◌, ℕ, zero, suc, ◌+◌, ◌*◌, ◌%�
 use Rattle.std.proofs.lemmas.Bool.{lt-ltb, le-ltb}
 use Rattle.std.proofs.lemmas.Bool.Decides.{nat_tests}
 use Rattle.dir_entry.specs.declared.entry.Entry.{Entry}
-use Rattle.dir_segment.specs.Lists.{Row, entry_count, empty_chains, slots_behind_roots, new_lists}
-use Rattle.dir_segment.specs.Links.{empty, at, IsBucket, IsFreeList, IsSegment, lines, hit, occurrences, fresh_link}
+use Rattle.dir_segment.specs.Lists.{SlotRow, entry_count, empty_chains, slots_behind_roots, new_lists}
+use Rattle.dir_segment.specs.Links.{empty, at, IsBucket, IsFreeList, IsSegment, lines, slot_hits, occurrences, fresh_link}
 use Rattle.dir_segment.proofs.Counts.{occurrences-append}
 
 -- the entry of a slot of a new segment
@@ -14,10 +14,10 @@ fresh end slot = record empty { next = fresh_link end slot }
 abbrev below : ℕ → ℕ → ℕ
 below x s = cond (ltb s x) 1 0
 
-one_more : (x s : ℕ) → hit x s + below x s ≡ below (x + 1) s
+one_more : (x s : ℕ) → slot_hits x s + below x s ≡ below (x + 1) s
 one_more x s = grind (arith, nat_tests)
 
-next_below : (x y s : ℕ) → y ≡ x + 1 → hit x s + below x s ≡ below y s
+next_below : (x y s : ℕ) → y ≡ x + 1 → slot_hits x s + below x s ≡ below y s
 next_below x y s e = one_more x s ∙ ap (λ k. below k s) (sym e)
 
 link_root : (end b : ℕ) → fresh_link end (4 * b) ≡ 0
@@ -49,10 +49,10 @@ counted b zero s = let e : 4 * b ≡ 4 * (b + 0) = omega arith in let same : bel
 counted b (suc n) s =
     let e : 4 * (suc b + n) ≡ 4 * (b + suc n) = omega arith in
     let rest : occurrences s (slots_behind_roots (suc b) n) + occurrences s (lines (suc b) (empty_chains n)) + below (4 * suc b) s ≡ below (4 * (b + suc n)) s = counted (suc b) n s ∙ ap (λ k. below k s) e in
-    let root : hit (4 * b) s + below (4 * b) s ≡ below (4 * b + 1) s = next_below (4 * b) (4 * b + 1) s refl in
-    let first : hit (4 * b + 1) s + below (4 * b + 1) s ≡ below (4 * b + 2) s = next_below (4 * b + 1) (4 * b + 2) s (omega arith) in
-    let second : hit (4 * b + 2) s + below (4 * b + 2) s ≡ below (4 * b + 3) s = next_below (4 * b + 2) (4 * b + 3) s (omega arith) in
-    let third : hit (4 * b + 3) s + below (4 * b + 3) s ≡ below (4 * suc b) s = next_below (4 * b + 3) (4 * suc b) s (omega arith) in
+    let root : slot_hits (4 * b) s + below (4 * b) s ≡ below (4 * b + 1) s = next_below (4 * b) (4 * b + 1) s refl in
+    let first : slot_hits (4 * b + 1) s + below (4 * b + 1) s ≡ below (4 * b + 2) s = next_below (4 * b + 1) (4 * b + 2) s (omega arith) in
+    let second : slot_hits (4 * b + 2) s + below (4 * b + 2) s ≡ below (4 * b + 3) s = next_below (4 * b + 2) (4 * b + 3) s (omega arith) in
+    let third : slot_hits (4 * b + 3) s + below (4 * b + 3) s ≡ below (4 * suc b) s = next_below (4 * b + 3) (4 * suc b) s (omega arith) in
     omega (arith, rest, root, first, second, third)
 
 free_length : (b n : ℕ) → length (slots_behind_roots b n) ≡ 3 * n
@@ -101,7 +101,7 @@ module _ (slots : List Entry) (buckets : ℕ) (filled : (k : ℕ) → k < 4 * bu
     width = chains_length buckets;
     chains = λ b lt.
         let found : at slots (4 * b) ≡ fresh (4 * buckets) (4 * b) = filled (4 * b) (omega arith) in
-        subst (λ (d : List Row). IsBucket slots b d) (sym (chain_empty buckets b))
+        subst (λ (d : List SlotRow). IsBucket slots b d) (sym (chain_empty buckets b))
         (subst (λ (a : Entry). (a.offset ≡ 0) × (a.next ≡ 0)) (sym found) (refl, link_root (4 * buckets) b));
     free = first buckets some (free_links 0 buckets (omega arith));
     once = λ s.

@@ -2,8 +2,8 @@
 use Rattle.std.proofs.Common.{◌≡◌, ◌≢◌, ℕ, ◌+◌, ◌-◌, ◌*◌, ◌^◌, ◌<◌, ◌≤◌, inl, inr, List, [], ◌∷◌, length, get_or, set, map, refl, sym, ap, subst, ◌∙◌, arith, length-set, get_or-set_other, get_or-set_same}
 use Rattle.std.proofs.lemmas.Bool.{cases_lt}
 use Rattle.dir_entry.specs.declared.entry.Entry.{Entry}
-use Rattle.dir_segment.specs.Lists.{Row, Lists, row, with_chain, inserted, insert_at, IsFull}
-use Rattle.dir_segment.specs.Links.{empty, at, IsChain, IsBucket, IsFreeList, IsSegment, hit, occurrences}
+use Rattle.dir_segment.specs.Lists.{SlotRow, Lists, row, with_chain, inserted, insert_at, IsFull}
+use Rattle.dir_segment.specs.Links.{empty, at, IsChain, IsBucket, IsFreeList, IsSegment, slot_hits, occurrences}
 use Rattle.dir_segment.proofs.Counts.{missed}
 use Rattle.dir_segment.proofs.Frames.{frame_chain, frame_bucket, frame_free}
 use Rattle.dir_segment.proofs.Moves.{hit_same, own, pair, free_within, moved}
@@ -12,16 +12,17 @@ module _ (slots : List Entry) (head spare taken buckets : ℕ) (lists : Lists) (
   -- an empty root is an empty chain
   pub chain_empty : (at slots (4 * b)).offset ≡ 0 → get_or lists.chains b [] ≡ []
   chain_empty none = go (get_or lists.chains b []) (h.chains b lt) where
-    go : (c : List Row) → IsBucket slots b c → c ≡ []
+    go : (c : List SlotRow) → IsBucket slots b c → c ≡ []
     go [] k = refl
     go (r ∷ rows) k = absurd (omega (arith, k.0, none))
 
   pub chain_used : 0 < (at slots (4 * b)).offset
-      → (rows : List Row) × (get_or lists.chains b [] ≡ row (4 * b) (at slots (4 * b)) ∷ rows) × IsChain slots (at slots (4 * b)).next rows
+      → (rows : List SlotRow) × (get_or lists.chains b [] ≡ row (4 * b) (at slots (4 * b)) ∷ rows)
+      × IsChain slots (at slots (4 * b)).next rows
   chain_used some = go (get_or lists.chains b []) (h.chains b lt) where
-    go : (c : List Row) → IsBucket slots b c → (rows : List Row) × (c ≡ row (4 * b) (at slots (4 * b)) ∷ rows) × IsChain slots (at slots (4 * b)).next rows
+    go : (c : List SlotRow) → IsBucket slots b c → (rows : List SlotRow) × (c ≡ row (4 * b) (at slots (4 * b)) ∷ rows) × IsChain slots (at slots (4 * b)).next rows
     go [] k = absurd (omega (arith, k.0, some))
-    go (r ∷ rows) k = (rows, ap (λ (q : Row). q ∷ rows) k.1, k.2)
+    go (r ∷ rows) k = (rows, ap (λ (q : SlotRow). q ∷ rows) k.1, k.2)
 
   root_within : 4 * b < length slots
   root_within = omega (arith, h.size)
@@ -45,7 +46,7 @@ module _ (slots : List Entry) (head spare taken buckets : ℕ) (lists : Lists) (
         used_count = rw none (omega arith);
       })
 
-  insert_behind : (e : Entry) → 0 < e.offset → (rows : List Row) → get_or lists.chains b [] ≡ row (4 * b) (at slots (4 * b)) ∷ rows
+  insert_behind : (e : Entry) → 0 < e.offset → (rows : List SlotRow) → get_or lists.chains b [] ≡ row (4 * b) (at slots (4 * b)) ∷ rows
       → 0 < (at slots (4 * b)).offset → IsChain slots (at slots (4 * b)).next rows → (f : ℕ) (free : List ℕ) → lists.free ≡ f ∷ free
       → IsSegment (set (set slots f (record e { next = (at slots (4 * b)).next })) (4 * b) (record (at slots (4 * b)) { next = f }))
       (at slots f).next (spare - 1) (taken + 1) buckets (with_chain lists b (row (4 * b) (at slots (4 * b)) ∷ row f e ∷ rows) free)
@@ -59,12 +60,12 @@ module _ (slots : List Entry) (head spare taken buckets : ℕ) (lists : Lists) (
       let f-is : f ≡ head = links.2 in
       let hits = hit_same (4 * b) in
       let hits' = hit_same f in
-      let root_own : hit (4 * b) (4 * b) + occurrences (4 * b) (map (λ (q : Row). q.slot) rows) + (hit f (4 * b) + occurrences (4 * b) free) ≤ 1 =
+      let root_own : slot_hits (4 * b) (4 * b) + occurrences (4 * b) (map (λ (q : SlotRow). q.slot) rows) + (slot_hits f (4 * b) + occurrences (4 * b) free) ≤ 1 =
       rw (is, left) at (own slots head spare taken buckets lists h (4 * b) b lt) in
-      let free_own : hit (4 * b) f + occurrences f (map (λ (q : Row). q.slot) rows) + (hit f f + occurrences f free) ≤ 1 =
+      let free_own : slot_hits (4 * b) f + occurrences f (map (λ (q : SlotRow). q.slot) rows) + (slot_hits f f + occurrences f free) ≤ 1 =
       rw (is, left) at (own slots head spare taken buckets lists h f b lt) in
       let within : f < 4 * buckets = free_within slots head spare taken buckets lists h f (rw left (omega (arith, hits'))) in
-      let apart : hit (4 * b) f ≡ 0 = omega (arith, hits', free_own) in
+      let apart : slot_hits (4 * b) f ≡ 0 = omega (arith, hits', free_own) in
       let ne : 4 * b ≢ f = missed (4 * b) f apart in
       let ne' : f ≢ 4 * b = λ q. ne (sym q) in
       let in-half : 4 * b < length half = omega (arith, length-set slots f new, root_within) in
@@ -99,7 +100,7 @@ module _ (slots : List Entry) (head spare taken buckets : ℕ) (lists : Lists) (
   inserted_root e some p place root found none slots' written =
       let empty_root : (at slots (4 * b)).offset ≡ 0 = rw (← place, ← found) none in
       let no_chain = chain_empty empty_root in
-      rw (written, place) (subst (λ (c : List Row). IsSegment (set slots (4 * b) (record e { next = 0 })) head spare (taken + 1) buckets (insert_at lists b e c lists.free)) (sym no_chain) (insert_empty e some no_chain))
+      rw (written, place) (subst (λ (c : List SlotRow). IsSegment (set slots (4 * b) (record e { next = 0 })) head spare (taken + 1) buckets (insert_at lists b e c lists.free)) (sym no_chain) (insert_empty e some no_chain))
 
   free_head : 0 < head → (free : List ℕ) × (lists.free ≡ head ∷ free)
   free_head some = go lists.free h.free where
@@ -127,9 +128,9 @@ module _ (slots : List Entry) (head spare taken buckets : ℕ) (lists : Lists) (
       let there = insert_behind e some chain.0 chain.1 used' chain.2 head free.0 free.1 in
       let root' : Entry = at slots (4 * b) in
       let new : List Entry = set (set slots head (record e { next = root'.next })) (4 * b) (record root' { next = head }) in
-      let made : (c : List Row) (f : List ℕ) → Lists = λ c f. insert_at lists b e c f in
+      let made : (c : List SlotRow) (f : List ℕ) → Lists = λ c f. insert_at lists b e c f in
       let by_free = subst (λ (f : List ℕ). IsSegment new (at slots head).next (spare - 1) (taken + 1) buckets (made (row (4 * b) root' ∷ chain.0) f)) (sym free.1) there in
-      let by_chain = subst (λ (c : List Row). IsSegment new (at slots head).next (spare - 1) (taken + 1) buckets (made c lists.free)) (sym chain.1) by_free in
+      let by_chain = subst (λ (c : List SlotRow). IsSegment new (at slots head).next (spare - 1) (taken + 1) buckets (made c lists.free)) (sym chain.1) by_free in
       rw (taken_from, second, first, place, root-is) by_chain
 
   pub is_full : (p : ℕ) → p ≡ 4 * b → (root : Entry) → root ≡ at slots p → root.offset ≢ 0 → head ≡ 0 → IsFull lists b

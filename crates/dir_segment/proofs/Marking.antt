@@ -6,8 +6,8 @@ use Rattle.std.proofs.lemmas.List.{get_or_past, length-map}
 use Rattle.dir_entry.specs.declared.entry.Entry.{Entry}
 use Rattle.dir_segment.specs.declared.fault.SegmentFault.{SegmentFault}
 use Rattle.dir_segment.specs.declared.fault.SegmentFault.TheVariants.{BadLink, Loop, FreeListCount, Memory}
-use Rattle.dir_segment.specs.Lists.{Row, Lists, row, entry_count}
-use Rattle.dir_segment.specs.Links.{at, IsChain, IsBucket, IsFreeList, IsSegment, followers, lines, hit, occurrences}
+use Rattle.dir_segment.specs.Lists.{SlotRow, Lists, row, entry_count}
+use Rattle.dir_segment.specs.Links.{at, IsChain, IsBucket, IsFreeList, IsSegment, followers, lines, slot_hits, occurrences}
 use Rattle.dir_segment.specs.Image.{Marks, unmarked, marked, ◌>>=◌, is_bad_link, walk, walk_bucket, walk_buckets, counts, walk_all, empty_roots, IsFault}
 use Rattle.dir_segment.proofs.Counts.{occurrences-append}
 use Rattle.dir_segment.proofs.Moves.{hit_same}
@@ -20,9 +20,9 @@ bit b = cond b 1 0
 abbrev pub mark_at : Marks → ℕ → ℕ
 mark_at marks s = bit (get_or marks s false)
 
-pub set_mark : (marks : Marks) (x : ℕ) → x < length marks → get_or marks x false ≡ false → (s : ℕ) → mark_at (set marks x true) s ≡ mark_at marks s + hit x s
+pub set_mark : (marks : Marks) (x : ℕ) → x < length marks → get_or marks x false ≡ false → (s : ℕ) → mark_at (set marks x true) s ≡ mark_at marks s + slot_hits x s
 set_mark marks x lt none s = elim (cases_eq s x) [
-  | inl e ↦ subst (λ k. mark_at (set marks x true) k ≡ mark_at marks k + hit x k) (sym e)
+  | inl e ↦ subst (λ k. mark_at (set marks x true) k ≡ mark_at marks k + slot_hits x k) (sym e)
       (let one : get_or (set marks x true) x false ≡ true = get_or-set_same marks x true false lt in rw (one, none) (omega (arith, hit_same x)))
   | inr ne ↦
       let stays : get_or (set marks x true) s false ≡ get_or marks s false = get_or-set_other marks x s true false ne in
@@ -88,11 +88,11 @@ pub path_free : (slots : List Entry) (slot : ℕ) (xs : List ℕ) → Path false
 path_free slots slot [] h = h
 path_free slots slot (x ∷ xs) h = (h.0, h.2, h.1, path_free slots _ xs h.3)
 
-abbrev pub rows_at : List Entry → List ℕ → List Row
+abbrev pub rows_at : List Entry → List ℕ → List SlotRow
 rows_at slots = map (λ x. row x (at slots x))
 
-abbrev pub slots_of : List Row → List ℕ
-slots_of = map (λ (q : Row). q.slot)
+abbrev pub slots_of : List SlotRow → List ℕ
+slots_of = map (λ (q : SlotRow). q.slot)
 
 path_chain : (slots : List Entry) (slot : ℕ) (xs : List ℕ) → Path true slots slot xs → IsChain slots slot (rows_at slots xs)
 path_chain slots slot [] h = h
@@ -154,7 +154,7 @@ good_link used slots slot h =
       | false ↦ λ within h'. absurd (cc h')
     ] refl h
 
-no_root : (k slot : ℕ) → slot % 4 ≢ 0 → hit slot (4 * k) ≡ 0
+no_root : (k slot : ℕ) → slot % 4 ≢ 0 → slot_hits slot (4 * k) ≡ 0
 no_root k slot ne = let apart : slot ≢ 4 * k = λ q. ne (omega (arith, q)) in rw (ne_eqb slot (4 * k) apart) refl
 
 pub walked : (used : Bool) (slots : List Entry) (most slot : ℕ) (marks after : Marks) → length marks ≡ length slots → walk used slots most slot marks ≡ Ok after → Walked used slots slot marks after
@@ -190,9 +190,9 @@ walked used slots (suc most) slot marks after size e =
     ] refl e
 
 pub record WalkedBucket (slots : List Entry) (b : ℕ) (marks after : Marks) : Type 0 where
-  pub rows : List Row
+  pub rows : List SlotRow
   pub bucket : IsBucket slots b rows
-  pub each : (s : ℕ) → mark_at after s ≡ mark_at marks s + (hit (4 * b) s + occurrences s (followers rows))
+  pub each : (s : ℕ) → mark_at after s ≡ mark_at marks s + (slot_hits (4 * b) s + occurrences s (followers rows))
   pub total : marked after ≡ marked marks + suc (length (followers rows))
   pub size : length after ≡ length marks
   pub behind : (k : ℕ) → occurrences (4 * k) (followers rows) ≡ 0
@@ -235,7 +235,7 @@ bind_ok (Ok mid) next after e = (mid, refl, e)
 bind_ok (Err f) next after e = absurd (not_ok f after e)
 
 pub record WalkedBuckets (slots : List Entry) (b n : ℕ) (marks after : Marks) : Type 0 where
-  pub chains : List (List Row)
+  pub chains : List (List SlotRow)
   pub width : length chains ≡ n
   pub buckets : (j : ℕ) → j < n → IsBucket slots (b + j) (get_or chains j [])
   pub each : (s : ℕ) → mark_at after s ≡ mark_at marks s + occurrences s (lines b chains)
@@ -243,11 +243,11 @@ pub record WalkedBuckets (slots : List Entry) (b n : ℕ) (marks after : Marks) 
   pub size : length after ≡ length marks
   pub empties : entry_count chains + empty_roots slots b n ≡ length (lines b chains)
 
-one_empty : (slots : List Entry) (b : ℕ) (rows : List Row) → IsBucket slots b rows → length rows + cond (eqb (at slots (4 * b)).offset 0) 1 0 ≡ suc (length (followers rows))
+one_empty : (slots : List Entry) (b : ℕ) (rows : List SlotRow) → IsBucket slots b rows → length rows + cond (eqb (at slots (4 * b)).offset 0) 1 0 ≡ suc (length (followers rows))
 one_empty slots b [] h = rw h.0 refl
 one_empty slots b (r ∷ rows) h =
     let ne : (at slots (4 * b)).offset ≢ 0 = omega (arith, h.0) in
-    rw (ne_eqb (at slots (4 * b)).offset 0 ne) (omega (arith, length-map rows (λ (q : Row). q.slot)))
+    rw (ne_eqb (at slots (4 * b)).offset 0 ne) (omega (arith, length-map rows (λ (q : SlotRow). q.slot)))
 
 pub walked_buckets : (slots : List Entry) (b n : ℕ) (marks after : Marks) → length marks ≡ length slots → 4 * (b + n) ≤ length slots
     → ((k : ℕ) → b ≤ k → mark_at marks (4 * k) ≡ 0) → walk_buckets slots b n marks ≡ Ok after → WalkedBuckets slots b n marks after
@@ -268,7 +268,7 @@ walked_buckets slots b (suc n) marks after size fit none e =
     let first = walked_bucket slots b marks mid size (omega (arith, fit)) (no_mark marks (4 * b) (none b (omega arith))) step.1 in
     let none' : (k : ℕ) → suc b ≤ k → mark_at mid (4 * k) ≡ 0 = λ k le.
     let ne : 4 * b ≢ 4 * k = omega arith in
-    let apart : hit (4 * b) (4 * k) ≡ 0 = rw (ne_eqb (4 * b) (4 * k) ne) refl in
+    let apart : slot_hits (4 * b) (4 * k) ≡ 0 = rw (ne_eqb (4 * b) (4 * k) ne) refl in
     omega (arith, first.each (4 * k), first.behind (4 * k), first.behind k, none k (omega arith), apart) in
     let rest = walked_buckets slots (suc b) n mid after (first.size ∙ size) (omega (arith, fit)) none' step.2 in
     record {

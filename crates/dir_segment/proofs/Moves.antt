@@ -2,15 +2,15 @@
 use Rattle.std.proofs.Common.{◌≡◌, ◌≢◌, ℕ, ◌+◌, ◌*◌, ◌<◌, ◌≤◌, cond, ltb, List, [], length, get_or, set, refl, sym, ap, subst, ◌∙◌, arith, length-append, length-set, get_or-set_other, get_or-set_same, inl, inr}
 use Rattle.std.proofs.lemmas.Bool.{cases_eq, lt-ltb, eq-eqb}
 use Rattle.dir_entry.specs.declared.entry.Entry.{Entry}
-use Rattle.dir_segment.specs.Lists.{Row, Lists, with_chain}
-use Rattle.dir_segment.specs.Links.{IsBucket, IsFreeList, IsSegment, followers, lines, hit, occurrences}
+use Rattle.dir_segment.specs.Lists.{SlotRow, Lists, with_chain}
+use Rattle.dir_segment.specs.Links.{IsBucket, IsFreeList, IsSegment, followers, lines, slot_hits, occurrences}
 use Rattle.dir_segment.proofs.Counts.{occurrences-append, line_le, lines_le, lines-set, length-lines-set, entry_count-set, entry_count_le, entry_count_at}
 
-pub hit_same : (x : ℕ) → hit x x ≡ 1
+pub hit_same : (x : ℕ) → slot_hits x x ≡ 1
 hit_same x = rw (eq-eqb x x refl) refl
 
 -- What the new slots and lists must meet.
-pub record Moves (slots : List Entry) (head spare taken : ℕ) (buckets : ℕ) (lists : Lists) (b : ℕ) (old : ℕ) (chain : List Row) (free : List ℕ) : Type 0 where
+pub record Moves (slots : List Entry) (head spare taken : ℕ) (buckets : ℕ) (lists : Lists) (b : ℕ) (old : ℕ) (chain : List SlotRow) (free : List ℕ) : Type 0 where
   pub size : length slots ≡ 4 * buckets
   pub bucket : IsBucket slots b chain
   pub others : (k : ℕ) → k ≢ b → k < buckets → IsBucket slots k (get_or lists.chains k [])
@@ -32,23 +32,23 @@ module _ (slots : List Entry) (head spare taken buckets : ℕ) (lists : Lists) (
 
   -- a slot stands once in a chain and the free list together
   pub own : (x b : ℕ) → b < buckets
-      → hit (4 * b) x + occurrences x (followers (get_or lists.chains b [])) + occurrences x lists.free ≤ 1
+      → slot_hits (4 * b) x + occurrences x (followers (get_or lists.chains b [])) + occurrences x lists.free ≤ 1
   own x b lt =
       let e : 0 + b ≡ b = omega arith in
-      let le : hit (4 * b) x + occurrences x (followers (get_or lists.chains b [])) ≤ occurrences x (lines 0 lists.chains) =
-      subst (λ k. hit (4 * k) x + occurrences x (followers (get_or lists.chains b [])) ≤ occurrences x (lines 0 lists.chains)) e
+      let le : slot_hits (4 * b) x + occurrences x (followers (get_or lists.chains b [])) ≤ occurrences x (lines 0 lists.chains) =
+      subst (λ k. slot_hits (4 * k) x + occurrences x (followers (get_or lists.chains b [])) ≤ occurrences x (lines 0 lists.chains)) e
       (line_le x 0 lists.chains b (omega (arith, h.width))) in
       omega (arith, le, at_most x)
 
   -- and once in two chains and the free list
   pub pair : (x b k : ℕ) → k ≢ b → b < buckets → k < buckets
-      → hit (4 * k) x + occurrences x (followers (get_or lists.chains k [])) + (hit (4 * b) x + occurrences x (followers (get_or lists.chains b []))) + occurrences x lists.free ≤ 1
+      → slot_hits (4 * k) x + occurrences x (followers (get_or lists.chains k [])) + (slot_hits (4 * b) x + occurrences x (followers (get_or lists.chains b []))) + occurrences x lists.free ≤ 1
   pair x b k ne lt lt' =
       let e : 0 + b ≡ b = omega arith in
       let e' : 0 + k ≡ k = omega arith in
       let le = lines_le x 0 lists.chains k b ne (omega (arith, h.width)) (omega (arith, h.width)) in
-      let first : hit (4 * (0 + k)) x ≡ hit (4 * k) x = ap (λ n. hit (4 * n) x) e' in
-      let second : hit (4 * (0 + b)) x ≡ hit (4 * b) x = ap (λ n. hit (4 * n) x) e in
+      let first : slot_hits (4 * (0 + k)) x ≡ slot_hits (4 * k) x = ap (λ n. slot_hits (4 * n) x) e' in
+      let second : slot_hits (4 * (0 + b)) x ≡ slot_hits (4 * b) x = ap (λ n. slot_hits (4 * n) x) e in
       omega (arith, le, first, second, at_most x)
 
   pub taken_le : taken ≤ 4 * buckets
@@ -73,7 +73,7 @@ module _ (slots : List Entry) (head spare taken buckets : ℕ) (lists : Lists) (
       let le = line_le x 0 lists.chains b (let l : b < length lists.chains = omega (arith, h.width) in l) in
       grind (arith, e, le)
 
-  pub moved : (b : ℕ) → b < buckets → (slots' : List Entry) (head' spare' taken' : ℕ) (chain : List Row) (free : List ℕ)
+  pub moved : (b : ℕ) → b < buckets → (slots' : List Entry) (head' spare' taken' : ℕ) (chain : List SlotRow) (free : List ℕ)
       → Moves slots' head' spare' taken' buckets lists b taken chain free
       → IsSegment slots' head' spare' taken' buckets (with_chain lists b chain free)
   moved b lt slots' head' spare' taken' chain free m =

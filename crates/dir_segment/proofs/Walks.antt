@@ -3,19 +3,19 @@ use Rattle.std.proofs.Common.{◌≡◌, ◌≢◌, ℕ, zero, suc, ◌+◌, ◌
 use Rattle.std.proofs.lemmas.List.{length-map}
 use Rattle.std.proofs.lemmas.Bool.{ne_eqb}
 use Rattle.dir_entry.specs.declared.entry.Entry.{Entry}
-use Rattle.dir_segment.specs.Lists.{Row, Lists}
-use Rattle.dir_segment.specs.Links.{at, IsChain, IsBucket, IsFreeList, IsSegment, followers, lines, rows_from, bucket_rows, chains_from, free_from, lists_of}
+use Rattle.dir_segment.specs.Lists.{SlotRow, Lists}
+use Rattle.dir_segment.specs.Links.{at, IsChain, IsBucket, IsFreeList, IsSegment, followers, lines, rows_linked_from, bucket_rows, chains_from, free_from, lists_of}
 use Rattle.dir_segment.proofs.Counts.{length-line_le}
 
 positive : (s : ℕ) → 0 < s → eqb s 0 ≡ false
 positive s h = ne_eqb s 0 (let ne : s ≢ 0 = omega arith in ne)
 
-pub rows_from-is : (slots : List Entry) (most s : ℕ) (rows : List Row) → IsChain slots s rows → length rows ≤ most → rows_from slots most s ≡ rows
+pub rows_from-is : (slots : List Entry) (most s : ℕ) (rows : List SlotRow) → IsChain slots s rows → length rows ≤ most → rows_linked_from slots most s ≡ rows
 rows_from-is slots zero s [] h le = refl
 rows_from-is slots (suc most) s [] h le = rw h refl
 rows_from-is slots zero s (r ∷ rows) h le = absurd (omega arith)
 rows_from-is slots (suc most) s (r ∷ rows) h le =
-    rw (positive s h.0) (ap (λ (q : Row). q ∷ rows_from slots most (at slots s).next) (sym h.2) ∙ ap (λ qs. r ∷ qs) (rows_from-is slots most _ rows h.3 (omega arith)))
+    rw (positive s h.0) (ap (λ (q : SlotRow). q ∷ rows_linked_from slots most (at slots s).next) (sym h.2) ∙ ap (λ qs. r ∷ qs) (rows_from-is slots most _ rows h.3 (omega arith)))
 
 free_from-is : (slots : List Entry) (most s : ℕ) (free : List ℕ) → IsFreeList slots s free → length free ≤ most → free_from slots most s ≡ free
 free_from-is slots zero s [] h le = refl
@@ -24,13 +24,13 @@ free_from-is slots zero s (f ∷ free) h le = absurd (omega arith)
 free_from-is slots (suc most) s (f ∷ free) h le =
     rw (positive s h.0) (ap (λ q. q ∷ free_from slots most (at slots s).next) (sym h.2) ∙ ap (λ qs. f ∷ qs) (free_from-is slots most _ free h.3 (omega arith)))
 
-bucket_rows-is : (slots : List Entry) (b : ℕ) (rows : List Row) → IsBucket slots b rows → length (followers rows) ≤ length slots → bucket_rows slots b ≡ rows
+bucket_rows-is : (slots : List Entry) (b : ℕ) (rows : List SlotRow) → IsBucket slots b rows → length (followers rows) ≤ length slots → bucket_rows slots b ≡ rows
 bucket_rows-is slots b [] h le = rw h.0 refl
 bucket_rows-is slots b (r ∷ rows) h le =
     rw (positive (at slots (4 * b)).offset h.0)
-    (ap (λ (q : Row). q ∷ rows_from slots (length slots) (at slots (4 * b)).next) (sym h.1) ∙ ap (λ qs. r ∷ qs) (rows_from-is slots (length slots) _ rows h.2 (omega (arith, le, length-map rows (λ (q : Row). q.slot)))))
+    (ap (λ (q : SlotRow). q ∷ rows_linked_from slots (length slots) (at slots (4 * b)).next) (sym h.1) ∙ ap (λ qs. r ∷ qs) (rows_from-is slots (length slots) _ rows h.2 (omega (arith, le, length-map rows (λ (q : SlotRow). q.slot)))))
 
-chains_from-is : (slots : List Entry) (b : ℕ) (chains : List (List Row)) (n : ℕ) → length chains ≡ n
+chains_from-is : (slots : List Entry) (b : ℕ) (chains : List (List SlotRow)) (n : ℕ) → length chains ≡ n
     → ((j : ℕ) → j < n → bucket_rows slots (b + j) ≡ get_or chains j []) → chains_from slots b n ≡ chains
 chains_from-is slots b [] zero len each = refl
 chains_from-is slots b [] (suc n) len each = absurd (omega arith)
@@ -40,7 +40,7 @@ chains_from-is slots b (c ∷ chains) (suc n) len each =
     let rest : chains_from slots (suc b) n ≡ chains =
     chains_from-is slots (suc b) chains n (omega arith)
     (λ j lt. subst (λ k. bucket_rows slots k ≡ get_or chains j []) (let e : b + suc j ≡ suc b + j = omega arith in e) (each (suc j) (omega arith))) in
-    ap (λ (q : List Row). q ∷ chains_from slots (suc b) n) first ∙ ap (λ (qs : List (List Row)). c ∷ qs) rest
+    ap (λ (q : List SlotRow). q ∷ chains_from slots (suc b) n) first ∙ ap (λ (qs : List (List SlotRow)). c ∷ qs) rest
 
 pub lists_of-is : (slots : List Entry) (head spare taken buckets : ℕ) (lists : Lists) → IsSegment slots head spare taken buckets lists → lists_of slots head buckets ≡ lists
 unfolding lists_of

@@ -3,8 +3,8 @@ use Rattle.std.specs.Prelude.{◌≡◌, ◌≢◌, ℕ, suc, ◌+◌, ◌*◌, 
 use Rattle.std.specs.List.{All, list_any}
 use Rattle.std.specs.List.Sorted.{IsPermutation}
 use Rattle.dir_entry.specs.declared.entry.Entry.{Entry}
-use Rattle.dir_entry.specs.Layout.{IsEntry}
-use Rattle.dir_segment.specs.Lists.{Row, Lists, unlinked, chain_of, entry_count, inserted, deleted, IsFull}
+use Rattle.dir_entry.specs.Layout.{EntryFits}
+use Rattle.dir_segment.specs.Lists.{SlotRow, Lists, unlinked, chain_of, entry_count, inserted, deleted, IsFull}
 use Rattle.dir_segment.specs.Cleaning.{clean_buckets}
 use Rattle.dir_segment.specs.Purging.{purged, is_left, after_purge}
 
@@ -13,7 +13,7 @@ abbrev pub bucket_entries : Lists → ℕ → List Entry
 bucket_entries lists bucket = map (λ r. r.entry) (chain_of lists bucket)
 
 -- how many chains have a root
-abbrev pub used_roots : List (List Row) → ℕ
+abbrev pub used_roots : List (List SlotRow) → ℕ
 used_roots [] = 0
 used_roots ([] ∷ chains) = used_roots chains
 used_roots ((root ∷ rows) ∷ chains) = suc (used_roots chains)
@@ -24,14 +24,14 @@ AreCounted lists =
     entry_count lists.chains + length lists.free ≡ 3 * length lists.chains + used_roots lists.chains
 
 -- an entry that stands in a slot, told without its link
-pub record IsStored (e : Entry) : Type 0 where
-  pub fits : IsEntry e
+pub record IsStoredEntry (e : Entry) : Type 0 where
+  pub fits : EntryFits e
   pub some : 0 < e.offset
   pub unlinked : unlinked e ≡ e
 
 -- each row of each chain has an entry that stands in a slot
-abbrev pub AreStored : Lists → Type 0
-AreStored lists = (bucket : ℕ) → All (λ r. IsStored r.entry) (chain_of lists bucket)
+abbrev pub EntriesAreStored : Lists → Type 0
+EntriesAreStored lists = (bucket : ℕ) → All (λ r. IsStoredEntry r.entry) (chain_of lists bucket)
 
 -- one bucket has these entries, and all others have what they had
 pub record SetsEntries (bucket : ℕ) (entries : List Entry) (old new : Lists) : Type 0 where
@@ -40,9 +40,9 @@ pub record SetsEntries (bucket : ℕ) (entries : List Entry) (old new : Lists) :
   pub width : length new.chains ≡ length old.chains
 
 -- an entry goes right behind the root, or becomes it
-abbrev pub with_entry : Entry → List Entry → List Entry
-with_entry e [] = e ∷ []
-with_entry e (root ∷ rest) = root ∷ e ∷ rest
+abbrev pub with_entry_behind_root : Entry → List Entry → List Entry
+with_entry_behind_root e [] = e ∷ []
+with_entry_behind_root e (root ∷ rest) = root ∷ e ∷ rest
 
 -- without the first entry that passes
 abbrev pub without_first : (Entry → Bool) → List Entry → List Entry
@@ -53,7 +53,7 @@ without_first test (e ∷ entries) = cond (test e) entries (e ∷ without_first 
 abbrev pub InsertEnters : Type 0
 InsertEnters = (lists : Lists) (bucket : ℕ) (e : Entry) → bucket < length lists.chains
     → (IsFull lists bucket → ⊥)
-    → SetsEntries bucket (with_entry (unlinked e) (bucket_entries lists bucket))
+    → SetsEntries bucket (with_entry_behind_root (unlinked e) (bucket_entries lists bucket))
     lists (inserted lists bucket e)
 
 -- a full bucket takes no entry, and nothing changes
@@ -62,7 +62,7 @@ FullStays = (lists : Lists) (bucket : ℕ) (e : Entry) → IsFull lists bucket �
 
 -- the first entry that passes is gone
 abbrev pub DeleteTakes : Type 0
-DeleteTakes = (lists : Lists) (bucket : ℕ) (test : Entry → Bool) → AreStored lists
+DeleteTakes = (lists : Lists) (bucket : ℕ) (test : Entry → Bool) → EntriesAreStored lists
     → bucket < length lists.chains
     → SetsEntries bucket (without_first test (bucket_entries lists bucket))
     lists (deleted lists bucket test)
@@ -75,7 +75,7 @@ MissedStays = (lists : Lists) (bucket : ℕ) (test : Entry → Bool)
 
 -- each bucket keeps the entries that pass, in their order
 abbrev pub CleanKeeps : Type 0
-CleanKeeps = (lists : Lists) (test : Entry → Bool) (bucket : ℕ) → AreStored lists
+CleanKeeps = (lists : Lists) (test : Entry → Bool) (bucket : ℕ) → EntriesAreStored lists
     → bucket_entries (clean_buckets test 0 (length lists.chains) lists) bucket
     ≡ filter test (bucket_entries lists bucket)
 
@@ -86,17 +86,17 @@ PassedStay = (lists : Lists) (test : Entry → Bool)
     → clean_buckets test 0 (length lists.chains) lists ≡ lists
 
 -- the root stays, and of the rows behind it those that pass
-abbrev pub kept_behind : (Row → Bool) → List Row → List Row
+abbrev pub kept_behind : (SlotRow → Bool) → List SlotRow → List SlotRow
 kept_behind test [] = []
 kept_behind test (root ∷ rows) = root ∷ filter test rows
 
 -- a row, and the bucket in whose chain it stands
 pub record Housed : Type 0 where
   pub bucket : ℕ
-  pub row : Row
+  pub row : SlotRow
 
 -- each row of the chains from a bucket on, by bucket and along each chain
-abbrev pub housed : ℕ → List (List Row) → List Housed
+abbrev pub housed : ℕ → List (List SlotRow) → List Housed
 housed bucket [] = []
 housed bucket (chain ∷ chains) =
     map (λ r. record { bucket = bucket; row = r }) chain ++ housed (suc bucket) chains

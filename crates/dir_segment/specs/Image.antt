@@ -10,13 +10,13 @@ use Rattle.dir_segment.specs.Lists.{Lists}
 use Rattle.dir_segment.specs.Links.{at, lists_of}
 
 -- so many entries, ten bytes each
-abbrev pub entries_of : ℕ → List ℕ → List Entry
-entries_of zero bytes = []
-entries_of (suc count) bytes = entry_of_bytes (take 10 bytes) ∷ entries_of count (drop 10 bytes)
+abbrev pub entries_in_bytes : ℕ → List ℕ → List Entry
+entries_in_bytes zero bytes = []
+entries_in_bytes (suc count) bytes = entry_of_bytes (take 10 bytes) ∷ entries_in_bytes count (drop 10 bytes)
 
 -- the entries behind the first four bytes: four of each bucket, its root first
 abbrev pub image_slots : ℕ → List ℕ → List Entry
-image_slots buckets bytes = entries_of (4 * buckets) (drop 4 bytes)
+image_slots buckets bytes = entries_in_bytes (4 * buckets) (drop 4 bytes)
 
 -- bytes 0 and 1: the first free slot, 0 where none is
 abbrev pub image_head : List ℕ → ℕ
@@ -111,6 +111,6 @@ empty_roots slots bucket zero = 0
 empty_roots slots bucket (suc buckets) = cond ((at slots (4 * bucket)).offset == 0) 1 0 + empty_roots slots (suc bucket) buckets
 
 -- a walk ended with no fault
-abbrev pub IsSound : Result Marks SegmentFault → Type 0
-IsSound (Ok marks) = Unit {0}
-IsSound (Err fault) = ⊥
+abbrev pub WalkIsSound : Result Marks SegmentFault → Type 0
+WalkIsSound (Ok marks) = Unit {0}
+WalkIsSound (Err fault) = ⊥

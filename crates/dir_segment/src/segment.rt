@@ -1,14 +1,14 @@
 // A segment: who stands in which chain, and which slots are free.
 ghost use Rattle.std.specs.Prelude.{◌≡◌, ◌≢◌, ◌+◌, ◌*◌, ◌%◌, ◌<◌, ◌≤◌, ◌↔◌, [], true, false, Bool, length, map, MatchOption, OnSome, IfSome, IfNone, IfOk, IfErr, OnOk, option_map};
 ghost use Rattle.std.specs.List.{list_any};
-ghost use Rattle.dir_entry.specs.Layout.{IsEntry};
+ghost use Rattle.dir_entry.specs.Layout.{EntryFits};
 ghost use Rattle.std.specs.Fn.{FnReturnsAt};
 ghost use Rattle.dir_entry.specs.declared.entry.Entry.{Entry as EntryValue};
 ghost use Rattle.dir_segment.specs.Cleaning.{Computes, BeginsAt, FirstPasses, clean_bucket, clean_buckets};
-ghost use Rattle.dir_segment.specs.Entries.{AreCounted, AreStored, PurgeTakes};
-ghost use Rattle.dir_segment.specs.Image.{image_lists, image_walk, IsFault, IsSound};
+ghost use Rattle.dir_segment.specs.Entries.{AreCounted, EntriesAreStored, PurgeTakes};
+ghost use Rattle.dir_segment.specs.Image.{image_lists, image_walk, IsFault, WalkIsSound};
 ghost use Rattle.dir_segment.specs.Links.{fresh_link};
-ghost use Rattle.dir_segment.specs.Lists.{new_lists, inserted, IsFull, entry_count, row, has_slot, chain_of, behind, behind_slot, take_root, take_next, slots_behind_roots, is_that, passes, deleted, IsRoot, IsBeforeFirst, GivesNext, first_of_tag, rest_of_tag, steps_to, ticked};
+ghost use Rattle.dir_segment.specs.Lists.{new_lists, inserted, IsFull, entry_count, row, has_slot, chain_of, all_or_behind, behind_slot, take_root, take_next, slots_behind_roots, is_that, passes, deleted, IsRoot, IsBeforeFirst, GivesNext, first_of_tag, rest_of_tag, steps_to, ticked};
 ghost use Rattle.dir_segment.specs.Purging.{purged, tenth_of, after_purge, behind_roots, find_slot, offer_found, offer_slots, thin_bucket, is_unmarked};
 ghost use Rattle.dir_segment.specs.declared.segment.Inserted.TheVariants as answers;
 
@@ -121,7 +121,7 @@ impl Segment {
     /// Puts an entry into the empty root of its bucket, else into the first free slot.
     pub fn insert(&mut self, bucket: u32, entry: Entry) -> Inserted
         requires bucket { bucket < length self.old.chains }
-        requires entry { IsEntry entry }
+        requires entry { EntryFits entry }
         requires some { 0 < entry.offset }
         ensures lists { self.new ≡ inserted self.old bucket entry }
         ensures full { (result ≡ answers.Full) ↔ IsFull self.old bucket }
@@ -397,9 +397,9 @@ impl Segment {
     pub fn chain(&self, bucket: u32, after: Option<u16>) -> Option<(u16, Entry)>
         requires bucket { bucket < length self.now.chains }
         requires after { IfSome after (λ slot. has_slot slot (chain_of self.now bucket) ≡ true) }
-        ensures fits { IfSome result (λ found. IsEntry found.1) }
+        ensures fits { IfSome result (λ found. EntryFits found.1) }
         ensures used { IfSome result (λ found. 0 < found.1.offset) }
-        ensures next { GivesNext result (behind after (chain_of self.now bucket)) (chain_of self.now bucket) }
+        ensures next { GivesNext result (all_or_behind after (chain_of self.now bucket)) (chain_of self.now bucket) }
     {
         match after {
             None => {
@@ -431,13 +431,13 @@ impl Segment {
     ) -> Option<(u16, Entry)>
         requires bucket { bucket < length self.now.chains }
         requires after { IfSome after (λ slot. has_slot slot (chain_of self.now bucket) ≡ true) }
-        ensures found { option_map (λ f. row f.0 f.1) result ≡ first_of_tag tag (behind after (chain_of self.now bucket)) }
-        ensures fits { IfSome result (λ f. IsEntry f.1) }
+        ensures found { option_map (λ f. row f.0 f.1) result ≡ first_of_tag tag (all_or_behind after (chain_of self.now bucket)) }
+        ensures fits { IfSome result (λ f. EntryFits f.1) }
         ensures used { IfSome result (λ f. 0 < f.1.offset) }
         ensures held { IfSome result (λ f. has_slot f.0 (chain_of self.now bucket) ≡ true) }
         ensures next { IfSome result (λ f. behind_slot f.0 (chain_of self.now bucket)
-            ≡ rest_of_tag tag (behind after (chain_of self.now bucket))) }
-        ensures steps { steps.new ≡ ticked (steps_to tag (behind after (chain_of self.now bucket))) steps.old }
+            ≡ rest_of_tag tag (all_or_behind after (chain_of self.now bucket))) }
+        ensures steps { steps.new ≡ ticked (steps_to tag (all_or_behind after (chain_of self.now bucket))) steps.old }
     {
         while let Some((slot, entry)) = self.chain(bucket, after) {
             steps.tick();
@@ -460,7 +460,7 @@ impl Segment {
     pub fn to_bytes(&self, into: &mut [u8])
         requires len { length into.old ≡ 4 + 40 * length self.now.chains }
         ensures lists { image_lists (length self.now.chains) into.new ≡ self.now }
-        ensures sound { IsSound (image_walk (length self.now.chains) into.new) }
+        ensures sound { WalkIsSound (image_walk (length self.now.chains) into.new) }
     {
         let count = self.free_count as u16;
         into[0..2].copy_from_slice(&self.free.to_le_bytes());
@@ -474,7 +474,7 @@ impl Segment {
         requires len { length bytes.now ≡ 4 + 40 * buckets }
         ensures lists { IfOk result (λ segment. segment ≡ image_lists buckets bytes.now) }
         ensures width { IfOk result (λ segment. length segment.chains ≡ buckets) }
-        ensures sound { OnOk result (IsSound (image_walk buckets bytes.now)) }
+        ensures sound { OnOk result (WalkIsSound (image_walk buckets bytes.now)) }
         ensures fault { IfErr result (λ fault. IsFault fault (image_walk buckets bytes.now)) }
     {
         let free = u16::from_le_bytes([bytes[0], bytes[1]]);
@@ -496,7 +496,7 @@ impl Segment {
     /// an entry which stands in a slot.
     pub fn is_counted(&self)
         ensures counted { AreCounted self.now }
-        ensures stored { AreStored self.now }
+        ensures stored { EntriesAreStored self.now }
     {
         self.slots.fit();
     }

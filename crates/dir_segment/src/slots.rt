@@ -1,7 +1,7 @@
 // The entries of a segment in slot order, each packed into its ten bytes.
 ghost use Rattle.std.specs.Prelude.{◌≡◌, ℕ, ◌<◌, ◌++◌, ◌∷◌, [], length, slice_set, if◌then◌else◌, is_ok, IfOk, ◌*◌, ◌/◌};
-ghost use Rattle.dir_entry.specs.Layout.{IsEntry};
-ghost use Rattle.dir_segment.specs.Image.{entries_of};
+ghost use Rattle.dir_entry.specs.Layout.{EntryFits};
+ghost use Rattle.dir_segment.specs.Image.{entries_in_bytes};
 ghost use Rattle.dir_segment.specs.Links.{at};
 
 use dir_entry::{Entry, decode, encode};
@@ -37,7 +37,7 @@ impl Slots {
     }
 
     pub fn push(&mut self, entry: &Entry) -> Result<(), AllocError>
-        requires entry { IsEntry entry.now }
+        requires entry { EntryFits entry.now }
         ensures { self.new ≡ (if is_ok result then self.old ++ entry.now ∷ [] else self.old) }
     {
         self.packed.push(encode(entry))?;
@@ -53,14 +53,14 @@ impl Slots {
     pub fn get(&self, slot: u16) -> Entry
         requires within { slot < length self.now }
         ensures entry { result ≡ at self.now slot }
-        ensures fits { IsEntry result }
+        ensures fits { EntryFits result }
     {
         decode(&self.packed[slot as usize])
     }
 
     pub fn set(&mut self, slot: u16, entry: &Entry)
         requires within { slot < length self.old }
-        requires entry { IsEntry entry.now }
+        requires entry { EntryFits entry.now }
         ensures { self.new ≡ slice_set self.old slot entry.now }
     {
         self.packed[slot as usize] = encode(entry);
@@ -68,7 +68,8 @@ impl Slots {
 
     /// The slots that bytes spell, ten bytes each.
     pub fn from_bytes(alloc: Global, bytes: &[u8]) -> Result<Slots, AllocError>
-        ensures { IfOk result (λ slots. slots ≡ entries_of (length bytes.now / 10) bytes.now) }
+        ensures { IfOk result
+            (λ slots. slots ≡ entries_in_bytes (length bytes.now / 10) bytes.now) }
     {
         let mut packed = Vec::new(alloc);
         let mut rest = bytes;
@@ -81,7 +82,7 @@ impl Slots {
 
     /// The bytes of all slots, ten each.
     pub fn bytes(&self) -> &[u8]
-        ensures bytes { entries_of (length self.now) result.now ≡ self.now }
+        ensures bytes { entries_in_bytes (length self.now) result.now ≡ self.now }
         ensures len { length result.now ≡ 10 * length self.now }
     {
         self.packed.as_flattened()
@@ -89,7 +90,7 @@ impl Slots {
 
     /// A law for proofs: each field of each entry is below its width.
     pub fn fit(&self)
-        ensures { (slot : ℕ) → IsEntry (at self.now slot) }
+        ensures { (slot : ℕ) → EntryFits (at self.now slot) }
     {
         let _ = &self.packed;
     }

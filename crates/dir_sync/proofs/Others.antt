@@ -15,7 +15,7 @@ use Rattle.stripe_header.specs.declared.area.Side.{Side}
 use Rattle.stripe_header.specs.declared.states.CopyState.{CopyState}
 use Rattle.stripe_header.specs.Layout.{gate_of, body_of, body_blocks}
 use Rattle.stripe_header.specs.Spelling.{Numbers, numbers_of, head_bytes, foot_bytes, covered_bytes, copy_bytes}
-use Rattle.stripe_header.specs.Reading.{bytes_at}
+use Rattle.stripe_header.specs.Reading.{block_bytes}
 use Rattle.stripe_header.proofs.CopyLaws.{length-head}
 use Rattle.dir_sync.specs.declared.progress.Progress.{Progress}
 use Rattle.dir_sync.specs.Moments.{Stands}
@@ -99,9 +99,9 @@ module _ (settled : Bool) (first : Image) (a : Area) (side : Side) where
 -- in a body that is spelled round the directory of another stands that directory
 pub directory_again : (n : Numbers) (s : CopyState) (body back : List ℕ) → 1024 ≤ length body
     → length back ≡ length body
-    → back ≡ copy_bytes 2 n s (bytes_at 512 (length body - 1024) body)
-    → bytes_at 512 (length back - 1024) back ≡ bytes_at 512 (length body - 1024) body
-unfolding bytes_at
+    → back ≡ copy_bytes 2 n s (block_bytes 512 (length body - 1024) body)
+    → block_bytes 512 (length back - 1024) back ≡ block_bytes 512 (length body - 1024) body
+unfolding block_bytes
 directory_again n s body back long size spelled =
     let k = length body - 1024 in
     let head = head_bytes 2 n s in

@@ -12,7 +12,7 @@ use Rattle.stripe_header.specs.declared.area.Area.{Area}
 use Rattle.stripe_header.specs.declared.area.Side.{Side}
 use Rattle.stripe_header.specs.Layout.{gate_of, body_of, body_blocks}
 use Rattle.dir_sync.specs.SyncCalls.{open_block, part_of, shutting_calls, opening_calls, past_behind, MadeSome}
-use Rattle.dir_sync.specs.Moments.{IsReplaced, IsKept, IsBarred, IsOpened, Stands}
+use Rattle.dir_sync.specs.Moments.{IsReplaced, BodyIsKept, IsBarred, IsOpened, Stands}
 use Rattle.dir_sync.specs.Laws.{given_up}
 use Rattle.dir_sync.proofs.Touched.{Touches, touches_some, behind_some, stopped_some}
 use Rattle.dir_sync.proofs.Stages.{gate_low, one_open, open_length, block_put, shut_as, on_shutting, three, on_last, none_still, front_put}
@@ -43,8 +43,8 @@ module _ (settled : Bool) (first : Image) (a : Area) (side : Side) (body : List 
       (512 * 0) body
   no_front past = span_none (seen_of first past) (body_of a side)
 
-  pub kept_on : (old new : List Call) → IsKept a side body settled first old
-      → Touches settled first (gate_of side) 1 old new → IsKept a side body settled first new
+  pub kept_on : (old new : List Call) → BodyIsKept a side body settled first old
+      → Touches settled first (gate_of side) 1 old new → BodyIsKept a side body settled first new
   kept_on old new kept t =
       record {
         still = λ j low high. t.still j (λ l h. omega (arith, gate_low a side, low, h))
@@ -66,7 +66,7 @@ module _ (settled : Bool) (first : Image) (a : Area) (side : Side) (body : List 
   -- behind a call of the gate that failed
   pub halted_first : (begun shut : Bool) (old new : List Call)
       → (shut ≡ true → IsBarred side settled first old)
-      → (shut ≡ false → IsKept a side body settled first old)
+      → (shut ≡ false → BodyIsKept a side body settled first old)
       → IsImage first → All IsEntry new → MadeSome
       (if begun then [] else shutting_calls side shut) old new
       → Stands a side body (given_up shut) settled first new
@@ -76,7 +76,7 @@ module _ (settled : Bool) (first : Image) (a : Area) (side : Side) (body : List 
         gate = λ is_shut. subst (λ past. IsBarred side settled first past) (sym made)
             (barred is_shut);
         front = no_front new;
-        whole = λ other. subst (λ past. IsKept a side body settled first past) (sym made)
+        whole = λ other. subst (λ past. BodyIsKept a side body settled first past) (sym made)
             (kept other);
       }
   halted_first false true old new barred kept is all made =
@@ -112,7 +112,7 @@ module _ (settled : Bool) (first : Image) (a : Area) (side : Side) (body : List 
 
     pub put_kept : (last : Bool) → last ≡ true → w + n ≡ body_blocks a
         → length body ≡ 512 * body_blocks a
-        → IsKept a side body settled first (past_behind (parts_of a side body w n last) mid)
+        → BodyIsKept a side body settled first (past_behind (parts_of a side body w n last) mid)
     put_kept false is all_put whole = absurd cc
     put_kept true is all_put whole =
         let put = past_behind (parts_of a side body w n true) mid in
@@ -126,7 +126,7 @@ module _ (settled : Bool) (first : Image) (a : Area) (side : Side) (body : List 
 
   -- the gate is opened, where the body is whole
   pub last_along : (P : Image → Type 0) (last : Bool) (put new : List Call)
-      → (last ≡ true → IsKept a side body settled first put)
+      → (last ≡ true → BodyIsKept a side body settled first put)
       → AllLeft (IsReplaced a side body P) settled first put → IsImage first → All IsEntry new
       → MadeSome (opens_if side last) put new
       → Along (IsReplaced a side body P) settled first put new
@@ -138,7 +138,7 @@ module _ (settled : Bool) (first : Image) (a : Area) (side : Side) (body : List 
       (on_last side true) put new is all made)
 
   pub halted_last : (last : Bool) (count : ℕ) (put new : List Call)
-      → (last ≡ true → IsKept a side body settled first put) → IsImage first → All IsEntry new
+      → (last ≡ true → BodyIsKept a side body settled first put) → IsImage first → All IsEntry new
       → Stopped (opens_if side last) count put new
       → Stands a side body (given_up false) settled first new
   halted_last false count put new kept is all stopped = absurd stopped
@@ -154,7 +154,7 @@ module _ (settled : Bool) (first : Image) (a : Area) (side : Side) (body : List 
       }
 
   pub done_stands : (last : Bool) (k : ℕ) (put : List Call) → k ≤ body_blocks a
-      → (last ≡ true → IsKept a side body settled first put)
+      → (last ≡ true → BodyIsKept a side body settled first put)
       → (last ≡ false → IsBarred side settled first put)
       → span (seen_of first put) (body_of a side) k ≡ take (512 * k) body
       → IsImage first → All IsEntry (past_behind (opens_if side last) put)

@@ -17,7 +17,7 @@ use Rattle.stripe_header.specs.declared.area.Side.TheVariants as sides
 use Rattle.stripe_header.specs.Layout.{gate_of, body_of, body_blocks}
 use Rattle.dir_sync.specs.declared.progress.Progress.{Progress}
 use Rattle.dir_sync.specs.SyncCalls.{shut_block, open_block, part_of, shutting_calls, opening_calls, past_behind, MadeSome}
-use Rattle.dir_sync.specs.Moments.{IsShut, IsOpen, HasBody, IsReplaced, IsKept, IsBarred}
+use Rattle.dir_sync.specs.Moments.{IsShut, IsOpen, HasBody, IsReplaced, BodyIsKept, IsBarred}
 use Rattle.dir_sync.proofs.Touched.{AllOn, Touches, touches_some}
 
 pub gate_low : (a : Area) (side : Side) → gate_of side < body_of a side
@@ -97,7 +97,7 @@ module _ (settled : Bool) (first : Image) where
   module _ (a : Area) (side : Side) (body : List ℕ) where
     -- An image that differs in the gate alone from one that a cut may leave has the body that no cut
     -- can take.
-    whole_still : (past : List Call) (c d : Image) → IsKept a side body settled first past
+    whole_still : (past : List Call) (c d : Image) → BodyIsKept a side body settled first past
         → MayLeave settled first past d
         → SameBut (gate_of side) 1 d c → HasBody a side body c
     whole_still past c d kept may same =
@@ -107,7 +107,7 @@ module _ (settled : Bool) (first : Image) where
         ∙ kept.has
 
     pub at_start : (shut : Bool) (old : List Call) → (shut ≡ true → IsBarred side settled first old)
-        → (shut ≡ false → IsKept a side body settled first old)
+        → (shut ≡ false → BodyIsKept a side body settled first old)
         → AllLeft (IsReplaced a side body (MayLeave settled first old)) settled first old
     at_start true old barred kept c may =
         record {
@@ -128,7 +128,7 @@ module _ (settled : Bool) (first : Image) where
     -- the gate is shut again, where a pass begins
     pub one : (begun shut : Bool) (old new : List Call)
         → (shut ≡ true → IsBarred side settled first old)
-        → (shut ≡ false → IsKept a side body settled first old)
+        → (shut ≡ false → BodyIsKept a side body settled first old)
         → IsImage first → All IsEntry new → MadeSome
         (if begun then [] else shutting_calls side shut) old new
         → Along (IsReplaced a side body (MayLeave settled first old)) settled first old new
@@ -181,7 +181,7 @@ module _ (settled : Bool) (first : Image) where
         touched.moments
 
     -- the gate is opened before a whole body
-    pub three : (P : Image → Type 0) (mid new : List Call) → IsKept a side body settled first mid
+    pub three : (P : Image → Type 0) (mid new : List Call) → BodyIsKept a side body settled first mid
         → AllLeft (IsReplaced a side body P) settled first mid
         → Touches settled first (gate_of side) 1 mid new
         → Along (IsReplaced a side body P) settled first mid new

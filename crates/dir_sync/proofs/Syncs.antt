@@ -13,8 +13,8 @@ use Rattle.stripe_header.specs.declared.area.Side.{Side}
 use Rattle.stripe_header.specs.Layout.{gate_of, body_of, body_blocks}
 use Rattle.dir_sync.specs.declared.progress.Progress.{Progress}
 use Rattle.dir_sync.specs.SyncCalls.{part_of, first_calls, body_calls, last_calls, is_last, MadeSome}
-use Rattle.dir_sync.specs.Moments.{IsReplaced, IsKept, IsBarred, Spares, Stands}
-use Rattle.dir_sync.specs.Laws.{MayWrite, past_shut, past_put, past_done, IsWriting, pass_behind, given_up, Halts}
+use Rattle.dir_sync.specs.Moments.{IsReplaced, BodyIsKept, IsBarred, Spares, Stands}
+use Rattle.dir_sync.specs.Laws.{MayWriteCopy, past_shut, past_put, past_done, IsWritingCopy, pass_behind, given_up, Halts}
 use Rattle.dir_sync.proofs.Touched.{Touches, touches_some, behind_some, stopped_some, entries_before}
 use Rattle.dir_sync.proofs.Stages.{gate_low, on_first, bars_first, at_start, one, two, part_length, blocks_in, on_body, on_last}
 use Rattle.dir_sync.proofs.Passes.{barred_on, halted_first, put_front, put_kept, last_along, halted_last, done_stands}
@@ -49,7 +49,7 @@ module _ (settled : Bool) (first : Image) (a : Area) (side : Side) where
 
 module _ (settled : Bool) (first : Image) (a : Area) (side : Side) (body : List ℕ) (p : Progress)
     (n : ℕ) (old : List Call)
-    (may : MayWrite a body p n) (is : IsImage first) where
+    (may : MayWriteCopy a body p n) (is : IsImage first) where
   part_size : length (part_of body p.written n) ≡ 512 * n
   part_size = part_length body p.written n (body_blocks a) may.whole may.within
 
@@ -78,7 +78,7 @@ module _ (settled : Bool) (first : Image) (a : Area) (side : Side) (body : List 
       (spare_body settled first a side (body_of a side + p.written) n mid new (omega arith)
       (omega (arith, may.within)) (body_touch new all made))
 
-  pub spares : (new : List Call) → All IsEntry new → IsWriting a side body p n old new
+  pub spares : (new : List Call) → All IsEntry new → IsWritingCopy a side body p n old new
       → Spares a side settled first old new
   spares new all (inl made) = spare_gate settled first a side old new (first_touch new all made)
   spares new all (inr (inl made)) = body_spares new all made
@@ -131,7 +131,7 @@ module _ (settled : Bool) (first : Image) (a : Area) (side : Side) (body : List 
     last_blocks last = eqb-true (p.written + n) (body_blocks a) last
 
     kept : All IsEntry (past_shut side p old) → is_last a p n ≡ true
-        → IsKept a side body settled first (past_put a side body p n old)
+        → BodyIsKept a side body settled first (past_put a side body p n old)
     kept all last =
         put_kept settled first a side body p.written n (past_shut side p old) part_size
         (mid_front all) (is_last a p n) last (last_blocks last) may.whole
@@ -141,7 +141,7 @@ module _ (settled : Bool) (first : Image) (a : Area) (side : Side) (body : List 
         (past_put a side body p n old) (behind_some (body_calls a side body p n)
         (past_shut side p old)) all
 
-    pub replaces : (new : List Call) → All IsEntry new → IsWriting a side body p n old new
+    pub replaces : (new : List Call) → All IsEntry new → IsWritingCopy a side body p n old new
         → Along (IsReplaced a side body (MayLeave settled first old)) settled first old new
     replaces new all (inl made) = first_along new all made
     replaces new all (inr (inl made)) = body_along new all made

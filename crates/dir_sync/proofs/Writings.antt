@@ -7,7 +7,7 @@ use Rattle.device_log.specs.Calls.{Call, Synced}
 use Rattle.device_log.specs.Faults.{IsEntry, IsLog}
 use Rattle.device_log.specs.Along.{Along, Stopped}
 use Rattle.device_log.specs.Seen.{seen_of, MayLeave}
-use Rattle.logged_disk.specs.Device.{State, seen}
+use Rattle.logged_disk.specs.Device.{DeviceState, seen}
 use Rattle.stripe_header.specs.declared.area.Area.{Area}
 use Rattle.stripe_header.specs.declared.area.Side.{Side}
 use Rattle.stripe_header.specs.Layout.{gate_of, body_blocks}
@@ -15,7 +15,7 @@ use Rattle.dir_sync.specs.declared.progress.Progress.{Progress}
 use Rattle.dir_sync.specs.declared.parts.Halt.{Halt}
 use Rattle.dir_sync.specs.SyncCalls.{first_calls, body_calls, last_calls, shutting_calls, is_last, past_behind, MadeSome}
 use Rattle.dir_sync.specs.Moments.{IsShut, IsReplaced, IsOpened, Spares, Stands}
-use Rattle.dir_sync.specs.Laws.{MayWrite, past_shut, past_put, past_done, IsWriting, begun_pass, pass_behind, given_up, Halts}
+use Rattle.dir_sync.specs.Laws.{MayWriteCopy, past_shut, past_put, past_done, IsWritingCopy, begun_pass, pass_behind, given_up, Halts}
 use Rattle.dir_sync.specs.Passes.{StandsOn, pass_after}
 use Rattle.dir_sync.specs.Runs.{BeginKeeps, IsToldRight}
 use Rattle.dir_sync.proofs.Touched.{behind_some, stopped_some, touches_some}
@@ -25,7 +25,7 @@ use Rattle.dir_sync.proofs.Syncs.{spare_gate, spares, replaces, puts, halts}
 
 halts_writing : (a : Area) (side : Side) (body : List ℕ) (p : Progress) (n count : ℕ) (shut : Bool)
     (old new : List Call)
-    → Halts a side body p n count shut old new → IsWriting a side body p n old new
+    → Halts a side body p n count shut old new → IsWritingCopy a side body p n old new
 halts_writing a side body p n count shut old new (inl (stopped, known)) = inl
     (stopped_some (first_calls side p) count old new stopped)
 halts_writing a side body p n count shut old new (inr (inl (stopped, known))) =
@@ -34,13 +34,13 @@ halts_writing a side body p n count shut old new (inr (inr (stopped, known))) =
     inr (inr (stopped_some (last_calls a side p n) count
     (past_put a side body p n old) new stopped))
 
-module _ (a : Area) (side : Side) (body : List ℕ) (p : Progress) (n : ℕ) (old new : State)
-    (may : MayWrite a body p n) (is : IsImage old.first) (log : IsLog new.past) where
+module _ (a : Area) (side : Side) (body : List ℕ) (p : Progress) (n : ℕ) (old new : DeviceState)
+    (may : MayWriteCopy a body p n) (is : IsImage old.first) (log : IsLog new.past) where
   answer_writing : {T : Type 0} (r : Result T Halt)
       → OnOk r (new.past ≡ past_done a side body p n old.past)
       → IfErr r (λ h. Halts a side body p n h.count h.shut old.past new.past
       × (h.count ≡ new.faults))
-      → IsWriting a side body p n old.past new.past
+      → IsWritingCopy a side body p n old.past new.past
   answer_writing (Ok done) went halted =
       inr (inr (subst (λ past. MadeSome (last_calls a side p n)
       (past_put a side body p n old.past) past) (sym went)
@@ -89,7 +89,7 @@ module _ (a : Area) (side : Side) (body : List ℕ) (p : Progress) (n : ℕ) (ol
       log.entries halted.0)
 
 -- while the gate is shut, and behind it
-module _ {T E : Type 0} (side : Side) (shut : Bool) (old new : State) where
+module _ {T E : Type 0} (side : Side) (shut : Bool) (old new : DeviceState) where
   bar_made : (r : Result T E) → OnOk r (new.past ≡ past_behind (shutting_calls side shut) old.past)
       → OnErr r (Stopped (shutting_calls side shut) new.faults old.past new.past)
       → MadeSome (shutting_calls side shut) old.past new.past
@@ -99,7 +99,7 @@ module _ {T E : Type 0} (side : Side) (shut : Bool) (old new : State) where
   bar_made (Err e) went stopped =
       stopped_some (shutting_calls side shut) new.faults old.past new.past stopped
 
-told_again : (side : Side) (shut : Bool) (old new : State) → IsImage old.first → IsLog new.past
+told_again : (side : Side) (shut : Bool) (old new : DeviceState) → IsImage old.first → IsLog new.past
     → new.first ≡ old.first → MadeSome (shutting_calls side shut) old.past new.past
     → IsToldRight side shut old → IsToldRight side shut new
 told_again side false old new is log first made told = λ is_shut. absurd cc
@@ -110,7 +110,7 @@ told_again side true old new is log first made told = λ is_shut.
     (shut_as side (seen_of old.first new.past) (seen_of old.first old.past)
     (t.seen (gate_of side) (λ low high. omega (arith, low, high))) (told refl))
 
-pub bar_keeps : {T E : Type 0} (a : Area) (side : Side) (shut : Bool) (old new : State)
+pub bar_keeps : {T E : Type 0} (a : Area) (side : Side) (shut : Bool) (old new : DeviceState)
     → IsImage old.first → IsLog new.past → (r : Result T E) → new.first ≡ old.first
     → OnOk r (new.past ≡ past_behind (shutting_calls side shut) old.past)
     → OnErr r (Stopped (shutting_calls side shut) new.faults old.past new.past)
@@ -126,7 +126,7 @@ bar_keeps a side shut old new is log r first went stopped =
     }
 
 pub bar_stands : {T E : Type 0} (a : Area) (side : Side) (body : List ℕ) (shut : Bool)
-    (old new : State)
+    (old new : DeviceState)
     → (r : Result T E) → new.settled ≡ old.settled → new.first ≡ old.first
     → OnOk r (new.past ≡ past_behind (shutting_calls side shut) old.past)
     → (shut ≡ true → IsShut side (seen old)) → OnOk r (StandsOn a side body begun_pass new)
@@ -145,7 +145,7 @@ bar_stands a side body shut old new (Err e) settled first went known = tt
 
 -- behind the last blocks
 pub answer_opens : {T E : Type 0} (a : Area) (side : Side) (body : List ℕ) (p : Progress) (n : ℕ)
-    (old new : State) (r : Result T E)
+    (old new : DeviceState) (r : Result T E)
     → new.settled ≡ old.settled → new.first ≡ old.first
     → OnOk r (new.past ≡ past_done a side body p n old.past)
     → p.written + n ≡ body_blocks a → OnOk r (IsOpened side new.settled new.first new.past)

@@ -13,7 +13,7 @@ use Rattle.dir_sync.specs.SyncCalls.{shutting_calls, first_calls, body_calls, la
 use Rattle.dir_sync.specs.Moments.{IsShut, IsReplaced, IsOpened, Spares, Stands}
 
 -- the next blocks of a whole body, in a pass whose gate is shut
-pub record MayWrite (a : Area) (body : List ℕ) (p : Progress) (n : ℕ) : Type 0 where
+pub record MayWriteCopy (a : Area) (body : List ℕ) (p : Progress) (n : ℕ) : Type 0 where
   pub whole : length body ≡ 512 * body_blocks a
   pub some : 0 < n
   pub within : p.written + n ≤ body_blocks a
@@ -31,8 +31,8 @@ past_done a side body p n old = past_behind (last_calls a side p n) (past_put a 
 
 -- the next blocks were written, or a call failed: of the gate that shuts, of the body, of the gate
 -- that opens
-abbrev pub IsWriting : Area → Side → List ℕ → Progress → ℕ → List Call → List Call → Type 0
-IsWriting a side body p n old new =
+abbrev pub IsWritingCopy : Area → Side → List ℕ → Progress → ℕ → List Call → List Call → Type 0
+IsWritingCopy a side body p n old new =
     MadeSome (first_calls side p) old new
     ⊎ MadeSome (body_calls a side body p n) (past_shut side p old) new
     ⊎ MadeSome (last_calls a side p n) (past_put a side body p n old) new
@@ -82,8 +82,8 @@ abbrev pub WritingReplaces : Type 0
 WritingReplaces =
     (a : Area) (side : Side) (body : List ℕ) (p : Progress) (n : ℕ) (settled : Bool) (first : Image)
     (old new : List Call)
-    → MayWrite a body p n → Stands a side body p settled first old
-    → IsImage first → IsLog new → IsWriting a side body p n old new
+    → MayWriteCopy a body p n → Stands a side body p settled first old
+    → IsImage first → IsLog new → IsWritingCopy a side body p n old new
     → Along (IsReplaced a side body (MayLeave settled first old)) settled first old new
 
 -- and beside the copy what is seen stays
@@ -91,7 +91,7 @@ abbrev pub WritingSpares : Type 0
 WritingSpares =
     (a : Area) (side : Side) (body : List ℕ) (p : Progress) (n : ℕ) (settled : Bool) (first : Image)
     (old new : List Call)
-    → MayWrite a body p n → IsImage first → IsLog new → IsWriting a side body p n old new
+    → MayWriteCopy a body p n → IsImage first → IsLog new → IsWritingCopy a side body p n old new
     → Spares a side settled first old new
 
 -- what the pass has done stands behind the next blocks
@@ -99,7 +99,7 @@ abbrev pub PutStands : Type 0
 PutStands =
     (a : Area) (side : Side) (body : List ℕ) (p : Progress) (n : ℕ) (settled : Bool) (first : Image)
     (old : List Call)
-    → MayWrite a body p n → Stands a side body p settled first old
+    → MayWriteCopy a body p n → Stands a side body p settled first old
     → IsImage first → IsLog (past_done a side body p n old)
     → Stands a side body (pass_behind a p n) settled first (past_done a side body p n old)
 
@@ -108,7 +108,7 @@ abbrev pub HaltStands : Type 0
 HaltStands =
     (a : Area) (side : Side) (body : List ℕ) (p : Progress) (n count : ℕ) (shut settled : Bool)
     (first : Image) (old new : List Call)
-    → MayWrite a body p n → Stands a side body p settled first old
+    → MayWriteCopy a body p n → Stands a side body p settled first old
     → IsImage first → IsLog new → Halts a side body p n count shut old new
     → Stands a side body (given_up shut) settled first new
 

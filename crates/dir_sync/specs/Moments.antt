@@ -31,7 +31,7 @@ pub record IsReplaced (a : Area) (side : Side) (body : List ℕ) (P : Image → 
   pub copy : IsShut side c ⊎ HasBody a side body c
 
 -- the body stands whole, and no cut can take it
-pub record IsKept (a : Area) (side : Side) (body : List ℕ)
+pub record BodyIsKept (a : Area) (side : Side) (body : List ℕ)
     (settled : Bool) (first : Image) (past : List Call) : Type 0 where
   pub still : (j : ℕ) → body_of a side ≤ j → j < body_of a side + body_blocks a
       → is_pending settled past j ≡ false
@@ -62,4 +62,4 @@ pub record Stands (a : Area) (side : Side) (body : List ℕ) (p : Progress)
   pub within : p.written ≤ body_blocks a
   pub gate : p.shut ≡ true → IsBarred side settled first past
   pub front : span (seen_of first past) (body_of a side) p.written ≡ take (512 * p.written) body
-  pub whole : p.shut ≡ false → IsKept a side body settled first past
+  pub whole : p.shut ≡ false → BodyIsKept a side body settled first past

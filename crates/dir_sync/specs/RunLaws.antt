@@ -2,7 +2,7 @@
 use Rattle.std.specs.Prelude.{◌≡◌, ◌⊎◌, ◌≤◌, ◌<◌, ℕ, ◌+◌, ◌/◌, IsTrue, List, ◌++◌, length, None}
 use Rattle.std.specs.List.{slice_index, AllByRecursion}
 use Rattle.device_log.specs.Calls.{ToRead, ToWrite, ToSync, Call, Read, Wrote, Synced, RefusedCall, Told, PowerCut, Flipped}
-use Rattle.logged_disk.specs.Device.{State}
+use Rattle.logged_disk.specs.Device.{DeviceState}
 use Rattle.stripe_header.specs.declared.area.Area.{Area}
 use Rattle.stripe_header.specs.declared.area.Side.{Side}
 use Rattle.stripe_header.specs.declared.states.CopyState.{CopyState}
@@ -36,7 +36,7 @@ StaysOff a side (Flipped at byte) = IsOffCopy a side at 1
 -- what a run has done stands behind calls of others that stay off its copy
 abbrev pub OthersSpare : Type 0
 OthersSpare =
-    (run : RunState) (before after : State) (calls : List Call)
+    (run : RunState) (before after : DeviceState) (calls : List Call)
     → after.settled ≡ before.settled → after.first ≡ before.first
     → after.past ≡ calls ++ before.past → AllByRecursion (StaysOff run.area run.side) calls
     → RunStands run before → RunStands run after

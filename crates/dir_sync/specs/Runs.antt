@@ -2,13 +2,13 @@
 use Rattle.std.specs.Prelude.{◌≡◌, ◌<◌, ℕ, ◌-◌, ◌==◌, if◌then◌else◌, Bool, true, false, List, length}
 use Rattle.device_log.specs.Calls.{Call}
 use Rattle.device_log.specs.Along.{ButFor}
-use Rattle.logged_disk.specs.Device.{State, Leaves, Elapses, seen}
+use Rattle.logged_disk.specs.Device.{DeviceState, CutLeaves, Elapses, seen}
 use Rattle.stripe_header.specs.declared.area.Area.{Area}
 use Rattle.stripe_header.specs.declared.area.Side.{Side}
 use Rattle.stripe_header.specs.declared.states.CopyState.{CopyState}
 use Rattle.stripe_header.specs.Layout.{gate_of, body_blocks}
 use Rattle.stripe_header.specs.Spelling.{numbers_of, copy_bytes}
-use Rattle.stripe_header.specs.Reading.{bytes_at}
+use Rattle.stripe_header.specs.Reading.{block_bytes}
 use Rattle.dir_sync.specs.declared.run.SyncState.{SyncState}
 use Rattle.dir_sync.specs.declared.run.SyncState.TheVariants as answers
 use Rattle.dir_sync.specs.Moments.{IsShut, IsReplaced}
@@ -21,8 +21,8 @@ abbrev pub left_of : RunState → ℕ
 left_of run = body_blocks run.area - run.progress.written
 
 -- what a step answers where the run is here
-abbrev pub answer_of : RunState → SyncState
-answer_of run =
+abbrev pub answer_of_run : RunState → SyncState
+answer_of_run run =
     if left_of run == 0 then answers.Done run.state.serial else answers.Running (left_of run)
 
 -- so many blocks are left, where some are
@@ -31,12 +31,12 @@ IfRunning (answers.Running left) P = P left
 IfRunning (answers.Done serial) P = Unit {0}
 
 -- what the run has done stands on this device
-abbrev pub RunStands : RunState → State → Type 0
+abbrev pub RunStands : RunState → DeviceState → Type 0
 RunStands run s = StandsOn run.area run.side run.body run.progress s
 
 -- the directory that stands in a body
 abbrev pub directory_in : List ℕ → List ℕ
-directory_in body = bytes_at 512 (length body - 1024) body
+directory_in body = block_bytes 512 (length body - 1024) body
 
 -- the body of the copy that says this, with the directory that stands in these bytes
 abbrev pub spelled_body : Area → CopyState → List ℕ → List ℕ
@@ -58,13 +58,13 @@ pub record ComesBack (a : Area) (s : CopyState) (body back : List ℕ) : Type 0 
   pub directory : directory_in back ≡ directory_in body
 
 -- a gate that is told to be shut is seen shut
-abbrev pub IsToldRight : Side → Bool → State → Type 0
+abbrev pub IsToldRight : Side → Bool → DeviceState → Type 0
 IsToldRight side shut s = shut ≡ true → IsShut side (seen s)
 
 -- What the beginning of a run keeps, whatever it answers.
-pub record BeginKeeps (a : Area) (side : Side) (shut : Bool) (before after : State) : Type 0 where
+pub record BeginKeeps (a : Area) (side : Side) (shut : Bool) (before after : DeviceState) : Type 0 where
   -- meanwhile a cut leaves what it could, but for any bytes in the gate
-  pub moments : Elapses (ButFor (gate_of side) 1 (Leaves before)) before after
+  pub moments : Elapses (ButFor (gate_of side) 1 (CutLeaves before)) before after
   -- beside the copy what is seen stays, and what was not pending is not
   pub spares : SparesBeside a side before after
   -- what was told of the gate may be told again
@@ -79,10 +79,10 @@ pub record IsSameSync (old new : RunState) : Type 0 where
 
 -- What each call of a run keeps, whatever it answers. The first two need that what the run has done
 -- stands on the device.
-pub record RunKeeps (old new : RunState) (before after : State) : Type 0 where
+pub record RunKeeps (old new : RunState) (before after : DeviceState) : Type 0 where
   -- meanwhile a cut leaves the copy shut or whole, and all beside it as it could
   pub moments : RunStands old before
-      → Elapses (IsReplaced old.area old.side old.body (Leaves before)) before after
+      → Elapses (IsReplaced old.area old.side old.body (CutLeaves before)) before after
   -- what the run has done then stands
   pub stands : RunStands old before → RunStands new after
   -- beside the copy what is seen stays, and what was not pending is not

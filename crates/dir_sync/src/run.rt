@@ -1,13 +1,13 @@
 // A sync of the directory into one of its copies.
 ghost use Rattle.std.specs.Prelude.{◌≡◌, ◌≤◌, ◌<◌, ◌+◌, ◌*◌, length, true, min, OnOk, OnErr, IfOk, IfErr};
-ghost use Rattle.logged_disk.specs.Device.{Keeps, Leaves, Elapses};
+ghost use Rattle.logged_disk.specs.Device.{Keeps, CutLeaves, Elapses};
 ghost use Rattle.device_log.specs.Along.{Stopped};
 ghost use Rattle.stripe_header.specs.Layout.{device_blocks, body_blocks};
 ghost use Rattle.dir_sync.specs.SyncCalls.{shutting_calls, past_behind};
 ghost use Rattle.dir_sync.specs.Moments.{IsReplaced};
 ghost use Rattle.dir_sync.specs.Passes.{StandsOn, SparesBeside, OpenedOn, pass_after};
 ghost use Rattle.dir_sync.specs.Laws.{past_done, begun_pass, Halts};
-ghost use Rattle.dir_sync.specs.Runs.{RunKeeps, BeginKeeps, RunStands, IsBegun, ComesBack, IsToldRight, WentOn, Halted, CanBeginAgain, IfRunning, left_of, answer_of};
+ghost use Rattle.dir_sync.specs.Runs.{RunKeeps, BeginKeeps, RunStands, IsBegun, ComesBack, IsToldRight, WentOn, Halted, CanBeginAgain, IfRunning, left_of, answer_of_run};
 
 use crate::parts::{Halt, put_body, put_first, put_last, shut_gate};
 use crate::progress::Progress;
@@ -68,7 +68,7 @@ fn advance<D: Disk>(
     ensures halts { IfErr result (λ h. Halts area.now side body.now p n h.count h.shut
         (D.state disk.old).past (D.state disk.new).past × (h.count ≡ (D.state disk.new).faults)) }
     ensures moments { StandsOn area.now side body.now p (D.state disk.old)
-        → Elapses (IsReplaced area.now side body.now (Leaves (D.state disk.old)))
+        → Elapses (IsReplaced area.now side body.now (CutLeaves (D.state disk.old)))
         (D.state disk.old) (D.state disk.new) }
     ensures stands { StandsOn area.now side body.now p (D.state disk.old)
         → StandsOn area.now side body.now (pass_after area.now p n result) (D.state disk.new) }
@@ -239,7 +239,7 @@ impl SyncRun {
         ensures keeps { Keeps 6 (min 64 (left_of self.old) + 2)
             (D.state disk.old) (D.state disk.new) }
         ensures holds { RunKeeps self.old self.new (D.state disk.old) (D.state disk.new) }
-        ensures went { IfOk result (λ s. (s ≡ answer_of self.new)
+        ensures went { IfOk result (λ s. (s ≡ answer_of_run self.new)
             × WentOn self.old self.new (min 64 (left_of self.old))
             (D.state disk.old).past (D.state disk.new).past) }
         ensures fewer { IfOk result (λ s. IfRunning s (λ left. left + 64 ≡ left_of self.old)) }
@@ -282,7 +282,7 @@ impl SyncRun {
 
     // What a step answers here.
     fn answer(&self) -> SyncState
-        ensures { result ≡ answer_of self.now }
+        ensures { result ≡ answer_of_run self.now }
     {
         match self.left() {
             0 => SyncState::Done {

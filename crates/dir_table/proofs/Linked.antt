@@ -6,7 +6,7 @@ use Rattle.dir_table.specs.declared.rows.StoredRow.{StoredRow}
 use Rattle.dir_table.specs.declared.rows.Spot.{Spot}
 use Rattle.dir_table.specs.declared.links.Node.{Node}
 use Rattle.dir_table.specs.Rows.{same_spot}
-use Rattle.dir_table.specs.Links.{spot_under, stands_at, IsLinkedBy, PointsBy, entries_below, with_entry, first_at, row_of_node, relinked, renewed, with_older, without}
+use Rattle.dir_table.specs.Links.{spot_under, stands_at, IsLinkedBy, PointsBy, entries_below, with_entry, first_at, row_of_node, relinked, renewed, with_older, links_without}
 use Rattle.dir_table.proofs.Numbers.{Stands, at_but, entries_but, eq_is, eq_self, first_but, first_stays, less_is_other, one_leads, same_below, skipped_it, skipped_none, some_is, bound_of, nat_order}
 
 abbrev pub rows : (ℕ → Option Node) → ℕ → Option StoredRow
@@ -269,7 +269,7 @@ linked_taken d next before it spot node node' head head' same linked here points
     (linked_fewer next d it node head linked here before (subst P same points))
 
 pub entries_taken : (d next : ℕ) (before older : Option ℕ) (node node' : ℕ → Option Node) → ((k : ℕ) → node' k ≡ node_fewer d before older node k)
-    → entries_below (rows node') next ≡ without d (entries_below (rows node) next)
+    → entries_below (rows node') next ≡ links_without d (entries_below (rows node) next)
 entries_taken d next before older node node' nodes =
     same_below (rows node') (rows (node_fewer d before older node)) next (λ k h. ap row_of_node (nodes k))
     ∙ ap (λ a. entries_below a next) (rows_fewer d before older node)

@@ -6,7 +6,7 @@ use Rattle.dir_table.specs.declared.rows.StoredRow.{StoredRow}
 use Rattle.dir_table.specs.declared.rows.Spot.{Spot}
 use Rattle.std.specs.List.{AllByRecursion}
 use Rattle.dir_table.specs.Rows.{plain_row, plain_rows, spot_of, same_row, has_row}
-use Rattle.dir_table.specs.Links.{stands_at, entries_below, with_entry, first_at, without, rows_of}
+use Rattle.dir_table.specs.Links.{stands_at, entries_below, with_entry, first_at, links_without, rows_of}
 
 pub some_is : {X : Type 0} (a b : X) → Some a ≡ Some b → a ≡ b
 some_is a b h = grind arith
@@ -130,13 +130,13 @@ to_first F s skips at (suc n) =
 abbrev pub at_but : ℕ → (ℕ → Option StoredRow) → ℕ → Option StoredRow
 at_but d at k = cond (nat_eq d k) None (at k)
 
-pub entries_but : (d : ℕ) (at : ℕ → Option StoredRow) (n : ℕ) → entries_below (at_but d at) n ≡ without d (entries_below at n)
+pub entries_but : (d : ℕ) (at : ℕ → Option StoredRow) (n : ℕ) → entries_below (at_but d at) n ≡ links_without d (entries_below at n)
 entries_but d at zero = refl
 entries_but d at (suc n) =
     let rest = entries_but d at n in
-    elim (at n) as (λ o. with_entry n (cond (nat_eq d n) None o) (entries_below (at_but d at) n) ≡ without d (with_entry n o (entries_below at n))) [
-      | None ↦ elim (nat_eq d n) as (λ b. with_entry n (cond b None None) (entries_below (at_but d at) n) ≡ without d (entries_below at n)) [ true ↦ rest | false ↦ rest ]
-      | Some r ↦ elim (nat_eq d n) as (λ b. with_entry n (cond b None (Some r)) (entries_below (at_but d at) n) ≡ cond (not b) ((n, r) ∷ without d (entries_below at n)) (without d (entries_below at n))) [
+    elim (at n) as (λ o. with_entry n (cond (nat_eq d n) None o) (entries_below (at_but d at) n) ≡ links_without d (with_entry n o (entries_below at n))) [
+      | None ↦ elim (nat_eq d n) as (λ b. with_entry n (cond b None None) (entries_below (at_but d at) n) ≡ links_without d (entries_below at n)) [ true ↦ rest | false ↦ rest ]
+      | Some r ↦ elim (nat_eq d n) as (λ b. with_entry n (cond b None (Some r)) (entries_below (at_but d at) n) ≡ cond (not b) ((n, r) ∷ links_without d (entries_below at n)) (links_without d (entries_below at n))) [
         | true ↦ rest
         | false ↦ ap (λ es. (n, r) ∷ es) rest
       ]

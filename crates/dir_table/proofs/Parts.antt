@@ -7,13 +7,13 @@ use Rattle.std.specs.List.{AllByRecursion}
 use Rattle.dir_table.specs.declared.rows.StoredRow.{StoredRow}
 use Rattle.dir_table.specs.declared.rows.Spot.{Spot}
 use Rattle.dir_table.specs.declared.links.Node.{Node}
-use Rattle.dir_table.specs.Links.{IsLinkedBy, AllFrom, entries_below, with_entry, row_of_node, rows_of, without, stands_from}
+use Rattle.dir_table.specs.Links.{IsLinkedBy, AllFrom, entries_below, with_entry, row_of_node, rows_of, links_without, stands_from}
 use Rattle.dir_table.specs.Wrap.{stored_from}
 use Rattle.dir_table.proofs.Numbers.{at_but, below_but, entries_but, same_below, eq_is, nat_order, some_is}
 use Rattle.dir_table.proofs.Linked.{rows}
 
 -- nothing goes where nothing stands
-pub without_none : (d : ℕ) (at : ℕ → Option StoredRow) (n : ℕ) → at d ≡ None → entries_below at n ≡ without d (entries_below at n)
+pub without_none : (d : ℕ) (at : ℕ → Option StoredRow) (n : ℕ) → at d ≡ None → entries_below at n ≡ links_without d (entries_below at n)
 without_none d at n none =
     same_below at (at_but d at) n (λ k h. elim (nat_eq d k) as (λ b. nat_eq d k ≡ b → at k ≡ cond b None (at k)) [
       | true ↦ λ t. sym (ap at (eq_is d k t)) ∙ none
@@ -22,32 +22,32 @@ without_none d at n none =
     ∙ entries_but d at n
 
 -- below a number nothing goes
-without_above : (d : ℕ) (at : ℕ → Option StoredRow) (n : ℕ) → n ≤ d → entries_below at n ≡ without d (entries_below at n)
+without_above : (d : ℕ) (at : ℕ → Option StoredRow) (n : ℕ) → n ≤ d → entries_below at n ≡ links_without d (entries_below at n)
 without_above d at n h = sym (below_but d at n h) ∙ entries_but d at n
 
 -- one row is out, and the others are left
 pub permutes_without : (d : ℕ) (at : ℕ → Option StoredRow) (r : StoredRow) → at d ≡ Some r → (n : ℕ) → d < n
-    → IsPermutation (rows_of (entries_below at n)) (r ∷ rows_of (without d (entries_below at n)))
+    → IsPermutation (rows_of (entries_below at n)) (r ∷ rows_of (links_without d (entries_below at n)))
 permutes_without d at r here zero h = absurd (omega arith)
 permutes_without d at r here (suc n) h =
-    elim (nat_eq d n) as (λ b. nat_eq d n ≡ b → IsPermutation (rows_of (with_entry n (at n) (entries_below at n))) (r ∷ rows_of (without d (with_entry n (at n) (entries_below at n))))) [
+    elim (nat_eq d n) as (λ b. nat_eq d n ≡ b → IsPermutation (rows_of (with_entry n (at n) (entries_below at n))) (r ∷ rows_of (links_without d (with_entry n (at n) (entries_below at n))))) [
       | true ↦ λ t.
           let same : d ≡ n = eq_is d n t in
           let is : Some r ≡ at n = sym here ∙ ap at same in
-          let P : Option StoredRow → Type 0 = λ o. IsPermutation (rows_of (with_entry n o (entries_below at n))) (r ∷ rows_of (without d (with_entry n o (entries_below at n)))) in
+          let P : Option StoredRow → Type 0 = λ o. IsPermutation (rows_of (with_entry n o (entries_below at n))) (r ∷ rows_of (links_without d (with_entry n o (entries_below at n)))) in
           let Q : List (ℕ × StoredRow) → Type 0 = λ es. IsPermutation (r ∷ rows_of (entries_below at n)) (r ∷ rows_of es) in
-          let R : Bool → Type 0 = λ b. IsPermutation (r ∷ rows_of (entries_below at n)) (r ∷ rows_of (cond (not b) ((n, r) ∷ without d (entries_below at n)) (without d (entries_below at n)))) in
+          let R : Bool → Type 0 = λ b. IsPermutation (r ∷ rows_of (entries_below at n)) (r ∷ rows_of (cond (not b) ((n, r) ∷ links_without d (entries_below at n)) (links_without d (entries_below at n)))) in
           subst P is (subst R (sym t) (subst Q (without_above d at n (omega arith)) (IsPermutation-refl (r ∷ rows_of (entries_below at n)))))
       | false ↦ λ t.
           let less : d < n = grind (arith, nat_tests) in
           let rest = permutes_without d at r here n less in
-          elim (at n) as (λ o. IsPermutation (rows_of (with_entry n o (entries_below at n))) (r ∷ rows_of (without d (with_entry n o (entries_below at n))))) [
+          elim (at n) as (λ o. IsPermutation (rows_of (with_entry n o (entries_below at n))) (r ∷ rows_of (links_without d (with_entry n o (entries_below at n))))) [
             | None ↦ rest
             | Some x ↦
-                let R : Bool → Type 0 = λ b. IsPermutation (x ∷ rows_of (entries_below at n)) (r ∷ rows_of (cond (not b) ((n, x) ∷ without d (entries_below at n)) (without d (entries_below at n)))) in
-                subst R (sym t) (IsPermutation-trans (x ∷ rows_of (entries_below at n)) (x ∷ r ∷ rows_of (without d (entries_below at n))) (r ∷ x ∷ rows_of (without d (entries_below at n)))
-                (IsPermutation-cons x (rows_of (entries_below at n)) (r ∷ rows_of (without d (entries_below at n))) rest)
-                (IsPermutation-middle (x ∷ []) r (rows_of (without d (entries_below at n)))))
+                let R : Bool → Type 0 = λ b. IsPermutation (x ∷ rows_of (entries_below at n)) (r ∷ rows_of (cond (not b) ((n, x) ∷ links_without d (entries_below at n)) (links_without d (entries_below at n)))) in
+                subst R (sym t) (IsPermutation-trans (x ∷ rows_of (entries_below at n)) (x ∷ r ∷ rows_of (links_without d (entries_below at n))) (r ∷ x ∷ rows_of (links_without d (entries_below at n)))
+                (IsPermutation-cons x (rows_of (entries_below at n)) (r ∷ rows_of (links_without d (entries_below at n))) rest)
+                (IsPermutation-middle (x ∷ []) r (rows_of (links_without d (entries_below at n)))))
           ]
     ] refl
 
@@ -60,23 +60,23 @@ all_filter P q (x ∷ xs) all =
       | false ↦ all_filter P q xs all.1
     ]
 
-pub above_without : (f : ℕ) (es : List (ℕ × StoredRow)) → AllFrom f es → AllFrom (f + 1) (without f es)
+pub above_without : (f : ℕ) (es : List (ℕ × StoredRow)) → AllFrom f es → AllFrom (f + 1) (links_without f es)
 above_without f [] all = tt
 above_without f (e ∷ es) all =
-    elim (nat_eq f e.0) as (λ b. nat_eq f e.0 ≡ b → AllByRecursion (λ (x : ℕ × StoredRow). f + 1 ≤ x.0) (cond (not b) (e ∷ without f es) (without f es))) [
+    elim (nat_eq f e.0) as (λ b. nat_eq f e.0 ≡ b → AllByRecursion (λ (x : ℕ × StoredRow). f + 1 ≤ x.0) (cond (not b) (e ∷ links_without f es) (links_without f es))) [
       | true ↦ λ t. above_without f es all.1
       | false ↦ λ t. let least = all.0 in let above : f + 1 ≤ e.0 = grind (arith, nat_tests) in (above, above_without f es all.1)
     ] refl
 
 -- a row below a place is not among those from it on
 pub from_without : (low d : ℕ) (at : ℕ → Option StoredRow) → stands_from low (at d) ≡ false → (n : ℕ)
-    → stored_from low (rows_of (without d (entries_below at n))) ≡ stored_from low (rows_of (entries_below at n))
+    → stored_from low (rows_of (links_without d (entries_below at n))) ≡ stored_from low (rows_of (entries_below at n))
 from_without low d at gone zero = refl
 from_without low d at gone (suc n) =
     let rest = from_without low d at gone n in
-    elim (at n) as (λ o. at n ≡ o → stored_from low (rows_of (without d (with_entry n o (entries_below at n)))) ≡ stored_from low (rows_of (with_entry n o (entries_below at n)))) [
+    elim (at n) as (λ o. at n ≡ o → stored_from low (rows_of (links_without d (with_entry n o (entries_below at n)))) ≡ stored_from low (rows_of (with_entry n o (entries_below at n)))) [
       | None ↦ λ e. rest
-      | Some r ↦ λ e. elim (nat_eq d n) as (λ b. nat_eq d n ≡ b → stored_from low (rows_of (cond (not b) ((n, r) ∷ without d (entries_below at n)) (without d (entries_below at n)))) ≡ stored_from low (r ∷ rows_of (entries_below at n))) [
+      | Some r ↦ λ e. elim (nat_eq d n) as (λ b. nat_eq d n ≡ b → stored_from low (rows_of (cond (not b) ((n, r) ∷ links_without d (entries_below at n)) (links_without d (entries_below at n)))) ≡ stored_from low (r ∷ rows_of (entries_below at n))) [
         | true ↦ λ t.
             let below : nat_le low r.place ≡ false = sym (ap (stands_from low) (ap at (eq_is d n t) ∙ e)) ∙ gone in
             rest ∙ sym (ap (λ b. cond b (r ∷ stored_from low (rows_of (entries_below at n))) (stored_from low (rows_of (entries_below at n)))) below)

@@ -9,7 +9,7 @@ use Rattle.dir_table.specs.declared.rows.DirRow.{DirRow}
 use Rattle.dir_table.specs.declared.rows.StoredRow.{StoredRow}
 use Rattle.dir_table.specs.Entering.{TakesRow}
 use Rattle.dir_table.specs.Rows.{plain_row, plain_rows, LosesPlain}
-use Rattle.dir_table.specs.Wrap.{rows_from, stored_from}
+use Rattle.dir_table.specs.Wrap.{rows_at_or_above, stored_from}
 use Rattle.dir_table.proofs.RowLists.{plain_filter}
 
 pub plain_takes : (row : StoredRow) (gone before after : List StoredRow) → TakesRow row gone before after
@@ -32,7 +32,7 @@ plain_gone false row before after gone = gone
 pub plain_none : (b : Bool) (before after : List StoredRow) → (b ≡ false → after ≡ before) → b ≡ false → plain_rows after ≡ plain_rows before
 plain_none b before after none h = ap plain_rows (none h)
 
-pub plain_from : (low : ℕ) (before after : List StoredRow) → IsPermutation (stored_from low before) after → IsPermutation (rows_from low (plain_rows before)) (plain_rows after)
+pub plain_from : (low : ℕ) (before after : List StoredRow) → IsPermutation (stored_from low before) after → IsPermutation (rows_at_or_above low (plain_rows before)) (plain_rows after)
 plain_from low before after p =
     subst (λ (q : List DirRow). IsPermutation q (plain_rows after)) (sym (plain_filter (λ (r : DirRow). nat_le low r.place) before))
     (IsPermutation-map plain_row (stored_from low before) after p)

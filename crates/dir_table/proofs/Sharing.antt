@@ -8,7 +8,7 @@ use Rattle.std.proofs.lemmas.List.Sums.{sum_by-cons, sum_by-append}
 use Rattle.dir_table.specs.declared.rows.DirRow.{DirRow}
 use Rattle.dir_table.specs.declared.rows.StoredRow.{StoredRow}
 use Rattle.dir_table.specs.declared.window.Window.{Window}
-use Rattle.dir_table.specs.Apart.{is_placed, AreApart}
+use Rattle.dir_table.specs.Apart.{is_placed, PlacesAreApart}
 use Rattle.dir_table.specs.Displacement.{Displacement}
 use Rattle.dir_table.specs.Entering.{PieceEntered, Enters}
 use Rattle.dir_table.specs.Rows.{LosesPlain}
@@ -49,7 +49,7 @@ module _ (segment place : ℕ) where
       ]
 
 pub enters_apart : (purges : Bool) (w : Window) (piece : PieceEntered) (d : Displacement) (before after : List StoredRow)
-    → Enters purges w piece before d after → All (λ r. r.place < piece.place) before → AreApart before → AreApart after
+    → Enters purges w piece before d after → All (λ r. r.place < piece.place) before → PlacesAreApart before → PlacesAreApart after
 enters_apart purges w piece d before after e below apart segment place =
     let left = e.takes.left in
     let now = same_shared segment place (e.row ∷ left) after e.takes.entered in
@@ -70,14 +70,15 @@ enters_apart purges w piece d before after e below apart segment place =
           omega (arith, now, first, was, parts, few, nothing)
     ] refl
 
-pub loses_apart : (row : DirRow) (before after : List StoredRow) → LosesPlain row before after → AreApart before → AreApart after
+pub loses_apart : (row : DirRow) (before after : List StoredRow) → LosesPlain row before after → PlacesAreApart before
+    → PlacesAreApart after
 loses_apart row before after l apart segment place =
     let was = same_shared segment place before (l.it ∷ after) l.left in
     let first = first_shared segment place l.it after in
     let few = apart segment place in
     omega (arith, was, first, few)
 
-pub wraps_apart : (low : ℕ) (before after : List StoredRow) → IsPermutation (stored_from low before) after → AreApart before → AreApart after
+pub wraps_apart : (low : ℕ) (before after : List StoredRow) → IsPermutation (stored_from low before) after → PlacesAreApart before → PlacesAreApart after
 wraps_apart low before after p apart segment place =
     let now = same_shared segment place (stored_from low before) after p in
     let fewer = fewer_shared segment place (λ r. nat_le low r.place) before in

@@ -13,18 +13,19 @@ abbrev pub is_placed : ℕ → ℕ → StoredRow → Bool
 is_placed segment place row = row.segment == segment && row.place == place
 
 -- no two rows of a segment share a place
-abbrev pub AreApart : List StoredRow → Type 0
-AreApart rows = (segment place : ℕ) → count_by (is_placed segment place) rows ≤ 1
+abbrev pub PlacesAreApart : List StoredRow → Type 0
+PlacesAreApart rows = (segment place : ℕ) → count_by (is_placed segment place) rows ≤ 1
 
 -- a piece that is entered behind all rows shares its place with none
 abbrev pub EntersApart : Type 0
 EntersApart = (purges : Bool) (w : Window) (piece : PieceEntered) (d : Displacement) (before after : List StoredRow)
-    → Enters purges w piece before d after → All (λ r. r.place < piece.place) before → AreApart before → AreApart after
+    → Enters purges w piece before d after → All (λ r. r.place < piece.place) before → PlacesAreApart before → PlacesAreApart after
 
 -- nor does one that is left where another is taken out
 abbrev pub LosesApart : Type 0
-LosesApart = (row : DirRow) (before after : List StoredRow) → LosesPlain row before after → AreApart before → AreApart after
+LosesApart = (row : DirRow) (before after : List StoredRow) → LosesPlain row before after → PlacesAreApart before → PlacesAreApart after
 
 -- or where those below a place go
 abbrev pub WrapsApart : Type 0
-WrapsApart = (low : ℕ) (before after : List StoredRow) → IsPermutation (stored_from low before) after → AreApart before → AreApart after
+WrapsApart = (low : ℕ) (before after : List StoredRow) → IsPermutation (stored_from low before) after → PlacesAreApart before
+    → PlacesAreApart after

@@ -22,16 +22,16 @@ pub record DisplacementKept : Type 0 where
   pub room : ℕ
 
 -- the rows of a segment that are in range
-abbrev pub live_rows : Window → ℕ → List DirRow → List DirRow
-live_rows w segment rows = filter (λ r. r.segment == segment && is_in_range w r.place) rows
+abbrev pub segment_rows_in_range : Window → ℕ → List DirRow → List DirRow
+segment_rows_in_range w segment rows = filter (λ r. r.segment == segment && is_in_range w r.place) rows
 
 -- whether a bucket of a segment has a row in range, so that its first slot is used
 abbrev pub is_used : Window → ℕ → List DirRow → ℕ → Bool
-is_used w segment rows bucket = list_any (λ r. r.bucket == bucket) (live_rows w segment rows)
+is_used w segment rows bucket = list_any (λ r. r.bucket == bucket) (segment_rows_in_range w segment rows)
 
 -- how many buckets of a segment have a row in range
-abbrev pub used_buckets : Window → ℕ → List DirRow → ℕ
-used_buckets w segment rows = count_by (is_used w segment rows) (range_with_len 0 w.geometry.buckets)
+abbrev pub buckets_in_range : Window → ℕ → List DirRow → ℕ
+buckets_in_range w segment rows = count_by (is_used w segment rows) (range_with_len 0 w.geometry.buckets)
 
 -- a bucket has four slots, and three of each are for any chain of the segment: the row finds its
 -- bucket's first slot used, and every one of the others
@@ -39,7 +39,7 @@ abbrev pub is_full : Window → DirRow → List DirRow → Bool
 is_full w row rows =
     let free = 3 * w.geometry.buckets in
     is_used w row.segment rows row.bucket
-    && length (live_rows w row.segment rows) == free + used_buckets w row.segment rows
+    && length (segment_rows_in_range w row.segment rows) == free + buckets_in_range w row.segment rows
 
 -- every tenth of the slots behind the first ones, rounded up
 abbrev pub purge_of : Geometry → ℕ
@@ -48,7 +48,7 @@ purge_of g = (3 * g.buckets + 9) / 10
 -- so many rows of the row's segment go, all of them in range, and their places are told
 pub record IsPurge (w : Window) (row : DirRow) (rows gone : List DirRow) (d : Displacement) : Type 0 where
   pub segment : d.segment ≡ row.segment
-  pub live : d.live ≡ length (live_rows w row.segment rows)
+  pub live : d.live ≡ length (segment_rows_in_range w row.segment rows)
   pub places : d.places ≡ map (λ r. r.place) gone
   pub count : length gone ≡ purge_of w.geometry
   pub own : All (λ r. r.segment ≡ row.segment) gone

@@ -68,8 +68,8 @@ pub record IsPlainAt (links : Links) (k : ℕ) (row : DirRow) : Type 0 where
   pub is : plain_row it ≡ row
 
 -- without the row of a number
-abbrev pub without : ℕ → List (ℕ × StoredRow) → List (ℕ × StoredRow)
-without number entries = filter (λ e. not (number == e.0)) entries
+abbrev pub links_without : ℕ → List (ℕ × StoredRow) → List (ℕ × StoredRow)
+links_without number entries = filter (λ e. not (number == e.0)) entries
 
 -- each link leads to the next older row of the spot, and newer rows stand at higher places
 pub record IsLinkedBy (node : ℕ → Option Node) (head : Spot → Option ℕ) (next : ℕ) : Type 0 where
@@ -113,8 +113,8 @@ renewed None older spot s newest = if same_spot spot s then older else newest
 renewed (Some from) older spot s newest = newest
 
 -- how many rows can be added without memory, and with numbers that are left
-abbrev pub room_of : Links → ℕ
-room_of links = min (min (spare links.nodes) (spare links.newest)) (2 ^ 64 - 1 - links.next)
+abbrev pub room_in_links : Links → ℕ
+room_in_links links = min (min (spare links.nodes) (spare links.newest)) (2 ^ 64 - 1 - links.next)
 
 -- no row stands under a number below this one
 abbrev pub AllFrom : ℕ → List (ℕ × StoredRow) → Type 0

@@ -13,7 +13,7 @@ abbrev pub is_in_range : Window → ℕ → Bool
 is_in_range w place = nat_le w.floor place && nat_lt place w.end
 
 -- a piece may begin at this place of the buffer: behind the last piece, and in the cursor's lap
-pub record IsNext (w : Window) (place : ℕ) : Type 0 where
+pub record IsNextPlace (w : Window) (place : ℕ) : Type 0 where
   pub behind : w.end ≤ place
   pub below : place < w.cursor + w.geometry.agg
   pub lap : lap_of w.geometry place ≡ lap_of w.geometry w.cursor

@@ -5,7 +5,7 @@ ghost use Rattle.dir_table.specs.declared.rows.StoredRow.{StoredRow};
 ghost use Rattle.dir_table.specs.declared.rows.Walk.{Walk as WalkValue};
 ghost use Rattle.dir_table.specs.Rows.{row_of_key, has_row, is_in_bucket, plain_rows, LosesPlain};
 ghost use Rattle.dir_table.specs.declared.window.Window.{Window as WindowValue};
-ghost use Rattle.dir_table.specs.Window.{first_window, is_in_range, IsNext, IsLater};
+ghost use Rattle.dir_table.specs.Window.{first_window, is_in_range, IsNextPlace, IsLater};
 ghost use Rattle.dir_table.specs.Candidates.{candidates_of, GivesFirst, Counts};
 ghost use Rattle.dir_table.specs.Displacement.{Displacement, none_displaced, is_full, AreFew};
 ghost use Rattle.dir_table.specs.Entering.{Enters};
@@ -66,7 +66,7 @@ pub trait Directory {
         requires room { 1 ≤ spare self.old }
         requires some { 1 ≤ blocks }
         requires few { blocks ≤ (window self.old).geometry.agg }
-        requires next { IsNext (window self.old) place }
+        requires next { IsNextPlace (window self.old) place }
         ensures rows { Enters purges (window self.old) (record {
           key = key;
           place = place;

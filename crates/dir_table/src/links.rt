@@ -5,7 +5,7 @@ ghost use Rattle.std.specs.Bool.{OnTrue};
 ghost use Rattle.std.specs.HashMap.{get, spare};
 ghost use Rattle.dir_table.specs.declared.rows.Spot.{Spot as SpotValue};
 ghost use Rattle.dir_table.specs.Rows.{same_spot, has_row, plain_rows, LosesPlain};
-ghost use Rattle.dir_table.specs.Links.{IsLinked, IsPlainAt, stands_at, PointsTo, entries_of, node_at, newest_at, row_at, rows_in, room_of, relinked, renewed, without, AllFrom, stands_from};
+ghost use Rattle.dir_table.specs.Links.{IsLinked, IsPlainAt, stands_at, PointsTo, entries_of, node_at, newest_at, row_at, rows_in, room_in_links, relinked, renewed, links_without, AllFrom, stands_from};
 ghost use Rattle.dir_table.specs.Wrap.{stored_from};
 
 use crate::rows::{DirRow, Spot, StoredRow};
@@ -47,9 +47,9 @@ pub(crate) fn reserve(links: &mut Links, more: usize) -> Result<(), AllocError>
     ensures linked { IsLinked links.new }
     ensures entries { entries_of links.new ≡ entries_of links.old }
     ensures next { links.new.next ≡ links.old.next }
-    ensures room { OnOk result (more ≤ room_of links.new) }
-    ensures enough { more ≤ room_of links.old → IsOk result }
-    ensures same { room_of links.old ≤ room_of links.new }
+    ensures room { OnOk result (more ≤ room_in_links links.new) }
+    ensures enough { more ≤ room_in_links links.old → IsOk result }
+    ensures same { room_in_links links.old ≤ room_in_links links.new }
 {
     links.nodes.reserve(more)?;
     links.newest.reserve(more)?;
@@ -77,12 +77,12 @@ pub(crate) fn newest_of(links: &Links, spot: Spot) -> Option<u64>
 /// Adds the newest row.
 pub(crate) fn add(links: &mut Links, row: StoredRow)
     requires linked { IsLinked links.old }
-    requires room { 0 < room_of links.old }
+    requires room { 0 < room_in_links links.old }
     requires last { All (λ r. r.place ≤ row.place) (rows_in links.old) }
     ensures linked { IsLinked links.new }
     ensures entries { entries_of links.new ≡ (links.old.next, row) ∷ entries_of links.old }
     ensures next { links.new.next ≡ links.old.next + 1 }
-    ensures room { room_of links.old ≤ room_of links.new + 1 }
+    ensures room { room_in_links links.old ≤ room_in_links links.new + 1 }
 {
     let spot = row.spot();
     let number = links.next;
@@ -156,7 +156,7 @@ fn redirect(links: &mut Links, spot: Spot, before: Option<u64>, older: Option<u6
     ensures newest { (s : SpotValue) →
         newest_at links.new s ≡ renewed before older spot s (newest_at links.old s) }
     ensures next { links.new.next ≡ links.old.next }
-    ensures room { room_of links.old ≤ room_of links.new }
+    ensures room { room_in_links links.old ≤ room_in_links links.new }
 {
     match (before, older) {
         (Some(number), _) => point_node(&mut links.nodes, number, older),
@@ -172,9 +172,9 @@ pub(crate) fn take_out(links: &mut Links, number: u64)
     requires linked { IsLinked links.old }
     requires some { is_some (row_at links.old number) ≡ true }
     ensures linked { IsLinked links.new }
-    ensures entries { entries_of links.new ≡ without number (entries_of links.old) }
+    ensures entries { entries_of links.new ≡ links_without number (entries_of links.old) }
     ensures next { links.new.next ≡ links.old.next }
-    ensures room { room_of links.old ≤ room_of links.new }
+    ensures room { room_in_links links.old ≤ room_in_links links.new }
 {
     let node = node_of(links, number);
     let spot = node.row.spot();
@@ -193,7 +193,7 @@ pub(crate) fn take_row(links: &mut Links, row: &DirRow) -> bool
     ensures above { (first : ℕ) →
         AllFrom first (entries_of links.old) → AllFrom first (entries_of links.new) }
     ensures next { links.new.next ≡ links.old.next }
-    ensures room { room_of links.old ≤ room_of links.new }
+    ensures room { room_in_links links.old ≤ room_in_links links.new }
 {
     match number_of(links, row) {
         Some(number) => {
@@ -214,7 +214,7 @@ pub(crate) fn forget(links: &mut Links, first: u64, low: u64) -> u64
     ensures rows { rows_in links.new ≡ stored_from low (rows_in links.old) }
     ensures above { AllFrom result (entries_of links.new) }
     ensures within { result ≤ links.new.next }
-    ensures room { room_of links.old ≤ room_of links.new }
+    ensures room { room_in_links links.old ≤ room_in_links links.new }
 {
     let end = links.next;
     let mut number = first;
@@ -242,9 +242,9 @@ fn is_standing_from(links: &Links, number: u64, low: u64) -> bool
 fn clear(links: &mut Links, number: u64)
     requires { IsLinked links.old }
     ensures linked { IsLinked links.new }
-    ensures entries { entries_of links.new ≡ without number (entries_of links.old) }
+    ensures entries { entries_of links.new ≡ links_without number (entries_of links.old) }
     ensures next { links.new.next ≡ links.old.next }
-    ensures room { room_of links.old ≤ room_of links.new }
+    ensures room { room_in_links links.old ≤ room_in_links links.new }
 {
     if links.nodes.contains_key(&number) {
         take_out(links, number);

@@ -15,9 +15,9 @@ use Rattle.tape_base.proofs.Bytes.{IsBytes-append, IsBytes-nil, IsBytes-take, by
 use Rattle.tape_base.proofs.NameLaws.{length-key_bytes}
 use Rattle.tape_base.proofs.DigestLaw.{digests_tell_lem}
 use Rattle.doc_header.specs.declared.documents.Doc.{Doc}
-use Rattle.doc_header.specs.Document.{name_bytes, field_bytes, header_bytes, check_of, digest_of_document, IsDocument}
-use Rattle.doc_header.specs.Reading.{field_at, length_of, extent_of, payload_of, document_digest}
-use Rattle.doc_header.specs.Moving.{doc_at, moved_fields, moved_to, MovesKeep, BeginsWith, MovedIsSpelled, MovedIsRecorded, IsMovedOrCollides, MovedIsSame}
+use Rattle.doc_header.specs.Document.{name_bytes, doc_fields, header_bytes, check_of, digest_of_document, IsDocument}
+use Rattle.doc_header.specs.Reading.{slice_at, length_of, extent_of, payload_of, document_digest}
+use Rattle.doc_header.specs.Moving.{doc_moved_to, moved_fields, moved_to, MovesKeep, BeginsWith, MovedIsSpelled, MovedIsRecorded, IsMovedOrCollides, MovedIsSame}
 use Rattle.doc_header.proofs.Stands.{joined, AreWide, joined-front, length-joined, length-field, field_behind, number_32_again, number_32_in_front}
 use Rattle.doc_header.proofs.ReadingLaws.{length-sha256, fields_joined, fields_of, header_is, length-header, apart}
 
@@ -27,8 +27,8 @@ length-front : (bytes field : List ℕ) → 128 ≤ length bytes → length fiel
 length-front bytes field long wide = omega (arith, length-append (take 48 bytes) field, length-take 48 bytes, long, wide)
 
 fields_placed : (bytes field : List ℕ) → 128 ≤ length bytes → length field ≡ 8
-    → take 112 (take 48 bytes ++ field ++ drop 56 bytes) ≡ take 48 bytes ++ field ++ field_at 56 56 bytes
-unfolding field_at
+    → take 112 (take 48 bytes ++ field ++ drop 56 bytes) ≡ take 48 bytes ++ field ++ slice_at 56 56 bytes
+unfolding slice_at
 fields_placed bytes field long wide =
     let front = take 48 bytes ++ field in
     let end : 112 ≡ length front + 56 = omega (arith, length-front bytes field long wide) in
@@ -53,7 +53,7 @@ length-moved_fields : (place : ℕ) (bytes : List ℕ) → 128 ≤ length bytes 
 unfolding moved_fields
 length-moved_fields place bytes long =
     let front = take 48 bytes ++ to_le_bytes w64 place in
-    omega (arith, length-append front (field_at 56 56 bytes), length-front bytes (to_le_bytes w64 place) long refl, length-field 56 56 bytes (omega arith))
+    omega (arith, length-append front (slice_at 56 56 bytes), length-front bytes (to_le_bytes w64 place) long refl, length-field 56 56 bytes (omega arith))
 
 -- bytes 0 to 127 of a copy
 abbrev pub moved_header : ℕ → List ℕ → List ℕ
@@ -82,7 +82,7 @@ name_stays : (place : ℕ) (bytes : List ℕ) → 128 ≤ length bytes → take 
 unfolding moved_to moved_fields
 name_stays place bytes long =
     let place_bytes = to_le_bytes w64 place in
-    let behind = field_at 56 56 bytes in
+    let behind = slice_at 56 56 bytes in
     let fields = take 48 bytes ++ place_bytes ++ behind in
     let rest = check_of fields ++ drop 128 bytes in
     let nested : fields ++ check_of fields ++ drop 128 bytes ≡ fields ++ rest = append_assoc fields (check_of fields) (drop 128 bytes) in
@@ -98,7 +98,7 @@ length_stays : (place : ℕ) (bytes : List ℕ) → 128 ≤ length bytes → len
 length_stays place bytes long = number_32_in_front 48 12 36 (moved_to place bytes) bytes (omega arith) (omega arith) (name_stays place bytes long)
 
 payload_stays : (place : ℕ) (bytes : List ℕ) → 128 ≤ length bytes → payload_of (moved_to place bytes) ≡ payload_of bytes
-unfolding field_at
+unfolding slice_at
 payload_stays place bytes long =
     ap (λ n. take n (drop 128 (moved_to place bytes))) (length_stays place bytes long) ∙ ap (take (length_of bytes)) (behind_stays place bytes long)
 
@@ -153,7 +153,7 @@ fields_small doc payload = (
 
 header_small : (doc : Doc) (payload : List ℕ) → IsBytes (header_bytes doc payload)
 header_small doc payload =
-    let fields = field_bytes doc payload in
+    let fields = doc_fields doc payload in
     let small : IsBytes fields = subst IsBytes (sym (fields_joined doc payload)) (joined_small [] (fields_of doc payload) IsBytes-nil (fields_small doc payload)) in
     subst IsBytes (sym (header_is doc payload)) (IsBytes-append fields (check_of fields) small (IsBytes-take 16 (sha256 fields) (sha256-small fields)))
 
@@ -191,31 +191,31 @@ length-behind : (doc : Doc) (payload : List ℕ) → length (behind_place doc pa
 length-behind doc payload = length-joined [] (fields_behind doc payload) 0 refl (behind_wide doc payload)
 
 fields_in_three : (doc : Doc) (payload : List ℕ)
-    → field_bytes doc payload ≡ (name_bytes doc (length payload) ++ to_le_bytes w64 doc.place) ++ behind_place doc payload
+    → doc_fields doc payload ≡ (name_bytes doc (length payload) ++ to_le_bytes w64 doc.place) ++ behind_place doc payload
 fields_in_three doc payload = joined-front (name_bytes doc (length payload) ++ to_le_bytes w64 doc.place) (fields_behind doc payload)
 
-name_at : (place : ℕ) (doc : Doc) (n : ℕ) → name_bytes (doc_at place doc) n ≡ name_bytes doc n
+name_at : (place : ℕ) (doc : Doc) (n : ℕ) → name_bytes (doc_moved_to place doc) n ≡ name_bytes doc n
 unfolding name_bytes
 name_at place doc n = refl
 
 -- three lists, of which the middle one is replaced
 three_apart : (bytes name place behind rest : List ℕ) → bytes ≡ ((name ++ place) ++ behind) ++ rest → length name ≡ 48 → length place ≡ 8 → length behind ≡ 56
-    → (take 48 bytes ≡ name) × (field_at 56 56 bytes ≡ behind)
+    → (take 48 bytes ≡ name) × (slice_at 56 56 bytes ≡ behind)
 three_apart bytes name place behind rest h short eight wide =
     let nested : bytes ≡ (name ++ place) ++ (behind ++ rest) = h ∙ append_assoc (name ++ place) behind rest in
     let front : length (name ++ place) ≡ 56 = omega (arith, length-append name place, short, eight) in
-    (ap (take 48) h ∙ front_of_three 48 name place behind rest short, ap (field_at 56 56) nested ∙ field_behind (name ++ place) behind rest 56 56 front wide)
+    (ap (take 48) h ∙ front_of_three 48 name place behind rest short, ap (slice_at 56 56) nested ∙ field_behind (name ++ place) behind rest 56 56 front wide)
 
-fields_moved : (place : ℕ) (bytes : List ℕ) (doc : Doc) (payload rest : List ℕ) → bytes ≡ field_bytes doc payload ++ rest
-    → moved_fields place bytes ≡ field_bytes (doc_at place doc) payload
+fields_moved : (place : ℕ) (bytes : List ℕ) (doc : Doc) (payload rest : List ℕ) → bytes ≡ doc_fields doc payload ++ rest
+    → moved_fields place bytes ≡ doc_fields (doc_moved_to place doc) payload
 unfolding moved_fields
 fields_moved place bytes doc payload rest h =
     let name = name_bytes doc (length payload) in
     let parts = three_apart bytes name (to_le_bytes w64 doc.place) (behind_place doc payload) rest
     (h ∙ ap (λ l. l ++ rest) (fields_in_three doc payload)) (length-name doc payload) refl (length-behind doc payload) in
-    let moved : take 48 bytes ++ to_le_bytes w64 place ++ field_at 56 56 bytes ≡ name ++ to_le_bytes w64 place ++ behind_place doc payload =
-    ap (λ l. l ++ to_le_bytes w64 place ++ field_at 56 56 bytes) parts.0 ∙ ap (λ l. name ++ to_le_bytes w64 place ++ l) parts.1 in
-    moved ∙ (ap (λ l. l ++ to_le_bytes w64 place ++ behind_place doc payload) (sym (name_at place doc (length payload))) ∙ sym (fields_in_three (doc_at place doc) payload))
+    let moved : take 48 bytes ++ to_le_bytes w64 place ++ slice_at 56 56 bytes ≡ name ++ to_le_bytes w64 place ++ behind_place doc payload =
+    ap (λ l. l ++ to_le_bytes w64 place ++ slice_at 56 56 bytes) parts.0 ∙ ap (λ l. name ++ to_le_bytes w64 place ++ l) parts.1 in
+    moved ∙ (ap (λ l. l ++ to_le_bytes w64 place ++ behind_place doc payload) (sym (name_at place doc (length payload))) ∙ sym (fields_in_three (doc_moved_to place doc) payload))
 
 -- a document, and what stands behind it
 begun : (bytes : List ℕ) (doc : Doc) (payload : List ℕ) → BeginsWith bytes doc payload
@@ -229,15 +229,15 @@ header_there bytes doc payload h =
     omega (arith, taken, length-take (length payload + 128) bytes, length-append (header_bytes doc payload) payload, length-header doc payload)
 
 header_moved : (place : ℕ) (bytes : List ℕ) (doc : Doc) (payload : List ℕ) → BeginsWith bytes doc payload
-    → moved_header place bytes ≡ header_bytes (doc_at place doc) payload
+    → moved_header place bytes ≡ header_bytes (doc_moved_to place doc) payload
 header_moved place bytes doc payload h =
-    let early = field_bytes doc payload in
+    let early = doc_fields doc payload in
     let check = check_of early in
     let rest = drop (length payload + 128) bytes in
     let split : bytes ≡ (early ++ check) ++ (payload ++ rest) =
     begun bytes doc payload h ∙ (append_assoc (header_bytes doc payload) payload rest ∙ ap (λ l. l ++ (payload ++ rest)) (header_is doc payload)) in
     let fields = fields_moved place bytes doc payload (check ++ (payload ++ rest)) (split ∙ append_assoc early check (payload ++ rest)) in
-    ap (λ l. l ++ check_of l) fields ∙ sym (header_is (doc_at place doc) payload)
+    ap (λ l. l ++ check_of l) fields ∙ sym (header_is (doc_moved_to place doc) payload)
 
 payload_there : (bytes : List ℕ) (doc : Doc) (payload : List ℕ) → BeginsWith bytes doc payload → take (length payload) (drop 128 bytes) ≡ payload
 payload_there bytes doc payload h =
@@ -249,9 +249,9 @@ pub moved_is_spelled_lem : MovedIsSpelled
 unfolding moved_to
 moved_is_spelled_lem place bytes doc payload h =
     let n = length payload in
-    let header = header_bytes (doc_at place doc) payload in
+    let header = header_bytes (doc_moved_to place doc) payload in
     let moved : moved_to place bytes ≡ header ++ drop 128 bytes = ap (λ l. l ++ drop 128 bytes) (header_moved place bytes doc payload h) in
-    let end : n + 128 ≡ length header + n = omega (arith, length-header (doc_at place doc) payload) in
+    let end : n + 128 ≡ length header + n = omega (arith, length-header (doc_moved_to place doc) payload) in
     ap (take (n + 128)) moved ∙ (ap (λ k. take k (header ++ drop 128 bytes)) end
     ∙ (take-append-add header (drop 128 bytes) n ∙ ap (λ l. header ++ l) (payload_there bytes doc payload h)))
 
@@ -268,7 +268,7 @@ digest_told bytes doc payload fits h = ap digest_of (ap (λ n. take (n + 128) by
 
 pub moved_is_recorded_lem : MovedIsRecorded
 moved_is_recorded_lem place bytes doc payload fits h =
-    digest_told (moved_to place bytes) (doc_at place doc) payload fits (moved_is_spelled_lem place bytes doc payload h)
+    digest_told (moved_to place bytes) (doc_moved_to place doc) payload fits (moved_is_spelled_lem place bytes doc payload h)
 
 -- bytes that are looked at as far as a document goes begin with it
 extent_begins : (bytes : List ℕ) (doc : Doc) (payload : List ℕ) → length payload < 2 ^ 32
@@ -292,7 +292,7 @@ moved_is_same_lem place bytes doc payload small few fits h =
 
 -- what was read at one place is read at the other
 pub moved_document : (place : ℕ) (bytes : List ℕ) (generation before : ℕ) (doc : Doc) (payload : List ℕ) → place < 2 ^ 64
-    → IsDocument bytes generation before doc payload → IsDocument (moved_to place bytes) generation place (doc_at place doc) payload
+    → IsDocument bytes generation before doc payload → IsDocument (moved_to place bytes) generation place (doc_moved_to place doc) payload
 moved_document place bytes generation before doc payload fits d =
     let long = header_there bytes doc payload d.is_spelled in
     record {

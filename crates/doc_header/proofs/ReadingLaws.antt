@@ -17,8 +17,8 @@ use Rattle.tape_base.proofs.NameLaws.{length-key_bytes}
 use Rattle.doc_header.specs.declared.documents.Doc.{Doc}
 use Rattle.doc_header.specs.declared.documents.DocRef.{DocRef}
 use Rattle.doc_header.specs.declared.documents.DocFault.{DocFault}
-use Rattle.doc_header.specs.Document.{name_bytes, field_bytes, header_bytes, document_bytes, check_of, digest_of_document, Fits, IsDocument}
-use Rattle.doc_header.specs.Reading.{field_at, number_at, length_of, extent_of, doc_of, payload_of, kept_of, has_blocks, header_fault, address_fault, payload_fault, first_fault, document_digest, Answers}
+use Rattle.doc_header.specs.Document.{name_bytes, doc_fields, header_bytes, document_bytes, check_of, digest_of_document, Fits, IsDocument}
+use Rattle.doc_header.specs.Reading.{slice_at, doc_number, length_of, extent_of, doc_of, payload_of, kept_digest, has_blocks, header_fault, address_fault, payload_fault, first_fault, document_digest, AnswersDocument}
 use Rattle.doc_header.proofs.Stands.{Stands, joined, AreWide, take-field, length-joined, joined_as_they_stand, stand_as_joined, field_behind, length-field, spelled_32, spelled_64, below_32, below_64, number_32_again, number_64_again, field_in_front, number_32_in_front, number_64_in_front}
 
 pub length-sha256 : (m : List ℕ) → length (sha256 m) ≡ 32
@@ -33,7 +33,7 @@ fields_of doc payload =
     ∷ (8, to_le_bytes w64 doc.place) ∷ (8, to_le_bytes w64 doc.generation) ∷ (8, to_le_bytes w64 doc.pin)
     ∷ (8, to_le_bytes w64 doc.start) ∷ (32, sha256 payload) ∷ []
 
-pub fields_joined : (doc : Doc) (payload : List ℕ) → field_bytes doc payload ≡ joined [] (fields_of doc payload)
+pub fields_joined : (doc : Doc) (payload : List ℕ) → doc_fields doc payload ≡ joined [] (fields_of doc payload)
 unfolding name_bytes
 fields_joined doc payload = refl
 
@@ -41,25 +41,25 @@ fields_wide : (doc : Doc) (payload : List ℕ) → AreWide (fields_of doc payloa
 fields_wide doc payload =
     (refl, (refl, (refl, (length-key_bytes doc.id.first, (refl, (refl, (refl, (refl, (refl, (refl, (refl, (length-sha256 payload, tt))))))))))))
 
-length-fields : (doc : Doc) (payload : List ℕ) → length (field_bytes doc payload) ≡ 112
+length-fields : (doc : Doc) (payload : List ℕ) → length (doc_fields doc payload) ≡ 112
 length-fields doc payload = ap length (fields_joined doc payload) ∙ length-joined [] (fields_of doc payload) 0 refl (fields_wide doc payload)
 
-length-check : (doc : Doc) (payload : List ℕ) → length (check_of (field_bytes doc payload)) ≡ 16
-length-check doc payload = omega (arith, length-take 16 (sha256 (field_bytes doc payload)), length-sha256 (field_bytes doc payload))
+length-check : (doc : Doc) (payload : List ℕ) → length (check_of (doc_fields doc payload)) ≡ 16
+length-check doc payload = omega (arith, length-take 16 (sha256 (doc_fields doc payload)), length-sha256 (doc_fields doc payload))
 
-pub header_is : (doc : Doc) (payload : List ℕ) → header_bytes doc payload ≡ field_bytes doc payload ++ check_of (field_bytes doc payload)
+pub header_is : (doc : Doc) (payload : List ℕ) → header_bytes doc payload ≡ doc_fields doc payload ++ check_of (doc_fields doc payload)
 unfolding header_bytes
 header_is doc payload = refl
 
 pub length-header : (doc : Doc) (payload : List ℕ) → length (header_bytes doc payload) ≡ 128
 length-header doc payload =
-    let wide : length (field_bytes doc payload ++ check_of (field_bytes doc payload)) ≡ 128 =
-    omega (arith, length-append (field_bytes doc payload) (check_of (field_bytes doc payload)), length-fields doc payload, length-check doc payload) in
+    let wide : length (doc_fields doc payload ++ check_of (doc_fields doc payload)) ≡ 128 =
+    omega (arith, length-append (doc_fields doc payload) (check_of (doc_fields doc payload)), length-fields doc payload, length-check doc payload) in
     ap length (header_is doc payload) ∙ wide
 
 -- bytes that are those of a document, as far as they are looked at, tell its payload
 pub payload_told : (bytes : List ℕ) (doc : Doc) (payload : List ℕ) → take (extent_of bytes) bytes ≡ header_bytes doc payload ++ payload → payload_of bytes ≡ payload
-unfolding field_at
+unfolding slice_at
 payload_told bytes doc payload same =
     let extent : 128 + length_of bytes ≡ extent_of bytes = omega arith in
     sym (drop-take 128 (length_of bytes) bytes)
@@ -91,10 +91,10 @@ equal a b h = (bytes_eq-Decides a b).1 h
 
 -- what a header without a fault has
 record Passes (bytes : List ℕ) : Type 0 where
-  magic : field_at 0 8 bytes ≡ codes "TSCDOCM1"
-  version : number_at w32 8 bytes ≡ 1
+  magic : slice_at 0 8 bytes ≡ codes "TSCDOCM1"
+  version : doc_number w32 8 bytes ≡ 1
   blocks : has_blocks bytes ≡ true
-  check : field_at 112 16 bytes ≡ check_of (field_at 0 112 bytes)
+  check : slice_at 112 16 bytes ≡ check_of (slice_at 0 112 bytes)
 
 passed : (bytes : List ℕ) → header_fault bytes ≡ None → Passes bytes
 unfolding header_fault
@@ -125,12 +125,12 @@ unfolding payload_fault
 digest_kept kept payload h = same _ _ (kept_none _ _ h)
 
 -- what is read without a fault keeps the digest of its payload
-pub kept_is : (bytes : List ℕ) (generation place : ℕ) → first_fault bytes generation place ≡ None → kept_of bytes ≡ digest_of (payload_of bytes)
+pub kept_is : (bytes : List ℕ) (generation place : ℕ) → first_fault bytes generation place ≡ None → kept_digest bytes ≡ digest_of (payload_of bytes)
 kept_is bytes generation place h =
     let first = long_enough _ _ _ h in
     let groups = neither _ _ first.1 in
     let others = neither _ _ groups.1 in
-    ap (λ x. let kept : Digest = record { 0 = x } in kept) (digest_kept (kept_of bytes) (payload_of bytes) others.1)
+    ap (λ x. let kept : Digest = record { 0 = x } in kept) (digest_kept (kept_digest bytes) (payload_of bytes) others.1)
 
 is_kept : (kept : Digest) (payload : List ℕ) → kept.0 ≡ sha256 payload → payload_fault kept payload ≡ None
 unfolding payload_fault
@@ -144,16 +144,16 @@ not_false false h = refl
 
 -- the blocks of a length, and room for them
 record HasRoom (bytes : List ℕ) : Type 0 where
-  counted : number_at w32 44 bytes ≡ blocks_of (length_of bytes)
+  counted : doc_number w32 44 bytes ≡ blocks_of (length_of bytes)
   there : 512 * blocks_of (length_of bytes) ≤ length bytes
 
 room : (bytes : List ℕ) → has_blocks bytes ≡ true → HasRoom bytes
 room bytes h =
-    let both = and_parts (number_at w32 44 bytes == blocks_of (length_of bytes)) (not (nat_lt (length bytes) (512 * blocks_of (length_of bytes)))) h in
+    let both = and_parts (doc_number w32 44 bytes == blocks_of (length_of bytes)) (not (nat_lt (length bytes) (512 * blocks_of (length_of bytes)))) h in
     record { counted = eqb-true _ _ both.0; there = ltb-false _ _ (not_false _ both.1) }
 
-fields_spelled : (bytes payload : List ℕ) → IsBytes bytes → 128 ≤ length bytes → key_bytes (key_of_bytes (field_at 16 16 bytes)) ≡ field_at 16 16 bytes
-    → length payload ≡ length_of bytes → field_at 80 32 bytes ≡ sha256 payload → Passes bytes → HasRoom bytes → take 112 bytes ≡ field_bytes (doc_of bytes) payload
+fields_spelled : (bytes payload : List ℕ) → IsBytes bytes → 128 ≤ length bytes → key_bytes (key_of_bytes (slice_at 16 16 bytes)) ≡ slice_at 16 16 bytes
+    → length payload ≡ length_of bytes → slice_at 80 32 bytes ≡ sha256 payload → Passes bytes → HasRoom bytes → take 112 bytes ≡ doc_fields (doc_of bytes) payload
 fields_spelled bytes payload small long key size kept p r =
     let doc = doc_of bytes in
     let version = spelled_32 8 bytes small (omega arith) ∙ ap (to_le_bytes w32) p.version in
@@ -169,12 +169,12 @@ fields_spelled bytes payload small long key size kept p r =
     (p.magic, (version, (sized, (sym key, (put, (index, (blocks, (place, (generation, (pin, (start, (kept, tt)))))))))))) in
     joined_as_they_stand 0 (fields_of doc payload) bytes [] refl stands ∙ sym (fields_joined doc payload)
 
-header_spelled : (bytes payload : List ℕ) (doc : Doc) → field_at 112 16 bytes ≡ check_of (field_at 0 112 bytes) → take 112 bytes ≡ field_bytes doc payload → take 128 bytes ≡ header_bytes doc payload
-unfolding field_at header_bytes
+header_spelled : (bytes payload : List ℕ) (doc : Doc) → slice_at 112 16 bytes ≡ check_of (slice_at 0 112 bytes) → take 112 bytes ≡ doc_fields doc payload → take 128 bytes ≡ header_bytes doc payload
+unfolding slice_at header_bytes
 header_spelled bytes payload doc check fields =
     take-field 112 16 bytes ∙ (ap (λ l. take 112 bytes ++ l) check ∙ ap (λ l. l ++ check_of l) fields)
 
-pub spelled : (bytes : List ℕ) (generation place : ℕ) → IsBytes bytes → key_bytes (key_of_bytes (field_at 16 16 bytes)) ≡ field_at 16 16 bytes
+pub spelled : (bytes : List ℕ) (generation place : ℕ) → IsBytes bytes → key_bytes (key_of_bytes (slice_at 16 16 bytes)) ≡ slice_at 16 16 bytes
     → first_fault bytes generation place ≡ None → IsDocument bytes generation place (doc_of bytes) (payload_of bytes)
 spelled bytes generation place small key h =
     let m = length_of bytes in
@@ -187,7 +187,7 @@ spelled bytes generation place small key h =
     let r = room bytes p.blocks in
     let others = neither _ _ groups.1 in
     let address = addressed doc generation place others.0 in
-    let kept = digest_kept (kept_of bytes) payload others.1 in
+    let kept = digest_kept (kept_digest bytes) payload others.1 in
     let size : length payload ≡ m = length-field 128 m bytes (omega (arith, r.there)) in
     let fields = fields_spelled bytes payload small long key size kept p r in
     let header = header_spelled bytes payload doc p.check fields in
@@ -205,8 +205,8 @@ spelled bytes generation place small key h =
       is_spelled = ap (λ n. take n bytes) extent ∙ whole;
     }
 
-pub is_found : (bytes : List ℕ) (generation place : ℕ) (r : Result DocRef DocFault) → IsBytes bytes → IfOk r (λ _. key_bytes (key_of_bytes (field_at 16 16 bytes)) ≡ field_at 16 16 bytes)
-    → Answers r (first_fault bytes generation place) (doc_of bytes) (payload_of bytes) → IfOk r (λ read. IsDocument bytes generation place read.doc read.payload.now)
+pub is_found : (bytes : List ℕ) (generation place : ℕ) (r : Result DocRef DocFault) → IsBytes bytes → IfOk r (λ _. key_bytes (key_of_bytes (slice_at 16 16 bytes)) ≡ slice_at 16 16 bytes)
+    → AnswersDocument r (first_fault bytes generation place) (doc_of bytes) (payload_of bytes) → IfOk r (λ read. IsDocument bytes generation place read.doc read.payload.now)
 is_found bytes generation place (Ok read) small key given =
     let law = spelled bytes generation place small key given.0 in
     subst (λ (payload : List ℕ). IsDocument bytes generation place read.doc payload) (sym given.2) (subst (λ (doc : Doc). IsDocument bytes generation place doc (payload_of bytes)) (sym given.1) law)
@@ -217,22 +217,22 @@ is_found bytes generation place (Err fault) small key given = tt
 -- a document taken apart
 pub record Apart (bytes : List ℕ) (doc : Doc) (payload : List ℕ) : Type 0 where
   pub fields : Stands 0 (fields_of doc payload) bytes
-  pub front : field_at 0 112 bytes ≡ field_bytes doc payload
-  pub check : field_at 112 16 bytes ≡ check_of (field_bytes doc payload)
-  pub payload_is : field_at 128 (length payload) bytes ≡ payload
+  pub front : slice_at 0 112 bytes ≡ doc_fields doc payload
+  pub check : slice_at 112 16 bytes ≡ check_of (doc_fields doc payload)
+  pub payload_is : slice_at 128 (length payload) bytes ≡ payload
 
 pub apart : (bytes : List ℕ) (doc : Doc) (payload rest : List ℕ) → bytes ≡ (header_bytes doc payload ++ payload) ++ rest → Apart bytes doc payload
 apart bytes doc payload rest h =
-    let early = field_bytes doc payload in
+    let early = doc_fields doc payload in
     let check = check_of early in
     let in_two : bytes ≡ (early ++ check) ++ (payload ++ rest) = h ∙ (append_assoc (header_bytes doc payload) payload rest ∙ ap (λ l. l ++ (payload ++ rest)) (header_is doc payload)) in
     let in_three : bytes ≡ early ++ (check ++ (payload ++ rest)) = in_two ∙ append_assoc early check (payload ++ rest) in
     let wide : length (early ++ check) ≡ 128 = omega (arith, length-append early check, length-fields doc payload, length-check doc payload) in
     record {
       fields = stand_as_joined 0 (fields_of doc payload) bytes [] (check ++ (payload ++ rest)) refl (fields_wide doc payload) (in_three ∙ ap (λ l. l ++ (check ++ (payload ++ rest))) (fields_joined doc payload));
-      front = ap (field_at 0 112) in_three ∙ field_behind [] early (check ++ (payload ++ rest)) 0 112 refl (length-fields doc payload);
-      check = ap (field_at 112 16) in_three ∙ field_behind early check (payload ++ rest) 112 16 (length-fields doc payload) (length-check doc payload);
-      payload_is = ap (field_at 128 (length payload)) in_two ∙ field_behind (early ++ check) payload rest 128 (length payload) wide refl;
+      front = ap (slice_at 0 112) in_three ∙ field_behind [] early (check ++ (payload ++ rest)) 0 112 refl (length-fields doc payload);
+      check = ap (slice_at 112 16) in_three ∙ field_behind early check (payload ++ rest) 112 16 (length-fields doc payload) (length-check doc payload);
+      payload_is = ap (slice_at 128 (length payload)) in_two ∙ field_behind (early ++ check) payload rest 128 (length payload) wide refl;
     }
 
 has_room : (bytes : List ℕ) → HasRoom bytes → has_blocks bytes ≡ true
@@ -263,14 +263,14 @@ again bytes generation place doc payload d =
     let parts : bytes ≡ (header_bytes doc payload ++ payload) ++ rest = sym (take-append-drop (n + 128) bytes) ∙ ap (λ l. l ++ rest) d.is_spelled in
     let a = apart bytes doc payload rest parts in
     let size : length_of bytes ≡ n = number_32_again 12 n bytes d.fits.size_fits a.fields.1.1.0 in
-    let version : number_at w32 8 bytes ≡ 1 = number_32_again 8 1 bytes (omega arith) a.fields.1.0 in
-    let counted : number_at w32 44 bytes ≡ blocks_of n = number_32_again 44 (blocks_of n) bytes (omega (arith, d.fits.size_fits)) a.fields.1.1.1.1.1.1.0 in
+    let version : doc_number w32 8 bytes ≡ 1 = number_32_again 8 1 bytes (omega arith) a.fields.1.0 in
+    let counted : doc_number w32 44 bytes ≡ blocks_of n = number_32_again 44 (blocks_of n) bytes (omega (arith, d.fits.size_fits)) a.fields.1.1.1.1.1.1.0 in
     let r : HasRoom bytes = record { counted = counted ∙ ap blocks_of (sym size); there = rw size d.is_whole } in
     let p : Passes bytes = record { magic = a.fields.0; version = version; blocks = has_room bytes r; check = a.check ∙ ap check_of (sym a.front) } in
     let doc_is = doc_again bytes doc payload d.fits a in
-    let payload_is : payload_of bytes ≡ payload = ap (λ k. field_at 128 k bytes) size ∙ a.payload_is in
+    let payload_is : payload_of bytes ≡ payload = ap (λ k. slice_at 128 k bytes) size ∙ a.payload_is in
     let addressed_so : address_fault (doc_of bytes) generation place ≡ None = ap (λ x. address_fault x generation place) doc_is ∙ is_addressed doc generation place d.of_generation d.at_place in
-    let kept : payload_fault (kept_of bytes) (payload_of bytes) ≡ None = is_kept (kept_of bytes) (payload_of bytes) (a.fields.1.1.1.1.1.1.1.1.1.1.1.0 ∙ ap sha256 (sym payload_is)) in
+    let kept : payload_fault (kept_digest bytes) (payload_of bytes) ≡ None = is_kept (kept_digest bytes) (payload_of bytes) (a.fields.1.1.1.1.1.1.1.1.1.1.1.0 ∙ ap sha256 (sym payload_is)) in
     let long : nat_lt (length bytes) 128 ≡ false = le-ltb _ _ (omega (arith, d.is_whole)) in
     record {
       faultless = rw (long, passes bytes p, addressed_so, kept) refl;
@@ -285,13 +285,13 @@ pub recorded : (bytes : List ℕ) (generation place : ℕ) (doc : Doc) (payload 
 recorded bytes generation place doc payload d =
     ap digest_of (ap (λ n. take (n + 128) bytes) (again bytes generation place doc payload d).sized ∙ d.is_spelled)
 
-pub is_again : (bytes : List ℕ) (generation place : ℕ) (r : Result DocRef DocFault) → Answers r (first_fault bytes generation place) (doc_of bytes) (payload_of bytes)
-    → (doc : Doc) (payload : List ℕ) → IsDocument bytes generation place doc payload → Answers r None doc payload
+pub is_again : (bytes : List ℕ) (generation place : ℕ) (r : Result DocRef DocFault) → AnswersDocument r (first_fault bytes generation place) (doc_of bytes) (payload_of bytes)
+    → (doc : Doc) (payload : List ℕ) → IsDocument bytes generation place doc payload → AnswersDocument r None doc payload
 is_again bytes generation place r given doc payload d =
     let read = again bytes generation place doc payload d in
-    subst (λ (p : List ℕ). Answers r None doc p) read.payload_read
-    (subst (λ (x : Doc). Answers r None x (payload_of bytes)) read.doc_read
-    (subst (λ (f : Option DocFault). Answers r f (doc_of bytes) (payload_of bytes)) read.faultless given))
+    subst (λ (p : List ℕ). AnswersDocument r None doc p) read.payload_read
+    (subst (λ (x : Doc). AnswersDocument r None x (payload_of bytes)) read.doc_read
+    (subst (λ (f : Option DocFault). AnswersDocument r f (doc_of bytes) (payload_of bytes)) read.faultless given))
 
 -- ---- what stands behind the payload is free
 
@@ -299,7 +299,7 @@ record IsAlike (a b : List ℕ) : Type 0 where
   as_many : length a ≡ length b
   header : header_fault a ≡ header_fault b
   doc : doc_of a ≡ doc_of b
-  kept : kept_of a ≡ kept_of b
+  kept : kept_digest a ≡ kept_digest b
   payload : payload_of a ≡ payload_of b
 
 header_alike : (m : ℕ) (a b : List ℕ) → length a ≡ length b → take (m + 128) a ≡ take (m + 128) b → header_fault a ≡ header_fault b
@@ -335,17 +335,17 @@ alike m a b length_is as_many front =
       header = header_alike m a b as_many front;
       doc = doc_alike m a b front;
       kept = λ i. record { 0 = kept i };
-      payload = ap (λ k. field_at 128 k a) size ∙ (field_in_front (m + 128) 128 m m a b (omega arith) (omega arith) front ∙ ap (λ k. field_at 128 k b) length_is);
+      payload = ap (λ k. slice_at 128 k a) size ∙ (field_in_front (m + 128) 128 m m a b (omega arith) (omega arith) front ∙ ap (λ k. slice_at 128 k b) length_is);
     }
 
 pub reads_alike : (a b : List ℕ) (generation place : ℕ) (r : Result DocRef DocFault) → length a ≡ length b → take (extent_of b) a ≡ take (extent_of b) b
-    → Answers r (first_fault b generation place) (doc_of b) (payload_of b) → Answers r (first_fault a generation place) (doc_of a) (payload_of a)
+    → AnswersDocument r (first_fault b generation place) (doc_of b) (payload_of b) → AnswersDocument r (first_fault a generation place) (doc_of a) (payload_of a)
 reads_alike a b generation place r as_many front given =
     let like = alike (length_of b) a b refl as_many front in
     let faults_alike : first_fault a generation place ≡ first_fault b generation place = rw (like.as_many, like.header, like.doc, like.kept, like.payload) refl in
-    subst (λ (p : List ℕ). Answers r (first_fault a generation place) (doc_of a) p) (sym like.payload)
-    (subst (λ (x : Doc). Answers r (first_fault a generation place) x (payload_of b)) (sym like.doc)
-    (subst (λ (f : Option DocFault). Answers r f (doc_of b) (payload_of b)) (sym faults_alike) given))
+    subst (λ (p : List ℕ). AnswersDocument r (first_fault a generation place) (doc_of a) p) (sym like.payload)
+    (subst (λ (x : Doc). AnswersDocument r (first_fault a generation place) x (payload_of b)) (sym like.doc)
+    (subst (λ (f : Option DocFault). AnswersDocument r f (doc_of b) (payload_of b)) (sym faults_alike) given))
 
 -- ---- what is written is a document
 
@@ -353,7 +353,7 @@ pub written : (bytes : List ℕ) (doc : Doc) (payload : List ℕ) → Fits doc p
     → IsDocument bytes doc.generation doc.place doc payload
 written bytes doc payload fits sized h =
     let header = header_bytes doc payload in
-    let header_wide : length header ≡ 128 = ap length (header_is doc payload) ∙ omega (arith, length-append (field_bytes doc payload) (check_of (field_bytes doc payload)), length-fields doc payload, length-check doc payload) in
+    let header_wide : length header ≡ 128 = ap length (header_is doc payload) ∙ omega (arith, length-append (doc_fields doc payload) (check_of (doc_fields doc payload)), length-fields doc payload, length-check doc payload) in
     let wide : length (header ++ payload) ≡ length payload + 128 = omega (arith, length-append header payload, header_wide) in
     record {
       fits = fits;

@@ -15,8 +15,8 @@ name_bytes doc length =
     ++ to_le_bytes w64 doc.id.put ++ to_le_bytes w32 doc.id.index ++ to_le_bytes w32 (blocks_of length)
 
 -- bytes 0 to 111: all fields before the check of the header
-abbrev pub field_bytes : Doc → List ℕ → List ℕ
-field_bytes doc payload =
+abbrev pub doc_fields : Doc → List ℕ → List ℕ
+doc_fields doc payload =
     name_bytes doc (length payload) ++ to_le_bytes w64 doc.place ++ to_le_bytes w64 doc.generation
     ++ to_le_bytes w64 doc.pin ++ to_le_bytes w64 doc.start ++ sha256 payload
 
@@ -26,7 +26,7 @@ check_of fields = take 16 (sha256 fields)
 
 -- bytes 0 to 127
 unfoldable pub header_bytes : Doc → List ℕ → List ℕ
-header_bytes doc payload = field_bytes doc payload ++ check_of (field_bytes doc payload)
+header_bytes doc payload = doc_fields doc payload ++ check_of (doc_fields doc payload)
 
 -- how many zeros fill the last block
 abbrev pub padding_of : ℕ → ℕ
@@ -47,7 +47,7 @@ pub record HasName (doc : Doc) : Type 0 where
   pub index_fits : doc.id.index < 2 ^ 32
 
 -- the place, the generation, the pin and the start fit fields of eight bytes each
-pub record HasPlace (doc : Doc) : Type 0 where
+pub record NumbersFit (doc : Doc) : Type 0 where
   pub place_fits : doc.place < 2 ^ 64
   pub generation_fits : doc.generation < 2 ^ 64
   pub pin_fits : doc.pin < 2 ^ 64
@@ -56,7 +56,7 @@ pub record HasPlace (doc : Doc) : Type 0 where
 -- a header can spell this document and its payload, whose length has a field of four bytes
 pub record Fits (doc : Doc) (payload : List ℕ) : Type 0 where
   pub name : HasName doc
-  pub position : HasPlace doc
+  pub position : NumbersFit doc
   pub size_fits : length payload < 2 ^ 32
 
 -- the bytes are this document, of this generation and at this place, in as many blocks as it has;

@@ -2,14 +2,14 @@
 ghost use Rattle.std.specs.Prelude.{◌≡◌, ◌+◌, ℕ, List, take};
 ghost use Rattle.doc_header.specs.declared.documents.Doc.{Doc};
 ghost use Rattle.doc_header.specs.Document.{IsDocument, digest_of_document};
-ghost use Rattle.doc_header.specs.Reading.{field_at, extent_of, document_digest};
+ghost use Rattle.doc_header.specs.Reading.{slice_at, extent_of, document_digest};
 
 use crate::fields::{field, number_32};
 use crate::layout::{HEADER, LENGTH_AT};
 use tape_base::Digest;
 
 // The bytes that are looked at.
-#[tactic(auto, using(crate::proofs::Stands::few_bytes), unfolding(crate::specs::Reading::field_at))]
+#[tactic(auto, using(crate::proofs::Stands::few_bytes), unfolding(crate::specs::Reading::slice_at))]
 fn extent(bytes: &[u8]) -> &[u8]
     ensures { result.now ≡ take (extent_of bytes.now) bytes.now }
 {

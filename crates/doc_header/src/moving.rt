@@ -2,7 +2,7 @@
 ghost use Rattle.std.specs.Prelude.{◌≡◌, ◌≤◌, ◌+◌, ◌++◌, ℕ, List, length, take, drop};
 ghost use Rattle.doc_header.specs.declared.documents.Doc.{Doc};
 ghost use Rattle.doc_header.specs.Document.{check_of, IsDocument};
-ghost use Rattle.doc_header.specs.Moving.{moved_to, doc_at, MovesKeep, MovedIsSpelled, MovedIsRecorded, MovedIsSame, MovedAlike};
+ghost use Rattle.doc_header.specs.Moving.{moved_to, doc_moved_to, MovesKeep, MovedIsSpelled, MovedIsRecorded, MovedIsSame, MovedAlike};
 
 use crate::layout::{CHECK_AT, PLACE_AT};
 use sha2::{Digest as _, Sha256};
@@ -37,7 +37,7 @@ pub fn move_document(bytes: &mut [u8], place: u64)
     // What was read at one place is read at the other.
     ensures document { (generation before : ℕ) (doc : Doc) (payload : List ℕ)
         → IsDocument bytes.old generation before doc payload
-        → IsDocument bytes.new generation place (doc_at place doc) payload }
+        → IsDocument bytes.new generation place (doc_moved_to place doc) payload }
 {
     replace(bytes, PLACE_AT, &place.to_le_bytes());
     check_anew(bytes);

@@ -2,7 +2,7 @@
 ghost use Rattle.std.specs.Prelude.{◌≡◌, ◌≤◌, ◌<◌, ◌+◌, ◌*◌, ℕ, List, None, length, take, IsTrue, IfOk, IfNone};
 ghost use Rattle.tape_base.specs.Key.{key_bytes, key_of_bytes};
 ghost use Rattle.tape_base.specs.Blocks.{blocks_of};
-ghost use Rattle.doc_header.specs.Reading.{field_at, extent_of, doc_of, payload_of, has_blocks, header_fault, address_fault, payload_fault, first_fault, Answers};
+ghost use Rattle.doc_header.specs.Reading.{slice_at, extent_of, doc_of, payload_of, has_blocks, header_fault, address_fault, payload_fault, first_fault, AnswersDocument};
 ghost use Rattle.std.specs.Str.{bytes_eq};
 ghost use Rattle.doc_header.specs.Document.{check_of, IsDocument};
 ghost use Rattle.doc_header.specs.declared.documents.Doc.{Doc};
@@ -34,7 +34,7 @@ fn has_blocks(bytes: &[u8]) -> bool
 
 fn has_check(bytes: &[u8]) -> bool
     requires { 128 ≤ length bytes.now }
-    ensures { result ≡ bytes_eq (field_at 112 16 bytes.now) (check_of (field_at 0 112 bytes.now)) }
+    ensures { result ≡ bytes_eq (slice_at 112 16 bytes.now) (check_of (slice_at 0 112 bytes.now)) }
 {
     let check = Sha256::digest(field(bytes, 0, CHECK_AT));
     field(bytes, CHECK_AT, 16) == &check[..16]
@@ -64,7 +64,7 @@ fn header_fault(bytes: &[u8]) -> Option<DocFault>
 fn doc_of(bytes: &[u8]) -> Doc
     requires { 128 ≤ length bytes.now }
     ensures doc { result ≡ doc_of bytes.now }
-    ensures key { key_bytes result.id.first ≡ field_at 16 16 bytes.now }
+    ensures key { key_bytes result.id.first ≡ slice_at 16 16 bytes.now }
 {
     let id = PieceId {
         first: Key::new(array(bytes, KEY_AT)),
@@ -108,10 +108,10 @@ fn payload_fault(kept: Digest, payload: &[u8]) -> Option<DocFault>
 }
 
 fn read<'a>(bytes: &'a [u8], generation: u64, place: u64) -> Result<DocRef<'a>, DocFault>
-    ensures exact { Answers result (first_fault bytes.now generation place)
+    ensures exact { AnswersDocument result (first_fault bytes.now generation place)
         (doc_of bytes.now) (payload_of bytes.now) }
     ensures key { IfOk result (λ _.
-        key_bytes (key_of_bytes (field_at 16 16 bytes.now)) ≡ field_at 16 16 bytes.now) }
+        key_bytes (key_of_bytes (slice_at 16 16 bytes.now)) ≡ slice_at 16 16 bytes.now) }
 {
     if bytes.len() < HEADER {
         return Err(DocFault::Short);
@@ -133,25 +133,27 @@ fn read<'a>(bytes: &'a [u8], generation: u64, place: u64) -> Result<DocRef<'a>, 
 /// Reads the document of this generation at this place at the front of the bytes, whose payload is
 /// lent. The bytes behind the payload are not looked at.
 pub fn read_doc<'a>(bytes: &'a [u8], generation: u64, place: u64) -> Result<DocRef<'a>, DocFault>
-    ensures exact { Answers result (first_fault bytes.now generation place)
+    ensures exact { AnswersDocument result (first_fault bytes.now generation place)
         (doc_of bytes.now) (payload_of bytes.now) }
     // What is read is spelled so.
     ensures found { IfOk result (λ read.
         IsDocument bytes.now generation place read.doc read.payload.now) }
     // What is spelled so is read.
     ensures only { (doc : Doc) (payload : List ℕ)
-        → IsDocument bytes.now generation place doc payload → Answers result None doc payload }
+        → IsDocument bytes.now generation place doc payload
+        → AnswersDocument result None doc payload }
     // The answer is that for as many bytes with others behind the payload.
     ensures behind { (other : List ℕ) → length other ≡ length bytes.now
         → take (extent_of bytes.now) other ≡ take (extent_of bytes.now) bytes.now
-        → Answers result (first_fault other generation place) (doc_of other) (payload_of other) }
+        → AnswersDocument result (first_fault other generation place) (doc_of other)
+        (payload_of other) }
 {
     read(bytes, generation, place)
 }
 
 /// The payload that bytes tell, as much of it as they have. It does not ask whether they are a
 /// document.
-#[tactic(auto, using(crate::proofs::Stands::few_bytes), unfolding(crate::specs::Reading::field_at))]
+#[tactic(auto, using(crate::proofs::Stands::few_bytes), unfolding(crate::specs::Reading::slice_at))]
 pub fn payload(bytes: &[u8]) -> &[u8]
     requires { 128 ≤ length bytes.now }
     ensures { result.now ≡ payload_of bytes.now }

@@ -3,7 +3,7 @@ ghost use Rattle.std.specs.Prelude.{◌≡◌, ◌≤◌, ◌<◌, ◌^◌, ◌+
 ghost use Rattle.std.specs.Int.{to_le_bytes, w64};
 ghost use Rattle.tape_base.specs.Blocks.{blocks_of};
 ghost use Rattle.tape_base.specs.Digest.{digest_of};
-ghost use Rattle.doc_header.specs.Document.{name_bytes, header_bytes, document_bytes, check_of, HasName, HasPlace, Fits, IsDocument};
+ghost use Rattle.doc_header.specs.Document.{name_bytes, header_bytes, document_bytes, check_of, HasName, NumbersFit, Fits, IsDocument};
 
 use crate::documents::Doc;
 use crate::layout::{BLOCK, MAGIC, VERSION};
@@ -54,7 +54,7 @@ fn put_place(into: &mut [u8], at: usize, doc: &Doc) -> usize
     ensures front { take result into.new ≡ take at into.old
         ++ to_le_bytes w64 doc.now.place ++ to_le_bytes w64 doc.now.generation
         ++ to_le_bytes w64 doc.now.pin ++ to_le_bytes w64 doc.now.start }
-    ensures position { HasPlace doc.now }
+    ensures position { NumbersFit doc.now }
     ensures len { length into.new ≡ length into.old }
 {
     let at = put(into, at, &doc.place.to_le_bytes());

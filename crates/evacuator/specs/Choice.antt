@@ -7,10 +7,10 @@ abbrev pub blocks_of_all : List Candidate → List ℕ
 blocks_of_all candidates = map (λ c. c.blocks) candidates
 
 -- no candidate has a lower place than the one before it
-abbrev pub AreRising : List Candidate → Type 0
-AreRising [] = Unit {0}
-AreRising (c ∷ []) = Unit {0}
-AreRising (c ∷ d ∷ rest) = (c.place ≤ d.place) × AreRising (d ∷ rest)
+abbrev pub CandidatesRise : List Candidate → Type 0
+CandidatesRise [] = Unit {0}
+CandidatesRise (c ∷ []) = Unit {0}
+CandidatesRise (c ∷ d ∷ rest) = (c.place ≤ d.place) × CandidatesRise (d ∷ rest)
 
 -- the sum of the blocks that are marked as kept
 abbrev pub kept_blocks : List ℕ → List Bool → ℕ

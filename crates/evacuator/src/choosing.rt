@@ -1,6 +1,6 @@
 // The choice among the candidates.
 ghost use Rattle.std.specs.Prelude.{◌≡◌, length};
-ghost use Rattle.evacuator.specs.Choice.{AreRising, IsChoice, blocks_of_all, kept_within};
+ghost use Rattle.evacuator.specs.Choice.{CandidatesRise, IsChoice, blocks_of_all, kept_within};
 
 use tape_base::PieceId;
 
@@ -14,7 +14,7 @@ pub struct Candidate {
 
 /// Walks the candidates in rising place, and marks in `kept` those that the budget of blocks keeps.
 pub fn choose(candidates: &[Candidate], budget: u32, kept: &mut [bool])
-    requires rising { AreRising candidates.now }
+    requires rising { CandidatesRise candidates.now }
     requires sized { length kept.old ≡ length candidates.now }
     ensures choice { IsChoice budget (blocks_of_all candidates.now) kept.new }
     ensures walk { kept.new ≡ kept_within budget (blocks_of_all candidates.now) }

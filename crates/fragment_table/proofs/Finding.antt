@@ -6,7 +6,7 @@ use Rattle.std.specs.List.Sorted.{IsPartitionedBy}
 use Rattle.std.proofs.lemmas.Bool.{ltb-false, le-ltb, lt-ltb, leb-true, leb-false, le-leb}
 use Rattle.fragment_table.specs.declared.table.Row.{Row}
 use Rattle.fragment_table.specs.Table.{TableRow, total_length, fragment_at, next_fragment}
-use Rattle.fragment_table.specs.Kept.{row_of, rows_of, EndsFrom}
+use Rattle.fragment_table.specs.Kept.{table_row_of, table_rows_of, EndsFrom}
 use Rattle.fragment_table.proofs.Ends.{total-cons}
 
 above_start : (start : ℕ) (rows : List Row) (k : ℕ) (d : Row) → EndsFrom start rows → k < length rows → start ≤ (get_or rows k d).end
@@ -35,7 +35,7 @@ ends_parted rows offset ends i j d le lt h =
 
 -- where i fragments end by the offset and the next one does not, that one has it
 pub found_at : (start : ℕ) (rows : List Row) (i offset : ℕ) (d : Row) → EndsFrom start rows → start ≤ offset → ((k : ℕ) → k < i → (get_or rows k d).end ≤ offset) → i < length rows → offset < (get_or rows i d).end
-    → (start + total_length (rows_of (take i rows)) ≤ offset) × (fragment_at (rows_of rows) (offset - start) ≡ Some (i + 1, offset - (start + total_length (rows_of (take i rows)))))
+    → (start + total_length (table_rows_of (take i rows)) ≤ offset) × (fragment_at (table_rows_of rows) (offset - start) ≡ Some (i + 1, offset - (start + total_length (table_rows_of (take i rows)))))
 found_at start [] i offset d ends le before lt at = absurd (omega (arith, lt))
 found_at start (x ∷ xs) zero offset d ends le before lt at =
     let short : ltb (offset - start) x.length ≡ true = lt-ltb _ _ (omega (arith, ends.0, le, at)) in
@@ -44,15 +44,15 @@ found_at start (x ∷ xs) (suc i) offset d ends le before lt at =
     let past : x.end ≤ offset = before 0 (omega arith) in
     let long : ltb (offset - start) x.length ≡ false = le-ltb _ _ (omega (arith, ends.0, past)) in
     let rest = found_at x.end xs i offset d ends.1 past (λ k l. before (suc k) (omega (arith, l))) (omega (arith, lt)) at in
-    let whole = total-cons (row_of x) (rows_of (take i xs)) in
+    let whole = total-cons (table_row_of x) (table_rows_of (take i xs)) in
     let same : offset - start - x.length ≡ offset - x.end = omega (arith, ends.0) in
-    let shifted : offset - (x.end + total_length (rows_of (take i xs))) ≡ offset - (start + total_length (rows_of (take (suc i) (x ∷ xs)))) = omega (arith, ends.0, whole) in (
+    let shifted : offset - (x.end + total_length (table_rows_of (take i xs))) ≡ offset - (start + total_length (table_rows_of (take (suc i) (x ∷ xs)))) = omega (arith, ends.0, whole) in (
       omega (arith, ends.0, whole, rest.0),
-      rw (long, same, rest.1) (ap (λ (n : ℕ). Some (i + 1 + 1, n)) shifted ∙ ap (λ (n : ℕ). Some (n, offset - (start + total_length (rows_of (take (suc i) (x ∷ xs)))))) (omega arith)),
+      rw (long, same, rest.1) (ap (λ (n : ℕ). Some (i + 1 + 1, n)) shifted ∙ ap (λ (n : ℕ). Some (n, offset - (start + total_length (table_rows_of (take (suc i) (x ∷ xs)))))) (omega arith)),
     )
 
 -- where all fragments end by the offset, none has it
-pub found_none : (start : ℕ) (rows : List Row) (offset : ℕ) (d : Row) → EndsFrom start rows → start ≤ offset → ((k : ℕ) → k < length rows → (get_or rows k d).end ≤ offset) → fragment_at (rows_of rows) (offset - start) ≡ None
+pub found_none : (start : ℕ) (rows : List Row) (offset : ℕ) (d : Row) → EndsFrom start rows → start ≤ offset → ((k : ℕ) → k < length rows → (get_or rows k d).end ≤ offset) → fragment_at (table_rows_of rows) (offset - start) ≡ None
 found_none start [] offset d ends le all = refl
 found_none start (x ∷ xs) offset d ends le all =
     let past : x.end ≤ offset = all 0 (omega arith) in
@@ -97,14 +97,17 @@ some_row = record { length = 0; digest = []; end = 0 }
 abbrev pub IsPoint : List Row → ℕ → ℕ → Type 0
 IsPoint rows offset i = AllWithin (λ row. ends_by offset row ≡ true) rows 0 i × AllWithin (λ row. ends_by offset row ≡ false) rows i (length rows)
 
-pub point_none : (rows : List Row) (offset i : ℕ) → EndsFrom 0 rows → IsPoint rows offset i → i ≡ length rows → fragment_at (rows_of rows) offset ≡ None
+pub point_none : (rows : List Row) (offset i : ℕ) → EndsFrom 0 rows → IsPoint rows offset i → i ≡ length rows → fragment_at (table_rows_of rows) offset ≡ None
 point_none rows offset i ends point all =
     let none = found_none 0 rows offset some_row ends (omega arith) (λ k l. leb-true _ _ (point.0 k some_row (omega arith) (omega (arith, l, all)))) in
-    ap (fragment_at (rows_of rows)) (sub-zero offset) ∙ none
+    ap (fragment_at (table_rows_of rows)) (sub-zero offset) ∙ none
 
 pub point_found : (rows : List Row) (offset i : ℕ) → EndsFrom 0 rows → IsPoint rows offset i → i < length rows
-    → (total_length (rows_of (take i rows)) ≤ offset) × (fragment_at (rows_of rows) offset ≡ Some (i + 1, offset - total_length (rows_of (take i rows))))
+    → (total_length (table_rows_of (take i rows)) ≤ offset) × (fragment_at (table_rows_of rows) offset ≡ Some (i + 1, offset - total_length (table_rows_of (take i rows))))
 point_found rows offset i ends point lt =
     let found = found_at 0 rows i offset some_row ends (omega arith) (λ k l. leb-true _ _ (point.0 k some_row (omega arith) l)) lt (leb-false _ _ (point.1 i some_row (omega arith) lt)) in
-    let same : 0 + total_length (rows_of (take i rows)) ≡ total_length (rows_of (take i rows)) = omega arith in
-    (omega (arith, found.0), ap (fragment_at (rows_of rows)) (sub-zero offset) ∙ found.1 ∙ ap (λ (n : ℕ). Some (i + 1, offset - n)) same)
+    let same : 0 + total_length (table_rows_of (take i rows)) ≡ total_length (table_rows_of (take i rows)) = omega arith in (
+      omega (arith, found.0),
+      ap (fragment_at (table_rows_of rows)) (sub-zero offset) ∙ found.1
+          ∙ ap (λ (n : ℕ). Some (i + 1, offset - n)) same,
+    )

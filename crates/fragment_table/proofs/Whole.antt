@@ -9,7 +9,7 @@ use Rattle.std.proofs.lemmas.Nat.{from_le_bytes-to_le_bytes_4}
 use Rattle.fragment_table.specs.declared.fault.TableFault.{TableFault}
 use Rattle.fragment_table.specs.declared.fault.TableFault.TheVariants.{Short, Count, Sum}
 use Rattle.fragment_table.specs.Table.{TableRow, Table, AreRows, row_bytes, table_bytes, total_length}
-use Rattle.fragment_table.specs.Reading.{Gives, HasSum, IsReadFrom, has_sum, is_cut, none_empty, read_table, rows_at, told_count, told_length, told_rows}
+use Rattle.fragment_table.specs.Reading.{Gives, HasSum, IsReadFrom, has_sum, is_cut, none_empty, read_table, rows_in_bytes, told_count, told_length, told_rows}
 use Rattle.hex.specs.Hex.{IsBytes}
 use Rattle.tape_base.proofs.Bytes.{IsBytes-drop}
 use Rattle.fragment_table.proofs.Rows.{four_back, rows_read, length-rows, rows_again, none_empty_rows}
@@ -117,7 +117,7 @@ table_again rows rest valid =
     let four : ltb (length bytes) 4 ≡ false = le-ltb _ _ (omega (arith, long)) in
     let whole : ltb (length bytes) (told_length bytes) ≡ false = le-ltb _ _ (omega (arith, long, count)) in
     let few : ltb 4096 (told_count bytes) ≡ false = le-ltb _ _ (omega (arith, count, valid.few)) in
-    let again : told_rows bytes ≡ rows = ap (λ (n : ℕ). rows_at n (flat_map row_bytes rows ++ rest)) count ∙ rows_again rows rest valid.each in
+    let again : told_rows bytes ≡ rows = ap (λ (n : ℕ). rows_in_bytes n (flat_map row_bytes rows ++ rest)) count ∙ rows_again rows rest valid.each in
     let full : none_empty rows ≡ true = none_empty_rows rows valid.each in
     let same : eqb (total_length rows) (total_length rows) ≡ true = eq-eqb _ _ refl in
     let sum : has_sum (total_length rows) (told_rows bytes) ≡ true = ap (has_sum (total_length rows)) again ∙ ap (λ (b : Bool). b && eqb (total_length rows) (total_length rows)) full ∙ same in

@@ -5,16 +5,16 @@ use Rattle.fragment_table.specs.declared.table.Row.{Row}
 use Rattle.fragment_table.specs.Table.{TableRow, Table, AreRows}
 
 -- a row without its end
-abbrev pub row_of : Row → TableRow
-row_of row = record { length = row.length; digest = row.digest }
+abbrev pub table_row_of : Row → TableRow
+table_row_of row = record { length = row.length; digest = row.digest }
 
 -- the rows as contracts see them, in the order of the fragments
-abbrev pub rows_of : List Row → List TableRow
-rows_of rows = map row_of rows
+abbrev pub table_rows_of : List Row → List TableRow
+table_rows_of rows = map table_row_of rows
 
 -- the table that contracts see; its room is the capacity that no row takes
 abbrev pub kept_table : Vec Row → Table
-kept_table rows = record { rows = rows_of rows.items; room = vec_capacity rows - vec_len rows }
+kept_table rows = record { rows = table_rows_of rows.items; room = vec_capacity rows - vec_len rows }
 
 -- each fragment ends so many bytes behind the one before
 abbrev pub EndsFrom : ℕ → List Row → Type 0
@@ -23,5 +23,5 @@ EndsFrom start (row ∷ rows) = (row.end ≡ start + row.length) × EndsFrom row
 
 -- the rows are those of some table, and each end is the sum of the lengths up to it
 pub record AreKept (rows : List Row) : Type 0 where
-  pub valid : AreRows (rows_of rows)
+  pub valid : AreRows (table_rows_of rows)
   pub ends : EndsFrom 0 rows

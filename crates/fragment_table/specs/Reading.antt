@@ -11,17 +11,17 @@ abbrev pub told_count : List ℕ → ℕ
 told_count bytes = from_le_bytes w32 (take 4 bytes)
 
 -- the row that the first 36 bytes tell: four of its length, low byte first, and the digest
-abbrev pub row_at : List ℕ → TableRow
-row_at bytes = record { length = from_le_bytes w32 (take 4 bytes); digest = take 32 (drop 4 bytes) }
+abbrev pub row_in_bytes : List ℕ → TableRow
+row_in_bytes bytes = record { length = from_le_bytes w32 (take 4 bytes); digest = take 32 (drop 4 bytes) }
 
 -- so many rows from the front
-abbrev pub rows_at : ℕ → List ℕ → List TableRow
-rows_at zero bytes = []
-rows_at (suc n) bytes = row_at bytes ∷ rows_at n (drop 36 bytes)
+abbrev pub rows_in_bytes : ℕ → List ℕ → List TableRow
+rows_in_bytes zero bytes = []
+rows_in_bytes (suc n) bytes = row_in_bytes bytes ∷ rows_in_bytes n (drop 36 bytes)
 
 -- the rows that the bytes tell
 abbrev pub told_rows : List ℕ → List TableRow
-told_rows bytes = rows_at (told_count bytes) (drop 4 bytes)
+told_rows bytes = rows_in_bytes (told_count bytes) (drop 4 bytes)
 
 -- how many bytes they take
 abbrev pub told_length : List ℕ → ℕ

@@ -1,7 +1,7 @@
 // A table from bytes.
 
 ghost use Rattle.std.specs.Prelude.{◌≡◌, ◌*◌, ◌≤◌, length, drop};
-ghost use Rattle.fragment_table.specs.Reading.{Gives, RowsGive, read_table, row_at, rows_at};
+ghost use Rattle.fragment_table.specs.Reading.{Gives, RowsGive, read_table, row_in_bytes, rows_in_bytes};
 ghost use Rattle.fragment_table.specs.Table.{made_row};
 
 use crate::fault::TableFault;
@@ -36,7 +36,7 @@ pub(crate) fn read(
 fn read_rows(alloc: Global, count: usize, bytes: &[u8]) -> Result<FragTable, TableFault>
     requires few { count ≤ 4096 }
     requires long { 36 * count ≤ length bytes.now }
-    ensures { RowsGive result (rows_at count bytes.now) }
+    ensures { RowsGive result (rows_in_bytes count bytes.now) }
 {
     let mut table = FragTable::new(alloc);
     table.reserve(count)?;
@@ -54,7 +54,7 @@ fn read_rows(alloc: Global, count: usize, bytes: &[u8]) -> Result<FragTable, Tab
 
 fn read_row(bytes: &[u8]) -> (u32, [u8; 32], &[u8])
     requires { 36 ≤ length bytes.now }
-    ensures row { made_row result.0 result.1 ≡ row_at bytes.now }
+    ensures row { made_row result.0 result.1 ≡ row_in_bytes bytes.now }
     ensures rest { result.2.now ≡ drop 36 bytes.now }
 {
     let (length, rest) = bytes.split_first_chunk::<4>().unwrap();

@@ -1,7 +1,7 @@
 // A table, with the end of each fragment beside its row.
 
 ghost use Rattle.std.specs.Prelude.{◌≡◌, ℕ, ◌+◌, ◌-◌, ◌*◌, ◌^◌, ◌<◌, ◌≤◌, ◌↔◌, List, IsTrue, [], ◌∷◌, ◌++◌, length, slice_get, IsOk, IsNone, OnOk, OnErr, IfOk, Ok};
-ghost use Rattle.fragment_table.specs.Kept.{AreKept, EndsFrom, row_of, rows_of};
+ghost use Rattle.fragment_table.specs.Kept.{AreKept, EndsFrom, table_row_of, table_rows_of};
 ghost use Rattle.fragment_table.specs.Reading.{Gives, HasSum, IsReadFrom, is_cut, read_table, told_count, told_rows};
 ghost use Rattle.fragment_table.specs.Table.{TableRow, IsRow, AreRows, CanGrow, fragment_at, table_bytes, total_length, made_row};
 
@@ -26,8 +26,8 @@ impl Row {
     fn behind(start: u64, length: u32, digest: [u8; 32]) -> Row
         requires some { 0 < length }
         requires fits { start + length < 2 ^ 64 }
-        ensures row { row_of result ≡ made_row length digest }
-        ensures valid { IsRow (row_of result) }
+        ensures row { table_row_of result ≡ made_row length digest }
+        ensures valid { IsRow (table_row_of result) }
         ensures end { result.end ≡ start + result.length }
     {
         Row {
@@ -160,7 +160,7 @@ impl FragTable {
 // Where the last fragment ends.
 fn end_of(rows: &[Row]) -> u64
     requires { EndsFrom 0 rows.now }
-    ensures { result ≡ total_length (rows_of rows.now) }
+    ensures { result ≡ total_length (table_rows_of rows.now) }
 {
     match rows.last() {
         Some(row) => row.end,
@@ -170,7 +170,7 @@ fn end_of(rows: &[Row]) -> u64
 
 fn find_fragment(rows: &[Row], offset: u64) -> Option<(u32, u64)>
     requires { AreKept rows.now }
-    ensures { result ≡ fragment_at (rows_of rows.now) offset }
+    ensures { result ≡ fragment_at (table_rows_of rows.now) offset }
 {
     let before = rows.partition_point(|row| row.end <= offset);
     if before == rows.len() {
@@ -181,7 +181,8 @@ fn find_fragment(rows: &[Row], offset: u64) -> Option<(u32, u64)>
 
 fn write_rows(rows: &[Row], into: &mut Vec<u8>) -> Result<(), AllocError>
     requires { length rows.now ≤ 4096 }
-    ensures ok { OnOk result (into.new.items ≡ into.old.items ++ table_bytes (rows_of rows.now)) }
+    ensures ok { OnOk result
+        (into.new.items ≡ into.old.items ++ table_bytes (table_rows_of rows.now)) }
     ensures err { OnErr result (into.new.items ≡ into.old.items) }
 {
     into.reserve(COUNT_BYTES + ROW_BYTES * rows.len())?;

@@ -3,7 +3,7 @@ use Rattle.std.proofs.Common.{ℕ, List, [], ◌∷◌, refl, sym, ◌∙◌, su
 use Rattle.std.specs.Prelude.{◌≢◌}
 use Rattle.script_run.specs.Run.{Run, fresh}
 use Rattle.script_run.specs.Takes.{run_after}
-use Rattle.run_promise.specs.Outline.{Outline, blank}
+use Rattle.run_promise.specs.Outline.{Outline, blank_outline}
 use Rattle.run_promise.specs.Lines.{answers_of, outline_of}
 use Rattle.run_promise.specs.declared.status.Status.{Status}
 use Rattle.run_promise.specs.declared.status.Status.TheVariants as status
@@ -19,7 +19,7 @@ module _ (l : RunLogs) (s : Status) (held : List ℕ) (given : ℕ) (Text : (bef
     (back : (t : Told) → Devices t → ComeBackFrom l (all_in t)) (story : Story l.first l.read held given Text Devices Behind Known) (alone : (t : Told) → Devices t → CameBackBy l s story.lines held t)
     (sent : WentOutBy l s story.lines held story.answers) (ends : EndsHere l story.lines held s) where
   may_be_taken_all : AreTakeable 0 story.lines
-  may_be_taken_all = takeable blank 0 story.lines story.answers refl story.outline.each
+  may_be_taken_all = takeable blank_outline 0 story.lines story.answers refl story.outline.each
 
   by_records : Recorded story.lines story.answers Devices Known → (a : Account l) × IsAccountOf l s a
   by_records r = (
@@ -87,7 +87,7 @@ module _ (l : RunLogs) where
       record {
         why = e.why;
         is = e.said;
-        because = subst (λ n. Because l.bay e.upto.held n (outline_of blank story.lines story.answers) e.why) story.counted story.outline.behind;
+        because = subst (λ n. Because l.bay e.upto.held n (outline_of blank_outline story.lines story.answers) e.why) story.counted story.outline.behind;
         out = story.text;
       }
 

@@ -25,8 +25,8 @@ use Rattle.script_lang.specs.declared.answer.Refused.TheVariants as refused
 use Rattle.script_lang.specs.declared.answer.StepAnswer.{StepAnswer}
 use Rattle.script_lang.specs.declared.answer.StepAnswer.TheVariants as answer
 use Rattle.script_lang.specs.Grammar.{reading_of}
-use Rattle.script_run.specs.Run.{Holding, Run, fresh, gathered_of, held_by, reader_by, writer_of}
-use Rattle.script_run.specs.Asked.{asked, body_intents, close_intents, closing, cut_intents, feed_intents, feeding, if_free, if_has, put_intents, rest_behind, whole_fragments}
+use Rattle.script_run.specs.Run.{Holding, Run, fresh, gathered_of, held_by, put_written_by, reader_by}
+use Rattle.script_run.specs.Asked.{asked, asks_if_free, asks_if_has, body_intents, close_intents, closing, cut_intents, feed_intents, feeding, put_intents, rest_behind, whole_fragments}
 use Rattle.script_run.specs.Turn.{Turn}
 use Rattle.script_run.specs.Answers.{cause_of_lost, feed_said, if_has as has_said, put_said, refusal_said, remove_said, said, session_said, took_of}
 use Rattle.script_run.specs.Behind.{after_line}
@@ -195,11 +195,12 @@ writers_remove_none put = record { fragment = λ index payload. tt; overflow = t
 closes_remove_none : (put : ℕ) → OfClose IsNoRemove put
 closes_remove_none put = record { fragment = λ index payload. tt; weigh = λ rest. tt; finish = λ fragments. tt; commit = tt }
 
-free_none : (o : Option Holding) (i : Intent) → IsNoRemove i → AllByRecursion IsNoRemove (if_free o (i ∷ []))
+free_none : (o : Option Holding) (i : Intent) → IsNoRemove i → AllByRecursion IsNoRemove (asks_if_free o (i ∷ []))
 free_none None i h = (h, tt)
 free_none (Some holding) i h = tt
 
-has_none : (o : Option ℕ) (is : ℕ → List Intent) → ((n : ℕ) → AllByRecursion IsNoRemove (is n)) → AllByRecursion IsNoRemove (if_has o is)
+has_none : (o : Option ℕ) (is : ℕ → List Intent) → ((n : ℕ) → AllByRecursion IsNoRemove (is n))
+    → AllByRecursion IsNoRemove (asks_if_has o is)
 has_none None is h = tt
 has_none (Some n) is h = h n
 
@@ -226,11 +227,11 @@ asks_none run s (step.Put key body request response) =
 asks_none run s (step.Get key request) = inr (tt, (tt, (tt, tt)))
 asks_none run s (step.OpenWrite actor key pin request response) = inr (free_none (held_by run actor) (Write _ key request response pin) tt)
 asks_none run s (step.Feed actor body) =
-    inr (has_none (writer_of run actor) (feeding run s body) (λ n. fed_none (run.streams n).sealed _
+    inr (has_none (put_written_by run actor) (feeding run s body) (λ n. fed_none (run.streams n).sealed _
     (cuts_of_writer IsNoRemove n (length (gathered_of run s n ++ body)) s.geometry.fragment (length (cuts_of s n)) (gathered_of run s n ++ body) (writers_remove_none n))))
 asks_none run s (step.Close actor) =
-    inr (has_none (writer_of run actor) (closing run s) (λ n. all_of_close IsNoRemove n (length (cuts_of s n)) (gathered_of run s n) (closes_remove_none n)))
-asks_none run s (step.Abort actor) = inr (has_none (writer_of run actor) _ (λ n. (tt, tt)))
+    inr (has_none (put_written_by run actor) (closing run s) (λ n. all_of_close IsNoRemove n (length (cuts_of s n)) (gathered_of run s n) (closes_remove_none n)))
+asks_none run s (step.Abort actor) = inr (has_none (put_written_by run actor) _ (λ n. (tt, tt)))
 asks_none run s (step.OpenRead actor key request) = inr (free_none (held_by run actor) (Look _ key request) tt)
 asks_none run s (step.Next actor) = inr (has_none (reader_by run actor) _ (λ n. (tt, tt)))
 asks_none run s (step.Done actor) = inr (has_none (reader_by run actor) _ (λ n. (tt, tt)))
@@ -372,10 +373,10 @@ module _ (run : Run) (s : State) (turn : Turn) (none : (w : PutRow) → put_of s
   data Puts : Step → StepAnswer → Type 0 where
     whole : (key : Key) (body : List ℕ) (request response : List Field) → Told s.next_put (λ k. k ≡ key) Yes Yes Yes T turn.refused told
         → Puts (step.Put key body request response) (said T None turn.refused (put_said T s.next_put))
-    feeds : (name body : List ℕ) (n : ℕ) → writer_of run name ≡ Some n → Told n (IsOfKey s n) Yes ⊥ ⊥ T turn.refused told
+    feeds : (name body : List ℕ) (n : ℕ) → put_written_by run name ≡ Some n → Told n (IsOfKey s n) Yes ⊥ ⊥ T turn.refused told
         → Puts (step.Feed name body) (said T (Some (took_of run T n)) turn.refused (answer.Took (length body)))
-    closes : (name : List ℕ) (n : ℕ) → writer_of run name ≡ Some n → Told n (IsOfKey s n) ⊥ Yes ⊥ T turn.refused told → Puts (step.Close name) (said T None turn.refused (put_said T n))
-    aborts : (name : List ℕ) (n : ℕ) → writer_of run name ≡ Some n → IsGivenUp n (IsOfKey s n) ⊥ ⊥ Yes told → Puts (step.Abort name) (answer.Aborted n)
+    closes : (name : List ℕ) (n : ℕ) → put_written_by run name ≡ Some n → Told n (IsOfKey s n) ⊥ Yes ⊥ T turn.refused told → Puts (step.Close name) (said T None turn.refused (put_said T n))
+    aborts : (name : List ℕ) (n : ℕ) → put_written_by run name ≡ Some n → IsGivenUp n (IsOfKey s n) ⊥ ⊥ Yes told → Puts (step.Abort name) (answer.Aborted n)
 
   nothing_asked : IsStep turn.device s [] turn.added turn.refused → ⊥
   nothing_asked legal = subst (IsAmong told) (none_left turn.device s None turn.added _ legal.grows).0 among
@@ -383,15 +384,15 @@ module _ (run : Run) (s : State) (turn : Turn) (none : (w : PutRow) → put_of s
   idle_asked : (is : List Intent) → AllByRecursion IsIdle is → IsStep turn.device s is turn.added turn.refused → ⊥
   idle_asked is idle legal = ends_clash told ends (is_among EndsNone told turn.added (all_told IsIdle EndsNone idle_ends idle legal.grows) among)
 
-  free_idle : (o : Option Holding) (i : Intent) → IsIdle i → IsStep turn.device s (if_free o (i ∷ [])) turn.added turn.refused → ⊥
+  free_idle : (o : Option Holding) (i : Intent) → IsIdle i → IsStep turn.device s (asks_if_free o (i ∷ [])) turn.added turn.refused → ⊥
   free_idle None i idle legal = idle_asked (i ∷ []) (idle, tt) legal
   free_idle (Some holding) i idle legal = nothing_asked legal
 
-  has_idle : (o : Option ℕ) (i : ℕ → Intent) → ((n : ℕ) → IsIdle (i n)) → IsStep turn.device s (if_has o (λ n. i n ∷ [])) turn.added turn.refused → ⊥
+  has_idle : (o : Option ℕ) (i : ℕ → Intent) → ((n : ℕ) → IsIdle (i n)) → IsStep turn.device s (asks_if_has o (λ n. i n ∷ [])) turn.added turn.refused → ⊥
   has_idle None i idle legal = nothing_asked legal
   has_idle (Some n) i idle legal = idle_asked (i n ∷ []) (idle n, tt) legal
 
-  fed : (name body : List ℕ) (n : ℕ) (b : Bool) → writer_of run name ≡ Some n
+  fed : (name body : List ℕ) (n : ℕ) (b : Bool) → put_written_by run name ≡ Some n
       → IsStep turn.device s (if b then [] else feed_intents s.geometry.fragment n (length (cuts_of s n)) (gathered_of run s n ++ body)) turn.added turn.refused
       → Puts (step.Feed name body) (if b then answer.Refused refused.Sealed (Some 0) else said T (Some (took_of run T n)) turn.refused (answer.Took (length body)))
   fed name body n true writes legal = absurd (nothing_asked legal)
@@ -402,12 +403,12 @@ module _ (run : Run) (s : State) (turn : Turn) (none : (w : PutRow) → put_of s
       subst (Asks n (IsOfKey s n) Yes ⊥ ⊥) (append-nil is) (cuts_asked n (IsOfKey s n) Yes ⊥ ⊥ (length bytes) s.geometry.fragment (length (cuts_of s n)) bytes [] tt tt) in
       feeds name body n writes (is_among (Told n (IsOfKey s n) Yes ⊥ ⊥ T turn.refused) told turn.added (course n (IsOfKey s n) Yes ⊥ ⊥ all (λ w found. (w, found, refl)) legal.grows) among)
 
-  feed_by : (name body : List ℕ) (o : Option ℕ) → writer_of run name ≡ o → IsStep turn.device s (if_has o (feeding run s body)) turn.added turn.refused
+  feed_by : (name body : List ℕ) (o : Option ℕ) → put_written_by run name ≡ o → IsStep turn.device s (asks_if_has o (feeding run s body)) turn.added turn.refused
       → Puts (step.Feed name body) (has_said o (feed_said run T body turn.refused))
   feed_by name body None writes legal = absurd (nothing_asked legal)
   feed_by name body (Some n) writes legal = fed name body n (run.streams n).sealed writes legal
 
-  close_by : (name : List ℕ) (o : Option ℕ) → writer_of run name ≡ o → IsStep turn.device s (if_has o (closing run s)) turn.added turn.refused
+  close_by : (name : List ℕ) (o : Option ℕ) → put_written_by run name ≡ o → IsStep turn.device s (asks_if_has o (closing run s)) turn.added turn.refused
       → Puts (step.Close name) (has_said o (λ put. said T None turn.refused (put_said T put)))
   close_by name None writes legal = absurd (nothing_asked legal)
   close_by name (Some n) writes legal =
@@ -415,7 +416,7 @@ module _ (run : Run) (s : State) (turn : Turn) (none : (w : PutRow) → put_of s
       let all : Asks n (IsOfKey s n) ⊥ Yes ⊥ is = subst (Asks n (IsOfKey s n) ⊥ Yes ⊥) (append-nil is) (close_asked n (IsOfKey s n) ⊥ Yes ⊥ (length (cuts_of s n)) (gathered_of run s n) [] tt tt) in
       closes name n writes (is_among (Told n (IsOfKey s n) ⊥ Yes ⊥ T turn.refused) told turn.added (course n (IsOfKey s n) ⊥ Yes ⊥ all (λ w found. (w, found, refl)) legal.grows) among)
 
-  abort_by : (name : List ℕ) (o : Option ℕ) → writer_of run name ≡ o → IsStep turn.device s (if_has o (λ put. GiveUp put ∷ [])) turn.added turn.refused
+  abort_by : (name : List ℕ) (o : Option ℕ) → put_written_by run name ≡ o → IsStep turn.device s (asks_if_has o (λ put. GiveUp put ∷ [])) turn.added turn.refused
       → Puts (step.Abort name) (has_said o answer.Aborted)
   abort_by name None writes legal = absurd (nothing_asked legal)
   abort_by name (Some n) writes legal =
@@ -424,9 +425,9 @@ module _ (run : Run) (s : State) (turn : Turn) (none : (w : PutRow) → put_of s
   puts_of : (asks : Step) → IsStep turn.device s (asked run s asks) turn.added turn.refused → Puts asks (session_said run s T turn asks)
   puts_of (step.Put key body request response) legal =
       whole key body request response (is_among (Told s.next_put (λ k. k ≡ key) Yes Yes Yes T turn.refused) told turn.added (put_told turn.device s key body request response none turn.refused turn.added legal) among)
-  puts_of (step.Feed name body) legal = feed_by name body (writer_of run name) refl legal
-  puts_of (step.Close name) legal = close_by name (writer_of run name) refl legal
-  puts_of (step.Abort name) legal = abort_by name (writer_of run name) refl legal
+  puts_of (step.Feed name body) legal = feed_by name body (put_written_by run name) refl legal
+  puts_of (step.Close name) legal = close_by name (put_written_by run name) refl legal
+  puts_of (step.Abort name) legal = abort_by name (put_written_by run name) refl legal
   puts_of (step.Format name segments buckets content agg reach fragment generation alternates) legal = absurd (nothing_asked legal)
   puts_of (step.Get key request) legal = absurd (idle_asked _ (tt, (tt, (tt, tt))) legal)
   puts_of (step.OpenWrite actor key pin request response) legal = absurd (free_idle (held_by run actor) _ tt legal)
@@ -454,7 +455,7 @@ module _ {l : RunLogs} (a : Account l) (lines : List (List ℕ)) (run : Run) (s 
   abbrev Behind : State
   Behind = after_all s turn.added
 
-  writer : (name : List ℕ) (n : ℕ) → writer_of run name ≡ Some n → put ≡ n → IsOfKey s n key → ActorWrites run name key put
+  writer : (name : List ℕ) (n : ℕ) → put_written_by run name ≡ Some n → put ≡ n → IsOfKey s n key → ActorWrites run name key put
   writer name n writes same of = record {
     writes = writes ∙ ap Some (sym same);
     s = s;

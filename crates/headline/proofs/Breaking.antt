@@ -102,7 +102,7 @@ record BreaksHere (run : Run) (name : List ℕ) (why : Cause) : Type 0 where
   broke : Broke s number why
 
 module _ (run : Run) (turn : Turn) (name : List ℕ) (why : Cause) where
-  held_breaks : (s : State) (o : Option ℕ) → run.state ≡ Some s → reader_by run name ≡ o → IsStep turn.device s (Asked.if_has o (λ reader. ReadOn reader ∷ [])) turn.added turn.refused
+  held_breaks : (s : State) (o : Option ℕ) → run.state ≡ Some s → reader_by run name ≡ o → IsStep turn.device s (Asked.asks_if_has o (λ reader. ReadOn reader ∷ [])) turn.added turn.refused
       → Answers.if_has o (λ reader. next_said turn.given (told_in turn.added)) ≡ answer.Broken why → BreaksHere run name why
   held_breaks s None e held legal said = absurd cc
   held_breaks s (Some n) e held legal said =

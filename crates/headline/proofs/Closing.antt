@@ -27,7 +27,7 @@ use Rattle.script_lang.specs.declared.step.Step.TheVariants as step
 use Rattle.script_lang.specs.declared.answer.Refused.TheVariants as refused
 use Rattle.script_lang.specs.declared.answer.StepAnswer.{StepAnswer}
 use Rattle.script_lang.specs.declared.answer.StepAnswer.TheVariants as answer
-use Rattle.script_run.specs.Run.{Holding, Run, fresh, gathered_of, held_by, reader_by, writer_of}
+use Rattle.script_run.specs.Run.{Holding, Run, fresh, gathered_of, held_by, put_written_by, reader_by}
 use Rattle.script_run.specs.Asked
 use Rattle.script_run.specs.Asked.{asked, close_intents, count_with, cut_intents, feed_intents, put_intents, rest_intents}
 use Rattle.script_run.specs.Turn.{Turn, lookup_in, told_in}
@@ -422,7 +422,7 @@ module _ (run : Run) (turn : Turn) (index : ℕ) (why : Cause) (took : Option �
       let found = same_put s _ s.next_put lost (put_finishes s.next_put s key body request response refl) legal in
       record { s = s; state = e; put = lost.put; closes = Displacements.AsksToClose.puts key body request response (sym found.0); is = lost.is; lost = found.1; kept = (walked legal.grows).kept }
 
-  close_loses : (s : State) (name : List ℕ) (o : Option ℕ) → run.state ≡ Some s → writer_of run name ≡ o → IsStep turn.device s (Asked.if_has o (Asked.closing run s)) turn.added turn.refused
+  close_loses : (s : State) (name : List ℕ) (o : Option ℕ) → run.state ≡ Some s → put_written_by run name ≡ o → IsStep turn.device s (Asked.asks_if_has o (Asked.closing run s)) turn.added turn.refused
       → SaysSo (Answers.if_has o (λ put. said (after_all s turn.added) None turn.refused (put_said (after_all s turn.added) put))) → LosesHere run turn (step.Close name) index why
   close_loses s name None e held legal h = absurd cc
   close_loses s name (Some n) e held legal h =
@@ -439,13 +439,13 @@ module _ (run : Run) (turn : Turn) (index : ℕ) (why : Cause) (took : Option �
       none_ends s _ (by_refusal (after_all s turn.added) index why took (Some (took_of run (after_all s turn.added) n)) turn.refused (answer.Took (length body)) (λ x. cc) h)
       (λ m. cuts_finish m (length (gathered_of run s n ++ body)) s.geometry.fragment n (length (cuts_of s n)) (gathered_of run s n ++ body)) legal
 
-  feed_loses : (s : State) (body : List ℕ) (o : Option ℕ) → IsStep turn.device s (Asked.if_has o (Asked.feeding run s body)) turn.added turn.refused
+  feed_loses : (s : State) (body : List ℕ) (o : Option ℕ) → IsStep turn.device s (Asked.asks_if_has o (Asked.feeding run s body)) turn.added turn.refused
       → SaysSo (Answers.if_has o (Answers.feed_said run (after_all s turn.added) body turn.refused)) → ⊥
   feed_loses s body None legal h = cc
   feed_loses s body (Some n) legal h = feed_by s body n (run.streams n).sealed legal h
 
   write_loses : (s : State) (actor : ℕ) (key : Key) (request response : List Field) (pin : ℕ) (held : Option Holding)
-      → IsStep turn.device s (Asked.if_free held (Write actor key request response pin ∷ [])) turn.added turn.refused
+      → IsStep turn.device s (Asked.asks_if_free held (Write actor key request response pin ∷ [])) turn.added turn.refused
       → SaysSo (Answers.if_free held (said (after_all s turn.added) None turn.refused (answer.Writer s.next_put))) → ⊥
   write_loses s actor key request response pin None legal h =
       none_ends s _ (by_refusal (after_all s turn.added) index why took None turn.refused (answer.Writer s.next_put) (λ x. cc) h) (λ m. (tt, tt)) legal
@@ -470,9 +470,9 @@ module _ (run : Run) (turn : Turn) (index : ℕ) (why : Cause) (took : Option �
   state_loses (step.Put key body request response) (Some s) e takes h = put_loses s key body request response e takes.legal h
   state_loses (step.Get key request) (Some s) e takes h = absurd (get_loses_none s index why took turn.given (told_in turn.added) (lookup_in turn.added) h)
   state_loses (step.OpenWrite actor key pin request response) (Some s) e takes h = absurd (write_loses s _ key request response pin (held_by run actor) takes.legal h)
-  state_loses (step.Feed actor body) (Some s) e takes h = absurd (feed_loses s body (writer_of run actor) takes.legal h)
-  state_loses (step.Close actor) (Some s) e takes h = close_loses s actor (writer_of run actor) e refl takes.legal h
-  state_loses (step.Abort actor) (Some s) e takes h = absurd (abort_loses (writer_of run actor) h)
+  state_loses (step.Feed actor body) (Some s) e takes h = absurd (feed_loses s body (put_written_by run actor) takes.legal h)
+  state_loses (step.Close actor) (Some s) e takes h = close_loses s actor (put_written_by run actor) e refl takes.legal h
+  state_loses (step.Abort actor) (Some s) e takes h = absurd (abort_loses (put_written_by run actor) h)
   state_loses (step.OpenRead actor key request) (Some s) e takes h =
       absurd (look_loses_none (after_all s turn.added) index why took s.next_reader (lookup_in turn.added)
       (free_loses s index why took (held_by run actor) (lookup_said (after_all s turn.added) s.next_reader (lookup_in turn.added)) h))

@@ -4,7 +4,7 @@ use Rattle.std.specs.Prelude.{Option, Some, None, option_map}
 use Rattle.std.proofs.lemmas.List.{append_cancel_left}
 use Rattle.tape_base.specs.declared.geometries.BadGeometry.{BadGeometry}
 use Rattle.tape_base.specs.Limits.{first_refusal}
-use Rattle.logged_disk.specs.Device.{State as Device}
+use Rattle.logged_disk.specs.Device.{DeviceState as Device}
 use Rattle.script_lang.specs.declared.line.LineAnswer.{LineAnswer}
 use Rattle.script_lang.specs.declared.step.Step.{Step}
 use Rattle.script_lang.specs.declared.step.Step.TheVariants as step
@@ -12,7 +12,7 @@ use Rattle.script_lang.specs.declared.answer.StepAnswer.{StepAnswer}
 use Rattle.script_lang.specs.Grammar.{reading_of}
 use Rattle.script_run.specs.Run.{Harm, loosened}
 use Rattle.script_run.specs.Ledger.{IsReached}
-use Rattle.run_promise.specs.Outline.{IsAnswered, Outline, all_told, blank, count_in, format_answer, outline_after, raised, told_of}
+use Rattle.run_promise.specs.Outline.{IsAnswered, Outline, all_told, blank_outline, count_in, format_answer, outline_after, raised, told_of}
 use Rattle.run_promise.specs.Lines.{AreAnswered, IsReadAs, outline_of, outline_read}
 use Rattle.headline.specs.Account.{Account, AreBack, ComeBackFrom, IsDeviceBehind, RunAnswers, RunLogs, sessions_begun}
 use Rattle.headline.proofs.Devices.{come_within}
@@ -60,19 +60,19 @@ module _ (l : RunLogs) (lines : List (List ℕ)) (device : Device) (at : IsDevic
 pub counts_are_reached : (l : RunLogs) (a : Account l) (lines : List (List ℕ)) (asks : Step) (said : StepAnswer) (device : Device) → RunAnswers a lines asks said → IsDeviceBehind l lines device
     → count_in said ≤ device.faults
 counts_are_reached l a lines asks said device at which =
-    let by_lines : AreAnswered blank (lines ++ at.bytes ∷ at.later) a.answers = subst (λ (xs : List (List ℕ)). AreAnswered blank xs a.answers) at.lines_are a.each in
-    let are : AreAnswered blank (lines ++ at.bytes ∷ at.later) (at.front ++ Some said ∷ at.rest) =
-    subst (λ (ys : List (Option StepAnswer)). AreAnswered blank (lines ++ at.bytes ∷ at.later) ys) at.answers_are by_lines in
-    let split = split_answers blank lines at.bytes at.later at.front (Some said) at.rest at.as_many are in
-    let o : Outline = outline_of blank lines at.front in
+    let by_lines : AreAnswered blank_outline (lines ++ at.bytes ∷ at.later) a.answers = subst (λ (xs : List (List ℕ)). AreAnswered blank_outline xs a.answers) at.lines_are a.each in
+    let are : AreAnswered blank_outline (lines ++ at.bytes ∷ at.later) (at.front ++ Some said ∷ at.rest) =
+    subst (λ (ys : List (Option StepAnswer)). AreAnswered blank_outline (lines ++ at.bytes ∷ at.later) ys) at.answers_are by_lines in
+    let split = split_answers blank_outline lines at.bytes at.later at.front (Some said) at.rest at.as_many are in
+    let o : Outline = outline_of blank_outline lines at.front in
     let next : Outline = outline_read o (reading_of at.bytes) (Some said) in
-    let same : outline_of blank a.lines a.answers ≡ outline_of next at.later at.rest =
-    ap (λ (xs : List (List ℕ)). outline_of blank xs a.answers) at.lines_are
-    ∙ (ap (λ (ys : List (Option StepAnswer)). outline_of blank (lines ++ at.bytes ∷ at.later) ys) at.answers_are
-    ∙ outline_split blank lines at.bytes at.later at.front (Some said) at.rest at.as_many) in
+    let same : outline_of blank_outline a.lines a.answers ≡ outline_of next at.later at.rest =
+    ap (λ (xs : List (List ℕ)). outline_of blank_outline xs a.answers) at.lines_are
+    ∙ (ap (λ (ys : List (Option StepAnswer)). outline_of blank_outline (lines ++ at.bytes ∷ at.later) ys) at.answers_are
+    ∙ outline_split blank_outline lines at.bytes at.later at.front (Some said) at.rest at.as_many) in
     let last : ComeBackFrom l (all_told (outline_of next at.later at.rest)) = subst (λ (x : Outline). ComeBackFrom l (all_told x)) same a.answered in
     let come : ComeBackFrom l (all_told next) = come_within l (all_told next) (all_told (outline_of next at.later at.rest)) (outline_within next at.later at.rest) last in
     let here : IsAnswered o asks said = subst (λ (r : LineAnswer). IsReadAs o r (Some said)) at.reading split.here in
     step_counts l lines device which o asks said here
     (subst (λ (r : LineAnswer). ComeBackFrom l (all_told (outline_read o r (Some said)))) at.reading come)
-    (omega (arith, outline_length blank lines at.front split.first))
+    (omega (arith, outline_length blank_outline lines at.front split.first))

@@ -3,7 +3,7 @@ use Rattle.std.proofs.Common.{◌≡◌, ℕ, ◌≤◌, List, [], ◌∷◌, �
 use Rattle.std.specs.Prelude.{map}
 use Rattle.std.proofs.lemmas.Bool.{false_from_ne_true}
 use Rattle.device_log.specs.Calls.{Call}
-use Rattle.logged_disk.specs.Device.{State as Device}
+use Rattle.logged_disk.specs.Device.{DeviceState as Device}
 use Rattle.cache_model.proofs.Found.{no_truth}
 use Rattle.script_run.specs.Run.{Harm, loosened, no_harm}
 use Rattle.script_run.specs.Ledger.{AreReached, ComeBack, GoesOnFrom, IsReached}

@@ -1,7 +1,7 @@
 -- A pair is shown in the session of a device that did not tell its content to the end.
 use Rattle.std.proofs.Common.{◌≡◌, ℕ, ◌+◌, List, [], ◌∷◌, ◌++◌, length, refl, ◌∙◌, ap, arith, length-append, inl, inr}
 use Rattle.std.specs.Prelude.{Option, Some, None, map}
-use Rattle.logged_disk.specs.Device.{State as Device}
+use Rattle.logged_disk.specs.Device.{DeviceState as Device}
 use Rattle.cache_model.specs.State.{State}
 use Rattle.cache_model.proofs.Found.{no_truth}
 use Rattle.script_lang.specs.declared.step.Step.{Step}
@@ -12,7 +12,7 @@ use Rattle.script_run.specs.Run.{Harm, Run, fresh}
 use Rattle.script_run.specs.Turn.{Turn}
 use Rattle.script_run.specs.Behind.{harm_in, harm_of, harms_of}
 use Rattle.script_run.specs.Takes.{ReadingShows, StepShows, run_after}
-use Rattle.run_promise.specs.Outline.{called}
+use Rattle.run_promise.specs.Outline.{with_calls_of}
 use Rattle.headline.specs.Account.{Account, AreBack, ComeBackFrom, IsDoubtedBehind, RunLogs, ShowsNext, doubted_harms, sessions_begun}
 use Rattle.headline.proofs.Along.{run_length}
 use Rattle.headline.proofs.Counting.{device_of}
@@ -65,7 +65,7 @@ module _ (l : RunLogs) (told : List (List ℕ)) (run : Run) (begun : length (har
   step_doubted turn (Some s) step count shows come =
       last_doubted (harm_in (turn.device.events ++ run.calls) s) (omega (arith, count, length-append run.ended (harm_in run.calls s ∷ []))) come
 
-  reading_doubted : (turn : Turn) (read : LineAnswer) → ReadingShows run turn read → ComeBackFrom l (doubted_harms (called run turn)) → IsDoubtedBehind l told
+  reading_doubted : (turn : Turn) (read : LineAnswer) → ReadingShows run turn read → ComeBackFrom l (doubted_harms (with_calls_of run turn)) → IsDoubtedBehind l told
   reading_doubted turn (line.Step step) shows come = step_doubted turn run.state step begun shows come
   reading_doubted turn line.Nothing shows come = absurd shows
   reading_doubted turn (line.Bad fault) shows come = absurd shows

@@ -13,7 +13,7 @@ use Rattle.script_lang.specs.declared.last.LastLine.{LastLine}
 use Rattle.script_lang.specs.declared.last.LastLine.TheVariants as last
 use Rattle.script_lang.specs.Grammar.{reading_of}
 use Rattle.script_run.specs.Run.{Harm, Run}
-use Rattle.run_promise.specs.Outline.{Outline, all_told, blank, told_of}
+use Rattle.run_promise.specs.Outline.{Outline, all_told, blank_outline, told_of}
 use Rattle.run_promise.specs.Lines.{AreAnswered, IsReadAs, outline_of, outline_read}
 use Rattle.run_promise.specs.declared.status.Status.{Status}
 use Rattle.run_promise.specs.declared.status.Status.TheVariants as status
@@ -45,8 +45,8 @@ takeable o n (bytes ∷ lines) (said ∷ answers) e are = (
 
 -- ---- what ended a run
 
-module _ (l : RunLogs) (lines : List (List ℕ)) (held : List ℕ) (given : ℕ) (answers : List (Option StepAnswer)) (counted : given ≡ length lines) (are : AreAnswered blank lines answers) where
-  because_ends : (why : LastLine) → Because l.bay held given (outline_of blank lines answers) why → ReadsFailed l.first l.read (status_of why) → EndsHere l lines held (status_of why)
+module _ (l : RunLogs) (lines : List (List ℕ)) (held : List ℕ) (given : ℕ) (answers : List (Option StepAnswer)) (counted : given ≡ length lines) (are : AreAnswered blank_outline lines answers) where
+  because_ends : (why : LastLine) → Because l.bay held given (outline_of blank_outline lines answers) why → ReadsFailed l.first l.read (status_of why) → EndsHere l lines held (status_of why)
   because_ends last.Usage because failed = absurd because
   because_ends (last.BadScript number fault) because failed = (fault, subst (λ n. IsBadLine n held fault) counted because.1)
   because_ends last.ReadFault because failed = (subst (λ n. HoldsNoLine n held) counted because, failed)
@@ -54,14 +54,14 @@ module _ (l : RunLogs) (lines : List (List ℕ)) (held : List ℕ) (given : ℕ)
   because_ends (last.LineTooLong number) because failed = subst (λ n. IsTooLong n held) counted because.1
   because_ends last.TooManyLines because failed = subst (λ n. IsTooMany n held) counted because
   because_ends (last.NoCache number) because failed =
-      let lacks : LacksCache (outline_of blank lines answers) (length lines) held = subst (λ n. LacksCache (outline_of blank lines answers) n held) counted because.1 in
+      let lacks : LacksCache (outline_of blank_outline lines answers) (length lines) held = subst (λ n. LacksCache (outline_of blank_outline lines answers) n held) counted because.1 in
       record {
         bytes = lacks.bytes;
         next = lacks.next;
         step = lacks.step;
         asks = lacks.asks;
         needs = lacks.needs;
-        none = (none_begun blank lines answers are lacks.none).1;
+        none = (none_begun blank_outline lines answers are lacks.none).1;
       }
 
 module _ (l : RunLogs) where
@@ -73,7 +73,7 @@ module _ (l : RunLogs) where
     lines = story.lines;
     held = held;
     taken = story.taken;
-    takeable = takeable blank 0 story.lines story.answers refl story.outline.each;
+    takeable = takeable blank_outline 0 story.lines story.answers refl story.outline.each;
     ends = ends;
   }
 

@@ -2,7 +2,7 @@
 use Rattle.std.proofs.Common.{◌≡◌, ℕ, List, [], ◌∷◌, ◌++◌, inl, inr, true}
 use Rattle.std.specs.Prelude.{Option, Some, None, map}
 use Rattle.std.specs.List.{AllByRecursion}
-use Rattle.logged_disk.specs.Device.{State as Device, TellsAll}
+use Rattle.logged_disk.specs.Device.{DeviceState as Device, TellsAll}
 use Rattle.cache_model.specs.State.{State}
 use Rattle.cache_model.proofs.Found.{no_truth}
 use Rattle.script_lang.specs.declared.step.Step.{Step}
@@ -13,7 +13,7 @@ use Rattle.script_run.specs.Run.{Harm, Run, fresh}
 use Rattle.script_run.specs.Turn.{Turn}
 use Rattle.script_run.specs.Behind.{harm_in, harm_of}
 use Rattle.script_run.specs.Takes.{LineShows, ReadingShows, StepShows, run_after}
-use Rattle.run_promise.specs.Outline.{called}
+use Rattle.run_promise.specs.Outline.{with_calls_of}
 use Rattle.headline.specs.Account.{Account, AllTell, AreBack, ComeBackFrom, RunLogs, ShowsNext, doubted_harms}
 
 -- what was told of a device that did not tell its content
@@ -34,12 +34,14 @@ module _ (l : RunLogs) (tell : AllTell l) (run : Run) where
   step_shows turn (Some s) step shows come =
       none_doubted run.ended (harm_in (turn.device.events ++ run.calls) s) come.devices come.told (tell come.devices come.returned)
 
-  reading_shows : (turn : Turn) (read : LineAnswer) → ReadingShows run turn read → ComeBackFrom l (doubted_harms (called run turn)) → ⊥
+  reading_shows : (turn : Turn) (read : LineAnswer) → ReadingShows run turn read
+      → ComeBackFrom l (doubted_harms (with_calls_of run turn)) → ⊥
   reading_shows turn (line.Step step) shows come = step_shows turn run.state step shows come
   reading_shows turn line.Nothing shows come = absurd shows
   reading_shows turn (line.Bad fault) shows come = absurd shows
 
-  pub no_line_shows : (bytes : List ℕ) (turn : Turn) → LineShows run turn bytes → ComeBackFrom l (doubted_harms (called run turn)) → ⊥
+  pub no_line_shows : (bytes : List ℕ) (turn : Turn) → LineShows run turn bytes
+      → ComeBackFrom l (doubted_harms (with_calls_of run turn)) → ⊥
   no_line_shows bytes turn shows come = reading_shows turn (reading_of bytes) shows come
 
   none_next : (lines : List (List ℕ)) → ShowsNext l run lines → ⊥

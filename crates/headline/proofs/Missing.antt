@@ -173,7 +173,7 @@ module _ (run : Run) (turn : Turn) (key : Key) (why : Cause) where
   }
 
   free_here : (request : List Field) (s t : State) (actor : ℕ) (held : Option Holding) → run.state ≡ Some s
-      → IsStep turn.device s (Asked.if_free held (Look actor key request ∷ [])) turn.added turn.refused
+      → IsStep turn.device s (Asked.asks_if_free held (Look actor key request ∷ [])) turn.added turn.refused
       → if_free held (lookup_said t s.next_reader (lookup_in turn.added)) ≡ answer.Miss why → LooksHere run key request why
   free_here request s t actor None e legal said = record {
     s = s;

@@ -15,7 +15,7 @@ use Rattle.script_run.specs.Run.{Harm, Run, fresh, loosened, no_harm}
 use Rattle.script_run.specs.Turn.{Turn}
 use Rattle.script_run.specs.Behind.{harm_in, harm_of, harms_of}
 use Rattle.script_run.specs.Takes.{run_after}
-use Rattle.run_promise.specs.Outline.{Outline, all_told, begun, begun_by, called, count_in, doubted, joined, outline_in, raised, told_of}
+use Rattle.run_promise.specs.Outline.{Outline, all_told, begun, begun_by, count_in, doubted, outline_in, raised, told_of, with_calls_of, with_told_count}
 use Rattle.run_promise.specs.Lines.{AreAnswered, IsReadAs, outline_of, outline_read}
 use Rattle.run_promise.specs.Story.{ShownAlong, Told, all_in}
 use Rattle.headline.specs.Account.{ComeBackFrom, RunLogs, begun_in, doubted_harms, sessions_begun}
@@ -31,7 +31,7 @@ own_within : (count : ℕ) (session : Option Harm) → AreWithin (told_of sessio
 own_within count None = tt
 own_within count (Some h) = (raised_within count h, tt)
 
-joined_within : (o : Outline) (count : ℕ) → AreWithin (all_told o) (all_told (joined o count))
+joined_within : (o : Outline) (count : ℕ) → AreWithin (all_told o) (all_told (with_told_count o count))
 joined_within o count = within_behind o.ended (told_of o.session) (told_of (option_map (raised count) o.session)) (own_within count o.session)
 
 begun_within : (o : Outline) (name : List ℕ) (bad : Option BadGeometry) → AreWithin (all_told o) (all_told (begun o name bad))
@@ -45,7 +45,7 @@ begun_by_within o _ = all_within_self (all_told o)
 
 read_within : (o : Outline) (read : LineAnswer) (said : Option StepAnswer) → AreWithin (all_told o) (all_told (outline_read o read said))
 read_within o (line.Step step) (Some said) =
-    all_within_trans (all_told o) (all_told (begun_by o step)) (all_told (joined (begun_by o step) (count_in said))) (begun_by_within o step) (joined_within (begun_by o step) (count_in said))
+    all_within_trans (all_told o) (all_told (begun_by o step)) (all_told (with_told_count (begun_by o step) (count_in said))) (begun_by_within o step) (joined_within (begun_by o step) (count_in said))
 read_within o (line.Step step) None = all_within_self (all_told o)
 read_within o line.Nothing said = all_within_self (all_told o)
 read_within o (line.Bad fault) said = all_within_self (all_told o)
@@ -67,7 +67,7 @@ doubted_calls : (calls made : List Call) (state : Option State) → AreWithin (h
 doubted_calls calls made None = tt
 doubted_calls calls made (Some s) = (record { faults = omega arith; damage = λ e. refl; calls = record { later = made; is = refl } }, tt)
 
-called_within : (run : Run) (turn : Turn) → AreWithin (harms_of run) (doubted_harms (called run turn))
+called_within : (run : Run) (turn : Turn) → AreWithin (harms_of run) (doubted_harms (with_calls_of run turn))
 called_within run turn =
     within_behind run.ended (harm_of run.calls run.state) (map doubt (harm_of (turn.device.events ++ run.calls) run.state))
     (doubted_calls run.calls turn.device.events run.state)
@@ -79,17 +79,18 @@ doubted_within run =
 -- what the records told before a pair was shown, and the calls of the turn that shows it, are told in the end; of its device
 -- what is told is doubted
 pub shown_made : (l : RunLogs) (lines : List (List ℕ)) (answers : List (Option StepAnswer)) (Devices : Told → Type 0) (Behind : Outline → Type 0) → ((t : Told) → Devices t → ComeBackFrom l (all_in t))
-    → (p : ShownAlong lines answers Devices Behind) → ComeBackFrom l (doubted_harms (called (run_after fresh p.before p.earlier) p.turn))
+    → (p : ShownAlong lines answers Devices Behind)
+    → ComeBackFrom l (doubted_harms (with_calls_of (run_after fresh p.before p.earlier) p.turn))
 shown_made l lines answers Devices Behind back p =
-    let run : Run = called (run_after fresh p.before p.earlier) p.turn in
+    let run : Run = with_calls_of (run_after fresh p.before p.earlier) p.turn in
     let first : Outline = doubted (outline_in run) in
     let last : Outline = outline_of first (p.bytes ∷ p.after) p.rest in
     come_within l (doubted_harms run) (all_told last)
     (all_within_trans (doubted_harms run) (all_told first) (all_told last) (doubted_within run) (outline_within first (p.bytes ∷ p.after) p.rest))
     (back _ p.outline.devices)
 
-pub shown_before : (l : RunLogs) (run : Run) (turn : Turn) → ComeBackFrom l (doubted_harms (called run turn)) → ComeBackFrom l (harms_of run)
-shown_before l run turn come = come_within l (harms_of run) (doubted_harms (called run turn)) (called_within run turn) come
+pub shown_before : (l : RunLogs) (run : Run) (turn : Turn) → ComeBackFrom l (doubted_harms (with_calls_of run turn)) → ComeBackFrom l (harms_of run)
+shown_before l run turn come = come_within l (harms_of run) (doubted_harms (with_calls_of run turn)) (called_within run turn) come
 
 -- ---- how many sessions were begun
 

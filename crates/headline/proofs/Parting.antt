@@ -8,7 +8,7 @@ use Rattle.device_log.specs.Streams.{SourceRead, taken_by}
 use Rattle.edge_io.specs.Text.{spelled, text_read}
 use Rattle.edge_io.specs.Lines.{AreLines, lines_of}
 use Rattle.edge_io.specs.Laws.{SpelledAreLines}
-use Rattle.logged_disk.specs.Device.{State as Device, TellsAll}
+use Rattle.logged_disk.specs.Device.{DeviceState as Device, TellsAll}
 use Rattle.cache_model.specs.declared.record.Rec.{Rec}
 use Rattle.cache_model.specs.declared.record.Rec.TheVariants as rec
 use Rattle.cache_model.specs.Damage.{TellNoDamage, tells_damage}
@@ -28,7 +28,7 @@ use Rattle.script_laws.specs.Parting.{IsUntroubledUpTo, LinesAgreeBeforeTrouble,
 use Rattle.script_laws.specs.TurnTroubles.{TellsRefusals, TurnsTellRefusals, UndamagedTurns}
 use Rattle.run_promise.specs.Lines.{TextsAreOutput, answers_of, reading_answer, texts_of}
 use Rattle.run_promise.specs.declared.status.Status.TheVariants as status
-use Rattle.run_promise.specs.Story.{IsReadThrough, Recorded, ShownAlong, Taken, all_in, told_in}
+use Rattle.run_promise.specs.Story.{IsReadThrough, Recorded, ShownAlong, Taken, all_in, told_by_records}
 use Rattle.run_promise.specs.Top.{EachBack}
 use Rattle.headline.specs.Account.{Account, AllTell, IsConcluded, RunLogs}
 use Rattle.headline.specs.Fixed.{GiveSame, HasHistory, TakeSame}
@@ -87,7 +87,7 @@ history_as l lines others e h = record {
   turns = h.turns;
   legal = subst (λ (xs : List (List ℕ)). IsRun fresh xs h.turns) e h.legal;
   prints = subst (λ (xs : List (List ℕ)). taken_by l.new ≡ taken_by l.old ++ output_of fresh xs h.turns) e h.prints;
-  back = subst (λ (xs : List (List ℕ)). EachBack l.before l.now (told_in (run_after fresh xs h.turns))) e h.back;
+  back = subst (λ (xs : List (List ℕ)). EachBack l.before l.now (told_by_records (run_after fresh xs h.turns))) e h.back;
 }
 
 -- the lines before one print first

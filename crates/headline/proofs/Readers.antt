@@ -150,7 +150,7 @@ record EndsHere (run : Run) (name : List ℕ) (size : ℕ) : Type 0 where
   ends : Ends s number size
 
 module _ (run : Run) (turn : Turn) (name : List ℕ) (size : ℕ) where
-  held_ends : (s : State) (o : Option ℕ) → run.state ≡ Some s → reader_by run name ≡ o → IsStep turn.device s (Asked.if_has o (λ reader. ReadOn reader ∷ [])) turn.added turn.refused
+  held_ends : (s : State) (o : Option ℕ) → run.state ≡ Some s → reader_by run name ≡ o → IsStep turn.device s (Asked.asks_if_has o (λ reader. ReadOn reader ∷ [])) turn.added turn.refused
       → if_has o (λ reader. next_said turn.given (told_in turn.added)) ≡ answer.End size → EndsHere run name size
   held_ends s None e held legal said = absurd cc
   held_ends s (Some n) e held legal said =

@@ -12,7 +12,7 @@ use Rattle.cache_model.specs.State.{State, Row, LastVector, Complete, alternates
 use Rattle.cache_model.specs.Verdict.{cause_of_miss, is_unsaved, live_vector_of, lookup_verdict, passed, vector_of_last}
 use Rattle.cache_model.specs.Permit.{IsAmong}
 use Rattle.cache_model.proofs.Found.{no_truth, none_is}
-use Rattle.model_laws.specs.VectorLaws.{AreCounted, IsUnanswered}
+use Rattle.model_laws.specs.VectorLaws.{IsUnanswered, VectorsAreCounted}
 use Rattle.model_laws.proofs.Counted.{told_count}
 use Rattle.script_lang.specs.declared.step.Step.{Step}
 use Rattle.script_lang.specs.declared.step.Step.TheVariants as step
@@ -116,7 +116,7 @@ record Unfit (s : State) (key : Key) (request : List Field) (count : ℕ) : Type
   unanswered : IsUnanswered s key request
   counted : length (alternates_of s key) ≡ count
 
-module _ (s : State) (key : Key) (request : List Field) (count : ℕ) (counts : AreCounted s) (missed : MissedSo s key request (cause.NoMatch count)) where
+module _ (s : State) (key : Key) (request : List Field) (count : ℕ) (counts : VectorsAreCounted s) (missed : MissedSo s key request (cause.NoMatch count)) where
   unfit : Stands s key (cause.NoMatch count) → Unfit s key request count
   unfit (out put last same) = absurd cc
   unfit (lists put row last live same) =
@@ -226,7 +226,7 @@ aborted_was_last law l a lines asks said key put misses at =
     }
 
 no_match_here : (lines : List (List ℕ)) (turns : List Turn) (key : Key) (request : List Field) (count : ℕ) → IsRun fresh lines turns
-    → (h : LooksHere (run_after fresh lines turns) key request (cause.NoMatch count)) → AreCounted h.s → Unfit h.s key request count
+    → (h : LooksHere (run_after fresh lines turns) key request (cause.NoMatch count)) → VectorsAreCounted h.s → Unfit h.s key request count
 no_match_here lines turns key request count legal h counts = elim h.is [
   | inr device ↦ no_truth (sym device)
   | inl missed ↦ unfit h.s key request count counts missed (stands_so h.s key (cause.NoMatch count) refl (no_standing_loss lines turns h.s legal h.state) missed.is)
@@ -239,7 +239,7 @@ fits_none kept law l a lines asks key request count asking at =
     let f = told_line l a lines asks said at in
     let run : Run = run_after fresh lines f.earlier in
     let h : LooksHere run key request (cause.NoMatch count) = looks_here run f.turn key (cause.NoMatch count) request asking f.takes f.is in
-    let counts : AreCounted h.s = subst IsCountedWhere h.state (law lines f.earlier f.legal) in
+    let counts : VectorsAreCounted h.s = subst IsCountedWhere h.state (law lines f.earlier f.legal) in
     let u : Unfit h.s key request count = no_match_here lines f.earlier key request count f.legal h counts in
     let did : DidBefore a.turns lines = did_before l a lines asks said f in
     let last : HasRecordedLast (CompletesPut key u.unanswered.put) (ChangesVector key) lines f.earlier = completed lines f.earlier h.s f.legal h.state key u.unanswered.put u.unanswered.last in

@@ -27,7 +27,7 @@ use Rattle.cache_model.specs.Legal
 use Rattle.cache_model.specs.Legal.{IsStep, answer_record}
 use Rattle.cache_model.proofs.Found.{no_truth, none_is}
 use Rattle.cache_model.proofs.Steps.{First, alone, first_of}
-use Rattle.model_laws.specs.VectorLaws.{AreCounted, IsUnanswered}
+use Rattle.model_laws.specs.VectorLaws.{IsUnanswered, VectorsAreCounted}
 use Rattle.model_laws.proofs.Counted.{told_count}
 use Rattle.script_lang.specs.declared.step.Step.{Step}
 use Rattle.script_lang.specs.declared.step.Step.TheVariants as step
@@ -203,7 +203,7 @@ module _ (s : State) (whole : IsWhole s) (on : AreOnRecord s) (key : Key) (why :
 
   -- ---- misses
 
-  misses_for : (request : List Field) → AreCounted s → MissedSo s key request why → MissesFor s key why
+  misses_for : (request : List Field) → VectorsAreCounted s → MissedSo s key request why → MissesFor s key why
   misses_for request counts missed = elim (none_or_live missed.is) [
     | inl none ↦ Verdicts.MissesFor.nothing none
     | inr h ↦
@@ -278,7 +278,7 @@ module _ (run : Run) (turn : Turn) (key : Key) (request : List Field) (why : Cau
       let own : is_fault why ≡ false = own_miss why why (subst (λ (o : Option ReadAnswer). get_said turn.given (told_in turn.added) o ≡ answer.Miss why) found said) in
       record { s = s; state = e; is = step_looked turn.device s 0 key request _ turn.added turn.refused why takes.legal found own }
 
-  free_looked : (s t : State) (actor : ℕ) (held : Option Holding) → run.state ≡ Some s → IsStep turn.device s (Asked.if_free held (Look actor key request ∷ [])) turn.added turn.refused
+  free_looked : (s t : State) (actor : ℕ) (held : Option Holding) → run.state ≡ Some s → IsStep turn.device s (Asked.asks_if_free held (Look actor key request ∷ [])) turn.added turn.refused
       → if_free held (lookup_said t s.next_reader (lookup_in turn.added)) ≡ answer.Miss why → LookedHere run turn key request why
   free_looked s t actor None e legal said =
       let found : lookup_in turn.added ≡ Some (read.Miss why) = open_misses t s.next_reader (lookup_in turn.added) why said in
@@ -419,7 +419,7 @@ module _ (run : Run) (turn : Turn) (name : List ℕ) (why : Cause) where
     is = reading_stops n turn.device s m.r m.before a turn.given why m.right (subst (λ recs. next_said turn.given (told_in recs) ≡ answer.Broken why) m.is h);
   }
 
-  held_stops : (s : State) (o : Option ℕ) → run.state ≡ Some s → reader_by run name ≡ o → IsStep turn.device s (Asked.if_has o (λ reader. ReadOn reader ∷ [])) turn.added turn.refused
+  held_stops : (s : State) (o : Option ℕ) → run.state ≡ Some s → reader_by run name ≡ o → IsStep turn.device s (Asked.asks_if_has o (λ reader. ReadOn reader ∷ [])) turn.added turn.refused
       → Answers.if_has o (λ reader. next_said turn.given (told_in turn.added)) ≡ answer.Broken why → StopsHere run turn name why
   held_stops s None e held legal said = absurd cc
   held_stops s (Some n) e held legal said =

@@ -50,7 +50,7 @@ module _ (run : Run) (turn : Turn) (key : Key) (request : List Field) (put size 
   get_chosen bytes (Some s) e takes said =
       chosen_of s e (step_answers turn.device s 0 key request _ turn.added turn.refused (read.Hit put) takes.legal (got_by turn.given (told_in turn.added) (lookup_in turn.added) put size bytes said).hit)
 
-  free_chosen : (s t : State) (actor : ℕ) (held : Option Holding) → run.state ≡ Some s → IsStep turn.device s (Asked.if_free held (Look actor key request ∷ [])) turn.added turn.refused
+  free_chosen : (s t : State) (actor : ℕ) (held : Option Holding) → run.state ≡ Some s → IsStep turn.device s (Asked.asks_if_free held (Look actor key request ∷ [])) turn.added turn.refused
       → if_free held (lookup_said t s.next_reader (lookup_in turn.added)) ≡ answer.Hit put size → IsChosenPut run key request put
   free_chosen s t actor None e legal said =
       chosen_of s e (step_answers turn.device s actor key request [] turn.added turn.refused (read.Hit put) legal (lookup_hits t s.next_reader (lookup_in turn.added) put size said))

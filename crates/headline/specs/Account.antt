@@ -5,7 +5,7 @@ use Rattle.std.specs.Prelude.{◌≡◌, ℕ, ◌+◌, ◌⊎◌, if◌then◌el
 use Rattle.std.specs.List.{AllByRecursion}
 use Rattle.device_log.specs.Streams.{SourceRead, SinkWrite}
 use Rattle.edge_io.specs.Text.{text_read}
-use Rattle.logged_disk.specs.Device.{State as Device, TellsAll}
+use Rattle.logged_disk.specs.Device.{DeviceState as Device, TellsAll}
 use Rattle.script_lang.specs.declared.step.Step.{Step}
 use Rattle.script_lang.specs.declared.line.LineAnswer.{LineAnswer}
 use Rattle.script_lang.specs.declared.line.LineAnswer.TheVariants as line
@@ -17,7 +17,7 @@ use Rattle.script_run.specs.Behind.{harm_of, harms_of}
 use Rattle.script_run.specs.Takes.{IsRun, LineShows, run_after}
 use Rattle.script_run.specs.Ledger.{IsReached, Ledger}
 use Rattle.reader_laws.specs.Along.{begins_session}
-use Rattle.run_promise.specs.Outline.{all_told, blank, called}
+use Rattle.run_promise.specs.Outline.{all_told, blank_outline, with_calls_of}
 use Rattle.run_promise.specs.Lines.{AreAnswered, answers_of, outline_of}
 use Rattle.run_promise.specs.declared.status.Status.{Status}
 use Rattle.run_promise.specs.Story.{Refusals, Taken}
@@ -93,7 +93,7 @@ pub record IsDeviceBehind (l : RunLogs) (lines : List (List ℕ)) (device : Devi
 -- in the log of the session's device, which did not tell its content to the end
 abbrev pub ShowsNext : RunLogs → Run → List (List ℕ) → Type 0
 ShowsNext l run [] = ⊥
-ShowsNext l run (bytes ∷ lines) = (turn : Turn) × LineShows run turn bytes × ComeBackFrom l (doubted_harms (called run turn))
+ShowsNext l run (bytes ∷ lines) = (turn : Turn) × LineShows run turn bytes × ComeBackFrom l (doubted_harms (with_calls_of run turn))
 
 -- what a run tells
 pub record Account (l : RunLogs) : Type 0 where
@@ -106,7 +106,7 @@ pub record Account (l : RunLogs) : Type 0 where
   pub taken : Taken (text_read reads) lines held
   -- the answer of each line that is a step
   pub answers : List (Option StepAnswer)
-  pub each : AreAnswered blank lines answers
+  pub each : AreAnswered blank_outline lines answers
   -- the lines that a legal history has, what each of them did, and what they were answered
   pub told : List (List ℕ)
   pub left : List (List ℕ)
@@ -118,7 +118,7 @@ pub record Account (l : RunLogs) : Type 0 where
   -- they are all of them, or the next one shows a pair
   pub whole : OrShown (left ≡ []) (ShowsNext l (run_after fresh told turns) left)
   -- what the answers of all lines, and the records of these, tell of the devices that came back
-  pub answered : ComeBackFrom l (all_told (outline_of blank lines answers))
+  pub answered : ComeBackFrom l (all_told (outline_of blank_outline lines answers))
   pub recorded : ComeBackFrom l (harms_of (run_after fresh told turns))
 
 -- where each device told its content to the end no line shows a pair: the legal history has all of them

@@ -13,7 +13,7 @@ use Rattle.script_lang.specs.declared.step.Step.TheVariants as step
 use Rattle.script_lang.specs.declared.answer.Refused.TheVariants as refused
 use Rattle.script_lang.specs.declared.answer.StepAnswer.{StepAnswer}
 use Rattle.script_lang.specs.declared.answer.StepAnswer.TheVariants as answer
-use Rattle.script_run.specs.Run.{Run, fresh, writer_of}
+use Rattle.script_run.specs.Run.{Run, fresh, put_written_by}
 use Rattle.script_run.specs.Takes.{run_after}
 use Rattle.headline.specs.Account.{Account, HistoryTells, RunLogs}
 use Rattle.headline.specs.Reads.{DidBefore}
@@ -30,7 +30,7 @@ pub record RecordsBehind {l : RunLogs} (a : Account l) (lines : List (List ℕ))
 
 -- the actor writes the put, which is one of the key
 pub record ActorWrites (run : Run) (name : List ℕ) (key : Key) (put : ℕ) : Type 0 where
-  pub writes : writer_of run name ≡ Some put
+  pub writes : put_written_by run name ≡ Some put
   pub s : State
   pub state : run.state ≡ Some s
   pub row : PutRow

@@ -2,7 +2,7 @@
 use Rattle.std.specs.Prelude.{◌≡◌, ◌≢◌, ℕ, List, ◌++◌, Option, Some}
 use Rattle.device_log.specs.Calls.{Asked, Call, RefusedCall}
 use Rattle.tape_base.specs.declared.digests.Digest.{Digest}
-use Rattle.logged_disk.specs.Device.{State as Device}
+use Rattle.logged_disk.specs.Device.{DeviceState as Device}
 use Rattle.cache_model.specs.Permit.{IsAmong}
 use Rattle.cache_model.specs.State.{State}
 use Rattle.cache_model.specs.declared.cause.Cause.TheVariants as cause

@@ -12,7 +12,7 @@ use Rattle.script_lang.specs.declared.step.Step.{Step}
 use Rattle.script_lang.specs.declared.step.Step.TheVariants as step
 use Rattle.script_lang.specs.declared.answer.Refused.TheVariants as refused
 use Rattle.script_lang.specs.declared.answer.StepAnswer.TheVariants as answer
-use Rattle.script_run.specs.Run.{Run, fresh, writer_of}
+use Rattle.script_run.specs.Run.{Run, fresh, put_written_by}
 use Rattle.script_run.specs.Turn.{Turn}
 use Rattle.script_run.specs.Takes.{run_after}
 use Rattle.headline.specs.Account.{Account, HistoryTells, RunLogs}
@@ -63,7 +63,7 @@ GetWasDisplaced = (l : RunLogs) (a : Account l) (lines : List (List ℕ)) (key :
 -- the put that a line closes: the next one where it puts a whole body, else that of the actor's writer
 pub data AsksToClose (run : Run) (s : State) (put : ℕ) : Step → Type 0 where
   puts : (key : Key) (body : List ℕ) (request response : List Field) → s.next_put ≡ put → AsksToClose run s put (step.Put key body request response)
-  closes : (name : List ℕ) → writer_of run name ≡ Some put → AsksToClose run s put (step.Close name)
+  closes : (name : List ℕ) → put_written_by run name ≡ Some put → AsksToClose run s put (step.Close name)
 
 -- the line closes this put, of which the records have this row behind it
 pub record ClosesHere (turns : List Turn) (lines : List (List ℕ)) (asks : Step) : Type 0 where

@@ -17,13 +17,13 @@ use Rattle.script_lang.specs.Texts.{last_line}
 use Rattle.script_lang.specs.Grammar.{reading_of}
 use Rattle.script_run.specs.Run.{fresh}
 use Rattle.script_run.specs.Takes.{run_after}
-use Rattle.run_promise.specs.Outline.{blank}
+use Rattle.run_promise.specs.Outline.{blank_outline}
 use Rattle.run_promise.specs.Lines.{outline_of, texts_before, texts_of}
 use Rattle.run_promise.specs.Needs.{NeedsSession}
 use Rattle.run_promise.specs.declared.status.Status.{Status}
 use Rattle.run_promise.specs.declared.status.Status.TheVariants as status
-use Rattle.run_promise.specs.Story.{Because, CutsLast, HoldsNoLine, IsBadLine, IsNext, MeetsBayFault, SendsAll, SendsBefore}
-use Rattle.run_promise.specs.Story.{Taken, Told, told_by, told_in}
+use Rattle.run_promise.specs.Story.{Because, CutsLast, HoldsNoLine, IsBadLine, IsNextLine, MeetsBayFault, SendsAll, SendsBefore}
+use Rattle.run_promise.specs.Story.{Taken, Told, told_by, told_by_records}
 use Rattle.run_promise.specs.Top.{EachBack, EachBackOrMore, ReadsFailed, WentOut, status_of}
 use Rattle.headline.specs.Account.{Account, IsConcluded, RunLogs, begun_in, sessions_begun}
 
@@ -65,7 +65,7 @@ DoneWhereFine = (l : RunLogs) (s : Status) → IsConcluded l s → ReadsFailed l
 -- the next line needs a session, and none was begun
 pub record HasNoSession (lines : List (List ℕ)) (held : List ℕ) : Type 0 where
   pub bytes : List ℕ
-  pub next : IsNext (length lines) held bytes
+  pub next : IsNextLine (length lines) held bytes
   pub step : Step
   pub asks : reading_of bytes ≡ line.Step step
   pub needs : NeedsSession step
@@ -111,7 +111,7 @@ EndsAreCaused = (l : RunLogs) (s : Status) → IsConcluded l s → ReadsFailed l
 pub record EndsWithStatus (l : RunLogs) (s : Status) (lines : List (List ℕ)) (held : List ℕ) (answers : List (Option StepAnswer)) : Type 0 where
   pub why : LastLine
   pub is : s ≡ status_of why
-  pub because : Because l.bay held (length lines) (outline_of blank lines answers) why
+  pub because : Because l.bay held (length lines) (outline_of blank_outline lines answers) why
   pub out : WentOut l.old l.new (texts_of answers) (last_line why)
 
 -- what the sink took is the text of these answers, as far as the status says
@@ -136,8 +136,8 @@ pub record IsAccountOf (l : RunLogs) (s : Status) (a : Account l) : Type 0 where
   pub takeable : AreTakeable 0 a.lines
   pub ends : EndsHere l a.lines a.held s
   -- all devices came back, by the answers; where the legal history has all lines, its calls are all that they made
-  pub back : CameBackBy l s a.lines a.held (told_by (outline_of blank a.lines a.answers))
-  pub alone : a.left ≡ [] → CameBackBy l s a.lines a.held (told_in (run_after fresh a.told a.turns))
+  pub back : CameBackBy l s a.lines a.held (told_by (outline_of blank_outline a.lines a.answers))
+  pub alone : a.left ≡ [] → CameBackBy l s a.lines a.held (told_by_records (run_after fresh a.told a.turns))
 
 -- whatever ends a run that was begun, what is concluded of it gives its account
 abbrev pub RunsAreTold : Type 0

@@ -3,14 +3,14 @@ use Rattle.std.specs.Prelude.{◌≡◌, ℕ, List, [], ◌++◌, ◌⊎◌}
 use Rattle.std.specs.List.{AllByRecursion}
 use Rattle.device_log.specs.Streams.{SourceRead, taken_by}
 use Rattle.edge_io.specs.Text.{text_read}
-use Rattle.logged_disk.specs.Device.{State as Device, TellsAll}
+use Rattle.logged_disk.specs.Device.{DeviceState as Device, TellsAll}
 use Rattle.cache_model.specs.Permit.{IsAmong}
 use Rattle.script_run.specs.Run.{fresh}
 use Rattle.script_run.specs.Turn.{Turn}
 use Rattle.script_run.specs.Takes.{IsRun, output_of, run_after}
 use Rattle.script_laws.specs.Parting.{DisplacesPiece}
 use Rattle.run_promise.specs.declared.status.Status.TheVariants as status
-use Rattle.run_promise.specs.Story.{Taken, told_in}
+use Rattle.run_promise.specs.Story.{Taken, told_by_records}
 use Rattle.run_promise.specs.Top.{EachBack}
 use Rattle.headline.specs.Account.{IsConcluded, RunLogs}
 
@@ -42,7 +42,7 @@ pub record HasHistory (l : RunLogs) (lines : List (List ℕ)) : Type 0 where
   pub turns : List Turn
   pub legal : IsRun fresh lines turns
   pub prints : taken_by l.new ≡ taken_by l.old ++ output_of fresh lines turns
-  pub back : EachBack l.before l.now (told_in (run_after fresh lines turns))
+  pub back : EachBack l.before l.now (told_by_records (run_after fresh lines turns))
 
 -- in such a run of these lines a turn did
 pub record HasDisplaced (l : RunLogs) (lines : List (List ℕ)) : Type 0 where

@@ -1,6 +1,6 @@
 -- No false trouble: what lines answer of faults and of damage, and the device that each of them worked on.
 use Rattle.std.specs.Prelude.{◌≡◌, ℕ, ◌≤◌, false, List}
-use Rattle.logged_disk.specs.Device.{State as Device, TellsAll}
+use Rattle.logged_disk.specs.Device.{DeviceState as Device, TellsAll}
 use Rattle.script_lang.specs.declared.step.Step.{Step}
 use Rattle.script_lang.specs.declared.answer.StepAnswer.{StepAnswer}
 use Rattle.script_laws.specs.Runs.{answers_damage, answers_fault}

@@ -4,13 +4,13 @@ use Rattle.std.specs.Prelude.{codes}
 use Rattle.hex.specs.Hex.{decode_pairs}
 use Rattle.script_lang.specs.declared.line.LineAnswer.TheVariants as line
 use Rattle.script_lang.specs.declared.step.Step.TheVariants as step
-use Rattle.script_lang.specs.Tokens.{number_in, number_below, key_in, object_of, hex_body, body_of}
+use Rattle.script_lang.specs.Tokens.{number_of_word, number_below, key_in, object_of, hex_body, body_of_word}
 use Rattle.script_lang.specs.Verbs.{verb_of}
-use Rattle.script_lang.specs.Grammar.{take_number, alternates_kept, numbers_of, format_of, put_of, get_of, remove_of, step_of, reading_of}
+use Rattle.script_lang.specs.Grammar.{take_number, alternates_kept, format_of_numbers, format_of, put_line_of, get_of, remove_of, step_of, reading_of}
 use Rattle.headline_rows.specs.Script.{body_of_a, key_of_a, line_to_format, line_to_get, line_to_put, line_to_remove}
 
 pub format_is_read : reading_of line_to_format ≡ line.Step (step.Format (codes "mem:a") 1 64 64 8 16 4 7 5)
-unfolding reading_of step_of verb_of format_of numbers_of alternates_kept take_number number_below number_in
+unfolding reading_of step_of verb_of format_of format_of_numbers alternates_kept take_number number_below number_of_word
 format_is_read = refl
 
 pub get_is_read : reading_of line_to_get ≡ line.Step (step.Get key_of_a [])
@@ -18,7 +18,7 @@ unfolding reading_of step_of verb_of get_of object_of key_in
 get_is_read = refl
 
 pub put_is_read : reading_of line_to_put ≡ line.Step (step.Put key_of_a body_of_a [] [])
-unfolding reading_of step_of verb_of put_of object_of key_in body_of hex_body decode_pairs
+unfolding reading_of step_of verb_of put_line_of object_of key_in body_of_word hex_body decode_pairs
 put_is_read = refl
 
 pub removal_is_read : reading_of line_to_remove ≡ line.Step (step.Remove key_of_a)

@@ -5,7 +5,7 @@ use Rattle.std.specs.List.{AllByRecursion}
 use Rattle.device_log.specs.Streams.{taken_by}
 use Rattle.edge_io.specs.Laws.{SpelledAreLines}
 use Rattle.edge_io.specs.Text.{spelled}
-use Rattle.logged_disk.specs.Device.{State as Device, TellsAll, has_flip}
+use Rattle.logged_disk.specs.Device.{DeviceState as Device, TellsAll, has_flip}
 use Rattle.script_lang.specs.declared.line.LineAnswer.TheVariants as line
 use Rattle.script_lang.specs.declared.step.Step.{Step}
 use Rattle.script_lang.specs.declared.step.Step.TheVariants as step

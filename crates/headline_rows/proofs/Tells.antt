@@ -17,9 +17,9 @@ use Rattle.cache_model.specs.declared.cause.Cause.TheVariants as cause
 use Rattle.script_run.specs.Run.{Run, fresh}
 use Rattle.script_run.specs.Behind.{harms_of}
 use Rattle.script_run.specs.Takes.{run_after}
-use Rattle.run_promise.specs.Outline.{Outline, all_told, blank}
+use Rattle.run_promise.specs.Outline.{Outline, all_told, blank_outline}
 use Rattle.run_promise.specs.Lines.{AreAnswered, outline_of, texts_of}
-use Rattle.run_promise.specs.Story.{Taken, Took, told_by, told_in}
+use Rattle.run_promise.specs.Story.{Taken, Took, told_by, told_by_records}
 use Rattle.run_promise.specs.Top.{EachBack}
 use Rattle.headline.specs.Account.{ComeBackFrom}
 use Rattle.headline.specs.Endings.{AreTakeable}
@@ -69,7 +69,7 @@ what_was_said =
     ∷ answer.Miss cause.Removed
     ∷ []
 
-each_is_answered : (key : Key) → AreAnsweredBy blank (steps_with key) what_was_said
+each_is_answered : (key : Key) → AreAnsweredBy blank_outline (steps_with key) what_was_said
 each_is_answered key = (
   record { session = λ needs. absurd needs; none = λ h. refl; fixed = refl },
   (
@@ -87,18 +87,18 @@ each_is_answered key = (
   ),
 )
 
-answered_each : AreAnswered blank script_lines script_answers
-answered_each = are_answered blank script_lines (steps_with key_of_a) what_was_said are_read (each_is_answered key_of_a)
+answered_each : AreAnswered blank_outline script_lines script_answers
+answered_each = are_answered blank_outline script_lines (steps_with key_of_a) what_was_said are_read (each_is_answered key_of_a)
 
 -- ---- the device
 
-outline_behind : outline_of blank script_lines script_answers ≡ outline_by blank (steps_with key_of_a) what_was_said
-outline_behind = outline_is blank script_lines (steps_with key_of_a) what_was_said are_read
+outline_behind : outline_of blank_outline script_lines script_answers ≡ outline_by blank_outline (steps_with key_of_a) what_was_said
+outline_behind = outline_is blank_outline script_lines (steps_with key_of_a) what_was_said are_read
 
 run_behind_script : run_after fresh script_lines script_turns ≡ run_by fresh (steps_with key_of_a) script_turns
 run_behind_script = run_is fresh script_lines (steps_with key_of_a) script_turns are_read
 
-answers_come_back : ComeBackFrom script_logs (all_told (outline_of blank script_lines script_answers))
+answers_come_back : ComeBackFrom script_logs (all_told (outline_of blank_outline script_lines script_answers))
 answers_come_back = subst (λ (o : Outline). ComeBackFrom script_logs (all_told o)) (sym outline_behind) (record {
   devices = script_device ∷ [];
   returned = refl;
@@ -112,7 +112,7 @@ records_come_back = subst (λ (run : Run). ComeBackFrom script_logs (harms_of ru
   told = (record { made = record { later = []; is = refl }; all = λ h. cc; counted = lit≤ tt; unharmed = λ h. refl }, tt);
 })
 
-back_by_answers : EachBack script_logs.before script_logs.now (told_by (outline_of blank script_lines script_answers))
+back_by_answers : EachBack script_logs.before script_logs.now (told_by (outline_of blank_outline script_lines script_answers))
 back_by_answers = subst (λ (o : Outline). EachBack script_logs.before script_logs.now (told_by o)) (sym outline_behind) (record {
   back = record {
     devices = script_device ∷ [];
@@ -122,8 +122,8 @@ back_by_answers = subst (λ (o : Outline). EachBack script_logs.before script_lo
   attached = refl;
 })
 
-back_by_records : EachBack script_logs.before script_logs.now (told_in (run_after fresh script_lines script_turns))
-back_by_records = subst (λ (run : Run). EachBack script_logs.before script_logs.now (told_in run)) (sym run_behind_script) (record {
+back_by_records : EachBack script_logs.before script_logs.now (told_by_records (run_after fresh script_lines script_turns))
+back_by_records = subst (λ (run : Run). EachBack script_logs.before script_logs.now (told_by_records run)) (sym run_behind_script) (record {
   back = record {
     devices = script_device ∷ [];
     returned = refl;

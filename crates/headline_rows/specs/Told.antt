@@ -4,7 +4,7 @@ use Rattle.std.specs.Prelude.{◌≡◌, true, List, [], ◌∷◌, codes}
 use Rattle.device_log.specs.Image.{blank}
 use Rattle.device_log.specs.Streams.{SourceRead, GaveBytes, CameToEnd, SinkWrite, TookBytes}
 use Rattle.edge_io.specs.Text.{spelled}
-use Rattle.logged_disk.specs.Device.{State as Device}
+use Rattle.logged_disk.specs.Device.{DeviceState as Device}
 use Rattle.run_promise.specs.declared.status.Status.TheVariants as status
 use Rattle.headline.specs.Account.{Account, IsConcluded, RunLogs}
 use Rattle.headline.specs.Endings.{IsAccountOf}

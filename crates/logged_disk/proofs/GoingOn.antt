@@ -4,7 +4,7 @@ use Rattle.edge_io.specs.Causes.{HasCause}
 use Rattle.device_log.specs.Calls.{ToRead, ToWrite, Call, Read, Wrote, Synced, RefusedCall, Told, PowerCut, Flipped}
 use Rattle.device_log.specs.Seen.{seen_of}
 use Rattle.device_log.specs.Faults.{faults_of, next_count, is_untold}
-use Rattle.logged_disk.specs.Device.{State, has_flip, has_cut, TellsAll, SeenStays, Keeps, Logs, IsAfter, IsAsked}
+use Rattle.logged_disk.specs.Device.{DeviceState, has_flip, has_cut, TellsAll, SeenStays, Keeps, Logs, IsAfter, IsAsked}
 
 -- of calls behind others
 flips_append : (later older : List Call) → has_flip (later ++ older) ≡ has_flip later || has_flip older
@@ -56,10 +56,10 @@ module _ (call : Call) (older : List Call) where
   one_flip : has_flip (call ∷ []) ≡ false → has_flip (call ∷ older) ≡ has_flip older
   one_flip none = flips_append (call ∷ []) older ∙ ap (λ b. b || has_flip older) none
 
-pub same_past : (old new : State) → new.first ≡ old.first → new.past ≡ old.past → SeenStays old new
+pub same_past : (old new : DeviceState) → new.first ≡ old.first → new.past ≡ old.past → SeenStays old new
 same_past old new first past j = ap (λ f. seen_of f new.past j) first ∙ ap (λ p. seen_of old.first p j) past
 
-pub stays_put : (s : State) → IsAfter s s
+pub stays_put : (s : DeviceState) → IsAfter s s
 stays_put s = record {
   size = refl;
   trust = omega arith;
@@ -75,10 +75,10 @@ stays_put s = record {
 }
 
 -- where it is the same
-pub stays_as : (old new : State) → new ≡ old → IsAfter old new
+pub stays_as : (old new : DeviceState) → new ≡ old → IsAfter old new
 stays_as old new same = subst (λ s. IsAfter old s) (sym same) (stays_put old)
 
-pub goes_further : (a b c : State) → IsAfter a b → IsAfter b c → IsAfter a c
+pub goes_further : (a b c : DeviceState) → IsAfter a b → IsAfter b c → IsAfter a c
 goes_further a b c front back = record {
   size = back.size ∙ front.size;
   trust = omega (arith, front.trust, back.trust);
@@ -94,18 +94,18 @@ goes_further a b c front back = record {
 }
 
 -- what is told then was told before
-pub told_before : (old new : State) → IsAfter old new → TellsAll new → TellsAll old
+pub told_before : (old new : DeviceState) → IsAfter old new → TellsAll new → TellsAll old
 told_before old new on told = record {
   trusted = omega (arith, on.trust, told.trusted);
   unturned = sym (ap (λ b. b || has_flip old.past) on.unturned) ∙ (sym (flips_append on.made old.past) ∙ (ap has_flip (sym on.past) ∙ told.unturned));
 }
 
 -- a switch that was told nothing before is told nothing still
-pub untold_still : (old new : State) → IsAfter old new → is_untold old.past ≡ true → is_untold new.past ≡ true
+pub untold_still : (old new : DeviceState) → IsAfter old new → is_untold old.past ≡ true → is_untold new.past ≡ true
 untold_still old new on none =
     ap is_untold on.past ∙ (untold_append on.made old.past ∙ (ap (λ b. b && is_untold old.past) on.untold ∙ none))
 
-module _ (calls blocks : ℕ) (old new : State) (keeps : Keeps calls blocks old new) where
+module _ (calls blocks : ℕ) (old new : DeviceState) (keeps : Keeps calls blocks old new) where
   by_calls : (made : List Call) → new.past ≡ made ++ old.past → has_flip made ≡ false → is_untold made ≡ true → has_cut made ≡ false
       → IsAfter old new
   by_calls made past unturned untold uncut = record {
@@ -155,7 +155,7 @@ faults_fit (PowerCut choice left ∷ older) = faults_fit older
 faults_fit (Flipped at byte ∷ older) = faults_fit older
 
 -- the count behind a call rose where the call failed, and nowhere else
-pub cause_of : {T E : Type 0} (result : Result T E) (call : Call) (old new : State)
+pub cause_of : {T E : Type 0} (result : Result T E) (call : Call) (old new : DeviceState)
     → old.faults ≡ faults_of old.past → Logs call result old new → HasCause old.faults new.faults result
 cause_of result call old new counts logs =
     let fits = faults_fit old.past in
@@ -165,14 +165,14 @@ cause_of result call old new counts logs =
           record { later = omega (arith, counted, counts, fits); failed = omega (arith, counted) }
     ] logs
 
-pub asked_nothing : (s : State) → IsAsked s s
+pub asked_nothing : (s : DeviceState) → IsAsked s s
 asked_nothing s = record {
   keeps = record { size = refl; trust = omega arith; number = refl; switch = refl; settled = refl; first = refl; calls = omega arith; blocks = omega arith };
   later = omega arith;
   goes = stays_put s;
 }
 
-pub asked_further : (a b c : State) → IsAsked a b → IsAsked b c → IsAsked a c
+pub asked_further : (a b c : DeviceState) → IsAsked a b → IsAsked b c → IsAsked a c
 asked_further a b c front back = record {
   keeps = record {
     size = back.keeps.size ∙ front.keeps.size;

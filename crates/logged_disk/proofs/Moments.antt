@@ -9,17 +9,17 @@ use Rattle.device_log.specs.Along.{Along, ButFor}
 use Rattle.device_log.proofs.SeenLaws.{wrote_puts, wrote_others, refused_others, seen_is_image}
 use Rattle.device_log.proofs.LeftLaws.{wrote_torn, refused_torn, synced_settles, synced_leaves, sync_refused_leaves, read_leaves, read_refused_leaves}
 use Rattle.device_log.proofs.CallLaws.{one_call, joins, weaker, left_after}
-use Rattle.logged_disk.specs.Device.{State, seen, Leaves, Elapses, IsSettled, Logs}
+use Rattle.logged_disk.specs.Device.{DeviceState, seen, CutLeaves, Elapses, IsSettled, Logs}
 
-pub seen_image : (s : State) → IsImage s.first → IsLog s.past → IsImage (seen s)
+pub seen_image : (s : DeviceState) → IsImage s.first → IsLog s.past → IsImage (seen s)
 seen_image s is log = seen_is_image s.first s.past is log.entries
 
-module _ {T E : Type 0} (result : Result T E) (old new : State) where
+module _ {T E : Type 0} (result : Result T E) (old new : DeviceState) where
   -- a write tears its range, and nothing else
   pub write_elapses : (at : ℕ) (bytes : List ℕ) → IsImage (seen old) → Logs (Wrote at bytes) result old new
-      → Elapses (ButFor at (length bytes / 512) (Leaves old)) old new
+      → Elapses (ButFor at (length bytes / 512) (CutLeaves old)) old new
   write_elapses at bytes is logs =
-      let P = ButFor at (length bytes / 512) (Leaves old) in
+      let P = ButFor at (length bytes / 512) (CutLeaves old) in
       elim result as (λ r. Logs (Wrote at bytes) r old new → Elapses P old new) [
         | Ok x ↦ λ went. subst (λ p. Along P old.settled old.first old.past p) (sym went.past)
             (one_call P old.settled old.first (Wrote at bytes) old.past (λ c may. wrote_torn old.settled old.first old.past c at bytes is may))
@@ -49,9 +49,9 @@ module _ {T E : Type 0} (result : Result T E) (old new : State) where
       ] logs
 
   -- a sync leaves no new image, and what is seen stays
-  pub sync_elapses : Logs Synced result old new → Elapses (Leaves old) old new
+  pub sync_elapses : Logs Synced result old new → Elapses (CutLeaves old) old new
   sync_elapses logs =
-      let P = Leaves old in
+      let P = CutLeaves old in
       elim result as (λ r. Logs Synced r old new → Elapses P old new) [
         | Ok x ↦ λ went. subst (λ p. Along P old.settled old.first old.past p) (sym went.past)
             (one_call P old.settled old.first Synced old.past (λ c may. synced_leaves old.settled old.first old.past c may))
@@ -75,9 +75,9 @@ module _ {T E : Type 0} (result : Result T E) (old new : State) where
       ] logs
 
   -- a read changes nothing
-  pub read_elapses : (at : ℕ) (bytes : List ℕ) → Logs (Read at bytes) result old new → Elapses (Leaves old) old new
+  pub read_elapses : (at : ℕ) (bytes : List ℕ) → Logs (Read at bytes) result old new → Elapses (CutLeaves old) old new
   read_elapses at bytes logs =
-      let P = Leaves old in
+      let P = CutLeaves old in
       elim result as (λ r. Logs (Read at bytes) r old new → Elapses P old new) [
         | Ok x ↦ λ went. subst (λ p. Along P old.settled old.first old.past p) (sym went.past)
             (one_call P old.settled old.first (Read at bytes) old.past (λ c may. read_leaves old.settled old.first old.past c at bytes may))
@@ -94,7 +94,7 @@ module _ {T E : Type 0} (result : Result T E) (old new : State) where
         | Err e ↦ λ failed. ap (λ f. seen_of f new.past) stays ∙ ap (seen_of old.first) failed.0
       ] logs
 
-module _ (P : Image → Type 0) (a b c : State) (first : b.first ≡ a.first) (settled : b.settled ≡ a.settled) where
+module _ (P : Image → Type 0) (a b c : DeviceState) (first : b.first ≡ a.first) (settled : b.settled ≡ a.settled) where
   -- two parts of a run
   pub then : Elapses P a b → Elapses P b c → Elapses P a c
   then front back =
@@ -102,16 +102,16 @@ module _ (P : Image → Type 0) (a b c : State) (first : b.first ≡ a.first) (s
       (subst (λ s. Along P s a.first b.past c.past) settled (subst (λ f. Along P b.settled f b.past c.past) first back))
 
   -- behind a part a cut leaves what it could before, or what has P
-  pub left_behind : Elapses P a b → ((i : Image) → Leaves a i → P i) → (i : Image) → Leaves b i → P i
+  pub left_behind : Elapses P a b → ((i : Image) → CutLeaves a i → P i) → (i : Image) → CutLeaves b i → P i
   left_behind front at_start i may =
       left_after P a.settled a.first a.past b.past front at_start i
       (subst (λ s. MayLeave s a.first b.past i) settled (subst (λ f. MayLeave b.settled f b.past i) first may))
 
   -- and then a part in which a cut leaves nothing new
-  pub then_still : ((i : Image) → Leaves a i → P i) → Elapses P a b → Elapses (Leaves b) b c → Elapses P a c
+  pub then_still : ((i : Image) → CutLeaves a i → P i) → Elapses P a b → Elapses (CutLeaves b) b c → Elapses P a c
   then_still at_start front back =
-      then front (weaker (Leaves b) P b.settled b.first b.past c.past (left_behind front at_start) back)
+      then front (weaker (CutLeaves b) P b.settled b.first b.past c.past (left_behind front at_start) back)
 
 -- a write over what is settled tears what is seen
-pub torn_settled : (at n : ℕ) (s : State) → IsSettled s → (i : Image) → ButFor at n (Leaves s) i → SameBut at n (seen s) i
+pub torn_settled : (at n : ℕ) (s : DeviceState) → IsSettled s → (i : Image) → ButFor at n (CutLeaves s) i → SameBut at n (seen s) i
 torn_settled at n s settled i torn j outside = torn.2 j outside ∙ settled torn.0 torn.1 j

@@ -9,12 +9,12 @@ use Rattle.device_log.specs.declared.choice.CutChoice.TheVariants.{Lost, Kept, T
 use Rattle.device_log.specs.Image.{Image, in_range, put_blocks}
 use Rattle.device_log.specs.Cuts.{torn_block, junk_block}
 use Rattle.device_log.proofs.Puts.{inside_range}
-use Rattle.logged_disk.specs.Blocks.{Written, Pending, AreStored, seen_in, kept_or, kept_in, over_in, left_in, cut_image}
+use Rattle.logged_disk.specs.Blocks.{Written, Pending, AreStored, written_image, kept_or, synced_image, over_in, left_in, cut_image}
 
 -- so many of the bytes' blocks were written
 pub record HasPut (old new : Written) (before after : Pending) (first k : ℕ) (bytes : List ℕ) : Type 0 where
-  pub seen : (j : ℕ) → seen_in new j ≡ put_blocks first k bytes (seen_in old) j
-  pub kept : (j : ℕ) → kept_in new after j ≡ kept_in old before j
+  pub seen : (j : ℕ) → written_image new j ≡ put_blocks first k bytes (written_image old) j
+  pub kept : (j : ℕ) → synced_image new after j ≡ synced_image old before j
   pub over : (j : ℕ) → over_in after j ≡ (if in_range first k j then Some first else over_in before j)
   pub stored : AreStored new after
   pub room : spare old ≤ spare new + k
@@ -28,7 +28,7 @@ range_else first k j is = grind (arith, is)
 
 pub none_put : (old : Written) (before : Pending) (first : ℕ) (bytes : List ℕ) → AreStored old before → HasPut old old before before first 0 bytes
 none_put old before first bytes stored = record {
-  seen = λ j. sym (ap (λ b. if b then take 512 (drop (512 * (j - first)) bytes) else seen_in old j) (none_in_range first j));
+  seen = λ j. sym (ap (λ b. if b then take 512 (drop (512 * (j - first)) bytes) else written_image old j) (none_in_range first j));
   kept = λ j. refl;
   over = λ j. sym (ap (λ b. if b then Some first else over_in before j) (none_in_range first j));
   stored = stored;
@@ -61,37 +61,38 @@ over_more first k old mid new so_far step = one_further first k (λ j. Some firs
 
 -- the blocks below k were cut
 pub record HasCut (choice : CutChoice) (old new : Written) (pending : Pending) (k : ℕ) : Type 0 where
-  pub seen : (j : ℕ) → seen_in new j ≡ cut_image choice k old pending j
+  pub seen : (j : ℕ) → written_image new j ≡ cut_image choice k old pending j
   pub stored : AreStored new pending
   pub room : spare new ≡ spare old
 
 pub none_cut : (choice : CutChoice) (old : Written) (pending : Pending) → AreStored old pending → HasCut choice old old pending 0
 none_cut choice old pending stored = record {
-  seen = λ j. let no : nat_lt j 0 ≡ false = grind arith in sym (ap (λ b. if b then left_in choice old pending j else seen_in old j) no);
+  seen = λ j. let no : nat_lt j 0 ≡ false =
+      grind arith in sym (ap (λ b. if b then left_in choice old pending j else written_image old j) no);
   stored = stored;
   room = refl;
 }
 
 -- what is left of a block goes by what is seen of it
-left_same : (choice : CutChoice) (old new : Written) (pending : Pending) (j : ℕ) → seen_in new j ≡ seen_in old j → left_in choice new pending j ≡ left_in choice old pending j
+left_same : (choice : CutChoice) (old new : Written) (pending : Pending) (j : ℕ) → written_image new j ≡ written_image old j → left_in choice new pending j ≡ left_in choice old pending j
 left_same Lost old new pending j is = ap (kept_or (get nat_eq pending j)) is
 left_same Kept old new pending j is = is
 left_same Torn old new pending j is = ap (torn_block (over_in pending j) j) is
 left_same Junk old new pending j is = ap (junk_block (over_in pending j)) is
 
 pub cut_more : (choice : CutChoice) (old mid new : Written) (pending : Pending) (k : ℕ) → HasCut choice old mid pending k
-    → ((j : ℕ) → seen_in new j ≡ (if k == j then left_in choice mid pending j else seen_in mid j)) → AreStored new pending → spare new ≡ spare mid
+    → ((j : ℕ) → written_image new j ≡ (if k == j then left_in choice mid pending j else written_image mid j)) → AreStored new pending → spare new ≡ spare mid
     → HasCut choice old new pending (k + 1)
 cut_more choice old mid new pending k so_far step stored room = record {
-  seen = λ j. step j ∙ elim (k == j) as (λ b. (k == j) ≡ b → (if b then left_in choice mid pending j else seen_in mid j) ≡ cut_image choice (k + 1) old pending j) [
+  seen = λ j. step j ∙ elim (k == j) as (λ b. (k == j) ≡ b → (if b then left_in choice mid pending j else written_image mid j) ≡ cut_image choice (k + 1) old pending j) [
     | true ↦ λ here.
         let above : nat_lt j k ≡ false = grind (arith, here) in
         let below : nat_lt j (k + 1) ≡ true = grind (arith, here) in
-        left_same choice old mid pending j (so_far.seen j ∙ ap (λ b. if b then left_in choice old pending j else seen_in old j) above)
-        ∙ sym (ap (λ b. if b then left_in choice old pending j else seen_in old j) below)
+        left_same choice old mid pending j (so_far.seen j ∙ ap (λ b. if b then left_in choice old pending j else written_image old j) above)
+        ∙ sym (ap (λ b. if b then left_in choice old pending j else written_image old j) below)
     | false ↦ λ elsewhere.
         let same : nat_lt j (k + 1) ≡ nat_lt j k = grind (arith, elsewhere) in
-        so_far.seen j ∙ sym (ap (λ b. if b then left_in choice old pending j else seen_in old j) same)
+        so_far.seen j ∙ sym (ap (λ b. if b then left_in choice old pending j else written_image old j) same)
   ] refl;
   stored = stored;
   room = room ∙ so_far.room;

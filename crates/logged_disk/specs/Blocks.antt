@@ -18,8 +18,8 @@ abbrev pub Pending : Type 0
 Pending = HashMap ℕ PendingBlock (BuildHasherDefault FoldHasher)
 
 -- what is seen: what was written, and zeros elsewhere
-abbrev pub seen_in : Written → Image
-seen_in written j = unwrap_or (get nat_eq written j) zeros
+abbrev pub written_image : Written → Image
+written_image written j = unwrap_or (get nat_eq written j) zeros
 
 -- what was there before, where the block is pending
 abbrev pub kept_or : Option PendingBlock → List ℕ → List ℕ
@@ -27,8 +27,8 @@ kept_or None seen = seen
 kept_or (Some pending) seen = pending.kept
 
 -- what the last sync kept
-abbrev pub kept_in : Written → Pending → Image
-kept_in written pending j = kept_or (get nat_eq pending j) (seen_in written j)
+abbrev pub synced_image : Written → Pending → Image
+synced_image written pending j = kept_or (get nat_eq pending j) (written_image written j)
 
 -- the first block of the last write over it, where the block is pending
 abbrev pub start_of : Option PendingBlock → Option ℕ
@@ -40,15 +40,15 @@ over_in pending j = start_of (get nat_eq pending j)
 
 -- what such a cut leaves of a block
 abbrev pub left_in : CutChoice → Written → Pending → Image
-left_in Lost written pending j = kept_in written pending j
-left_in Kept written pending j = seen_in written j
-left_in Torn written pending j = torn_block (over_in pending j) j (seen_in written j)
-left_in Junk written pending j = junk_block (over_in pending j) (seen_in written j)
+left_in Lost written pending j = synced_image written pending j
+left_in Kept written pending j = written_image written j
+left_in Torn written pending j = torn_block (over_in pending j) j (written_image written j)
+left_in Junk written pending j = junk_block (over_in pending j) (written_image written j)
 
 -- what a cut leaves of the blocks below the size
 abbrev pub cut_image : CutChoice → ℕ → Written → Pending → Image
 cut_image choice size written pending j =
-    if nat_lt j size then left_in choice written pending j else seen_in written j
+    if nat_lt j size then left_in choice written pending j else written_image written j
 
 -- each block that is pending was written
 pub record AreStored (written : Written) (pending : Pending) : Type 0 where

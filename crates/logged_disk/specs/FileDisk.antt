@@ -4,13 +4,13 @@ use Rattle.device_log.specs.Image.{Image}
 use Rattle.device_log.specs.Seen.{ReadsAreSeen}
 use Rattle.device_log.specs.Faults.{IsLog, faults_of, obeys_switch}
 use Rattle.device_log.specs.DeviceLog.{calls_of}
-use Rattle.logged_disk.specs.Device.{State, IsTrusted}
+use Rattle.logged_disk.specs.Device.{DeviceState, IsTrusted}
 use Rattle.logged_disk.specs.FileTrust.{file_trust, trusted_reads}
 use Rattle.logged_disk.specs.Switchless.{asks_none}
 use Rattle.logged_disk.specs.declared.file_disk.FileDisk.{FileDisk}
 
 -- the device at this moment, where the file held the image of its number at its attach
-abbrev pub file_state : {S : Type 0} → (ℕ → Image) → FileDisk S → State
+abbrev pub file_state : {S : Type 0} → (ℕ → Image) → FileDisk S → DeviceState
 file_state first disk = record {
   size = disk.size;
   trust = file_trust (first disk.number) (calls_of disk.log);
@@ -25,7 +25,7 @@ file_state first disk = record {
 }
 
 -- a file as it is attached: nothing was called yet, and it is trusted
-pub record IsAttached (number : ℕ) (settled : Bool) (s : State) : Type 0 where
+pub record IsAttached (number : ℕ) (settled : Bool) (s : DeviceState) : Type 0 where
   pub trusted : IsTrusted s
   pub number_is : s.number ≡ number
   pub settled_is : s.settled ≡ settled

@@ -2,12 +2,12 @@
 use Rattle.std.specs.Prelude.{true}
 use Rattle.device_log.specs.Image.{blank}
 use Rattle.device_log.specs.DeviceLog.{calls_of}
-use Rattle.logged_disk.specs.Device.{State}
+use Rattle.logged_disk.specs.Device.{DeviceState}
 use Rattle.logged_disk.specs.Memory.{memory_trust}
 use Rattle.logged_disk.specs.declared.mem_disk.MemDisk.{MemDisk}
 
 -- the device at this moment
-abbrev pub mem_state : MemDisk → State
+abbrev pub mem_state : MemDisk → DeviceState
 mem_state disk = record {
   size = disk.size;
   trust = memory_trust (calls_of disk.log);

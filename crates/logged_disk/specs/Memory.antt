@@ -5,7 +5,7 @@ use Rattle.device_log.specs.Calls.{Call}
 use Rattle.device_log.specs.Seen.{seen_of, kept_of, ReadsAreSeen}
 use Rattle.device_log.specs.Cuts.{write_over}
 use Rattle.device_log.specs.Faults.{faults_of, obeys_switch}
-use Rattle.logged_disk.specs.Blocks.{Written, Pending, AreStored, seen_in, kept_in, over_in}
+use Rattle.logged_disk.specs.Blocks.{Written, Pending, AreStored, written_image, synced_image, over_in}
 use Rattle.logged_disk.specs.Device.{has_flip}
 use Rattle.logged_disk.specs.Switch.{Obeys}
 use Rattle.logged_disk.specs.declared.switch.Switch.{Switch}
@@ -13,8 +13,8 @@ use Rattle.logged_disk.specs.declared.switch.Switch.{Switch}
 -- The blocks hold what the log says, the calls fail where it says, and its reads gave what was seen.
 pub record IsMemory (written : Written) (pending : Pending) (switch : Switch) (faults : ℕ)
     (past : List Call) : Type 0 where
-  pub seen : (j : ℕ) → seen_in written j ≡ seen_of blank past j
-  pub kept : (j : ℕ) → kept_in written pending j ≡ kept_of blank past j
+  pub seen : (j : ℕ) → written_image written j ≡ seen_of blank past j
+  pub kept : (j : ℕ) → synced_image written pending j ≡ kept_of blank past j
   pub over : (j : ℕ) → over_in pending j ≡ write_over past j
   pub stored : AreStored written pending
   pub obeyed : Obeys switch past

@@ -3,7 +3,7 @@ ghost use Rattle.std.specs.Prelude.{◌≡◌, ◌+◌, ◌/◌, ◌<◌, ◌≤
 ghost use Rattle.std.specs.HashMap.{get, spare};
 ghost use Rattle.device_log.specs.Image.{span, put, in_range, flipped, junk};
 ghost use Rattle.logged_disk.specs.Device.{IsWhole};
-ghost use Rattle.logged_disk.specs.Blocks.{AreStored, seen_in, kept_in, over_in, left_in, cut_image};
+ghost use Rattle.logged_disk.specs.Blocks.{AreStored, written_image, synced_image, over_in, left_in, cut_image};
 
 use crate::BLOCK_BYTES;
 use crate::pending_block::PendingBlock;
@@ -20,7 +20,7 @@ pub(crate) type Pending = HashMap<u64, PendingBlock>;
 pub(crate) fn read_blocks(written: &Written, first: u64, into: &mut [u8])
     requires whole { IsWhole (length into.old) }
     requires numbers { first + length into.old / 512 < 2 ^ 64 }
-    ensures { into.new ≡ span (seen_in written.now) first (length into.old / 512) }
+    ensures { into.new ≡ span (written_image written.now) first (length into.old / 512) }
 {
     for k in 0..into.len() / BLOCK_BYTES {
         let at = k * BLOCK_BYTES;
@@ -31,7 +31,7 @@ pub(crate) fn read_blocks(written: &Written, first: u64, into: &mut [u8])
 #[tactic(auto, unfolding(device_log::specs::Image::zeros))]
 fn read_block(written: &Written, block: u64, into: &mut [u8])
     requires { length into.old ≡ 512 }
-    ensures { into.new ≡ seen_in written.now block }
+    ensures { into.new ≡ written_image written.now block }
 {
     match written.get(&block) {
         Some(bytes) => into.copy_from_slice(bytes),
@@ -42,7 +42,7 @@ fn read_block(written: &Written, block: u64, into: &mut [u8])
 /// What is seen of a block.
 #[tactic(auto, unfolding(device_log::specs::Image::zeros))]
 fn seen_block(written: &Written, block: u64) -> [u8; BLOCK_BYTES]
-    ensures { result ≡ seen_in written.now block }
+    ensures { result ≡ written_image written.now block }
 {
     match written.get(&block) {
         Some(bytes) => *bytes,
@@ -52,7 +52,7 @@ fn seen_block(written: &Written, block: u64) -> [u8; BLOCK_BYTES]
 
 /// What the last sync kept of a block.
 fn kept_block(written: &Written, pending: &Pending, block: u64) -> [u8; BLOCK_BYTES]
-    ensures { result ≡ kept_in written.now pending.now block }
+    ensures { result ≡ synced_image written.now pending.now block }
 {
     match pending.get(&block) {
         Some(entry) => entry.kept,
@@ -67,8 +67,10 @@ pub(crate) fn write_blocks(written: &mut Written, pending: &mut Pending, first: 
     requires room { length bytes.now / 512 ≤ spare written.old }
     requires room_before { length bytes.now / 512 ≤ spare pending.old }
     requires stored { AreStored written.old pending.old }
-    ensures seen { (j : ℕ) → seen_in written.new j ≡ put first bytes.now (seen_in written.old) j }
-    ensures kept { (j : ℕ) → kept_in written.new pending.new j ≡ kept_in written.old pending.old j }
+    ensures seen { (j : ℕ)
+        → written_image written.new j ≡ put first bytes.now (written_image written.old) j }
+    ensures kept { (j : ℕ)
+        → synced_image written.new pending.new j ≡ synced_image written.old pending.old j }
     ensures over { (j : ℕ) → over_in pending.new j
         ≡ (if in_range first (length bytes.now / 512) j then Some first
         else over_in pending.old j) }
@@ -89,9 +91,10 @@ fn write_block(written: &mut Written, pending: &mut Pending, start: u64, block: 
     requires room { 0 < spare written.old }
     requires room_before { 0 < spare pending.old }
     requires stored { AreStored written.old pending.old }
-    ensures seen { (j : ℕ) → seen_in written.new j
-        ≡ (if block == j then bytes.now else seen_in written.old j) }
-    ensures kept { (j : ℕ) → kept_in written.new pending.new j ≡ kept_in written.old pending.old j }
+    ensures seen { (j : ℕ) → written_image written.new j
+        ≡ (if block == j then bytes.now else written_image written.old j) }
+    ensures kept { (j : ℕ)
+        → synced_image written.new pending.new j ≡ synced_image written.old pending.old j }
     ensures over { (j : ℕ) → over_in pending.new j
         ≡ (if block == j then Some start else over_in pending.old j) }
     ensures stored { AreStored written.new pending.new }
@@ -119,7 +122,7 @@ pub(crate) fn settle(pending: &mut Pending)
 /// Keeps what a cut leaves of the blocks below the size.
 pub(crate) fn cut_blocks(written: &mut Written, pending: &Pending, choice: CutChoice, size: u64)
     requires stored { AreStored written.old pending.now }
-    ensures seen { (j : ℕ) → seen_in written.new j
+    ensures seen { (j : ℕ) → written_image written.new j
         ≡ cut_image choice size written.old pending.now j }
     ensures room { spare written.new ≡ spare written.old }
 {
@@ -130,8 +133,9 @@ pub(crate) fn cut_blocks(written: &mut Written, pending: &Pending, choice: CutCh
 
 fn cut_block(written: &mut Written, pending: &Pending, choice: CutChoice, block: u64)
     requires stored { AreStored written.old pending.now }
-    ensures seen { (j : ℕ) → seen_in written.new j
-        ≡ (if block == j then left_in choice written.old pending.now j else seen_in written.old j) }
+    ensures seen { (j : ℕ) → written_image written.new j
+        ≡ (if block == j then left_in choice written.old pending.now j else written_image
+        written.old j) }
     ensures stored { AreStored written.new pending.now }
     ensures room { spare written.new ≡ spare written.old }
 {
@@ -163,9 +167,10 @@ pub(crate) fn flip_block(written: &mut Written, pending: &mut Pending, block: u6
     requires byte { byte < 512 }
     requires room { 0 < spare written.old }
     requires stored { AreStored written.old pending.old }
-    ensures seen { (j : ℕ) → seen_in written.new j ≡ flipped block byte (seen_in written.old) j }
-    ensures kept { (j : ℕ) → kept_in written.new pending.new j
-        ≡ flipped block byte (kept_in written.old pending.old) j }
+    ensures seen { (j : ℕ)
+        → written_image written.new j ≡ flipped block byte (written_image written.old) j }
+    ensures kept { (j : ℕ) → synced_image written.new pending.new j
+        ≡ flipped block byte (synced_image written.old pending.old) j }
     ensures over { (j : ℕ) → over_in pending.new j ≡ over_in pending.old j }
     ensures stored { AreStored written.new pending.new }
     ensures room { spare written.old ≤ spare written.new + 1 }

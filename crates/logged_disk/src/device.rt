@@ -4,7 +4,7 @@ ghost use Rattle.device_log.specs.Image.{IsImage, span};
 ghost use Rattle.device_log.specs.Calls.{Read, Wrote, Synced, Told, Fail, StopAfter, PowerCut, Flipped};
 ghost use Rattle.device_log.specs.Faults.{IsLog, faults_of, obeys_switch};
 ghost use Rattle.device_log.specs.Seen.{ReadsAreSeen};
-ghost use Rattle.logged_disk.specs.Device.{State, seen, IsTrusted, IsHonest, IsWhole, Keeps, Affords, Adds, Logs, Leaves};
+ghost use Rattle.logged_disk.specs.Device.{DeviceState, seen, IsTrusted, IsHonest, IsWhole, Keeps, Affords, Adds, Logs, CutLeaves};
 
 use device_log::CutChoice;
 use edge_io::Failed;
@@ -12,7 +12,7 @@ use std::alloc::AllocError;
 
 /// Blocks of 512 bytes with numbers from 0 on. Each read, write and sync is in its log.
 pub trait Disk {
-    ghost state: { Self → State };
+    ghost state: { Self → DeviceState };
 
     /// How many blocks the device has.
     fn blocks(&self) -> u64
@@ -79,7 +79,7 @@ pub trait PowerDisk: Disk {
         ensures logs { (left : List ℕ)
             × Adds (PowerCut choice left) (Self.state self.old) (Self.state self.new) }
         ensures leaves { IsHonest (Self.state self.new)
-            → Leaves (Self.state self.old) (seen (Self.state self.new)) };
+            → CutLeaves (Self.state self.old) (seen (Self.state self.new)) };
 
     /// The nth read, write or sync from now on fails.
     fn fail(&mut self, nth: u64)

@@ -10,7 +10,7 @@ ghost use Rattle.device_log.specs.Cuts.{left_by};
 ghost use Rattle.device_log.specs.DeviceLog.{calls_of};
 ghost use Rattle.logged_disk.specs.Switch.{CountsCall};
 ghost use Rattle.logged_disk.specs.Memory.{IsMemory};
-ghost use Rattle.logged_disk.specs.Device.{State, seen, has_flip, IsTrusted, IsHonest, IsWhole, Keeps, Affords, Adds, Logs, Leaves};
+ghost use Rattle.logged_disk.specs.Device.{DeviceState, seen, has_flip, IsTrusted, IsHonest, IsWhole, Keeps, Affords, Adds, Logs, CutLeaves};
 
 use crate::blocks::{Pending, Written, cut_blocks, flip_block, read_blocks, settle, write_blocks};
 use crate::switch::Switch;
@@ -200,7 +200,7 @@ impl PowerDisk for MemDisk {
         ensures logs { (left : List ℕ)
             × Adds (PowerCut choice left) (mem_state self.old) (mem_state self.new) }
         ensures leaves { IsHonest (mem_state self.new)
-            → Leaves (mem_state self.old) (seen (mem_state self.new)) }
+            → CutLeaves (mem_state self.old) (seen (mem_state self.new)) }
         ensures exact { (j : ℕ) → j < (mem_state self.old).size
             → seen (mem_state self.new) j ≡ left_by choice blank (mem_state self.old).past j }
     {

@@ -18,7 +18,7 @@ use Rattle.cache_model.proofs.Steps.{all_append, all_as}
 use Rattle.cache_model.specs.ToRead.{flushes_first}
 use Rattle.cache_model.proofs.Syncing.{LeavesSyncs, after_syncs, first_of, front_leaves_syncs, tail_leaves_syncs}
 use Rattle.model_laws.specs.AskLaws
-use Rattle.model_laws.specs.AskLaws.{EndsBefore, HasCause, IsHeadGreatest, IsNextSerial, SyncsBefore, asks_sync, begins_buffer, places, way_of}
+use Rattle.model_laws.specs.AskLaws.{EndsBefore, IntentHasCause, IsHeadGreatest, IsNextSerial, SyncsBefore, asks_sync, begins_next_buffer, places, way_of}
 use Rattle.model_laws.proofs.Among.{among_behind, among_rest}
 use Rattle.model_laws.proofs.Asks.{among_holds, begins_behind, first_is}
 use Rattle.model_laws.proofs.Grouped
@@ -85,7 +85,7 @@ due_is_synced p s i added e cursor floor on parts whole d among =
 
 -- the record begins no buffer
 abbrev BeginsNone : Rec → Type 0
-BeginsNone r = begins_buffer r ≡ false
+BeginsNone r = begins_next_buffer r ≡ false
 
 aside_begins : (r : Rec) → IsAside r → BeginsNone r
 aside_begins (rec.Began cursor floor) h = absurd h.0
@@ -209,10 +209,10 @@ stops_marks p k s count added m none =
     (subst (λ begun. AllLeaveMarks (begun ++ rec.Fault count ∷ [])) (sym none) (tt, tt)))
 
 -- where a sync is asked for
-asks_of : (p : Permit) (s : State) (i : Intent) → (i ≡ Drain → 0 < s.filled) → is_asked (way_of i) ≡ true → HasCause p s i
-asks_of p s Sync some h = AskLaws.HasCause.asked refl
-asks_of p s SyncBegin some h = AskLaws.HasCause.asked refl
-asks_of p s Drain some h = AskLaws.HasCause.drained refl (some refl)
+asks_of : (p : Permit) (s : State) (i : Intent) → (i ≡ Drain → 0 < s.filled) → is_asked (way_of i) ≡ true → IntentHasCause p s i
+asks_of p s Sync some h = AskLaws.IntentHasCause.asked refl
+asks_of p s SyncBegin some h = AskLaws.IntentHasCause.asked refl
+asks_of p s Drain some h = AskLaws.IntentHasCause.drained refl (some refl)
 asks_of p s _ some h = no_truth (sym h)
 
 module _ (serial cursor : ℕ) (clean in_parts : Bool) where
@@ -236,22 +236,22 @@ module _ (serial cursor : ℕ) (clean in_parts : Bool) where
   due_of p s added f (Syncing.DoesSync.runs n on quiet parts runs is) among = no_truth (sym parts)
 
   -- what is asked begins with a flush, with a sync behind it where that is due, or it asks for a sync
-  cause_by : (p : Permit) (s : State) (i : Intent) (added : List Rec) (f : End) (k : Syncing) → way_of i ≡ k → flushes_first s i ≡ true → (is_asked (way_of i) ≡ true → HasCause p s i) → DoesSync p k s added f
-      → IsAmong (rec.SyncBegun serial cursor clean in_parts) added → HasCause p s i
-  cause_by p s i added f Syncing.WhereDue way first asks d among = let due = due_of p s added f d among in AskLaws.HasCause.due way first due.0 due.1
+  cause_by : (p : Permit) (s : State) (i : Intent) (added : List Rec) (f : End) (k : Syncing) → way_of i ≡ k → flushes_first s i ≡ true → (is_asked (way_of i) ≡ true → IntentHasCause p s i) → DoesSync p k s added f
+      → IsAmong (rec.SyncBegun serial cursor clean in_parts) added → IntentHasCause p s i
+  cause_by p s i added f Syncing.WhereDue way first asks d among = let due = due_of p s added f d among in AskLaws.IntentHasCause.due way first due.0 due.1
   cause_by p s i added f Syncing.AtOnce way first asks d among = asks (ap is_asked way)
   cause_by p s i added f Syncing.InParts way first asks d among = asks (ap is_asked way)
 
   caused : (p : Permit) (s : State) (i : Intent) (added : List Rec) (e : End) → Grouped p s i added e
-      → IsAmong (rec.SyncBegun serial cursor clean in_parts) added → HasCause p s i
+      → IsAmong (rec.SyncBegun serial cursor clean in_parts) added → IntentHasCause p s i
   caused p s i added e (Grouped.Grouped.plain h) among = absurd (among_holds IsPlain (rec.SyncBegun serial cursor clean in_parts) added h among).1
   caused p s i added e (Grouped.Grouped.inserts unmarked h) among = absurd (among_holds IsOfInsert (rec.SyncBegun serial cursor clean in_parts) added h among)
   caused p s i added e (Grouped.Grouped.flushes off h) among = absurd (among_holds LeavesSyncs (rec.SyncBegun serial cursor clean in_parts) added h among)
   caused p s i added e (Grouped.Grouped.syncs f first some d) among = cause_by p s i added f (way_of i) refl first (asks_of p s i some) d among
   caused p s i added e (Grouped.Grouped.ends on h x) among = absurd (among_holds IsEnding (rec.SyncBegun serial cursor clean in_parts) added h among)
-  caused p s i added e (Grouped.Grouped.cleans is d) among = AskLaws.HasCause.asked (ap asks_sync is)
-  caused p s i added e (Grouped.Grouped.unmarks t u) among = AskLaws.HasCause.marked t (must_of u)
+  caused p s i added e (Grouped.Grouped.cleans is d) among = AskLaws.IntentHasCause.asked (ap asks_sync is)
+  caused p s i added e (Grouped.Grouped.unmarks t u) among = AskLaws.IntentHasCause.marked t (must_of u)
 
 pub sync_is_due_or_asked : (p : Permit) (s : State) (i : Intent) (added : List Rec) (e : End) (serial cursor : ℕ) (clean in_parts : Bool)
-    → Does p s i added e → IsAmong (rec.SyncBegun serial cursor clean in_parts) added → HasCause p s i
+    → Does p s i added e → IsAmong (rec.SyncBegun serial cursor clean in_parts) added → IntentHasCause p s i
 sync_is_due_or_asked p s i added e serial cursor clean in_parts d among = caused serial cursor clean in_parts p s i added e (grouped p s i added e d) among

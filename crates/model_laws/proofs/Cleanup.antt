@@ -9,7 +9,7 @@ use Rattle.cache_model.specs.Verdict.{is_open}
 use Rattle.cache_model.specs.Permit.{Permit, Work, Intent, GiveUp, StopReading, End, Stays, Done, Fails, Reason, work_after, is_cleanup}
 use Rattle.cache_model.specs.Legal
 use Rattle.cache_model.specs.Legal.{Does, Advances, MayGrow, nothing, more, IsStep, is_writing}
-use Rattle.model_laws.specs.StepLaws.{EndsWith, CleansUp}
+use Rattle.model_laws.specs.StepLaws.{AsksLast, CleansUp}
 use Rattle.cache_model.proofs.Steps.{after_all-append, all_append, seen}
 use Rattle.cache_model.proofs.Found.{number_of}
 
@@ -17,33 +17,33 @@ use Rattle.cache_model.proofs.Found.{number_of}
 
 module _ (last : Intent) (clean : is_cleanup last ≡ true) (P : State → Type 0)
     (does : (p : Permit) (s : State) (added : List Rec) (e : End) → Does p s last added e → (e ≡ Done) × P (after_all s added)) where
-  one_more : (i : Intent) (is : List Intent) → EndsWith last is → EndsWith last (i ∷ is)
+  one_more : (i : Intent) (is : List Intent) → AsksLast last is → AsksLast last (i ∷ is)
   one_more i [] h = absurd h
   one_more i (j ∷ js) h = h
 
-  kept_by : (i : Intent) (is : List Intent) (b : Bool) → is_cleanup i ≡ b → EndsWith last (filter is_cleanup is) → EndsWith last (filter is_cleanup (i ∷ is))
+  kept_by : (i : Intent) (is : List Intent) (b : Bool) → is_cleanup i ≡ b → AsksLast last (filter is_cleanup is) → AsksLast last (filter is_cleanup (i ∷ is))
   kept_by i is true e h = rw e (one_more i (filter is_cleanup is) h)
   kept_by i is false e h = rw e h
 
   -- a refusal keeps it
-  kept : (is : List Intent) → EndsWith last is → EndsWith last (filter is_cleanup is)
+  kept : (is : List Intent) → AsksLast last is → AsksLast last (filter is_cleanup is)
   kept [] h = absurd h
-  kept (i ∷ []) h = subst (λ x. EndsWith last (filter is_cleanup (x ∷ []))) (sym h) (rw clean refl)
+  kept (i ∷ []) h = subst (λ x. AsksLast last (filter is_cleanup (x ∷ []))) (sym h) (rw clean refl)
   kept (i ∷ j ∷ js) h = kept_by i (j ∷ js) (is_cleanup i) refl (kept (j ∷ js) h)
 
-  ended : (i j : Intent) (js : List Intent) (why : Option Reason) (e : End) → EndsWith last (j ∷ js) → EndsWith last (work_after i (j ∷ js) why e).intents
+  ended : (i j : Intent) (js : List Intent) (why : Option Reason) (e : End) → AsksLast last (j ∷ js) → AsksLast last (work_after i (j ∷ js) why e).intents
   ended i j js why Stays h = h
   ended i j js why Done h = h
   ended i j js why (Fails reason) h = kept (j ∷ js) h
 
   -- one group leaves it the last, or was its own
-  leaves : (p : Permit) (s : State) (is : List Intent) (why : Option Reason) (added : List Rec) (between : Work) → Advances p s is why added between → EndsWith last is
-      → EndsWith last between.intents ⊎ ((between.intents ≡ []) × P (after_all s added))
+  leaves : (p : Permit) (s : State) (is : List Intent) (why : Option Reason) (added : List Rec) (between : Work) → Advances p s is why added between → AsksLast last is
+      → AsksLast last between.intents ⊎ ((between.intents ≡ []) × P (after_all s added))
   leaves p s [] why added between h ends = absurd h
   leaves p s (i ∷ []) why added between h ends =
       let d : (h.0 ≡ Done) × P (after_all s added) = does p s added h.0 (subst (λ x. Does p s x added h.0) ends h.1) in
       inr (ap (λ (w : Work). w.intents) h.2 ∙ ap (λ e. (work_after i [] why e).intents) d.0, d.1)
-  leaves p s (i ∷ j ∷ js) why added between h ends = inl (subst (λ (w : Work). EndsWith last w.intents) (sym h.2) (ended i j js why h.0 ends))
+  leaves p s (i ∷ j ∷ js) why added between h ends = inl (subst (λ (w : Work). AsksLast last w.intents) (sym h.2) (ended i j js why h.0 ends))
 
   none_by : (p : Permit) (s : State) (w : Work) (recs : List Rec) (after : Work) → w.intents ≡ [] → MayGrow p s w recs after → recs ≡ []
   none_by p s w recs after e h = elim (seen h) [
@@ -51,8 +51,8 @@ module _ (last : Intent) (clean : is_cleanup last ≡ true) (P : State → Type 
     | inr v ↦ absurd (subst (λ is. Advances p s is w.refused v.added v.between) e v.first)
   ]
 
-  pub at_end : {p : Permit} {s : State} {w after : Work} {recs : List Rec} → MayGrow p s w recs after → after.intents ≡ [] → EndsWith last w.intents → P (after_all s recs)
-  at_end nothing done ends = absurd (subst (EndsWith last) done ends)
+  pub at_end : {p : Permit} {s : State} {w after : Work} {recs : List Rec} → MayGrow p s w recs after → after.intents ≡ [] → AsksLast last w.intents → P (after_all s recs)
+  at_end nothing done ends = absurd (subst (AsksLast last) done ends)
   at_end {p} {s} {w} {after} (more {rest = tail} added between one others) done ends =
       elim (leaves p s w.intents w.refused added between one ends) [
         | inl e ↦ subst P (sym (after_all-append s added tail)) (at_end others done e)
@@ -119,7 +119,7 @@ stops reader p s added e (Legal.DoesStopReading.closes row q h is) = (refl, subs
 stops reader p s added e (Legal.DoesStopReading.closed q h is) = (refl, subst (λ xs. reader_of (after_all s xs) reader ≡ None) (sym is) h)
 
 pub reader_is_closed : (p : Permit) (s : State) (intents : List Intent) (added : List Rec) (why : Option Reason) (reader : ℕ)
-    → EndsWith (StopReading reader) intents → IsStep p s intents added why → reader_of (after_all s added) reader ≡ None
+    → AsksLast (StopReading reader) intents → IsStep p s intents added why → reader_of (after_all s added) reader ≡ None
 reader_is_closed p s intents added why reader ends h = at_end (StopReading reader) refl (λ t. reader_of t reader ≡ None) (stops reader) h.grows refl ends
 
 -- ---- giving a put up
@@ -141,5 +141,5 @@ gives_up put p s added e (Legal.DoesGiveUp.aborts w q is) =
 gives_up put p s added e (Legal.DoesGiveUp.over q o is) = (refl, subst (λ xs. is_writing (after_all s xs) put ≡ false) (sym is) o)
 
 pub writer_is_ended : (p : Permit) (s : State) (intents : List Intent) (added : List Rec) (why : Option Reason) (put : ℕ)
-    → EndsWith (GiveUp put) intents → IsStep p s intents added why → is_writing (after_all s added) put ≡ false
+    → AsksLast (GiveUp put) intents → IsStep p s intents added why → is_writing (after_all s added) put ≡ false
 writer_is_ended p s intents added why put ends h = at_end (GiveUp put) refl (λ t. is_writing t put ≡ false) (gives_up put) h.grows refl ends

@@ -38,7 +38,7 @@ use Rattle.cache_model.specs.Legal
 use Rattle.cache_model.specs.Legal.{Advances, Course, Does, IsLegal, IsStep, MayGrow, answer_record, format_records, is_writing, more, next_fragment_of, nothing}
 use Rattle.cache_model.proofs.Found.{no_truth, none_is}
 use Rattle.cache_model.proofs.Steps.{after_all-append, all_append}
-use Rattle.model_laws.specs.VectorLaws.{AreCounted, IsCounted, IsOver, IsUnanswered}
+use Rattle.model_laws.specs.VectorLaws.{IsOver, IsUnanswered, VectorIsCounted, VectorsAreCounted}
 use Rattle.model_laws.proofs.CountedRecords.{AllLeaveCounts, KeepsCounts, LeavesCounts, counted_committed, counted_kept, counted_opened, keeps_all, keeps_placed, keeps_trans}
 
 -- ---- records that leave it
@@ -213,16 +213,16 @@ displaced_leaves p s piece added m = leave_as added _ m.is (displacements _ _ m.
 
 -- ---- each group
 
-leaves : (s : State) (added : List Rec) → AllLeaveCounts added → AreCounted s → AreCounted (after_all s added)
+leaves : (s : State) (added : List Rec) → AllLeaveCounts added → VectorsAreCounted s → VectorsAreCounted (after_all s added)
 leaves s added all h = counted_kept (keeps_all s added all) h
 
 -- a piece is placed behind other records, and is the last vector of no key
 placed : (s : State) (before : List Rec) (piece : PieceId) (place blocks : ℕ) (digest : Digest) (pin : ℕ) → AllLeaveCounts before
     → ((key : Key) (put : ℕ) → last_vector s key ≡ Some (Complete put) → same_piece piece (vector_piece key put) ≡ false)
-    → AreCounted s → AreCounted (after_all s (before ++ rec.Placed piece place blocks digest pin ∷ []))
+    → VectorsAreCounted s → VectorsAreCounted (after_all s (before ++ rec.Placed piece place blocks digest pin ∷ []))
 placed s before piece place blocks digest pin all other h =
     let front : KeepsCounts s (after_all s before) = keeps_all s before all in
-    subst AreCounted (sym (after_all-append s before (rec.Placed piece place blocks digest pin ∷ [])))
+    subst VectorsAreCounted (sym (after_all-append s before (rec.Placed piece place blocks digest pin ∷ [])))
     (counted_kept (keeps_trans front (keeps_placed (after_all s before) piece place blocks digest pin (λ key put last. other key put (front.vectors key put last)))) h)
 
 is_other : (piece id : PieceId) (b : Bool) → same_piece piece id ≡ b → (piece ≡ id → ⊥) → b ≡ false
@@ -237,31 +237,31 @@ writes : (s : State) (put : ℕ) (w : PutRow) → put_of s put ≡ Some w → w.
 writes s put w found still = rw (found, still) refl
 
 -- nor is the vector of a put that is written the last one of a key
-vector_other : (s : State) (put : ℕ) (w : PutRow) (key : Key) (n : ℕ) → Legal.IsWriting s put w → AreCounted s → last_vector s key ≡ Some (Complete n)
+vector_other : (s : State) (put : ℕ) (w : PutRow) (key : Key) (n : ℕ) → Legal.IsWriting s put w → VectorsAreCounted s → last_vector s key ≡ Some (Complete n)
     → vector_piece w.key put ≡ vector_piece key n → ⊥
 vector_other s put w key n writing h last same =
     let number : put ≡ n = ap (λ (i : PieceId). i.put) same in
     let over : IsOver s n = h.over key n last in
     no_truth (sym (writes s put w writing.found writing.is_open) ∙ (ap (is_writing s) number ∙ over.1))
 
-fragment_placed : (p : Permit) (s : State) (put index : ℕ) (payload : List ℕ) (added : List Rec) → Legal.MayPlaceFragment p s put index payload added → AreCounted s → AreCounted (after_all s added)
+fragment_placed : (p : Permit) (s : State) (put index : ℕ) (payload : List ℕ) (added : List Rec) → Legal.MayPlaceFragment p s put index payload added → VectorsAreCounted s → VectorsAreCounted (after_all s added)
 fragment_placed p s put index payload added m h =
-    subst (λ xs. AreCounted (after_all s xs)) (sym m.is)
+    subst (λ xs. VectorsAreCounted (after_all s xs)) (sym m.is)
     (placed s (rec.Cut put index (length payload) (digest_of payload) ∷ m.displaced) (next_fragment_of m.w) _ _ _ _ (tt, displaced_leaves p s _ m.displaced m.displaces)
     (λ key n last. is_other (next_fragment_of m.w) (vector_piece key n) _ refl (fragment_other m.w key n)) h)
 
-vector_placed : (p : Permit) (s : State) (put fragments : ℕ) (added : List Rec) → Legal.MayPlaceVector p s put fragments added → AreCounted s → AreCounted (after_all s added)
+vector_placed : (p : Permit) (s : State) (put fragments : ℕ) (added : List Rec) → Legal.MayPlaceVector p s put fragments added → VectorsAreCounted s → VectorsAreCounted (after_all s added)
 vector_placed p s put fragments added m h =
-    subst (λ xs. AreCounted (after_all s xs)) (sym m.is)
+    subst (λ xs. VectorsAreCounted (after_all s xs)) (sym m.is)
     (placed s m.displaced (vector_piece m.w.key put) _ _ _ _ (displaced_leaves p s _ m.displaced m.displaces)
     (λ key n last. is_other (vector_piece m.w.key put) (vector_piece key n) _ refl (vector_other s put m.w key n m.cut.writing h last)) h)
 
-committed : (s : State) (put : ℕ) (added : List Rec) (e : End) → Legal.DoesCommit s put added e → AreCounted s → AreCounted (after_all s added)
+committed : (s : State) (put : ℕ) (added : List Rec) (e : End) → Legal.DoesCommit s put added e → VectorsAreCounted s → VectorsAreCounted (after_all s added)
 committed s put added e (Legal.DoesCommit.commits w found still pending is) h =
-    subst (λ xs. AreCounted (after_all s xs)) (sym is) (counted_committed s w put (total_length w.cuts) found h)
+    subst (λ xs. VectorsAreCounted (after_all s xs)) (sym is) (counted_committed s w put (total_length w.cuts) found h)
 
-opened : (s : State) (actor : ℕ) (key : Key) (request response : List Field) (pin : ℕ) (added : List Rec) → Legal.MayOpenWrite s actor key request response pin added → AreCounted s → AreCounted (after_all s added)
-opened s actor key request response pin added m h = subst (λ xs. AreCounted (after_all s xs)) (sym m.is) (counted_opened s m.who.0 key request response pin _ refl h)
+opened : (s : State) (actor : ℕ) (key : Key) (request response : List Field) (pin : ℕ) (added : List Rec) → Legal.MayOpenWrite s actor key request response pin added → VectorsAreCounted s → VectorsAreCounted (after_all s added)
+opened s actor key request response pin added m h = subst (λ xs. VectorsAreCounted (after_all s xs)) (sym m.is) (counted_opened s m.who.0 key request response pin _ refl h)
 
 -- what a group is: it leaves what is told, or it begins a put, places a piece or commits
 pub data Parts (p : Permit) (s : State) (added : List Rec) (e : End) : Type 0 where
@@ -318,33 +318,34 @@ parts p s (ReadAll reader) added e (Legal.DoesReadAll.has_none q x is y) = none_
 parts p s (StopReading reader) added e (Legal.DoesStopReading.closes r q l is) = one_added _ is tt
 parts p s (StopReading reader) added e (Legal.DoesStopReading.closed q l is) = none_added is
 
-counted_part : (p : Permit) (s : State) (added : List Rec) (e : End) → AreCounted s → Parts p s added e → AreCounted (after_all s added)
+counted_part : (p : Permit) (s : State) (added : List Rec) (e : End) → VectorsAreCounted s → Parts p s added e
+    → VectorsAreCounted (after_all s added)
 counted_part p s added e h (left all) = leaves s added all h
 counted_part p s added e h (opens m) = opened s _ _ _ _ _ added m h
 counted_part p s added e h (cuts put index payload m) = fragment_placed p s put index payload added m h
 counted_part p s added e h (lists put fragments m) = vector_placed p s put fragments added m h
 counted_part p s added e h (commits put d) = committed s put added e d h
 
-pub counted_group : (p : Permit) (s : State) (i : Intent) (added : List Rec) (e : End) → AreCounted s → Does p s i added e → AreCounted (after_all s added)
+pub counted_group : (p : Permit) (s : State) (i : Intent) (added : List Rec) (e : End) → VectorsAreCounted s → Does p s i added e → VectorsAreCounted (after_all s added)
 counted_group p s i added e h d = counted_part p s added e h (parts p s i added e d)
 
 -- ---- each step
 
-advanced : (p : Permit) (s : State) (is : List Intent) (why : Option Reason) (added : List Rec) (after : Work) → Advances p s is why added after → AreCounted s → AreCounted (after_all s added)
+advanced : (p : Permit) (s : State) (is : List Intent) (why : Option Reason) (added : List Rec) (after : Work) → Advances p s is why added after → VectorsAreCounted s → VectorsAreCounted (after_all s added)
 advanced p s [] why added after a h = absurd a
 advanced p s (i ∷ is) why added after a h = counted_group p s i added a.0 h a.1
 
-grown : {p : Permit} {s : State} {w after : Work} {recs : List Rec} → MayGrow p s w recs after → AreCounted s → AreCounted (after_all s recs)
+grown : {p : Permit} {s : State} {w after : Work} {recs : List Rec} → MayGrow p s w recs after → VectorsAreCounted s → VectorsAreCounted (after_all s recs)
 grown nothing h = h
 grown {p} {s} {w} (more {rest = tail} added between one others) h =
-    subst AreCounted (sym (after_all-append s added tail)) (grown others (advanced p s w.intents w.refused added between one h))
+    subst VectorsAreCounted (sym (after_all-append s added tail)) (grown others (advanced p s w.intents w.refused added between one h))
 
-pub counted_step : (p : Permit) (s : State) (intents : List Intent) (added : List Rec) (why : Option Reason) → AreCounted s → IsStep p s intents added why → AreCounted (after_all s added)
+pub counted_step : (p : Permit) (s : State) (intents : List Intent) (added : List Rec) (why : Option Reason) → VectorsAreCounted s → IsStep p s intents added why → VectorsAreCounted (after_all s added)
 counted_step p s intents added why h step = grown step.grows h
 
 -- ---- each session begins so
 
-pub counted_format : (s : State) (geometry : Geometry) → AreCounted (after_all s (format_records geometry))
+pub counted_format : (s : State) (geometry : Geometry) → VectorsAreCounted (after_all s (format_records geometry))
 counted_format s geometry = record {
   counted = λ key put last. none_is last;
   over = λ key put last. none_is last;
@@ -394,7 +395,7 @@ earlier_found : (g : Geometry) (o : Opening) (found : List FoundRow) (key : Key)
 earlier_found g o [] key put each h = none_is h
 earlier_found g o (f ∷ found) key put each h = earlier_by g o f found key put (is_vector f.id) refl each.0 (earlier_found g o found key put each.1) h
 
-pub counted_opening : (packed : Bool) (s : State) (geometry : Geometry) (o : Opening) → IsOpening packed geometry o → AreCounted (after_all s (opened_records geometry o))
+pub counted_opening : (packed : Bool) (s : State) (geometry : Geometry) (o : Opening) → IsOpening packed geometry o → VectorsAreCounted (after_all s (opened_records geometry o))
 counted_opening packed s geometry o opening = record {
   counted = λ key put last row found. counted_found o.found (vector_piece key put) row refl found;
   over = λ key put last. (earlier_found geometry o o.found key put opening.each last, refl);
@@ -403,15 +404,16 @@ counted_opening packed s geometry o opening = record {
 
 -- ---- each chronicle
 
-pub legal_counted : (setting : Setting) (courses : List Course) (recs : List Rec) → IsLegal setting courses recs → AreCounted (after_all nothing_yet recs)
+pub legal_counted : (setting : Setting) (courses : List Course) (recs : List Rec) → IsLegal setting courses recs → VectorsAreCounted (after_all nothing_yet recs)
 legal_counted setting courses recs (Legal.IsLegal.begins geometry) = counted_format nothing_yet geometry
 legal_counted setting courses recs (Legal.IsLegal.opens geometry o opening) = counted_opening setting.packed nothing_yet geometry o opening
 legal_counted setting courses recs (Legal.IsLegal.steps {courses = earlier} {before = before} {added = added} course e legal step) =
-    subst AreCounted (sym (after_all-append nothing_yet before added))
+    subst VectorsAreCounted (sym (after_all-append nothing_yet before added))
     (counted_step course.permit (after_all nothing_yet before) course.intents added course.refused (legal_counted setting earlier before legal) step)
 
 pub count_is_listed : (setting : Setting) (courses : List Course) (recs : List Rec) (key : Key) (put : ℕ) → IsLegal setting courses recs
-    → last_vector (after_all nothing_yet recs) key ≡ Some (Complete put) → IsCounted (after_all nothing_yet recs) (vector_piece key put)
+    → last_vector (after_all nothing_yet recs) key ≡ Some (Complete put)
+    → VectorIsCounted (after_all nothing_yet recs) (vector_piece key put)
 count_is_listed setting courses recs key put legal last = (legal_counted setting courses recs legal).counted key put last
 
 -- a row that is live stands
@@ -424,7 +426,7 @@ stands s row (Some old) h = let live = stands_by s row old (is_live s old) refl 
 stands s row None h = none_is h
 
 -- nothing answers, so it is told how many alternates there are
-pub told_count : (s : State) (key : Key) (request : List Field) → AreCounted s → IsUnanswered s key request
+pub told_count : (s : State) (key : Key) (request : List Field) → VectorsAreCounted s → IsUnanswered s key request
     → lookup_verdict s key request ≡ read.Miss (cause.NoMatch (length (alternates_of s key)))
 told_count s key request h u =
     let there = stands s u.row (row_of s (vector_piece key u.put)) u.live in

@@ -19,7 +19,7 @@ use Rattle.cache_model.specs.Verdict.{is_open}
 use Rattle.cache_model.specs.Legal.{is_writing}
 use Rattle.cache_model.proofs.Found.{no_truth, none_is, number_of, same_some}
 use Rattle.cache_model.proofs.Lists.{row_in-without, row_in-placed, row_in-copied}
-use Rattle.model_laws.specs.VectorLaws.{AreCounted, IsOver}
+use Rattle.model_laws.specs.VectorLaws.{IsOver, VectorsAreCounted}
 
 -- ---- a put that is changed
 
@@ -60,7 +60,7 @@ pub record KeepsCounts (s t : State) : Type 0 where
   pub ended : (put : ℕ) → is_writing s put ≡ false → is_writing t put ≡ false
   pub next : t.next_put ≡ s.next_put
 
-pub counted_kept : {s t : State} → KeepsCounts s t → AreCounted s → AreCounted t
+pub counted_kept : {s t : State} → KeepsCounts s t → VectorsAreCounted s → VectorsAreCounted t
 counted_kept {s} {t} k h = record {
   counted = λ key put last row found.
       let was : WasListed s (vector_piece key put) row = k.rows key put row last found in
@@ -240,10 +240,10 @@ over_by put n new o true e below h = let same : put ≡ n = eqb-true put n e in 
 over_by put n new o false e below h = h
 
 pub counted_opened : (s : State) (actor : ℕ) (key : Key) (request response : List Field) (pin : ℕ) (t : State)
-    → t ≡ record s { puts = opened_put actor s.next_put key request response pin ∷ s.puts; next_put = s.next_put + 1 } → AreCounted s → AreCounted t
+    → t ≡ record s { puts = opened_put actor s.next_put key request response pin ∷ s.puts; next_put = s.next_put + 1 } → VectorsAreCounted s → VectorsAreCounted t
 counted_opened s actor key request response pin t is h =
     let new : PutRow = opened_put actor s.next_put key request response pin in
-    subst AreCounted (sym is) (record {
+    subst VectorsAreCounted (sym is) (record {
       counted = h.counted;
       over = λ k n last. let over : IsOver s n = h.over k n last in
           (omega (arith, over.0), over_by s.next_put n new (put_of s n) (s.next_put == n) refl over.0 over.1);
@@ -260,7 +260,7 @@ closed_by : (w : PutRow) (put : ℕ) (b : Bool) → (w.put == put) ≡ b → b �
 closed_by w put true e h = refl
 closed_by w put false e h = no_truth (sym h)
 
-module _ (s : State) (w : PutRow) (put bytes : ℕ) (found : put_of s put ≡ Some w) (h : AreCounted s) where
+module _ (s : State) (w : PutRow) (put bytes : ℕ) (found : put_of s put ≡ Some w) (h : VectorsAreCounted s) where
   abbrev own : PieceId
   own = vector_piece w.key put
 
@@ -296,7 +296,7 @@ module _ (s : State) (w : PutRow) (put bytes : ℕ) (found : put_of s put ≡ So
   over_as key n true last = let same : put ≡ n = cc in subst (IsOver committed) same (h.earlier put w found, closed)
   over_as key n false last = let over : IsOver s n = h.over key n last in (over.0, still_over n over.1)
 
-  pub counted_committed : AreCounted committed
+  pub counted_committed : VectorsAreCounted committed
   counted_committed = record {
     counted = λ key n last row there.
         let before : row_of s (vector_piece key n) ≡ Some row = earlier_found w.key put (last_vector s w.key) s.rows (vector_piece key n) row there in

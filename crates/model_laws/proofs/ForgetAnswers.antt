@@ -20,7 +20,7 @@ use Rattle.cache_model.specs.State.{State, Row, PutRow, ReaderRow, LastVector, C
 use Rattle.cache_model.specs.Verdict
 use Rattle.cache_model.specs.Verdict.{cause_of_last, cause_of_loss, cause_of_miss, cause_of_piece, cuts_of, follow_answer, followed, hit, hit_answer, is_open, is_unsaved, lookup_verdict, may_follow, next_piece, next_row, no_match, no_record, passed, piece_at, reader_verdict, table_of}
 use Rattle.cache_model.specs.Tape.{IsSound}
-use Rattle.cache_model.specs.Forgetting.{forget, forgotten_puts, has_reader, is_among, is_forgotten, put_of_last, without_puts}
+use Rattle.cache_model.specs.Forgetting.{forget, forgotten_puts, has_reader, is_among_puts, is_forgotten, put_of_last, without_puts}
 use Rattle.cache_model.proofs.Found.{no_truth}
 use Rattle.model_laws.specs.ForgetLaws.{IsAnsweredAlike, IsKeyKept, IsNoRecord}
 use Rattle.model_laws.proofs.Forgetting.{AreDead, count_stays, forgetting_leaves, forgotten_is_dead, kept_if, loss_stays, lookup_kept, any_found, not_true, passed_stays, piece_stays, put_kept, vector_gone, vector_kept, vector_none, with_reader}
@@ -66,19 +66,20 @@ module _ (s : State) (puts : List ℕ) (dead : AreDead s puts) (h : IsSound s) w
   abbrev after : State
   after = without_puts puts s
 
-  on_piece_stays : (id : PieceId) → is_among puts id.put ≡ false → on_piece after id ≡ on_piece s id
+  on_piece_stays : (id : PieceId) → is_among_puts puts id.put ≡ false → on_piece after id ≡ on_piece s id
   on_piece_stays id k = ap (λ o. or_other o (option_map (passed after) (row_of after id))) (loss_stays s puts dead id k)
       ∙ ap (or_other (cause_of_loss s id)) (passed_stays s puts dead h id k)
 
-  on_last_stays : (key : Key) (last : LastVector) → is_among puts (put_of_last last) ≡ false → on_last after key last ≡ on_last s key last
+  on_last_stays : (key : Key) (last : LastVector) → is_among_puts puts (put_of_last last) ≡ false
+      → on_last after key last ≡ on_last s key last
   on_last_stays key (Complete put) k =
       ap (λ o. or_other (option_map (λ (row : Row). no_match after (vector_piece key put)) o) (on_piece after (vector_piece key put))) (piece_stays s puts dead (vector_piece key put))
       ∙ ap (λ n. or_other (option_map (λ (row : Row). cause.NoMatch n) (live_row_of s (vector_piece key put))) (on_piece after (vector_piece key put))) (count_stays s puts (vector_piece key put) k)
       ∙ ap (or_other (option_map (λ (row : Row). no_match s (vector_piece key put)) (live_row_of s (vector_piece key put)))) (on_piece_stays (vector_piece key put) k)
   on_last_stays key (TakenOut put) k = refl
 
-  abort_stays : (key : Key) → ((put : ℕ) → last_abort s key ≡ Some put → is_among puts put ≡ false) → last_abort after key ≡ last_abort s key
-  abort_stays key kept = lookup_kept (λ (q : Key). same_key q key) (λ (a : Key × ℕ). not (is_among puts a.1)) s.aborts (λ a is found. ap not (kept a.1 found))
+  abort_stays : (key : Key) → ((put : ℕ) → last_abort s key ≡ Some put → is_among_puts puts put ≡ false) → last_abort after key ≡ last_abort s key
+  abort_stays key kept = lookup_kept (λ (q : Key). same_key q key) (λ (a : Key × ℕ). not (is_among_puts puts a.1)) s.aborts (λ a is found. ap not (kept a.1 found))
 
   -- why a key is missed is on record as before
   record NowAsBefore (key : Key) : Type 0 where
@@ -87,8 +88,8 @@ module _ (s : State) (puts : List ℕ) (dead : AreDead s puts) (h : IsSound s) w
     now : last_vector after key ≡ last
     same : on_key after key last ≡ on_key s key last
 
-  key_by : (key : Key) (o : Option LastVector) → last_vector s key ≡ o → ((last : LastVector) → last_vector s key ≡ Some last → is_among puts (put_of_last last) ≡ false)
-      → ((put : ℕ) → last_abort s key ≡ Some put → is_among puts put ≡ false) → NowAsBefore key
+  key_by : (key : Key) (o : Option LastVector) → last_vector s key ≡ o → ((last : LastVector) → last_vector s key ≡ Some last → is_among_puts puts (put_of_last last) ≡ false)
+      → ((put : ℕ) → last_abort s key ≡ Some put → is_among_puts puts put ≡ false) → NowAsBefore key
   key_by key (Some last) e vector abort = record {
     last = Some last;
     before = e;
@@ -143,7 +144,7 @@ module _ (cap : ℕ) (s : State) (key : Key) (request : List Field) where
 none_hits : (request : List Field) → last_match request [] ≡ None
 none_hits request = refl
 
-some_are : (puts : List ℕ) (put : ℕ) → is_among puts put ≡ true → 0 < length puts
+some_are : (puts : List ℕ) (put : ℕ) → is_among_puts puts put ≡ true → 0 < length puts
 some_are [] put h = no_truth (sym h)
 some_are (n ∷ puts) put h = omega arith
 
@@ -197,7 +198,7 @@ next_alike r (Some entry) (Some row) o none now end = inl refl
 next_alike r (Some entry) None (Some why) none now end = inl refl
 next_alike r (Some entry) None None none now end = inr (refl, refl)
 
-module _ (s : State) (puts : List ℕ) (dead : AreDead s puts) (h : IsSound s) (r : ReaderRow) (k : is_among puts r.put ≡ false) where
+module _ (s : State) (puts : List ℕ) (dead : AreDead s puts) (h : IsSound s) (r : ReaderRow) (k : is_among_puts puts r.put ≡ false) where
   abbrev behind : State
   behind = without_puts puts s
 
@@ -226,5 +227,5 @@ reader_is_answered cap s reader r h found =
     let puts : List ℕ = forgotten_puts cap s in
     let reads : has_reader s r.put ≡ true =
     any_found (λ (q : ReaderRow). q.reader == reader) (λ (q : ReaderRow). q.put == r.put) s.readers r found (eq-eqb r.put r.put refl) in
-    let kept : is_among puts r.put ≡ false = kept_if s puts (forgotten_is_dead cap s) r.put (with_reader s r.put reads) in
+    let kept : is_among_puts puts r.put ≡ false = kept_if s puts (forgotten_is_dead cap s) r.put (with_reader s r.put reads) in
     reader_stays s puts (forgotten_is_dead cap s) h r kept

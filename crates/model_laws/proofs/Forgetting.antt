@@ -22,7 +22,7 @@ use Rattle.cache_model.specs.Permit.{IsAmong}
 use Rattle.cache_model.specs.Syncs.{IsAllowed}
 use Rattle.cache_model.specs.Tape.{AreKnown, IsSound}
 use Rattle.cache_model.specs.Vectors.{AreTold}
-use Rattle.cache_model.specs.Forgetting.{forget, forgotten_puts, has_piece, has_reader, has_writer, is_among, is_dead, is_forgotten, is_last_of, is_listed, is_named, is_place_of, known_puts, may_name, put_of_last, without_puts}
+use Rattle.cache_model.specs.Forgetting.{forget, forgotten_puts, has_piece, has_reader, has_writer, is_among_puts, is_dead, is_forgotten, is_last_of, is_listed, is_named, is_place_of, known_puts, may_name, put_of_last, without_puts}
 use Rattle.cache_model.proofs.Found.{found_passes, no_truth, none_is, same_some}
 use Rattle.cache_model.proofs.Known.{found_is_known, live_place_is_known}
 use Rattle.cache_model.proofs.Lists.{own_piece}
@@ -148,7 +148,7 @@ module _ {K X : Type 0} (test : K → Bool) (keep : K × X → Bool) where
 
 -- all of these puts are dead
 abbrev pub AreDead : State → List ℕ → Type 0
-AreDead s puts = (put : ℕ) → is_among puts put ≡ true → is_dead s put ≡ true
+AreDead s puts = (put : ℕ) → is_among_puts puts put ≡ true → is_dead s put ≡ true
 
 -- what is left of a list by a test passes it
 pub dead_found : (dead : ℕ → Bool) (put : ℕ) (ns : List ℕ) → list_any (λ n. n == put) (filter dead ns) ≡ true → dead put ≡ true
@@ -208,82 +208,83 @@ module _ (s : State) (puts : List ℕ) (dead : AreDead s puts) where
   abbrev t : State
   t = without_puts puts s
 
-  pub kept_if : (put : ℕ) → (is_dead s put ≡ true → ⊥) → is_among puts put ≡ false
-  kept_if put h = not_true (is_among puts put) (λ m. h (dead put m))
+  pub kept_if : (put : ℕ) → (is_dead s put ≡ true → ⊥) → is_among_puts puts put ≡ false
+  kept_if put h = not_true (is_among_puts puts put) (λ m. h (dead put m))
 
   abbrev keeps_row : Row → Bool
-  keeps_row row = not (is_among puts row.id.put)
+  keeps_row row = not (is_among_puts puts row.id.put)
 
-  live_kept : (row : Row) → IsAmong row s.rows → is_live s row ≡ true → is_among puts row.id.put ≡ false
+  live_kept : (row : Row) → IsAmong row s.rows → is_live s row ≡ true → is_among_puts puts row.id.put ≡ false
   live_kept row m live =
       kept_if row.id.put (with_piece s row.id.put (any_passing (is_live s) (λ (r : Row). r.id.put == row.id.put) s.rows row m live (eq-eqb row.id.put row.id.put refl)))
 
   pub rows_stay : live_rows t ≡ live_rows s
   rows_stay = filter_kept (is_live s) keeps_row s.rows (λ row m live. ap not (live_kept row m live))
 
-  pub row_kept : (id : PieceId) → is_among puts id.put ≡ false → row_of t id ≡ row_of s id
-  row_kept id k = find_kept (λ (row : Row). same_piece row.id id) keeps_row s.rows (λ row found. ap not (ap (λ (i : PieceId). is_among puts i.put) (own_piece id s.rows row found) ∙ k))
+  pub row_kept : (id : PieceId) → is_among_puts puts id.put ≡ false → row_of t id ≡ row_of s id
+  row_kept id k = find_kept (λ (row : Row). same_piece row.id id) keeps_row s.rows (λ row found. ap not (ap (λ (i : PieceId). is_among_puts puts i.put) (own_piece id s.rows row found) ∙ k))
 
-  row_gone : (id : PieceId) → is_among puts id.put ≡ true → row_of t id ≡ None
-  row_gone id k = find_gone (λ (row : Row). same_piece row.id id) keeps_row s.rows (λ row is. ap not (ap (λ (i : PieceId). is_among puts i.put) (same_piece-true row.id id is) ∙ k))
+  row_gone : (id : PieceId) → is_among_puts puts id.put ≡ true → row_of t id ≡ None
+  row_gone id k = find_gone (λ (row : Row). same_piece row.id id) keeps_row s.rows (λ row is. ap not (ap (λ (i : PieceId). is_among_puts puts i.put) (same_piece-true row.id id is) ∙ k))
 
-  passed_by : (id : PieceId) (row : Row) → is_among puts id.put ≡ true → row_of s id ≡ Some row → is_live s row ≡ false
+  passed_by : (id : PieceId) (row : Row) → is_among_puts puts id.put ≡ true → row_of s id ≡ Some row → is_live s row ≡ false
   passed_by id row k found = not_true (is_live s row) (λ live.
       no_truth
       (sym k
-      ∙ (ap (λ (i : PieceId). is_among puts i.put) (sym (own_piece id s.rows row found))
+      ∙ (ap (λ (i : PieceId). is_among_puts puts i.put) (sym (own_piece id s.rows row found))
       ∙ live_kept row (found_among (λ (r : Row). same_piece r.id id) s.rows row found) live)))
 
-  not_live_by : (id : PieceId) (o : Option Row) → row_of s id ≡ o → is_among puts id.put ≡ true → option_and_then (only_live s) o ≡ None
+  not_live_by : (id : PieceId) (o : Option Row) → row_of s id ≡ o → is_among_puts puts id.put ≡ true
+      → option_and_then (only_live s) o ≡ None
   not_live_by id None h k = refl
   not_live_by id (Some row) h k = rw (passed_by id row k h) refl
 
-  not_live : (id : PieceId) → is_among puts id.put ≡ true → live_row_of s id ≡ None
+  not_live : (id : PieceId) → is_among_puts puts id.put ≡ true → live_row_of s id ≡ None
   not_live id k = not_live_by id (row_of s id) refl k
 
-  piece_by : (id : PieceId) (b : Bool) → is_among puts id.put ≡ b → live_row_of t id ≡ live_row_of s id
+  piece_by : (id : PieceId) (b : Bool) → is_among_puts puts id.put ≡ b → live_row_of t id ≡ live_row_of s id
   piece_by id true k = ap (option_and_then (only_live s)) (row_gone id k) ∙ sym (not_live id k)
   piece_by id false k = ap (option_and_then (only_live s)) (row_kept id k)
 
   pub piece_stays : (id : PieceId) → live_row_of t id ≡ live_row_of s id
-  piece_stays id = piece_by id (is_among puts id.put) refl
+  piece_stays id = piece_by id (is_among_puts puts id.put) refl
 
   -- ---- keys
 
   abbrev keeps_vector : Key × LastVector → Bool
-  keeps_vector v = not (is_last_of puts s v.0 || is_among puts (put_of_last v.1))
+  keeps_vector v = not (is_last_of puts s v.0 || is_among_puts puts (put_of_last v.1))
 
   key_is : (key : Key) (v : Key × LastVector) (b : Bool) → same_key v.0 key ≡ true → is_last_of puts s key ≡ b → is_last_of puts s v.0 ≡ b
   key_is key v b is h = ap (is_last_of puts s) (same_key-true v.0 key is) ∙ h
 
-  last_is : (key : Key) (last : LastVector) (b : Bool) → last_vector s key ≡ Some last → is_among puts (put_of_last last) ≡ b → is_last_of puts s key ≡ b
+  last_is : (key : Key) (last : LastVector) (b : Bool) → last_vector s key ≡ Some last → is_among_puts puts (put_of_last last) ≡ b → is_last_of puts s key ≡ b
   last_is key last b h k = rw h k
 
-  pub vector_kept : (key : Key) (last : LastVector) → last_vector s key ≡ Some last → is_among puts (put_of_last last) ≡ false → last_vector t key ≡ last_vector s key
+  pub vector_kept : (key : Key) (last : LastVector) → last_vector s key ≡ Some last → is_among_puts puts (put_of_last last) ≡ false → last_vector t key ≡ last_vector s key
   vector_kept key last h k = lookup_kept (λ (q : Key). same_key q key) keeps_vector s.vectors (λ v is found.
       let same : v.1 ≡ last = same_some v.1 last (last_vector s key) found h in
-      rw (key_is key v false is (last_is key last false h k)) (ap not (ap (λ l. is_among puts (put_of_last l)) same ∙ k)))
+      rw (key_is key v false is (last_is key last false h k)) (ap not (ap (λ l. is_among_puts puts (put_of_last l)) same ∙ k)))
 
-  pub vector_gone : (key : Key) (last : LastVector) → last_vector s key ≡ Some last → is_among puts (put_of_last last) ≡ true → last_vector t key ≡ None
+  pub vector_gone : (key : Key) (last : LastVector) → last_vector s key ≡ Some last → is_among_puts puts (put_of_last last) ≡ true → last_vector t key ≡ None
   vector_gone key last h k = lookup_gone (λ (q : Key). same_key q key) keeps_vector s.vectors (λ v is.
       rw (key_is key v true is (last_is key last true h k)) refl)
 
   pub vector_none : (key : Key) → last_vector s key ≡ None → last_vector t key ≡ None
   vector_none key h = lookup_kept (λ (q : Key). same_key q key) keeps_vector s.vectors (λ v is found. none_is (sym h ∙ found)) ∙ h
 
-  lists_none : (key : Key) (put : ℕ) (o : Option Row) → is_among puts put ≡ true → row_of s (vector_piece key put) ≡ o → unwrap_or (option_map (list_of_row s) o) [] ≡ []
+  lists_none : (key : Key) (put : ℕ) (o : Option Row) → is_among_puts puts put ≡ true → row_of s (vector_piece key put) ≡ o → unwrap_or (option_map (list_of_row s) o) [] ≡ []
   lists_none key put None k h = refl
   lists_none key put (Some row) k h = rw (passed_by (vector_piece key put) row k h) refl
 
-  list_gone : (key : Key) (last : LastVector) → is_among puts (put_of_last last) ≡ true → list_of_last s s.rows key last ≡ []
+  list_gone : (key : Key) (last : LastVector) → is_among_puts puts (put_of_last last) ≡ true → list_of_last s s.rows key last ≡ []
   list_gone key (Complete put) k = lists_none key put (row_of s (vector_piece key put)) k refl
   list_gone key (TakenOut put) k = refl
 
-  list_kept : (key : Key) (last : LastVector) → is_among puts (put_of_last last) ≡ false → list_of_last t t.rows key last ≡ list_of_last s s.rows key last
+  list_kept : (key : Key) (last : LastVector) → is_among_puts puts (put_of_last last) ≡ false → list_of_last t t.rows key last ≡ list_of_last s s.rows key last
   list_kept key (Complete put) k = ap (λ o. unwrap_or (option_map (list_of_row s) o) []) (row_kept (vector_piece key put) k)
   list_kept key (TakenOut put) k = refl
 
-  list_by : (key : Key) (o : Option LastVector) (b : Bool) → last_vector s key ≡ o → unwrap_or (option_map (λ last. is_among puts (put_of_last last)) o) false ≡ b
+  list_by : (key : Key) (o : Option LastVector) (b : Bool) → last_vector s key ≡ o → unwrap_or (option_map (λ last. is_among_puts puts (put_of_last last)) o) false ≡ b
       → alternates_of t key ≡ unwrap_or (option_map (list_of_last s s.rows key) o) []
   list_by key None b h k = rw (vector_none key h) refl
   list_by key (Some last) true h k = rw (vector_gone key last h k) (sym (list_gone key last k))
@@ -295,9 +296,9 @@ module _ (s : State) (puts : List ℕ) (dead : AreDead s puts) where
   -- ---- puts
 
   abbrev pub keeps_put : PutRow → Bool
-  keeps_put p = not (is_among puts p.put)
+  keeps_put p = not (is_among_puts puts p.put)
 
-  open_kept : (p : PutRow) → IsAmong p s.puts → is_open p ≡ true → is_among puts p.put ≡ false
+  open_kept : (p : PutRow) → IsAmong p s.puts → is_open p ≡ true → is_among_puts puts p.put ≡ false
   open_kept p m writes =
       kept_if p.put (with_writer s p.put (any_among (λ (q : PutRow). q.put == p.put && is_open q) s.puts p m (both_true (eq-eqb p.put p.put refl) writes)))
 
@@ -307,12 +308,12 @@ module _ (s : State) (puts : List ℕ) (dead : AreDead s puts) where
       (open_kept p (found_among (may_follow key request) s.puts p found)
       (and_parts (is_open p) _ (found_passes (may_follow key request) s.puts p found)).0))
 
-  pub put_kept : (put : ℕ) → is_among puts put ≡ false → put_of t put ≡ put_of s put
+  pub put_kept : (put : ℕ) → is_among_puts puts put ≡ false → put_of t put ≡ put_of s put
   put_kept put k = find_kept (λ (p : PutRow). p.put == put) keeps_put s.puts (λ p found.
-      ap not (ap (is_among puts) (eqb-true p.put put (found_passes (λ q. q.put == put) s.puts p found)) ∙ k))
+      ap not (ap (is_among_puts puts) (eqb-true p.put put (found_passes (λ q. q.put == put) s.puts p found)) ∙ k))
 
-  pub put_gone : (put : ℕ) → is_among puts put ≡ true → put_of t put ≡ None
-  put_gone put k = find_gone (λ (p : PutRow). p.put == put) keeps_put s.puts (λ p is. ap not (ap (is_among puts) (eqb-true p.put put is) ∙ k))
+  pub put_gone : (put : ℕ) → is_among_puts puts put ≡ true → put_of t put ≡ None
+  put_gone put k = find_gone (λ (p : PutRow). p.put == put) keeps_put s.puts (λ p is. ap not (ap (is_among_puts puts) (eqb-true p.put put is) ∙ k))
 
   left : IsLeft s t
   left = record {
@@ -355,23 +356,24 @@ written_is_kept cap s put w found writes =
     let puts : List ℕ = forgotten_puts cap s in
     let dead : AreDead s puts = forgotten_is_dead cap s in
     let same : w.put ≡ put = eqb-true w.put put (found_passes (λ (p : PutRow). p.put == put) s.puts w found) in
-    let kept : is_among puts put ≡ false =
-    ap (is_among puts) (sym same) ∙ open_kept s puts dead w (found_among (λ (p : PutRow). p.put == put) s.puts w found) (open_is w writes) in
+    let kept : is_among_puts puts put ≡ false =
+    ap (is_among_puts puts) (sym same) ∙ open_kept s puts dead w (found_among (λ (p : PutRow). p.put == put) s.puts w found) (open_is w writes) in
     put_kept s puts dead put kept ∙ found
 
 -- ---- the tape, and the vectors
 
 module _ (s : State) (puts : List ℕ) (dead : AreDead s puts) where
   abbrev keeps_place : ℕ × PieceId → Bool
-  keeps_place p = not (is_among puts p.1.put)
+  keeps_place p = not (is_among_puts puts p.1.put)
 
-  place_known : (row : Row) → lookup (λ p. p == row.place) s.places ≡ Some row.id → is_among puts row.id.put ≡ false
+  place_known : (row : Row) → lookup (λ p. p == row.place) s.places ≡ Some row.id → is_among_puts puts row.id.put ≡ false
       → lookup (λ p. p == row.place) (without_puts puts s).places ≡ Some row.id
   place_known row known k = lookup_kept (λ p. p == row.place) keeps_place s.places (λ e is found.
       let same : e.1 ≡ row.id = same_some e.1 row.id (lookup (λ p. p == row.place) s.places) found known in
-      ap not (ap (λ (i : PieceId). is_among puts i.put) same ∙ k)) ∙ known
+      ap not (ap (λ (i : PieceId). is_among_puts puts i.put) same ∙ k)) ∙ known
 
-  known_by : (row : Row) (rows : List Row) (b : Bool) → is_among puts row.id.put ≡ b → lookup (λ p. p == row.place) s.places ≡ Some row.id
+  known_by : (row : Row) (rows : List Row) (b : Bool) → is_among_puts puts row.id.put ≡ b
+      → lookup (λ p. p == row.place) s.places ≡ Some row.id
       → AreKnown (without_puts puts s).places (filter (keeps_row s puts dead) rows)
       → AreKnown (without_puts puts s).places (cond (not b) (row ∷ filter (keeps_row s puts dead) rows) (filter (keeps_row s puts dead) rows))
   known_by row rows true k known rest = rest
@@ -379,7 +381,7 @@ module _ (s : State) (puts : List ℕ) (dead : AreDead s puts) where
 
   known_stay : (rows : List Row) → AreKnown s.places rows → AreKnown (without_puts puts s).places (filter (keeps_row s puts dead) rows)
   known_stay [] known = tt
-  known_stay (row ∷ rows) known = known_by row rows (is_among puts row.id.put) refl known.0 (known_stay rows known.1)
+  known_stay (row ∷ rows) known = known_by row rows (is_among_puts puts row.id.put) refl known.0 (known_stay rows known.1)
 
   sound_left : IsSound s → IsSound (without_puts puts s)
   sound_left h = record {
@@ -392,43 +394,43 @@ module _ (s : State) (puts : List ℕ) (dead : AreDead s puts) where
     known = known_stay s.rows h.known;
   }
 
-  pub puts_by : (put : ℕ) (w : PutRow) (b : Bool) → is_among puts put ≡ b → put_of (without_puts puts s) put ≡ Some w → put_of s put ≡ Some w
+  pub puts_by : (put : ℕ) (w : PutRow) (b : Bool) → is_among_puts puts put ≡ b → put_of (without_puts puts s) put ≡ Some w → put_of s put ≡ Some w
   puts_by put w true k found = none_is (sym (put_gone s puts dead put k) ∙ found)
   puts_by put w false k found = sym (put_kept s puts dead put k) ∙ found
 
   told_left : AreTold s → AreTold (without_puts puts s)
   told_left h = record {
     vectors = vectors_part s (without_puts puts s) refl (part-filter (keeps_row s puts dead) s.rows) h.vectors;
-    puts = λ put w found. h.puts put w (puts_by put w (is_among puts put) refl found);
+    puts = λ put w found. h.puts put w (puts_by put w (is_among_puts puts put) refl found);
     displaced = h.displaced;
   }
 
   -- ---- causes
 
-  unsaved_stay : IsSound s → (id : PieceId) (row : Row) → row_of s id ≡ Some row → is_among puts id.put ≡ false → is_unsaved (without_puts puts s) row.place ≡ is_unsaved s row.place
+  unsaved_stay : IsSound s → (id : PieceId) (row : Row) → row_of s id ≡ Some row → is_among_puts puts id.put ≡ false → is_unsaved (without_puts puts s) row.place ≡ is_unsaved s row.place
   unsaved_stay h id row found k =
       let known : lookup (λ p. p == row.place) s.places ≡ Some id = found_is_known s.places id s.rows row h.known found in
       let here : is_place_of puts s row.place ≡ false = rw known k in
       any-filter_same (λ p. p == row.place) (λ place. not (is_place_of puts s place)) true (λ place is. ap not (ap (is_place_of puts s) (eqb-true place row.place is) ∙ here)) s.unsaved
 
-  passed_by_piece : IsSound s → (id : PieceId) (o : Option Row) → row_of s id ≡ o → is_among puts id.put ≡ false
+  passed_by_piece : IsSound s → (id : PieceId) (o : Option Row) → row_of s id ≡ o → is_among_puts puts id.put ≡ false
       → option_map (passed (without_puts puts s)) o ≡ option_map (passed s) o
   passed_by_piece h id None found k = refl
   passed_by_piece h id (Some row) found k = ap (λ b. Some (cause.Passed row.place (State.floor_now s) b)) (unsaved_stay h id row found k)
 
-  pub passed_stays : IsSound s → (id : PieceId) → is_among puts id.put ≡ false
+  pub passed_stays : IsSound s → (id : PieceId) → is_among_puts puts id.put ≡ false
       → option_map (passed (without_puts puts s)) (row_of (without_puts puts s) id) ≡ option_map (passed s) (row_of s id)
   passed_stays h id k = ap (option_map (passed (without_puts puts s))) (row_kept s puts dead id k) ∙ passed_by_piece h id (row_of s id) refl k
 
-  pub loss_stays : (id : PieceId) → is_among puts id.put ≡ false → cause_of_loss (without_puts puts s) id ≡ cause_of_loss s id
-  loss_stays id k = lookup-filter-keys (λ (l : PieceId). same_piece l id) (λ (l : PieceId). not (is_among puts l.put)) true
-      (λ l is. ap not (ap (λ (i : PieceId). is_among puts i.put) (same_piece-true l id is) ∙ k)) s.lost
+  pub loss_stays : (id : PieceId) → is_among_puts puts id.put ≡ false → cause_of_loss (without_puts puts s) id ≡ cause_of_loss s id
+  loss_stays id k = lookup-filter-keys (λ (l : PieceId). same_piece l id) (λ (l : PieceId). not (is_among_puts puts l.put)) true
+      (λ l is. ap not (ap (λ (i : PieceId). is_among_puts puts i.put) (same_piece-true l id is) ∙ k)) s.lost
 
 module _ (s : State) (puts : List ℕ) where
   -- and as many alternates of a vector are told
-  pub count_stays : (id : PieceId) → is_among puts id.put ≡ false → count_of_vector (without_puts puts s) id ≡ count_of_vector s id
-  count_stays id k = ap (λ o. unwrap_or o 0) (lookup-filter-keys (λ (l : PieceId). same_piece l id) (λ (l : PieceId). not (is_among puts l.put)) true
-      (λ l is. ap not (ap (λ (i : PieceId). is_among puts i.put) (same_piece-true l id is) ∙ k)) s.counts)
+  pub count_stays : (id : PieceId) → is_among_puts puts id.put ≡ false → count_of_vector (without_puts puts s) id ≡ count_of_vector s id
+  count_stays id k = ap (λ o. unwrap_or o 0) (lookup-filter-keys (λ (l : PieceId). same_piece l id) (λ (l : PieceId). not (is_among_puts puts l.put)) true
+      (λ l is. ap not (ap (λ (i : PieceId). is_among_puts puts i.put) (same_piece-true l id is) ∙ k)) s.counts)
 
 pub forgetting_tells : (cap : ℕ) (s : State) → AreTold s → AreTold (forget cap s)
 forgetting_tells cap s = told_left s (forgotten_puts cap s) (forgotten_is_dead cap s)
@@ -443,19 +445,20 @@ module _ (s : State) (puts : List ℕ) (dead : AreDead s puts) (h : IsSound s) (
   is_there : (id : PieceId) (row : Row) → live_row_of s id ≡ Some row → row.place ≡ place → known_at s.places ≡ Some id
   is_there id row live same = subst (λ p. lookup (λ q. q == p) s.places ≡ Some id) same (live_place_is_known s id row h live)
 
-  none_by : (id other : PieceId) (row : Row) (b : Bool) → known_at s.places ≡ Some id → is_among puts id.put ≡ true → live_row_of s other ≡ Some row → (row.place == place) ≡ b
+  none_by : (id other : PieceId) (row : Row) (b : Bool) → known_at s.places ≡ Some id → is_among_puts puts id.put ≡ true → live_row_of s other ≡ Some row → (row.place == place) ≡ b
       → (if b then Some other else None) ≡ None
   none_by id other row true known k live e =
       let same : other ≡ id = same_some other id (known_at s.places) (is_there other row live (eqb-true row.place place e)) known in
       none_is (sym (not_live s puts dead id k) ∙ (ap (live_row_of s) (sym same) ∙ live))
   none_by id other row false known k live e = refl
 
-  none_live : (id other : PieceId) (o : Option Row) → known_at s.places ≡ Some id → is_among puts id.put ≡ true → live_row_of s other ≡ o
+  none_live : (id other : PieceId) (o : Option Row) → known_at s.places ≡ Some id → is_among_puts puts id.put ≡ true
+      → live_row_of s other ≡ o
       → option_and_then (Verdict.if_at place other) o ≡ None
   none_live id other None known k live = refl
   none_live id other (Some row) known k live = none_by id other row (row.place == place) known k live refl
 
-  none_there : (id : PieceId) (o : Option PieceId) → known_at s.places ≡ Some id → is_among puts id.put ≡ true → option_and_then (Verdict.if_still_at s place) o ≡ None
+  none_there : (id : PieceId) (o : Option PieceId) → known_at s.places ≡ Some id → is_among_puts puts id.put ≡ true → option_and_then (Verdict.if_still_at s place) o ≡ None
   none_there id None known k = refl
   none_there id (Some other) known k = none_live id other (live_row_of s other) known k refl
 
@@ -463,7 +466,7 @@ module _ (s : State) (puts : List ℕ) (dead : AreDead s puts) (h : IsSound s) (
   same_there None = refl
   same_there (Some id) = ap (option_and_then (Verdict.if_at place id)) (piece_stays s puts dead id)
 
-  at_by : (o : Option PieceId) (b : Bool) → known_at s.places ≡ o → unwrap_or (option_map (λ (id : PieceId). is_among puts id.put) o) false ≡ b
+  at_by : (o : Option PieceId) (b : Bool) → known_at s.places ≡ o → unwrap_or (option_map (λ (id : PieceId). is_among_puts puts id.put) o) false ≡ b
       → piece_at (without_puts puts s) place ≡ piece_at s place
   at_by None b known k =
       let none : known_at (without_puts puts s).places ≡ known_at s.places =
@@ -476,7 +479,7 @@ module _ (s : State) (puts : List ℕ) (dead : AreDead s puts) (h : IsSound s) (
   at_by (Some id) false known k =
       let still : known_at (without_puts puts s).places ≡ known_at s.places =
       lookup_kept (λ p. p == place) (keeps_place s puts dead) s.places (λ e is found.
-      ap not (ap (λ (i : PieceId). is_among puts i.put) (same_some e.1 id (known_at s.places) found known) ∙ k)) in
+      ap not (ap (λ (i : PieceId). is_among_puts puts i.put) (same_some e.1 id (known_at s.places) found known) ∙ k)) in
       ap (option_and_then (Verdict.if_still_at (without_puts puts s) place)) still ∙ same_there (known_at s.places)
 
   found_stays : piece_at (without_puts puts s) place ≡ piece_at s place

@@ -11,7 +11,7 @@ use Rattle.tape_base.specs.declared.pieces.PieceId.{PieceId}
 use Rattle.cache_model.specs.declared.cause.Cause.{Cause}
 use Rattle.cache_model.specs.State.{State, Row, PutRow, LastVector, last_vector, live_rows}
 use Rattle.cache_model.specs.Verdict.{is_open}
-use Rattle.cache_model.specs.Forgetting.{forget, forgotten_puts, has_alternate, has_piece, has_reader, has_writer, is_among, is_dead, is_last_of, is_named, known_puts, put_of_last, puts_told, with_number, without_puts}
+use Rattle.cache_model.specs.Forgetting.{forget, forgotten_puts, has_alternate, has_piece, has_reader, has_writer, is_among_puts, is_dead, is_last_of, is_named, known_puts, put_of_last, puts_told, with_number, without_puts}
 use Rattle.cache_model.proofs.Found.{no_truth}
 use Rattle.model_laws.specs.ForgetLaws.{AreFalling}
 use Rattle.model_laws.proofs.Forgetting.{AreDead, any_dropped, dead_found, forgotten_is_dead, keeps_put, rows_stay}
@@ -45,27 +45,27 @@ known_are_falling s = falling_all [] (puts_told s) 0 tt
 
 -- ---- lists that fall
 
-past : (y z : ℕ) (ys : List ℕ) → z < y → is_among (y ∷ ys) z ≡ true → is_among ys z ≡ true
-past y z ys less m = elim (or_cases (y == z) (is_among ys z) m) [
+past : (y z : ℕ) (ys : List ℕ) → z < y → is_among_puts (y ∷ ys) z ≡ true → is_among_puts ys z ≡ true
+past y z ys less m = elim (or_cases (y == z) (is_among_puts ys z) m) [
   | inl here ↦ let same : y ≡ z = eqb-true y z here in absurd (omega (arith, less, same))
   | inr there ↦ there
 ]
 
-below_head : (top z : ℕ) (ns : List ℕ) → AreFalling top ns → is_among ns z ≡ true → z < top
+below_head : (top z : ℕ) (ns : List ℕ) → AreFalling top ns → is_among_puts ns z ≡ true → z < top
 below_head top z [] f m = no_truth (sym m)
-below_head top z (n ∷ ns) f m = elim (or_cases (n == z) (is_among ns z) m) [
+below_head top z (n ∷ ns) f m = elim (or_cases (n == z) (is_among_puts ns z) m) [
   | inl here ↦ let same : n ≡ z = eqb-true n z here in let under : n < top = f.0 in omega (arith, same, under)
   | inr there ↦ let under : n < top = f.0 in let less : z < n = below_head n z ns f.1 there in omega (arith, under, less)
 ]
 
 abbrev AreWithin : List ℕ → List ℕ → Type 0
-AreWithin xs ys = (z : ℕ) → is_among xs z ≡ true → is_among ys z ≡ true
+AreWithin xs ys = (z : ℕ) → is_among_puts xs z ≡ true → is_among_puts ys z ≡ true
 
-head_within : (x : ℕ) (xs ys : List ℕ) → AreWithin (x ∷ xs) ys → is_among ys x ≡ true
-head_within x xs ys within = within x (or_left (x == x) (is_among xs x) (eq-eqb x x refl))
+head_within : (x : ℕ) (xs ys : List ℕ) → AreWithin (x ∷ xs) ys → is_among_puts ys x ≡ true
+head_within x xs ys within = within x (or_left (x == x) (is_among_puts xs x) (eq-eqb x x refl))
 
-at_most_head : (x z : ℕ) (xs : List ℕ) → AreFalling x xs → is_among (x ∷ xs) z ≡ true → z ≤ x
-at_most_head x z xs f m = elim (or_cases (x == z) (is_among xs z) m) [
+at_most_head : (x z : ℕ) (xs : List ℕ) → AreFalling x xs → is_among_puts (x ∷ xs) z ≡ true → z ≤ x
+at_most_head x z xs f m = elim (or_cases (x == z) (is_among_puts xs z) m) [
   | inl here ↦ let same : x ≡ z = eqb-true x z here in omega (arith, same)
   | inr there ↦ let less : z < x = below_head x z xs f there in omega (arith, less)
 ]
@@ -73,7 +73,7 @@ at_most_head x z xs f m = elim (or_cases (x == z) (is_among xs z) m) [
 tail_within : (x y : ℕ) (xs ys : List ℕ) → AreFalling x xs → y ≡ x → AreWithin (x ∷ xs) (y ∷ ys) → AreWithin xs ys
 tail_within x y xs ys f same within z m =
     let less : z < x = below_head x z xs f m in
-    past y z ys (omega (arith, less, same)) (within z (or_right (x == z) (is_among xs z) m))
+    past y z ys (omega (arith, less, same)) (within z (or_right (x == z) (is_among_puts xs z) m))
 
 all_within : (x y : ℕ) (xs ys : List ℕ) → AreFalling x xs → x < y → AreWithin (x ∷ xs) (y ∷ ys) → AreWithin (x ∷ xs) ys
 all_within x y xs ys f less within z m =
@@ -84,7 +84,7 @@ all_within x y xs ys f less within z m =
 no_longer : (xs ys : List ℕ) (a b : ℕ) → AreFalling a xs → AreFalling b ys → AreWithin xs ys → length xs ≤ length ys
 no_longer [] ys a b f g within = omega arith
 no_longer (x ∷ xs) [] a b f g within = no_truth (sym (head_within x xs [] within))
-no_longer (x ∷ xs) (y ∷ ys) a b f g within = elim (or_cases (y == x) (is_among ys x) (head_within x xs (y ∷ ys) within)) [
+no_longer (x ∷ xs) (y ∷ ys) a b f g within = elim (or_cases (y == x) (is_among_puts ys x) (head_within x xs (y ∷ ys) within)) [
   | inl here ↦
       let fewer : length xs ≤ length ys = no_longer xs ys x y f.1 g.1 (tail_within x y xs ys f.1 (eqb-true y x here) within) in
       omega (arith, fewer)
@@ -109,12 +109,12 @@ falling-take (suc k) top [] f = tt
 falling-take (suc k) top (n ∷ ns) f = (f.0, falling-take k n ns f.1)
 
 -- what is in a list and not behind its first ones is one of these
-among_first : (k z : ℕ) (ns : List ℕ) → is_among ns z ≡ true → is_among (drop k ns) z ≡ false → is_among (take k ns) z ≡ true
+among_first : (k z : ℕ) (ns : List ℕ) → is_among_puts ns z ≡ true → is_among_puts (drop k ns) z ≡ false → is_among_puts (take k ns) z ≡ true
 among_first zero z ns m h = no_truth (sym m ∙ h)
 among_first (suc k) z [] m h = m
-among_first (suc k) z (n ∷ ns) m h = elim (or_cases (n == z) (is_among ns z) m) [
-  | inl here ↦ or_left (n == z) (is_among (take k ns) z) here
-  | inr there ↦ or_right (n == z) (is_among (take k ns) z) (among_first k z ns there h)
+among_first (suc k) z (n ∷ ns) m h = elim (or_cases (n == z) (is_among_puts ns z) m) [
+  | inl here ↦ or_left (n == z) (is_among_puts (take k ns) z) here
+  | inr there ↦ or_right (n == z) (is_among_puts (take k ns) z) (among_first k z ns there h)
 ]
 
 few_dropped : (k : ℕ) (ns : List ℕ) → length ns ≤ k → drop k ns ≡ []
@@ -145,48 +145,50 @@ or_none true = refl
 or_none false = refl
 
 module _ (z : ℕ) where
-  with_by : (n m : ℕ) (ms : List ℕ) (b c : Bool) → (n == m) ≡ b → is_among (with_number n ms) z ≡ (n == z || is_among ms z)
-      → is_among (if b then m ∷ ms else if c then n ∷ m ∷ ms else m ∷ with_number n ms) z ≡ (n == z || (m == z || is_among ms z))
+  with_by : (n m : ℕ) (ms : List ℕ) (b c : Bool) → (n == m) ≡ b → is_among_puts (with_number n ms) z ≡ (n == z || is_among_puts ms z)
+      → is_among_puts (if b then m ∷ ms else if c then n ∷ m ∷ ms else m ∷ with_number n ms) z ≡ (n == z || (m == z || is_among_puts ms z))
   with_by n m ms true c e rest =
       let same : n ≡ m = eqb-true n m e in
-      same_twice (m == z) (is_among ms z) ∙ ap (λ k. k == z || (m == z || is_among ms z)) (sym same)
+      same_twice (m == z) (is_among_puts ms z) ∙ ap (λ k. k == z || (m == z || is_among_puts ms z)) (sym same)
   with_by n m ms false true e rest = refl
-  with_by n m ms false false e rest = ap (λ b. m == z || b) rest ∙ swapped (m == z) (n == z) (is_among ms z)
+  with_by n m ms false false e rest = ap (λ b. m == z || b) rest ∙ swapped (m == z) (n == z) (is_among_puts ms z)
 
-  among_with : (n : ℕ) (ns : List ℕ) → is_among (with_number n ns) z ≡ (n == z || is_among ns z)
+  among_with : (n : ℕ) (ns : List ℕ) → is_among_puts (with_number n ns) z ≡ (n == z || is_among_puts ns z)
   among_with n [] = refl
   among_with n (m ∷ ms) = with_by n m ms (n == m) (nat_le m n) refl (among_with n ms)
 
-  among_all : (numbers ns : List ℕ) → is_among (fold (λ known n. with_number n known) numbers ns) z ≡ (is_among ns z || is_among numbers z)
+  among_all : (numbers ns : List ℕ)
+      → is_among_puts (fold (λ known n. with_number n known) numbers ns) z ≡ (is_among_puts ns z || is_among_puts numbers z)
   among_all numbers [] = refl
   among_all numbers (n ∷ ns) =
       among_all (with_number n numbers) ns
-      ∙ (ap (λ b. is_among ns z || b) (among_with n numbers) ∙ turned (is_among ns z) (n == z) (is_among numbers z))
+      ∙ (ap (λ b. is_among_puts ns z || b) (among_with n numbers) ∙ turned (is_among_puts ns z) (n == z) (is_among_puts numbers z))
 
   -- they are those that are told
-  known_are_told : (s : State) → is_among (known_puts s) z ≡ is_among (puts_told s) z
-  known_are_told s = among_all [] (puts_told s) ∙ or_none (is_among (puts_told s) z)
+  known_are_told : (s : State) → is_among_puts (known_puts s) z ≡ is_among_puts (puts_told s) z
+  known_are_told s = among_all [] (puts_told s) ∙ or_none (is_among_puts (puts_told s) z)
 
 -- ---- what is told behind forgetting
 
 -- all of them are told, and none of them is one of these puts
 abbrev AreOthers : List ℕ → List ℕ → List ℕ → Type 0
-AreOthers puts xs ys = (z : ℕ) → is_among xs z ≡ true → (is_among ys z ≡ true) × (is_among puts z ≡ false)
+AreOthers puts xs ys = (z : ℕ) → is_among_puts xs z ≡ true → (is_among_puts ys z ≡ true) × (is_among_puts puts z ≡ false)
 
 others_append : (puts xs ys vs ws : List ℕ) → AreOthers puts xs vs → AreOthers puts ys ws → AreOthers puts (xs ++ ys) (vs ++ ws)
-others_append puts xs ys vs ws f g z m = elim (or_cases (is_among xs z) (is_among ys z) (sym (list_any-append (λ n. n == z) xs ys) ∙ m)) [
-  | inl here ↦ let h = f z here in (list_any-append (λ n. n == z) vs ws ∙ or_left (is_among vs z) (is_among ws z) h.0, h.1)
-  | inr there ↦ let h = g z there in (list_any-append (λ n. n == z) vs ws ∙ or_right (is_among vs z) (is_among ws z) h.0, h.1)
-]
+others_append puts xs ys vs ws f g z m =
+    elim (or_cases (is_among_puts xs z) (is_among_puts ys z) (sym (list_any-append (λ n. n == z) xs ys) ∙ m)) [
+      | inl here ↦ let h = f z here in (list_any-append (λ n. n == z) vs ws ∙ or_left (is_among_puts vs z) (is_among_puts ws z) h.0, h.1)
+      | inr there ↦ let h = g z there in (list_any-append (λ n. n == z) vs ws ∙ or_right (is_among_puts vs z) (is_among_puts ws z) h.0, h.1)
+    ]
 
-module _ {X : Type 0} (puts : List ℕ) (number : X → ℕ) (keep : X → Bool) (kept : (x : X) → keep x ≡ true → is_among puts (number x) ≡ false) where
-  others_by : (z : ℕ) (x : X) (xs : List X) (b : Bool) → keep x ≡ b → (is_among (map number (filter keep xs)) z ≡ true → (is_among (map number xs) z ≡ true) × (is_among puts z ≡ false))
-      → is_among (map number (cond b (x ∷ filter keep xs) (filter keep xs))) z ≡ true → ((number x == z || is_among (map number xs) z) ≡ true) × (is_among puts z ≡ false)
-  others_by z x xs true e rest m = elim (or_cases (number x == z) (is_among (map number (filter keep xs)) z) m) [
-    | inl here ↦ (or_left (number x == z) (is_among (map number xs) z) here, ap (is_among puts) (sym (eqb-true (number x) z here)) ∙ kept x e)
-    | inr there ↦ let h = rest there in (or_right (number x == z) (is_among (map number xs) z) h.0, h.1)
+module _ {X : Type 0} (puts : List ℕ) (number : X → ℕ) (keep : X → Bool) (kept : (x : X) → keep x ≡ true → is_among_puts puts (number x) ≡ false) where
+  others_by : (z : ℕ) (x : X) (xs : List X) (b : Bool) → keep x ≡ b → (is_among_puts (map number (filter keep xs)) z ≡ true → (is_among_puts (map number xs) z ≡ true) × (is_among_puts puts z ≡ false))
+      → is_among_puts (map number (cond b (x ∷ filter keep xs) (filter keep xs))) z ≡ true → ((number x == z || is_among_puts (map number xs) z) ≡ true) × (is_among_puts puts z ≡ false)
+  others_by z x xs true e rest m = elim (or_cases (number x == z) (is_among_puts (map number (filter keep xs)) z) m) [
+    | inl here ↦ (or_left (number x == z) (is_among_puts (map number xs) z) here, ap (is_among_puts puts) (sym (eqb-true (number x) z here)) ∙ kept x e)
+    | inr there ↦ let h = rest there in (or_right (number x == z) (is_among_puts (map number xs) z) h.0, h.1)
   ]
-  others_by z x xs false e rest m = let h = rest m in (or_right (number x == z) (is_among (map number xs) z) h.0, h.1)
+  others_by z x xs false e rest m = let h = rest m in (or_right (number x == z) (is_among_puts (map number xs) z) h.0, h.1)
 
   others_part : (xs : List X) → AreOthers puts (map number (filter keep xs)) (map number xs)
   others_part [] z m = no_truth (sym m)
@@ -207,52 +209,52 @@ told_are_others puts s =
     (others_append puts _ _ _ _
     (others_append puts _ _ _ _
     (others_append puts _ _ _ _
-    (others_append puts _ _ _ _ (others_part puts (λ (p : PutRow). p.put) _ (λ p. was_not (is_among puts p.put)) s.puts)
-    (others_part puts (λ (row : Row). row.id.put) _ (λ row. was_not (is_among puts row.id.put)) s.rows))
-    (others_part puts (λ (p : ℕ × PieceId). p.1.put) _ (λ p. was_not (is_among puts p.1.put)) s.places))
-    (others_part puts (λ (l : PieceId × Cause). l.0.put) _ (λ l. was_not (is_among puts l.0.put)) s.lost))
-    (others_part puts (λ (v : Key × LastVector). put_of_last v.1) _ (λ v. not_either (is_last_of puts s v.0) (is_among puts (put_of_last v.1))) s.vectors))
-    (others_part puts (λ (a : Key × ℕ). a.1) _ (λ a. was_not (is_among puts a.1)) s.aborts)
+    (others_append puts _ _ _ _ (others_part puts (λ (p : PutRow). p.put) _ (λ p. was_not (is_among_puts puts p.put)) s.puts)
+    (others_part puts (λ (row : Row). row.id.put) _ (λ row. was_not (is_among_puts puts row.id.put)) s.rows))
+    (others_part puts (λ (p : ℕ × PieceId). p.1.put) _ (λ p. was_not (is_among_puts puts p.1.put)) s.places))
+    (others_part puts (λ (l : PieceId × Cause). l.0.put) _ (λ l. was_not (is_among_puts puts l.0.put)) s.lost))
+    (others_part puts (λ (v : Key × LastVector). put_of_last v.1) _ (λ v. not_either (is_last_of puts s v.0) (is_among_puts puts (put_of_last v.1))) s.vectors))
+    (others_part puts (λ (a : Key × ℕ). a.1) _ (λ a. was_not (is_among_puts puts a.1)) s.aborts)
 
 -- ---- what is dead behind forgetting was dead
 
-module _ (s : State) (puts : List ℕ) (dead : AreDead s puts) (z : ℕ) (k : is_among puts z ≡ false) where
+module _ (s : State) (puts : List ℕ) (dead : AreDead s puts) (z : ℕ) (k : is_among_puts puts z ≡ false) where
   abbrev dead_by : Bool → List Row → Bool
   dead_by writes rows =
       not (writes || (has_reader s z || (has_piece rows z || (is_named s z || list_any (λ (row : Row). has_alternate (unwrap_or row.alternates []) z) rows))))
 
   writer_stays : has_writer (without_puts puts s) z ≡ has_writer s z
   writer_stays = any-filter_same (λ (p : PutRow). p.put == z && is_open p) (keeps_put s puts dead) true (λ p is.
-      ap not (ap (is_among puts) (eqb-true p.put z (and_parts (p.put == z) (is_open p) is).0) ∙ k)) s.puts
+      ap not (ap (is_among_puts puts) (eqb-true p.put z (and_parts (p.put == z) (is_open p) is).0) ∙ k)) s.puts
 
   dead_stays : is_dead (without_puts puts s) z ≡ is_dead s z
   dead_stays = ap (λ b. dead_by b (live_rows (without_puts puts s))) writer_stays ∙ ap (dead_by (has_writer s z)) (rows_stay s puts dead)
 
 module _ (dead : ℕ → Bool) (z : ℕ) where
-  among_filter_by : (n : ℕ) (ns : List ℕ) (b : Bool) → dead n ≡ b → dead z ≡ true → (n == z || is_among ns z) ≡ true → (is_among ns z ≡ true → is_among (filter dead ns) z ≡ true)
-      → is_among (cond b (n ∷ filter dead ns) (filter dead ns)) z ≡ true
-  among_filter_by n ns true e h m rest = elim (or_cases (n == z) (is_among ns z) m) [
-    | inl here ↦ or_left (n == z) (is_among (filter dead ns) z) here
-    | inr there ↦ or_right (n == z) (is_among (filter dead ns) z) (rest there)
+  among_filter_by : (n : ℕ) (ns : List ℕ) (b : Bool) → dead n ≡ b → dead z ≡ true → (n == z || is_among_puts ns z) ≡ true → (is_among_puts ns z ≡ true → is_among_puts (filter dead ns) z ≡ true)
+      → is_among_puts (cond b (n ∷ filter dead ns) (filter dead ns)) z ≡ true
+  among_filter_by n ns true e h m rest = elim (or_cases (n == z) (is_among_puts ns z) m) [
+    | inl here ↦ or_left (n == z) (is_among_puts (filter dead ns) z) here
+    | inr there ↦ or_right (n == z) (is_among_puts (filter dead ns) z) (rest there)
   ]
-  among_filter_by n ns false e h m rest = elim (or_cases (n == z) (is_among ns z) m) [
+  among_filter_by n ns false e h m rest = elim (or_cases (n == z) (is_among_puts ns z) m) [
     | inl here ↦ no_truth (sym h ∙ (ap dead (sym (eqb-true n z here)) ∙ e))
     | inr there ↦ rest there
   ]
 
-  among_filter : (ns : List ℕ) → dead z ≡ true → is_among ns z ≡ true → is_among (filter dead ns) z ≡ true
+  among_filter : (ns : List ℕ) → dead z ≡ true → is_among_puts ns z ≡ true → is_among_puts (filter dead ns) z ≡ true
   among_filter [] h m = no_truth (sym m)
   among_filter (n ∷ ns) h m = among_filter_by n ns (dead n) refl h m (among_filter ns h)
 
-  filter_among_by : (n : ℕ) (ns : List ℕ) (b : Bool) → (is_among (filter dead ns) z ≡ true → is_among ns z ≡ true)
-      → is_among (cond b (n ∷ filter dead ns) (filter dead ns)) z ≡ true → (n == z || is_among ns z) ≡ true
-  filter_among_by n ns true rest m = elim (or_cases (n == z) (is_among (filter dead ns) z) m) [
-    | inl here ↦ or_left (n == z) (is_among ns z) here
-    | inr there ↦ or_right (n == z) (is_among ns z) (rest there)
+  filter_among_by : (n : ℕ) (ns : List ℕ) (b : Bool) → (is_among_puts (filter dead ns) z ≡ true → is_among_puts ns z ≡ true)
+      → is_among_puts (cond b (n ∷ filter dead ns) (filter dead ns)) z ≡ true → (n == z || is_among_puts ns z) ≡ true
+  filter_among_by n ns true rest m = elim (or_cases (n == z) (is_among_puts (filter dead ns) z) m) [
+    | inl here ↦ or_left (n == z) (is_among_puts ns z) here
+    | inr there ↦ or_right (n == z) (is_among_puts ns z) (rest there)
   ]
-  filter_among_by n ns false rest m = or_right (n == z) (is_among ns z) (rest m)
+  filter_among_by n ns false rest m = or_right (n == z) (is_among_puts ns z) (rest m)
 
-  filter_among : (ns : List ℕ) → is_among (filter dead ns) z ≡ true → is_among ns z ≡ true
+  filter_among : (ns : List ℕ) → is_among_puts (filter dead ns) z ≡ true → is_among_puts ns z ≡ true
   filter_among [] m = m
   filter_among (n ∷ ns) m = filter_among_by n ns (dead n) (filter_among ns) m
 
@@ -266,7 +268,7 @@ module _ (cap : ℕ) (s : State) where
   abbrev dead_behind : List ℕ
   dead_behind = filter (is_dead (forget cap s)) (known_puts (forget cap s))
 
-  behind_by : (z : ℕ) → is_dead (forget cap s) z ≡ true → (is_among (puts_told s) z ≡ true) × (is_among gone z ≡ false) → is_among (take cap dead_before) z ≡ true
+  behind_by : (z : ℕ) → is_dead (forget cap s) z ≡ true → (is_among_puts (puts_told s) z ≡ true) × (is_among_puts gone z ≡ false) → is_among_puts (take cap dead_before) z ≡ true
   behind_by z d m = among_first cap z dead_before
       (among_filter (is_dead s) z (known_puts s) (sym (dead_stays s gone (forgotten_is_dead cap s) z m.1) ∙ d) (known_are_told z s ∙ m.0)) m.1
 
@@ -292,11 +294,11 @@ filter_all : {X : Type 0} (keep : X → Bool) (xs : List X) → ((x : X) → kee
 filter_all keep [] h = refl
 filter_all keep (x ∷ xs) h = rw (h x) (ap (λ ys. x ∷ ys) (filter_all keep xs h))
 
-no_place : (o : Option PieceId) → not (unwrap_or (option_map (λ (id : PieceId). is_among [] id.put) o) false) ≡ true
+no_place : (o : Option PieceId) → not (unwrap_or (option_map (λ (id : PieceId). is_among_puts [] id.put) o) false) ≡ true
 no_place (Some id) = refl
 no_place None = refl
 
-no_last : (o : Option LastVector) → not (unwrap_or (option_map (λ last. is_among [] (put_of_last last)) o) false || false) ≡ true
+no_last : (o : Option LastVector) → not (unwrap_or (option_map (λ last. is_among_puts [] (put_of_last last)) o) false || false) ≡ true
 no_last (Some last) = refl
 no_last None = refl
 
@@ -327,23 +329,24 @@ nothing_goes s =
 pub forgetting_twice : (cap : ℕ) (s : State) → forget cap (forget cap s) ≡ forget cap s
 forgetting_twice cap s = ap (λ puts. without_puts puts (forget cap s)) (none_behind cap s) ∙ nothing_goes (forget cap s)
 
-above_by : (a b n top : ℕ) (first rest : List ℕ) → (n == a || is_among first a) ≡ true → AreFalling n rest → is_among rest b ≡ true → (is_among first a ≡ true → b < a) → b < a
-above_by a b n top first rest m f h later = elim (or_cases (n == a) (is_among first a) m) [
+above_by : (a b n top : ℕ) (first rest : List ℕ) → (n == a || is_among_puts first a) ≡ true → AreFalling n rest → is_among_puts rest b ≡ true → (is_among_puts first a ≡ true → b < a) → b < a
+above_by a b n top first rest m f h later = elim (or_cases (n == a) (is_among_puts first a) m) [
   | inl here ↦ let same : n ≡ a = eqb-true n a here in let less : b < n = below_head n b rest f h in omega (arith, same, less)
   | inr there ↦ later there
 ]
 
 -- the first ones of a list that falls are above those behind them
-first_above : (k a b top : ℕ) (ns : List ℕ) → AreFalling top ns → is_among (take k ns) a ≡ true → is_among (drop k ns) b ≡ true → b < a
+first_above : (k a b top : ℕ) (ns : List ℕ) → AreFalling top ns → is_among_puts (take k ns) a ≡ true
+    → is_among_puts (drop k ns) b ≡ true → b < a
 first_above zero a b top ns f m h = no_truth (sym m)
 first_above (suc k) a b top [] f m h = no_truth (sym m)
 first_above (suc k) a b top (n ∷ ns) f m h =
     above_by a b n top (take k ns) ns m f.1 (any_dropped (λ x. x == b) k ns h) (λ there. first_above k a b n ns f.1 there h)
 
-pub greatest_are_kept : (cap : ℕ) (s : State) (kept gone : ℕ) → is_among (known_puts s) kept ≡ true → is_dead s kept ≡ true
-    → is_among (forgotten_puts cap s) kept ≡ false → is_among (forgotten_puts cap s) gone ≡ true → gone < kept
+pub greatest_are_kept : (cap : ℕ) (s : State) (kept gone : ℕ) → is_among_puts (known_puts s) kept ≡ true → is_dead s kept ≡ true
+    → is_among_puts (forgotten_puts cap s) kept ≡ false → is_among_puts (forgotten_puts cap s) gone ≡ true → gone < kept
 greatest_are_kept cap s kept gone m d k g =
     let known = known_are_falling s in
-    let first : is_among (take cap (filter (is_dead s) (known_puts s))) kept ≡ true =
+    let first : is_among_puts (take cap (filter (is_dead s) (known_puts s))) kept ≡ true =
     among_first cap kept (filter (is_dead s) (known_puts s)) (among_filter (is_dead s) kept (known_puts s) d m) k in
     first_above cap kept gone known.0 (filter (is_dead s) (known_puts s)) (falling-filter (is_dead s) known.0 (known_puts s) known.1) first g

@@ -25,8 +25,8 @@ use Rattle.cache_model.specs.Legal.{Advances, Course, Does, IsLegal, MayGrow, Ma
 use Rattle.cache_model.proofs.Found.{no_truth, none_is, number_of, same_some}
 use Rattle.cache_model.proofs.Lists.{found_row, own_piece, row_in-copied, row_in-placed}
 use Rattle.cache_model.proofs.Steps.{after_all-append}
-use Rattle.model_laws.specs.PayloadLaws.{AreCut, HasCut, IsCutBy}
-use Rattle.model_laws.specs.VectorLaws.{AreCounted}
+use Rattle.model_laws.specs.PayloadLaws.{AreCut, IsCutBy, PutHasCut}
+use Rattle.model_laws.specs.VectorLaws.{VectorsAreCounted}
 use Rattle.model_laws.proofs.Counted
 use Rattle.model_laws.proofs.Counted.{Parts, counted_group, displaced_leaves, legal_counted, parts}
 use Rattle.model_laws.proofs.CountedRecords.{AllLeaveCounts, LeavesCounts, changed, earlier_found, find_changed, without_found}
@@ -288,7 +288,7 @@ module _ (s : State) (w : PutRow) (put : ℕ) (entry : TableRow) (cuts : put_of 
     known = (λ none id row fragment found. known_by none id row (same_piece piece id) refl fragment (found_as id row found));
   }
 
-cut_fragment : (p : Permit) (s : State) (put index : ℕ) (payload : List ℕ) (added : List Rec) → AreCounted s → MayPlaceFragment p s put index payload added → AreCut s → AreCut (after_all s added)
+cut_fragment : (p : Permit) (s : State) (put index : ℕ) (payload : List ℕ) (added : List Rec) → VectorsAreCounted s → MayPlaceFragment p s put index payload added → AreCut s → AreCut (after_all s added)
 cut_fragment p s put index payload added counted m h =
     let entry : TableRow = made_row (length payload) (digest_of payload).0 in
     let cut : Rec = rec.Cut put index (length payload) (digest_of payload) in
@@ -306,7 +306,8 @@ cut_fragment p s put index payload added counted m h =
 
 -- ---- groups and steps
 
-cut_part : (p : Permit) (s : State) (added : List Rec) (e : End) → AreCounted s → Parts p s added e → AreCut s → AreCut (after_all s added)
+cut_part : (p : Permit) (s : State) (added : List Rec) (e : End) → VectorsAreCounted s → Parts p s added e → AreCut s
+    → AreCut (after_all s added)
 cut_part p s added e counted (Counted.Parts.left all) h = cut_kept (keeps_all s added all) h
 cut_part p s added e counted (Counted.Parts.opens {key = key} {request = request} {response = response} {pin = pin} m) h =
     subst (λ recs. AreCut (after_all s recs)) (sym m.is) (cut_opened s m.who.0 key request response pin _ refl h)
@@ -316,7 +317,7 @@ cut_part p s added e counted (Counted.Parts.commits put d) h = cut_kept (keeps_c
 
 -- what a group leaves, with the numbers of puts
 abbrev Both : State → Type 0
-Both s = AreCounted s × AreCut s
+Both s = VectorsAreCounted s × AreCut s
 
 cut_advanced : (p : Permit) (s : State) (is : List Intent) (why : Option Reason) (added : List Rec) (after : Work) → Advances p s is why added after → Both s → Both (after_all s added)
 cut_advanced p s [] why added after a h = absurd a
@@ -358,7 +359,7 @@ payloads_are_cut setting courses recs (Legal.IsLegal.steps {courses = earlier} {
     (cut_grown step.grows (legal_counted setting earlier before legal, payloads_are_cut setting earlier before legal)).1
 
 pub formatted_are_cut : (setting : Setting) (courses : List Course) (recs : List Rec) (id : PieceId) (row : Row) → IsLegal setting courses recs
-    → (after_all nothing_yet recs).opened ≡ None → is_vector id ≡ false → row_of (after_all nothing_yet recs) id ≡ Some row → HasCut (after_all nothing_yet recs) id row
+    → (after_all nothing_yet recs).opened ≡ None → is_vector id ≡ false → row_of (after_all nothing_yet recs) id ≡ Some row → PutHasCut (after_all nothing_yet recs) id row
 formatted_are_cut setting courses recs id row legal none fragment found =
     let h : AreCut (after_all nothing_yet recs) = payloads_are_cut setting courses recs legal in
     let k = h.known none id row fragment found in

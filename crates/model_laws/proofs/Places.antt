@@ -16,7 +16,7 @@ use Rattle.cache_model.specs.State.{State, Row, LastVector, Complete, TakenOut, 
 use Rattle.tape_base.specs.declared.geometries.Geometry.{Geometry}
 use Rattle.cache_model.specs.Opening.{Opening}
 use Rattle.cache_model.specs.Openings.{opened_record}
-use Rattle.model_laws.specs.PlaceLaws.{place_after, place_found, is_replaced, Leaves, takes_away, is_about, NotAbout, vector_said, begins_buffer, NoBuffer}
+use Rattle.model_laws.specs.PlaceLaws.{place_after, place_found, is_replaced, LeavesPiece, takes_away, is_about, NotAbout, vector_said, begins_buffer, NoBuffer}
 use Rattle.tape_base.specs.Place.{floor_of}
 use Rattle.cache_model.proofs.Lists.{row_in-without, row_in-placed, row_in-copied}
 use Rattle.cache_model.proofs.Found.{no_truth}
@@ -103,7 +103,7 @@ commit_leaves (Some (Complete old)) key put id h = commit_leaves_by key put old 
 commit_leaves (Some (TakenOut old)) key put id h = refl
 commit_leaves None key put id h = refl
 
-record_leaves : (s : State) (r : Rec) (id : PieceId) (before : Option ℕ) → Leaves id r → place_after s r id before ≡ before
+record_leaves : (s : State) (r : Rec) (id : PieceId) (before : Option ℕ) → LeavesPiece id r → place_after s r id before ≡ before
 record_leaves s (rec.Formatted geometry) id before h = no_truth h
 record_leaves s (rec.Opened geometry serial cursor floor next_put clean list) id before h = no_truth h
 record_leaves s (rec.Placed piece place blocks digest pin) id before h = rw h refl
@@ -115,23 +115,24 @@ record_leaves s (rec.Removed put key) id before h = rw (removal_leaves key put i
 record_leaves s _ id before h = refl
 
 -- records that leave a piece leave its place
-pub place-left : (s : State) (id : PieceId) (recs : List Rec) → AllByRecursion (Leaves id) recs → place_of (after_all s recs) id ≡ place_of s id
+pub place-left : (s : State) (id : PieceId) (recs : List Rec) → AllByRecursion (LeavesPiece id) recs → place_of (after_all s recs) id ≡ place_of s id
 place-left s id [] h = refl
 place-left s id (r ∷ recs) h = place-left (state_after s r) id recs h.1 ∙ (place_follows s r id ∙ record_leaves s r id (place_of s id) h.0)
 
-pub place_is_last : (s : State) (id : PieceId) (place blocks pin : ℕ) (digest : Digest) (behind : List Rec) → AllByRecursion (Leaves id) behind
+pub place_is_last : (s : State) (id : PieceId) (place blocks pin : ℕ) (digest : Digest) (behind : List Rec) → AllByRecursion (LeavesPiece id) behind
     → place_of (after_all s (rec.Placed id place blocks digest pin ∷ behind)) id ≡ Some place
 place_is_last s id place blocks pin digest behind h =
     place-left (state_after s (rec.Placed id place blocks digest pin)) id behind h
     ∙ (place_follows s (rec.Placed id place blocks digest pin) id ∙ rw (same_piece-same id) refl)
 
-pub moved_is_there : (s : State) (id : PieceId) (before from place : ℕ) (digest : Digest) (behind : List Rec) → place_of s id ≡ Some before → AllByRecursion (Leaves id) behind
+pub moved_is_there : (s : State) (id : PieceId) (before from place : ℕ) (digest : Digest) (behind : List Rec) → place_of s id ≡ Some before → AllByRecursion (LeavesPiece id) behind
     → place_of (after_all s (rec.Moved id from place digest ∷ behind)) id ≡ Some place
 moved_is_there s id before from place digest behind there h =
     place-left (state_after s (rec.Moved id from place digest)) id behind h
     ∙ (place_follows s (rec.Moved id from place digest) id ∙ rw (same_piece-same id, there) refl)
 
-pub found_is_there : (s : State) (id : PieceId) (geometry : Geometry) (o : Opening) (behind : List Rec) → AllByRecursion (Leaves id) behind
+pub found_is_there : (s : State) (id : PieceId) (geometry : Geometry) (o : Opening) (behind : List Rec)
+    → AllByRecursion (LeavesPiece id) behind
     → place_of (after_all s (opened_record geometry o ∷ behind)) id ≡ place_found o.found id
 found_is_there s id geometry o behind h = place-left (state_after s (opened_record geometry o)) id behind h
 
@@ -141,7 +142,7 @@ gone_at s id (rec.Damaged piece place kept found) h = place_follows s (rec.Damag
 gone_at s id (rec.Removed put key) h = place_follows s (rec.Removed put key) id ∙ rw h refl
 gone_at s id _ h = cc
 
-pub taken_is_nowhere : (s : State) (id : PieceId) (gone : Rec) (behind : List Rec) → takes_away id gone ≡ true → AllByRecursion (Leaves id) behind
+pub taken_is_nowhere : (s : State) (id : PieceId) (gone : Rec) (behind : List Rec) → takes_away id gone ≡ true → AllByRecursion (LeavesPiece id) behind
     → place_of (after_all s (gone ∷ behind)) id ≡ None
 taken_is_nowhere s id gone behind h k = place-left (state_after s gone) id behind k ∙ gone_at s id gone h
 

@@ -17,7 +17,7 @@ use Rattle.model_laws.specs.PlaceLaws.{vector_found}
 use Rattle.cache_model.specs.State.{State, Mark, after_all, mark_now, mark_of, row_in, state_after}
 use Rattle.cache_model.specs.Syncs.{Follows, IsAllowed}
 use Rattle.cache_model.proofs.Found.{no_truth}
-use Rattle.model_laws.specs.SyncLaws.{BeginsWith, FinishesNone, HoldsWhatStood, LeavesSync, StaysInSession}
+use Rattle.model_laws.specs.SyncLaws.{BeginsAtMark, FinishesNone, HoldsWhatStood, LeavesSync, StaysInSession}
 
 mark_stays : (s : State) (serial : ℕ) (r : Rec) → LeavesSync serial r → mark_of (state_after s r) serial ≡ mark_of s serial
 mark_stays s serial (rec.Formatted geometry) h = no_truth h
@@ -68,7 +68,7 @@ only_later_are_allowed s serial behind m h allowed =
     let above : (after_all s (rec.SyncDone serial ∷ behind)).finished ≤ m.serial = allowed.1 in
     omega (arith, last, above)
 
-pub follower_has_sync : (s t : State) (geometry : Geometry) (o : Opening) (f : Follows s geometry o) → BeginsWith f.mark (after_all t (opened_records geometry o))
+pub follower_has_sync : (s t : State) (geometry : Geometry) (o : Opening) (f : Follows s geometry o) → BeginsAtMark f.mark (after_all t (opened_records geometry o))
 follower_has_sync s t geometry o f = record {
   pieces = λ id. ap (λ (m : Mark). row_in m.rows id) f.taken;
   number = ap (λ (m : Mark). m.next_put) f.taken;

@@ -16,7 +16,7 @@ use Rattle.cache_model.specs.Legal.{CanFlush, MayFlush, MayStop}
 use Rattle.cache_model.specs.Due.{due_pieces}
 use Rattle.cache_model.specs.Outcomes.{AreOutcomes, Copied, NoRoom, Outcome, Refused, Spoiled, records_of, stopped_front_of, stopped_records_of}
 use Rattle.model_laws.specs.Choices
-use Rattle.model_laws.specs.Choices.{AreTried, HasBytes, IsBufferTried, IsFlushTried, with_fault}
+use Rattle.model_laws.specs.Choices.{AreTried, GaveBytesFor, IsBufferTried, IsFlushTried, with_fault}
 use Rattle.model_laws.proofs.Alike.{IsAlike, alike_self, alike_trans, given_alike, read_alike, write_alike, written_alike}
 use Rattle.cache_model.proofs.Written.{due_are_written}
 
@@ -134,17 +134,17 @@ stopped_is_tried p s count added m =
 
 -- ---- where bytes were given for each
 
-within_by : (p : Permit) (s : State) (left : ℕ) (row : Row) (rows : List Row) (b : Bool) → nat_le row.blocks left ≡ b → IsWritten s row → HasBytes p s row
+within_by : (p : Permit) (s : State) (left : ℕ) (row : Row) (rows : List Row) (b : Bool) → nat_le row.blocks left ≡ b → IsWritten s row → GaveBytesFor p s row
     → ((n : ℕ) → AreTried p s n rows s) → AreTried p s left (row ∷ rows) s
 within_by p s left row rows true e written has rest =
     Choices.AreTried.given has.bytes (leb-true row.blocks left e) (record { written = written; given = has.given; whole = has.whole; of_bytes = has.of_bytes }) (rest (left - row.blocks))
 within_by p s left row rows false e written has rest = Choices.AreTried.no_room (leb-false row.blocks left e) (rest left)
 
-given_tried : (p : Permit) (s : State) (left : ℕ) (rows : List Row) → AllByRecursion (IsWritten s) rows → AllByRecursion (HasBytes p s) rows → AreTried p s left rows s
+given_tried : (p : Permit) (s : State) (left : ℕ) (rows : List Row) → AllByRecursion (IsWritten s) rows → AllByRecursion (GaveBytesFor p s) rows → AreTried p s left rows s
 given_tried p s left [] written has = Choices.AreTried.nothing
 given_tried p s left (row ∷ rows) written has =
     within_by p s left row rows (nat_le row.blocks left) refl written.0 has.0 (λ n. given_tried p s n rows written.1 has.1)
 
-pub given_are_tried : (p : Permit) (s : State) (now left : ℕ) → IsSound s → AllByRecursion (HasBytes p s) (due_pieces s now)
+pub given_are_tried : (p : Permit) (s : State) (now left : ℕ) → IsSound s → AllByRecursion (GaveBytesFor p s) (due_pieces s now)
     → AreTried p s left (due_pieces s now) s
 given_are_tried p s now left h has = given_tried p s left (due_pieces s now) (due_are_written s now h) has

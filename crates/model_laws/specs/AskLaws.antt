@@ -117,16 +117,16 @@ RoomBegins = (p : Permit) (s : State) (i : Intent) (added : List Rec) → places
     → Does p s i added Stays → IsAmong (began_record s) added
 
 -- the record begins a buffer
-abbrev pub begins_buffer : Rec → Bool
-begins_buffer (rec.Began cursor floor) = true
-begins_buffer _ = false
+abbrev pub begins_next_buffer : Rec → Bool
+begins_next_buffer (rec.Began cursor floor) = true
+begins_next_buffer _ = false
 
 -- a sync ends, and no buffer begins before that
 pub record EndsBefore (serial : ℕ) (added : List Rec) : Type 0 where
   pub before : List Rec
   pub behind : List Rec
   pub is : added ≡ before ++ rec.SyncDone serial ∷ behind
-  pub first : AllByRecursion (λ (r : Rec). begins_buffer r ≡ false) before
+  pub first : AllByRecursion (λ (r : Rec). begins_next_buffer r ≡ false) before
 
 -- where a sync is due or asked for behind the buffer, the sync in parts that goes on ends before the next buffer begins
 abbrev pub DueIsEnded : Type 0
@@ -176,16 +176,17 @@ asks_sync _ = false
 
 -- it is asked for, or a buffer that is not empty is drained; a clean mark is taken back before a piece is placed; or what is
 -- asked begins with a flush of a buffer that is not empty, and a sync is due behind that, also once the one in parts is ended
-pub data HasCause (p : Permit) (s : State) (i : Intent) : Type 0 where
-  asked : asks_sync i ≡ true → HasCause p s i
-  drained : i ≡ Drain → 0 < s.filled → HasCause p s i
-  marked : places i ≡ true → must_unmark p s ≡ true → HasCause p s i
-  due : way_of i ≡ WhereDue → flushes_first s i ≡ true → 0 < s.filled → needs_whole WhereDue (at_first WhereDue s) ≡ true → HasCause p s i
+pub data IntentHasCause (p : Permit) (s : State) (i : Intent) : Type 0 where
+  asked : asks_sync i ≡ true → IntentHasCause p s i
+  drained : i ≡ Drain → 0 < s.filled → IntentHasCause p s i
+  marked : places i ≡ true → must_unmark p s ≡ true → IntentHasCause p s i
+  due : way_of i ≡ WhereDue → flushes_first s i ≡ true → 0 < s.filled → needs_whole WhereDue (at_first WhereDue s) ≡ true
+      → IntentHasCause p s i
 
 -- no sync begins without a cause
 abbrev pub SyncIsDueOrAsked : Type 0
 SyncIsDueOrAsked = (p : Permit) (s : State) (i : Intent) (added : List Rec) (e : End) (serial cursor : ℕ) (clean in_parts : Bool)
-    → Does p s i added e → IsAmong (rec.SyncBegun serial cursor clean in_parts) added → HasCause p s i
+    → Does p s i added e → IsAmong (rec.SyncBegun serial cursor clean in_parts) added → IntentHasCause p s i
 
 -- ---- why a sync ends
 

@@ -70,7 +70,7 @@ pub data AreTried (p : Permit) : State → ℕ → List Row → State → Type 0
       → CountsRead p s row count → AreTried p (with_fault count s) (left - row.blocks) rows t → AreTried p s left (row ∷ rows) t
 
 -- the device gave some bytes for the piece in the step, in one read of its blocks
-pub record HasBytes (p : Permit) (s : State) (row : Row) : Type 0 where
+pub record GaveBytesFor (p : Permit) (s : State) (row : Row) : Type 0 where
   pub bytes : List ℕ
   pub given : IsAmong (Read (block_at p s row.place) bytes) p.events
   pub whole : length bytes ≡ 512 * row.blocks
@@ -92,8 +92,8 @@ abbrev pub AreDueTried : Permit → State → Intent → Type 0
 AreDueTried p s i = flushes_first s i ≡ true → CanFlush s → IsFlushTried p s
 
 -- an actor has this number
-abbrev pub IsActor : ℕ → Type 0
-IsActor actor = (who : Actor) × (who.0 ≡ actor)
+abbrev pub IsActorNumber : ℕ → Type 0
+IsActorNumber actor = (who : Actor) × (who.0 ≡ actor)
 
 -- the put is open, and its vector was placed last
 pub record IsPending (s : State) (put : ℕ) (w : PutRow) : Type 0 where
@@ -104,7 +104,7 @@ pub record IsPending (s : State) (put : ℕ) (w : PutRow) : Type 0 where
 -- a writer may be asked for with these lines and this pin
 pub record MayAskWrite (s : State) (actor : ℕ) (request response : List Field) (pin : ℕ) : Type 0 where
   pub quiet : IsQuiet s
-  pub number : IsActor actor
+  pub number : IsActorNumber actor
   pub request_fits : AreFields request
   pub response_fits : AreFields response
   pub pin_fits : pin < 2 ^ 64
@@ -126,7 +126,7 @@ MayAsk s (Finish put fragments) = (w : PutRow) × IsCut s put fragments w
 MayAsk s (Commit put) = (w : PutRow) × IsPending s put w
 MayAsk s (GiveUp put) = IsQuiet s
 MayAsk s (Remove key) = IsQuiet s
-MayAsk s (Look actor key request) = IsQuiet s × IsActor actor
+MayAsk s (Look actor key request) = IsQuiet s × IsActorNumber actor
 MayAsk s (ReadOn reader) = IsQuiet s × ((r : ReaderRow) × (reader_of s reader ≡ Some r))
 MayAsk s (ReadAll reader) = IsQuiet s
 MayAsk s (StopReading reader) = IsQuiet s

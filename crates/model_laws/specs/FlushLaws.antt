@@ -7,7 +7,7 @@ use Rattle.evacuator.specs.Choice.{kept_within}
 use Rattle.cache_model.specs.declared.record.Rec.{Rec}
 use Rattle.cache_model.specs.declared.record.Rec.TheVariants as rec
 use Rattle.cache_model.specs.State.{State, Row, after_all, floor_next, floor_now, live_row_of, AllAlong}
-use Rattle.model_laws.specs.Choices.{AreTried, HasBytes, IsFaithful}
+use Rattle.model_laws.specs.Choices.{AreTried, GaveBytesFor, IsFaithful}
 use Rattle.device_log.specs.Calls.{Asked}
 use Rattle.cache_model.specs.Given.{MayCount}
 use Rattle.model_laws.specs.StepLaws.{IsOfGiven, IsRefusalCount, IsRisen}
@@ -92,7 +92,7 @@ OutcomesAreTried = (p : Permit) (s : State) (left : ℕ) (rows : List Row) (outc
 
 -- on a sound tape it is enough that the device gave bytes for each piece that is due
 abbrev pub GivenAreTried : Type 0
-GivenAreTried = (p : Permit) (s : State) (now left : ℕ) → IsSound s → AllByRecursion (HasBytes p s) (due_pieces s now)
+GivenAreTried = (p : Permit) (s : State) (now left : ℕ) → IsSound s → AllByRecursion (GaveBytesFor p s) (due_pieces s now)
     → AreTried p s left (due_pieces s now) s
 
 -- on a sound tape and a faithful device, what is due has one list of outcomes

@@ -12,9 +12,9 @@ use Rattle.cache_model.specs.Verdict.{followed, lookup_verdict, no_record, piece
 use Rattle.cache_model.specs.Permit.{IsAmong}
 use Rattle.cache_model.specs.Syncs.{IsAllowed}
 use Rattle.cache_model.specs.Tape.{IsSound}
-use Rattle.model_laws.specs.VectorLaws.{AreCounted}
+use Rattle.model_laws.specs.VectorLaws.{VectorsAreCounted}
 use Rattle.cache_model.specs.Vectors.{AreTold}
-use Rattle.cache_model.specs.Forgetting.{forget, is_among, is_dead, is_forgotten, known_puts, put_of_last}
+use Rattle.cache_model.specs.Forgetting.{forget, is_among_puts, is_dead, is_forgotten, known_puts, put_of_last}
 
 -- ---- what is forgotten
 
@@ -33,7 +33,7 @@ ForgottenIsDead = (cap : ℕ) (s : State) (put : ℕ) → is_forgotten cap s put
 
 -- a put that is known and dead and was not forgotten is above each that was
 abbrev pub GreatestAreKept : Type 0
-GreatestAreKept = (cap : ℕ) (s : State) (kept gone : ℕ) → is_among (known_puts s) kept ≡ true → is_dead s kept ≡ true
+GreatestAreKept = (cap : ℕ) (s : State) (kept gone : ℕ) → is_among_puts (known_puts s) kept ≡ true → is_dead s kept ≡ true
     → is_forgotten cap s kept ≡ false → is_forgotten cap s gone ≡ true → gone < kept
 
 -- behind it no more than so many dead puts are known
@@ -90,7 +90,7 @@ ForgettingTells = (cap : ℕ) (s : State) → AreTold s → AreTold (forget cap 
 
 -- and where the last vector of a key stands it lists as many alternates as are told of it
 abbrev pub ForgettingCounts : Type 0
-ForgettingCounts = (cap : ℕ) (s : State) → AreCounted s → AreCounted (forget cap s)
+ForgettingCounts = (cap : ℕ) (s : State) → VectorsAreCounted s → VectorsAreCounted (forget cap s)
 
 -- ---- what is answered
 

@@ -30,7 +30,7 @@ PayloadsAreCut = (setting : Setting) (courses : List Course) (recs : List Rec) �
     → AreCut (after_all nothing_yet recs)
 
 -- the put of a fragment, which has cut its payload
-pub record HasCut (s : State) (id : PieceId) (row : Row) : Type 0 where
+pub record PutHasCut (s : State) (id : PieceId) (row : Row) : Type 0 where
   pub w : PutRow
   pub put : put_of s id.put ≡ Some w
   pub cut : IsCutBy w id row
@@ -39,4 +39,4 @@ pub record HasCut (s : State) (id : PieceId) (row : Row) : Type 0 where
 abbrev pub FormattedAreCut : Type 0
 FormattedAreCut = (setting : Setting) (courses : List Course) (recs : List Rec) (id : PieceId) (row : Row) → IsLegal setting courses recs
     → (after_all nothing_yet recs).opened ≡ None → is_vector id ≡ false → row_of (after_all nothing_yet recs) id ≡ Some row
-    → HasCut (after_all nothing_yet recs) id row
+    → PutHasCut (after_all nothing_yet recs) id row

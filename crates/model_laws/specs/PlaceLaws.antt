@@ -56,22 +56,23 @@ may_move id (rec.Removed put key) = is_vector id && same_key id.first key
 may_move id _ = false
 
 -- the record is none of these, so the piece stands where it stood before
-abbrev pub Leaves : PieceId → Rec → Type 0
-Leaves id r = may_move id r ≡ false
+abbrev pub LeavesPiece : PieceId → Rec → Type 0
+LeavesPiece id r = may_move id r ≡ false
 
 -- a piece stands where it was placed last, with none of these records behind that
 abbrev pub PlaceIsLast : Type 0
-PlaceIsLast = (s : State) (id : PieceId) (place blocks pin : ℕ) (digest : Digest) (behind : List Rec) → AllByRecursion (Leaves id) behind
+PlaceIsLast = (s : State) (id : PieceId) (place blocks pin : ℕ) (digest : Digest) (behind : List Rec)
+    → AllByRecursion (LeavesPiece id) behind
     → place_of (after_all s (rec.Placed id place blocks digest pin ∷ behind)) id ≡ Some place
 
 -- a piece that stands somewhere stands where it was moved last
 abbrev pub MovedIsThere : Type 0
-MovedIsThere = (s : State) (id : PieceId) (before from place : ℕ) (digest : Digest) (behind : List Rec) → place_of s id ≡ Some before → AllByRecursion (Leaves id) behind
+MovedIsThere = (s : State) (id : PieceId) (before from place : ℕ) (digest : Digest) (behind : List Rec) → place_of s id ≡ Some before → AllByRecursion (LeavesPiece id) behind
     → place_of (after_all s (rec.Moved id from place digest ∷ behind)) id ≡ Some place
 
 -- a piece stands where the opening found it, with none of these records behind that
 abbrev pub FoundIsThere : Type 0
-FoundIsThere = (s : State) (id : PieceId) (geometry : Geometry) (o : Opening) (behind : List Rec) → AllByRecursion (Leaves id) behind
+FoundIsThere = (s : State) (id : PieceId) (geometry : Geometry) (o : Opening) (behind : List Rec) → AllByRecursion (LeavesPiece id) behind
     → place_of (after_all s (opened_record geometry o ∷ behind)) id ≡ place_found o.found id
 
 -- the record takes a piece away
@@ -83,7 +84,8 @@ takes_away id _ = false
 
 -- a piece that was taken away stands nowhere
 abbrev pub TakenIsNowhere : Type 0
-TakenIsNowhere = (s : State) (id : PieceId) (gone : Rec) (behind : List Rec) → takes_away id gone ≡ true → AllByRecursion (Leaves id) behind
+TakenIsNowhere = (s : State) (id : PieceId) (gone : Rec) (behind : List Rec) → takes_away id gone ≡ true
+    → AllByRecursion (LeavesPiece id) behind
     → place_of (after_all s (gone ∷ behind)) id ≡ None
 
 -- nor does a key's vector once another put of the key was committed

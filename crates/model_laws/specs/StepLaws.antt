@@ -87,20 +87,20 @@ RefusalEnds = (p : Permit) (s : State) (i : Intent) (rest : List Intent) (earlie
     → MayGrow p s (work_after i rest earlier (Fails why)) added after → AllByRecursion CleansUp added
 
 -- what is asked last
-abbrev pub EndsWith : Intent → List Intent → Type 0
-EndsWith last [] = ⊥
-EndsWith last (i ∷ []) = i ≡ last
-EndsWith last (i ∷ j ∷ rest) = EndsWith last (j ∷ rest)
+abbrev pub AsksLast : Intent → List Intent → Type 0
+AsksLast last [] = ⊥
+AsksLast last (i ∷ []) = i ≡ last
+AsksLast last (i ∷ j ∷ rest) = AsksLast last (j ∷ rest)
 
 -- a step that ends by closing a reader leaves no such reader, also behind a refusal
 abbrev pub ReaderIsClosed : Type 0
 ReaderIsClosed = (p : Permit) (s : State) (intents : List Intent) (added : List Rec) (why : Option Reason) (reader : ℕ)
-    → EndsWith (StopReading reader) intents → IsStep p s intents added why → reader_of (after_all s added) reader ≡ None
+    → AsksLast (StopReading reader) intents → IsStep p s intents added why → reader_of (after_all s added) reader ≡ None
 
 -- a step that ends by giving a put up leaves it not open, also behind a refusal
 abbrev pub WriterIsEnded : Type 0
 WriterIsEnded = (p : Permit) (s : State) (intents : List Intent) (added : List Rec) (why : Option Reason) (put : ℕ)
-    → EndsWith (GiveUp put) intents → IsStep p s intents added why → is_writing (after_all s added) put ≡ false
+    → AsksLast (GiveUp put) intents → IsStep p s intents added why → is_writing (after_all s added) put ≡ false
 
 -- ---- each record of a step
 

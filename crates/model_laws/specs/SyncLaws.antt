@@ -19,15 +19,15 @@ use Rattle.cache_model.specs.State.{State, Mark, Row, after_all, floor_now, live
 use Rattle.cache_model.specs.Syncs.{Follows, IsAllowed}
 
 -- the record begins a session, or a sync of this serial
-abbrev pub begins_sync : ℕ → Rec → Bool
-begins_sync serial (rec.Formatted geometry) = true
-begins_sync serial (rec.Opened geometry number cursor floor next_put clean list) = true
-begins_sync serial (rec.SyncBegun number cursor clean in_parts) = number == serial
-begins_sync serial _ = false
+abbrev pub record_begins_sync : ℕ → Rec → Bool
+record_begins_sync serial (rec.Formatted geometry) = true
+record_begins_sync serial (rec.Opened geometry number cursor floor next_put clean list) = true
+record_begins_sync serial (rec.SyncBegun number cursor clean in_parts) = number == serial
+record_begins_sync serial _ = false
 
 -- it begins neither
 abbrev pub LeavesSync : ℕ → Rec → Type 0
-LeavesSync serial r = begins_sync serial r ≡ false
+LeavesSync serial r = record_begins_sync serial r ≡ false
 
 -- what is known of a sync that began in this state: its cursor, the next put number of then, and the pieces that were
 -- live then, at or above a bound, which is the floor where it is clean
@@ -45,14 +45,14 @@ SyncIsHeld = (s : State) (serial cursor : ℕ) (clean in_parts : Bool) (behind :
     → (m : Mark) × (mark_of (after_all s (rec.SyncBegun serial cursor clean in_parts ∷ behind)) serial ≡ Some m) × HoldsWhatStood s cursor clean m
 
 -- the record begins no session
-abbrev pub begins_session : Rec → Bool
-begins_session (rec.Formatted geometry) = true
-begins_session (rec.Opened geometry serial cursor floor next_put clean list) = true
-begins_session _ = false
+abbrev pub record_begins_session : Rec → Bool
+record_begins_session (rec.Formatted geometry) = true
+record_begins_session (rec.Opened geometry serial cursor floor next_put clean list) = true
+record_begins_session _ = false
 
 -- so what the syncs of this one hold stays
 abbrev pub StaysInSession : Rec → Type 0
-StaysInSession r = begins_session r ≡ false
+StaysInSession r = record_begins_session r ≡ false
 
 -- no later record changes what a sync holds
 abbrev pub MarksStay : Type 0
@@ -80,7 +80,7 @@ OnlyLaterAreAllowed = (s : State) (serial : ℕ) (behind : List Rec) (m : Mark) 
     → IsAllowed (after_all s (rec.SyncDone serial ∷ behind)) m → serial ≤ m.serial
 
 -- a session begins as this sync holds it: each piece stands, the numbers of puts go on, and nothing below its bound is read
-pub record BeginsWith (m : Mark) (s : State) : Type 0 where
+pub record BeginsAtMark (m : Mark) (s : State) : Type 0 where
   pub pieces : (id : PieceId) → row_of s id ≡ row_in m.rows id
   pub number : s.next_put ≡ m.next_put
   pub least : s.least ≡ m.low
@@ -92,7 +92,7 @@ pub record BeginsWith (m : Mark) (s : State) : Type 0 where
 
 -- where an opening follows a session, the next one begins as the sync holds it that was taken up
 abbrev pub FollowerHasSync : Type 0
-FollowerHasSync = (s t : State) (geometry : Geometry) (o : Opening) (f : Follows s geometry o) → BeginsWith f.mark (after_all t (opened_records geometry o))
+FollowerHasSync = (s t : State) (geometry : Geometry) (o : Opening) (f : Follows s geometry o) → BeginsAtMark f.mark (after_all t (opened_records geometry o))
 
 -- and that sync may be found behind it again, until another one finished
 abbrev pub FollowerAllowsSync : Type 0

@@ -77,38 +77,39 @@ abbrev pub IsOver : State → ℕ → Type 0
 IsOver s put = (put < s.next_put) × (is_writing s put ≡ false)
 
 -- where a vector stands, live or not, it lists as many alternates as are told of it
-abbrev pub IsCounted : State → PieceId → Type 0
-IsCounted s id = (row : Row) → row_of s id ≡ Some row → count_of_vector s id ≡ length (unwrap_or row.alternates [])
+abbrev pub VectorIsCounted : State → PieceId → Type 0
+VectorIsCounted s id = (row : Row) → row_of s id ≡ Some row → count_of_vector s id ≡ length (unwrap_or row.alternates [])
 
 -- so it is of the last vector of each key, whose put is over; and each put has a number below the next one
-pub record AreCounted (s : State) : Type 0 where
-  pub counted : (key : Key) (put : ℕ) → last_vector s key ≡ Some (Complete put) → IsCounted s (vector_piece key put)
+pub record VectorsAreCounted (s : State) : Type 0 where
+  pub counted : (key : Key) (put : ℕ) → last_vector s key ≡ Some (Complete put) → VectorIsCounted s (vector_piece key put)
   pub over : (key : Key) (put : ℕ) → last_vector s key ≡ Some (Complete put) → IsOver s put
   pub earlier : (put : ℕ) (w : PutRow) → put_of s put ≡ Some w → put < s.next_put
 
 -- a session begins so
 abbrev pub FormatsCount : Type 0
-FormatsCount = (s : State) (geometry : Geometry) → AreCounted (after_all s (format_records geometry))
+FormatsCount = (s : State) (geometry : Geometry) → VectorsAreCounted (after_all s (format_records geometry))
 
 -- so does one that an opening begins
 abbrev pub OpeningsCount : Type 0
 OpeningsCount = (packed : Bool) (s : State) (geometry : Geometry) (o : Opening)
-    → IsOpening packed geometry o → AreCounted (after_all s (opened_records geometry o))
+    → IsOpening packed geometry o → VectorsAreCounted (after_all s (opened_records geometry o))
 
 -- each group of records leaves it so
 abbrev pub GroupsCount : Type 0
 GroupsCount = (p : Permit) (s : State) (i : Intent) (added : List Rec) (e : End)
-    → AreCounted s → Does p s i added e → AreCounted (after_all s added)
+    → VectorsAreCounted s → Does p s i added e → VectorsAreCounted (after_all s added)
 
 -- and so does each step
 abbrev pub StepsCount : Type 0
 StepsCount = (p : Permit) (s : State) (intents : List Intent) (added : List Rec) (why : Option Reason)
-    → AreCounted s → IsStep p s intents added why → AreCounted (after_all s added)
+    → VectorsAreCounted s → IsStep p s intents added why → VectorsAreCounted (after_all s added)
 
 -- in each legal chronicle the last vector of a key lists as many alternates as are told of it, where it stands
 abbrev pub CountIsListed : Type 0
 CountIsListed = (setting : Setting) (courses : List Course) (recs : List Rec) (key : Key) (put : ℕ) → IsLegal setting courses recs
-    → last_vector (after_all nothing_yet recs) key ≡ Some (Complete put) → IsCounted (after_all nothing_yet recs) (vector_piece key put)
+    → last_vector (after_all nothing_yet recs) key ≡ Some (Complete put)
+    → VectorIsCounted (after_all nothing_yet recs) (vector_piece key put)
 
 -- the key's last vector is live, and neither an alternate nor a writer answers the request
 pub record IsUnanswered (s : State) (key : Key) (request : List Field) : Type 0 where

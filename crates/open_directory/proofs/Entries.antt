@@ -3,7 +3,7 @@ use Rattle.std.proofs.Common.{◌≡◌, ℕ, true, false, cond, List, [], ◌�
 use Rattle.std.specs.Map.{lookup, remove_entry, set_value}
 use Rattle.fragment_table.specs.Table.{TableRow}
 use Rattle.open_directory.specs.declared.kept.KeptPut.{KeptPut}
-use Rattle.open_directory.specs.Directory.{changed, is_number, room_kept, room_of, with_cut, with_cuts, with_room}
+use Rattle.open_directory.specs.Directory.{changed, is_number, kept_with_cut, room_for_fragments, room_kept, with_cuts, with_room}
 
 pub some_is : {X : Type 0} (a b : X) → Some a ≡ Some b → a ≡ b
 some_is a b h = grind arith
@@ -55,13 +55,15 @@ found_written n (e ∷ es) v w h =
     ] refl h
 
 pub cut_written : (n : ℕ) (row : TableRow) (es es' : List (ℕ × KeptPut)) (v w : KeptPut) → lookup (is_number n) es ≡ Some v → es' ≡ set_value (is_number n) es w
-    → w ≡ with_cuts (v.cuts.rows ++ row ∷ []) w.cuts.room v → es' ≡ with_cut n row (room_of n es') es
+    → w ≡ with_cuts (v.cuts.rows ++ row ∷ []) w.cuts.room v → es' ≡ kept_with_cut n row (room_for_fragments n es') es
 cut_written n row es es' v w found writes is =
-    let room : room_of n es' ≡ w.cuts.room = ap (λ xs. room_of n xs) writes ∙ ap room_kept (found_written n es v w found) in
-    written_as (λ kept. with_cuts (kept.cuts.rows ++ row ∷ []) (room_of n es') kept) n es es' v w found writes (is ∙ ap (λ r. with_cuts (v.cuts.rows ++ row ∷ []) r v) (sym room))
+    let room : room_for_fragments n es' ≡ w.cuts.room = ap (λ xs. room_for_fragments n xs) writes
+    ∙ ap room_kept (found_written n es v w found) in
+    written_as (λ kept. with_cuts (kept.cuts.rows ++ row ∷ []) (room_for_fragments n es') kept) n es es' v w found writes (is ∙ ap (λ r. with_cuts (v.cuts.rows ++ row ∷ []) r v) (sym room))
 
 pub room_written : (n : ℕ) (es es' : List (ℕ × KeptPut)) (v w : KeptPut) → lookup (is_number n) es ≡ Some v → es' ≡ set_value (is_number n) es w
-    → w ≡ with_cuts v.cuts.rows w.cuts.room v → es' ≡ with_room n (room_of n es') es
+    → w ≡ with_cuts v.cuts.rows w.cuts.room v → es' ≡ with_room n (room_for_fragments n es') es
 room_written n es es' v w found writes is =
-    let room : room_of n es' ≡ w.cuts.room = ap (λ xs. room_of n xs) writes ∙ ap room_kept (found_written n es v w found) in
-    written_as (λ kept. with_cuts kept.cuts.rows (room_of n es') kept) n es es' v w found writes (is ∙ ap (λ r. with_cuts v.cuts.rows r v) (sym room))
+    let room : room_for_fragments n es' ≡ w.cuts.room = ap (λ xs. room_for_fragments n xs) writes
+    ∙ ap room_kept (found_written n es v w found) in
+    written_as (λ kept. with_cuts kept.cuts.rows (room_for_fragments n es') kept) n es es' v w found writes (is ∙ ap (λ r. with_cuts v.cuts.rows r v) (sym room))

@@ -5,7 +5,7 @@ use Rattle.std.specs.Map.{lookup}
 use Rattle.open_directory.specs.declared.kept.Reader.{Reader}
 use Rattle.open_directory.specs.declared.nexts.Nexts.{Nexts}
 use Rattle.open_directory.specs.Directory.{changed, is_number}
-use Rattle.open_directory.specs.Nexts.{AllLeast, IsIndex, SetsIndex, next_for, next_of}
+use Rattle.open_directory.specs.Nexts.{AllLeast, IsIndexOfReaders, SetsIndex, next_for, next_of}
 use Rattle.open_directory.proofs.Followers.{same_number}
 use Rattle.open_directory.proofs.Standing.{eq_number, number_flip}
 
@@ -14,11 +14,11 @@ number_eq q n = grind arith
 
 -- one reader is set or gone in both
 pub indexed : (put reader : ℕ) (next : Option ℕ) (new : Option Reader) (index index' : List (ℕ × Nexts)) (readers readers' : List (ℕ × Reader))
-    → IsIndex index readers → AllLeast index' → SetsIndex put reader next index index'
+    → IsIndexOfReaders index readers → AllLeast index' → SetsIndex put reader next index index'
     → ((q : ℕ) → lookup (is_number q) readers' ≡ cond (is_number reader q) new (lookup (is_number q) readers))
     → ((p : ℕ) → next_for p new ≡ cond (is_number put p) next None)
     → ((p : ℕ) → is_number put p ≡ false → next_for p (lookup (is_number reader) readers) ≡ None)
-    → IsIndex index' readers'
+    → IsIndexOfReaders index' readers'
 indexed put reader next new index index' readers readers' before least sets finds gives none = record {
   least = least;
   nexts = λ p q.
@@ -69,11 +69,11 @@ found_changed f n (e ∷ es) v h q =
 
 -- a reader that moves
 pub indexed_moved : (put reader next : ℕ) (index index' : List (ℕ × Nexts)) (readers readers' : List (ℕ × Reader))
-    → IsIndex index readers → AllLeast index' → SetsIndex put reader (Some next) index index' → Some put ≡ option_map (λ (r : Reader). r.put) (lookup (is_number reader) readers)
-    → readers' ≡ changed (λ (r : Reader). record r { next = next }) reader readers → IsIndex index' readers'
+    → IsIndexOfReaders index readers → AllLeast index' → SetsIndex put reader (Some next) index index' → Some put ≡ option_map (λ (r : Reader). r.put) (lookup (is_number reader) readers)
+    → readers' ≡ changed (λ (r : Reader). record r { next = next }) reader readers → IsIndexOfReaders index' readers'
 indexed_moved put reader next index index' readers readers' before least sets found moves = at_some (lookup (is_number reader) readers) refl
   where
-    at_some : (o : Option Reader) → lookup (is_number reader) readers ≡ o → IsIndex index' readers'
+    at_some : (o : Option Reader) → lookup (is_number reader) readers ≡ o → IsIndexOfReaders index' readers'
     at_some None is = absurd (let no = found ∙ ap (option_map (λ (r : Reader). r.put)) is in cc no)
     at_some (Some v) is =
         let yes : Some put ≡ Some v.put = found ∙ ap (option_map (λ (r : Reader). r.put)) is in
@@ -86,14 +86,16 @@ indexed_moved put reader next index index' readers readers' before least sets fo
 
 -- a reader that comes
 pub indexed_added : (reader : ℕ) (new : Reader) (index index' : List (ℕ × Nexts)) (readers readers' : List (ℕ × Reader))
-    → IsIndex index readers → AllLeast index' → SetsIndex new.put reader (Some new.next) index index' → lookup (is_number reader) readers ≡ None
-    → ((q : ℕ) → lookup (is_number q) readers' ≡ cond (is_number reader q) (Some new) (lookup (is_number q) readers)) → IsIndex index' readers'
+    → IsIndexOfReaders index readers → AllLeast index' → SetsIndex new.put reader (Some new.next) index index' → lookup (is_number reader) readers ≡ None
+    → ((q : ℕ) → lookup (is_number q) readers' ≡ cond (is_number reader q) (Some new) (lookup (is_number q) readers)) → IsIndexOfReaders index' readers'
 indexed_added reader new index index' readers readers' before least sets none finds =
     indexed new.put reader (Some new.next) (Some new) index index' readers readers' before least sets finds (λ p. next_for_some p new) (λ p h. ap (next_for p) none)
 
 -- a reader that goes
 pub indexed_removed : (reader : ℕ) (gone : Reader) (index index' : List (ℕ × Nexts)) (readers readers' : List (ℕ × Reader))
-    → IsIndex index readers → AllLeast index' → SetsIndex gone.put reader None index index' → lookup (is_number reader) readers ≡ Some gone
-    → ((q : ℕ) → lookup (is_number q) readers' ≡ cond (is_number reader q) None (lookup (is_number q) readers)) → IsIndex index' readers'
+    → IsIndexOfReaders index readers → AllLeast index' → SetsIndex gone.put reader None index index'
+    → lookup (is_number reader) readers ≡ Some gone
+    → ((q : ℕ) → lookup (is_number q) readers' ≡ cond (is_number reader q) None (lookup (is_number q) readers))
+    → IsIndexOfReaders index' readers'
 indexed_removed reader gone index index' readers readers' before least sets found finds =
     indexed gone.put reader None None index index' readers readers' before least sets finds (none_for_none gone.put) (next_for_other gone readers reader found)

@@ -5,7 +5,7 @@ use Rattle.open_directory.specs.declared.kept.KeptPut.{KeptPut}
 use Rattle.open_directory.specs.declared.kept.Writer.{Writer}
 use Rattle.open_directory.specs.declared.kept.Phase.{Phase}
 use Rattle.open_directory.specs.declared.kept.Phase.TheVariants.{Writing, Closed, GivenUp}
-use Rattle.open_directory.specs.Directory.{Forgets, changed, followed, followers_kept, is_follow, is_open, is_done_put, is_number, is_open_put, is_writing, kept_put, state_of, unless_done, with_followers, with_phase, writers_but, writers_of}
+use Rattle.open_directory.specs.Directory.{Forgets, changed, put_followed, followers_kept, is_follow, is_kept_open, is_done_put, is_number, is_open_put, is_writing_phase, kept_put, put_state_of, unless_done, with_followers, with_phase, writers_but, writers_of}
 use Rattle.std.specs.List.{fold}
 use Rattle.alternate_vector.specs.Field.{Field}
 use Rattle.tape_base.specs.declared.keys.Key.{Key}
@@ -79,7 +79,7 @@ forgets_done n before after forgets others q =
     elim (is_number n q) as (λ b. is_number n q ≡ b → is_done_put (cond b (unless_done (kept_put q before)) (kept_put q before)) ≡ false) [ true ↦ λ t. unless_done_ends (kept_put q before) | false ↦ λ t. others q t ] refl
 
 -- a put that is ended is not open
-pub open_ended : (phase : Phase) → is_writing phase ≡ false → (n q : ℕ) (es : List (ℕ × KeptPut)) → is_open_put (kept_put q (changed (with_phase phase) n es)) ≡ cond (is_number n q) false (is_open_put (kept_put q es))
+pub open_ended : (phase : Phase) → is_writing_phase phase ≡ false → (n q : ℕ) (es : List (ℕ × KeptPut)) → is_open_put (kept_put q (changed (with_phase phase) n es)) ≡ cond (is_number n q) false (is_open_put (kept_put q es))
 open_ended phase h n q es =
     elim (is_number n q) as (λ b. is_number n q ≡ b → is_open_put (kept_put q (changed (with_phase phase) n es)) ≡ cond b false (is_open_put (kept_put q es))) [
       | true ↦ λ t. let P : ℕ → Type 0 = λ k. is_open_put (kept_put k (changed (with_phase phase) n es)) ≡ false in
@@ -129,7 +129,7 @@ opened_writing w ws before after kept phase none is held q =
           let P : ℕ → Type 0 = λ k. kept_put k before ≡ None in
           let absent : kept_put q before ≡ None = subst P (same_number w.put q t) none in
           let no_writer : writers_of q ws ≡ 0 = held q ∙ ap (λ o. cond (is_open_put o) 1 0) absent in
-          ap (λ k. 1 + k) no_writer ∙ sym (ap (λ p. cond (is_writing p) 1 0) phase)
+          ap (λ k. 1 + k) no_writer ∙ sym (ap (λ p. cond (is_writing_phase p) 1 0) phase)
       | false ↦ λ t. zero-add (writers_of q ws) ∙ held q
     ] refl
     ∙ sym (ap (λ o. cond (is_open_put o) 1 0) (is q))
@@ -138,7 +138,7 @@ pub opened_followed : (n : ℕ) (before after : List (ℕ × KeptPut)) (kept : K
     → ((q : ℕ) → kept_put q after ≡ cond (is_number n q) (Some kept) (kept_put q before)) → ((q : ℕ) → is_done_put (kept_put q before) ≡ false)
     → (q : ℕ) → is_done_put (kept_put q after) ≡ false
 opened_followed n before after kept phase is held q =
-    ap is_done_put (is q) ∙ elim (is_number n q) as (λ b. is_done_put (cond b (Some kept) (kept_put q before)) ≡ false) [ true ↦ ap (λ p. not (is_writing p) && kept.followers == 0) phase | false ↦ held q ]
+    ap is_done_put (is q) ∙ elim (is_number n q) as (λ b. is_done_put (cond b (Some kept) (kept_put q before)) ≡ false) [ true ↦ ap (λ p. not (is_writing_phase p) && kept.followers == 0) phase | false ↦ held q ]
 
 pub opened_followers : (n : ℕ) (before after : List (ℕ × KeptPut)) (kept : KeptPut) → kept.followers ≡ 0 → kept_put n before ≡ None
     → ((q : ℕ) → kept_put q after ≡ cond (is_number n q) (Some kept) (kept_put q before)) → (q : ℕ) → followers_kept (kept_put q after) ≡ followers_kept (kept_put q before)
@@ -148,7 +148,7 @@ opened_followers n before after kept zero none is q =
       | false ↦ λ t. refl
     ] refl
 
-pub absent_state : (o : Option KeptPut) → option_map state_of o ≡ None → o ≡ None
+pub absent_state : (o : Option KeptPut) → option_map put_state_of o ≡ None → o ≡ None
 absent_state None h = refl
 absent_state (Some kept) h = absurd (cc)
 
@@ -164,14 +164,14 @@ followed_last key request (w ∷ ws) last p h none =
     mine : (a p k : ℕ) → Some a ≡ Some p → (if a == p then 1 else 0) + k ≡ 0 → ⊥
     mine a p k here none = grind arith
 
-pub followed_opens : (key : Key) (request : List Field) (ws : List Writer) (puts : List (ℕ × KeptPut)) → ((q : ℕ) → writers_of q ws ≡ (if is_open q puts then 1 else 0))
-    → IfSome (followed key request ws) (λ p. is_open p puts ≡ true)
-followed_opens key request ws puts held = at_some (followed key request ws) refl
+pub followed_opens : (key : Key) (request : List Field) (ws : List Writer) (puts : List (ℕ × KeptPut)) → ((q : ℕ) → writers_of q ws ≡ (if is_kept_open q puts then 1 else 0))
+    → IfSome (put_followed key request ws) (λ p. is_kept_open p puts ≡ true)
+followed_opens key request ws puts held = at_some (put_followed key request ws) refl
   where
-    at_some : (o : Option ℕ) → followed key request ws ≡ o → IfSome o (λ p. is_open p puts ≡ true)
+    at_some : (o : Option ℕ) → put_followed key request ws ≡ o → IfSome o (λ p. is_kept_open p puts ≡ true)
     at_some None h = tt
     at_some (Some p) h =
-        elim (is_open p puts) as (λ b. is_open p puts ≡ b → b ≡ true) [
+        elim (is_kept_open p puts) as (λ b. is_kept_open p puts ≡ b → b ≡ true) [
           | true ↦ λ t. refl
           | false ↦ λ t. let last = followed_last key request ws None p h (held p ∙ ap (λ b. if b then 1 else 0) t) in absurd (cc)
         ] refl

@@ -48,18 +48,18 @@ abbrev pub kept_put : ℕ → List (ℕ × KeptPut) → Option KeptPut
 kept_put put puts = lookup (is_number put) puts
 
 -- how a put stands, with so many fragments cut, of so many bytes
-abbrev pub state_at : Phase → ℕ → ℕ → PutState
-state_at Writing cut bytes = Open cut
-state_at Closed cut bytes = Committed cut bytes
-state_at GivenUp cut bytes = Aborted cut
+abbrev pub put_state_at : Phase → ℕ → ℕ → PutState
+put_state_at Writing cut bytes = Open cut
+put_state_at Closed cut bytes = Committed cut bytes
+put_state_at GivenUp cut bytes = Aborted cut
 
 -- how a put stands, by its phase and the fragments in its table
-abbrev pub state_of : KeptPut → PutState
-state_of kept = state_at kept.phase (length kept.cuts.rows) (total_length kept.cuts.rows)
+abbrev pub put_state_of : KeptPut → PutState
+put_state_of kept = put_state_at kept.phase (length kept.cuts.rows) (total_length kept.cuts.rows)
 
 -- the same by its number; none where it never began, or ended and is forgotten
 abbrev pub put_state : ℕ → List (ℕ × KeptPut) → Option PutState
-put_state put puts = option_map state_of (kept_put put puts)
+put_state put puts = option_map put_state_of (kept_put put puts)
 
 -- the put is kept, and a writer of it is open
 abbrev pub is_open_state : Option PutState → Bool
@@ -76,19 +76,19 @@ is_ended_state (Some (Committed cut length)) = true
 is_ended_state (Some (Aborted cut)) = true
 
 -- the phase of an open put: neither closed nor given up
-abbrev pub is_writing : Phase → Bool
-is_writing Writing = true
-is_writing Closed = false
-is_writing GivenUp = false
+abbrev pub is_writing_phase : Phase → Bool
+is_writing_phase Writing = true
+is_writing_phase Closed = false
+is_writing_phase GivenUp = false
 
 -- what is kept of a put is that of an open one; a put that is not kept is not open
 abbrev pub is_open_put : Option KeptPut → Bool
 is_open_put None = false
-is_open_put (Some kept) = is_writing kept.phase
+is_open_put (Some kept) = is_writing_phase kept.phase
 
 -- a writer of the put is open
-abbrev pub is_open : ℕ → List (ℕ × KeptPut) → Bool
-is_open put puts = is_open_put (kept_put put puts)
+abbrev pub is_kept_open : ℕ → List (ℕ × KeptPut) → Bool
+is_kept_open put puts = is_open_put (kept_put put puts)
 
 -- the rows of its fragments: none where the put is not kept
 abbrev pub rows_kept : Option KeptPut → List TableRow
@@ -96,12 +96,12 @@ rows_kept None = []
 rows_kept (Some kept) = kept.cuts.rows
 
 -- the fragments that were cut of a put
-abbrev pub cuts_of : ℕ → List (ℕ × KeptPut) → List TableRow
-cuts_of put puts = rows_kept (kept_put put puts)
+abbrev pub kept_cuts : ℕ → List (ℕ × KeptPut) → List TableRow
+kept_cuts put puts = rows_kept (kept_put put puts)
 
 -- how many fragments are cut, as a cut answers
-abbrev pub count_of : List TableRow → ℕ
-count_of rows = length rows
+abbrev pub count_of_rows : List TableRow → ℕ
+count_of_rows rows = length rows
 
 -- the room in its table: none where the put is not kept
 abbrev pub room_kept : Option KeptPut → ℕ
@@ -109,32 +109,32 @@ room_kept None = 0
 room_kept (Some kept) = kept.cuts.room
 
 -- how many more fragments of a put can be cut without taking memory
-abbrev pub room_of : ℕ → List (ℕ × KeptPut) → ℕ
-room_of put puts = room_kept (kept_put put puts)
+abbrev pub room_for_fragments : ℕ → List (ℕ × KeptPut) → ℕ
+room_for_fragments put puts = room_kept (kept_put put puts)
 
 -- a row as callers are told it, with its digest as a `Digest`
 abbrev pub table_row : TableRow → ℕ × Digest
 table_row row = (row.length, record { 0 = row.digest })
 
 -- the row of a fragment, counted from 1
-abbrev pub row_of : ℕ → List TableRow → Option (ℕ × Digest)
-row_of index rows = if index == 0 then None else option_map table_row (slice_get rows (index - 1))
+abbrev pub row_of_index : ℕ → List TableRow → Option (ℕ × Digest)
+row_of_index index rows = if index == 0 then None else option_map table_row (slice_get rows (index - 1))
 
 -- a put of which nothing is cut, with room for so many fragments
 abbrev pub new_put : ℕ → KeptPut
 new_put room = record { phase = Writing; cuts = record { rows = []; room = room }; followers = 0 }
 
 -- one writer more, of a put with room for so many fragments
-abbrev pub opened : Writer → ℕ → Held → Held
-opened writer room held = record held { writers = held.writers ++ writer ∷ []; puts = insert_entry nat_cmp held.puts writer.put (new_put room) }
+abbrev pub with_open_writer : Writer → ℕ → Held → Held
+with_open_writer writer room held = record held { writers = held.writers ++ writer ∷ []; puts = insert_entry nat_cmp held.puts writer.put (new_put room) }
 
 -- the put with these fragments and room for so many more, its phase and followers as they were
 abbrev pub with_cuts : List TableRow → ℕ → KeptPut → KeptPut
 with_cuts rows room kept = record kept { cuts = record { rows = rows; room = room } }
 
 -- one fragment more of a put, and room for so many behind it
-abbrev pub with_cut : ℕ → TableRow → ℕ → List (ℕ × KeptPut) → List (ℕ × KeptPut)
-with_cut put row room puts = changed (λ kept. with_cuts (kept.cuts.rows ++ row ∷ []) room kept) put puts
+abbrev pub kept_with_cut : ℕ → TableRow → ℕ → List (ℕ × KeptPut) → List (ℕ × KeptPut)
+kept_with_cut put row room puts = changed (λ kept. with_cuts (kept.cuts.rows ++ row ∷ []) room kept) put puts
 
 -- the same fragments of a put, and room for so many behind them
 abbrev pub with_room : ℕ → ℕ → List (ℕ × KeptPut) → List (ℕ × KeptPut)
@@ -143,7 +143,7 @@ with_room put room puts = changed (λ kept. with_cuts kept.cuts.rows room kept) 
 -- the put ended, and no reader follows it: nothing of it need be kept
 abbrev pub is_done_put : Option KeptPut → Bool
 is_done_put None = false
-is_done_put (Some kept) = not (is_writing kept.phase) && kept.followers == 0
+is_done_put (Some kept) = not (is_writing_phase kept.phase) && kept.followers == 0
 
 -- how many open readers were added to a put while it was open, as the put counts them
 abbrev pub followers_kept : Option KeptPut → ℕ
@@ -156,7 +156,7 @@ KeepsFollowers before after = (put : ℕ) → followers_kept (kept_put put after
 
 -- each put is open, and is done, as it was
 abbrev pub KeepsStanding : List (ℕ × KeptPut) → List (ℕ × KeptPut) → Type 0
-KeepsStanding before after = (put : ℕ) → (is_open put after ≡ is_open put before) × (is_done_put (kept_put put after) ≡ is_done_put (kept_put put before))
+KeepsStanding before after = (put : ℕ) → (is_kept_open put after ≡ is_kept_open put before) × (is_done_put (kept_put put after) ≡ is_done_put (kept_put put before))
 
 -- one put has one follower more, and no other has more or fewer
 abbrev pub AddsFollower : ℕ → List (ℕ × KeptPut) → List (ℕ × KeptPut) → Type 0
@@ -167,8 +167,8 @@ abbrev pub with_followers : ℕ → KeptPut → KeptPut
 with_followers followers kept = record kept { followers = followers }
 
 -- a put has one follower more; where it is not kept, nothing changes
-abbrev pub one_more : ℕ → List (ℕ × KeptPut) → List (ℕ × KeptPut)
-one_more put puts = changed (λ kept. with_followers (kept.followers + 1) kept) put puts
+abbrev pub with_follower : ℕ → List (ℕ × KeptPut) → List (ℕ × KeptPut)
+with_follower put puts = changed (λ kept. with_followers (kept.followers + 1) kept) put puts
 
 -- a put has one follower fewer; it stays kept, also where it is done then
 abbrev pub one_fewer : ℕ → List (ℕ × KeptPut) → List (ℕ × KeptPut)
@@ -206,8 +206,8 @@ abbrev pub is_follow : Key → List Field → Writer → Bool
 is_follow key request writer = same_key writer.key key && request_matches request writer.request writer.response
 
 -- the put of the last writer that can be followed
-abbrev pub followed : Key → List Field → List Writer → Option ℕ
-followed key request writers = fold (λ last w. if is_follow key request w then Some w.put else last) None writers
+abbrev pub put_followed : Key → List Field → List Writer → Option ℕ
+put_followed key request writers = fold (λ last w. if is_follow key request w then Some w.put else last) None writers
 
 -- a reader that was added to the put while it was open
 abbrev pub is_follower : ℕ → Reader → Bool
@@ -225,20 +225,20 @@ writers_of put (w ∷ ws) = (if w.put == put then 1 else 0) + writers_of put ws
 
 -- what is kept agrees: at most 64 writers are open, one of each put that is open and none of another; each put counts its
 -- followers, and one that ended has some
-pub record IsHeld (held : Held) : Type 0 where
+pub record IsHeldDirectory (held : Held) : Type 0 where
   pub few : length held.writers ≤ 64
-  pub writing : (put : ℕ) → writers_of put held.writers ≡ (if is_open put held.puts then 1 else 0)
+  pub writing : (put : ℕ) → writers_of put held.writers ≡ (if is_kept_open put held.puts then 1 else 0)
   pub followers : (put : ℕ) → followers_kept (kept_put put held.puts) ≡ followers_of put held.readers
   pub followed : (put : ℕ) → is_done_put (kept_put put held.puts) ≡ false
 
 -- a reader of a put, which follows it where it is open
 abbrev pub new_reader : ℕ → ℕ → List (ℕ × KeptPut) → Reader
-new_reader put next puts = record { put = put; next = next; follows = is_open put puts }
+new_reader put next puts = record { put = put; next = next; follows = is_kept_open put puts }
 
 -- one reader more
 abbrev pub with_reader : ℕ → ℕ → ℕ → Held → Held
 with_reader number put next held = record held {
-  puts = (if is_open put held.puts then one_more put held.puts else held.puts);
+  puts = (if is_kept_open put held.puts then with_follower put held.puts else held.puts);
   readers = insert_entry nat_cmp held.readers number (new_reader put next held.puts);
 }
 
@@ -256,8 +256,8 @@ puts_without None puts = puts
 puts_without (Some reader) puts = if reader.follows then without_done reader.put (one_fewer reader.put puts) else puts
 
 -- one reader gone
-abbrev pub without_reader : ℕ → Held → Held
-without_reader number held = record held {
+abbrev pub held_without_reader : ℕ → Held → Held
+held_without_reader number held = record held {
   puts = puts_without (reader_at number held) held.puts;
   readers = remove_entry (is_number number) held.readers;
 }

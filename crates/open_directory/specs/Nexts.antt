@@ -2,7 +2,7 @@
 use Rattle.std.specs.Prelude.{◌≡◌, ℕ, ◌/◌, ◌%◌, ◌==◌, if◌then◌else◌, min, Bool, true, false, ◌&&◌, nat_eq, List, Option, Some, None}
 use Rattle.std.specs.Map.{lookup}
 use Rattle.open_directory.specs.declared.kept.Reader.{Reader}
-use Rattle.open_directory.specs.Directory.{Held, IsHeld, is_number}
+use Rattle.open_directory.specs.Directory.{Held, IsHeldDirectory, is_number}
 use Rattle.open_directory.specs.declared.nexts.Nexts.{Nexts}
 use Rattle.open_directory.specs.declared.nexts.Nexts.TheVariants.{Nobody, One, Fork'}
 
@@ -85,14 +85,14 @@ next_for put None = None
 next_for put (Some reader) = if reader.put == put then Some reader.next else None
 
 -- the readers of each put are at hand by their numbers, with their next indices and the least of them
-pub record IsIndex (index : List (ℕ × Nexts)) (readers : List (ℕ × Reader)) : Type 0 where
+pub record IsIndexOfReaders (index : List (ℕ × Nexts)) (readers : List (ℕ × Reader)) : Type 0 where
   pub least : AllLeast index
   pub nexts : (put reader : ℕ) → next_of put reader index ≡ next_for put (lookup (is_number reader) readers)
 
 -- what is kept agrees, and the readers are at hand
-pub record IsKept (lists : Held) (trees : List (ℕ × Nexts)) : Type 0 where
-  pub held : IsHeld lists
-  pub index : IsIndex trees lists.readers
+pub record IsKeptDirectory (lists : Held) (trees : List (ℕ × Nexts)) : Type 0 where
+  pub held : IsHeldDirectory lists
+  pub index : IsIndexOfReaders trees lists.readers
 
 -- a tree of two sides
 abbrev pub IsFork : Nexts → Nexts → Nexts → Type 0

@@ -4,8 +4,8 @@ ghost use Rattle.std.specs.Prelude.{◌≡◌, ◌+◌, ◌<◌, ◌≤◌, leng
 ghost use Rattle.fragment_table.specs.Table.{CanGrow, made_row, total_length};
 ghost use Rattle.std.specs.Map.{values_of};
 ghost use Rattle.open_directory.specs.declared.kept.Writer.{Writer};
-ghost use Rattle.open_directory.specs.Directory.{IsHeld, count_of, cuts_of, ended, followed, followers_of, is_ended_state, is_open, is_open_state, is_writing, least_next, moved, opened, reader_at, put_state, room_of, row_of, with_cut, with_reader, with_reader_room, with_room, without_reader, writers_but, writers_of};
-ghost use Rattle.open_directory.specs.Refusal.{IsMemory, Refuses, RefusesOnly, opening_refusal, writing_refusal};
+ghost use Rattle.open_directory.specs.Directory.{IsHeldDirectory, count_of_rows, kept_cuts, ended, put_followed, followers_of, is_ended_state, is_kept_open, is_open_state, is_writing_phase, least_next, moved, with_open_writer, reader_at, put_state, room_for_fragments, row_of_index, kept_with_cut, with_reader, with_reader_room, with_room, held_without_reader, writers_but, writers_of};
+ghost use Rattle.open_directory.specs.Refusal.{IsWantOfMemory, RefusesCall, RefusesOnly, opening_refusal, writing_refusal};
 
 use crate::index::Index;
 use crate::kept::{KeptPut, Phase, PutState, Reader, Writer};
@@ -30,16 +30,16 @@ pub struct OpenDirectory {
 }
 
 impl Model for OpenDirectory {
-    ghost use Rattle.open_directory.specs.Directory.{Held, IsHeld, room_now};
+    ghost use Rattle.open_directory.specs.Directory.{Held, IsHeldDirectory, room_now};
     ghost use Rattle.open_directory.specs.Index.{index_room};
 
     ghost Value = { Held };
 
     ghost view = { λ d. record { writers = d.writers.items; puts = d.puts.entries; readers = d.readers.entries; reader_room = room_now d.readers.room (index_room d.index) } };
 
-    ghost use Rattle.open_directory.specs.Nexts.{IsKept};
+    ghost use Rattle.open_directory.specs.Nexts.{IsKeptDirectory};
 
-    ghost invariant = { λ d. IsKept (record { writers = d.writers.items; puts = d.puts.entries; readers = d.readers.entries; reader_room = room_now d.readers.room (index_room d.index) }) d.index.trees.entries };
+    ghost invariant = { λ d. IsKeptDirectory (record { writers = d.writers.items; puts = d.puts.entries; readers = d.readers.entries; reader_room = room_now d.readers.room (index_room d.index) }) d.index.trees.entries };
 }
 
 impl OpenDirectory {
@@ -67,9 +67,10 @@ impl OpenDirectory {
         response: Fields,
     ) -> Result<(), OpenRefusal>
         requires { put_state put self.old.puts ≡ None }
-        ensures exact { Refuses result (opening_refusal self.old) }
+        ensures exact { RefusesCall result (opening_refusal self.old) }
         ensures ok { let writer : Writer = record { put = put; key = key; request = request; response = response } in
-            OnOk result (self.new ≡ opened writer (room_of put self.new.puts) self.old) }
+            OnOk result (self.new
+            ≡ with_open_writer writer (room_for_fragments put self.new.puts) self.old) }
         ensures err { OnErr result (self.new ≡ self.old) }
     {
         if self.writers.len() == MAX_WRITERS as usize {
@@ -100,30 +101,30 @@ impl OpenDirectory {
         digest: Digest,
     ) -> Result<u32, OpenRefusal>
         requires some { 0 < length }
-        requires few { CanGrow (cuts_of put self.old.puts) }
-        ensures exact { Refuses result (writing_refusal put self.old.puts) }
-        ensures ok { OnOk result (self.new ≡ record self.old { puts = with_cut put (made_row length digest.0) (room_of put self.new.puts) self.old.puts }) }
-        ensures count { IfOk result (λ n. n ≡ count_of (cuts_of put self.new.puts)) }
-        ensures err { OnErr result (self.new ≡ record self.old { puts = with_room put (room_of put self.new.puts) self.old.puts }) }
-        ensures reserved { IsMemory result → room_of put self.old.puts ≡ 0 }
+        requires few { CanGrow (kept_cuts put self.old.puts) }
+        ensures exact { RefusesCall result (writing_refusal put self.old.puts) }
+        ensures ok { OnOk result (self.new ≡ record self.old { puts = kept_with_cut put (made_row length digest.0) (room_for_fragments put self.new.puts) self.old.puts }) }
+        ensures count { IfOk result (λ n. n ≡ count_of_rows (kept_cuts put self.new.puts)) }
+        ensures err { OnErr result (self.new ≡ record self.old { puts = with_room put (room_for_fragments put self.new.puts) self.old.puts }) }
+        ensures reserved { IsWantOfMemory result → room_for_fragments put self.old.puts ≡ 0 }
     {
         puts::push_row(&mut self.puts, put, length, digest)
     }
 
     /// Makes room so that the next fragment of a put takes no memory.
     pub fn reserve_cut(&mut self, put: u64) -> Result<(), OpenRefusal>
-        ensures exact { Refuses result (writing_refusal put self.old.puts) }
-        ensures room { OnOk result (0 < room_of put self.new.puts) }
-        ensures rest { self.new ≡ record self.old { puts = with_room put (room_of put self.new.puts) self.old.puts } }
-        ensures reserved { IsMemory result → room_of put self.old.puts ≡ 0 }
+        ensures exact { RefusesCall result (writing_refusal put self.old.puts) }
+        ensures room { OnOk result (0 < room_for_fragments put self.new.puts) }
+        ensures rest { self.new ≡ record self.old { puts = with_room put (room_for_fragments put self.new.puts) self.old.puts } }
+        ensures reserved { IsWantOfMemory result → room_for_fragments put self.old.puts ≡ 0 }
     {
         puts::reserve_row(&mut self.puts, put)
     }
 
     /// The put of the last open writer of a key whose request and response match a request.
     pub fn follow(&self, key: Key, request: &Fields) -> Option<u64>
-        ensures last { result ≡ followed key request.now self.now.writers }
-        ensures open { IfSome result (λ put. is_open put self.now.puts ≡ true) }
+        ensures last { result ≡ put_followed key request.now self.now.writers }
+        ensures open { IfSome result (λ put. is_kept_open put self.now.puts ≡ true) }
     {
         last_match(&self.writers, key, request)
     }
@@ -204,7 +205,7 @@ impl OpenDirectory {
     /// Takes a reader out, and says whether there was that reader.
     pub fn drop_reader(&mut self, reader: u64) -> bool
         ensures found { result ≡ is_some (reader_at reader self.old) }
-        ensures gone { self.new ≡ with_reader_room self.new.reader_room (without_reader reader self.old) }
+        ensures gone { self.new ≡ with_reader_room self.new.reader_room (held_without_reader reader self.old) }
         ensures room { self.old.reader_room ≤ self.new.reader_room }
         ensures none { result ≡ false → self.new ≡ self.old }
     {
@@ -231,7 +232,7 @@ impl OpenDirectory {
     /// How a put stands, while it is open or a reader follows it.
     pub fn put_state(&self, put: u64) -> Option<PutState>
         ensures state { result ≡ put_state put self.now.puts }
-        ensures open { is_open_state result ≡ is_open put self.now.puts }
+        ensures open { is_open_state result ≡ is_kept_open put self.now.puts }
         ensures writer { writers_of put self.now.writers ≡ (if is_open_state result then 1 else 0) }
         ensures followed { is_ended_state result ≡ true → 0 < followers_of put self.now.readers }
     {
@@ -240,7 +241,7 @@ impl OpenDirectory {
 
     /// The length and the digest of a fragment that was cut, counted from 1.
     pub fn row(&self, put: u64, index: u32) -> Option<(u32, Digest)>
-        ensures row { result ≡ row_of index (cuts_of put self.now.puts) }
+        ensures row { result ≡ row_of_index index (kept_cuts put self.now.puts) }
         ensures few { IfSome result (λ row. index ≤ 4096) }
     {
         self.puts.get(&put)?.row(index)
@@ -248,7 +249,7 @@ impl OpenDirectory {
 
     /// How many bytes were cut of a put.
     pub fn length(&self, put: u64) -> u64
-        ensures { result ≡ total_length (cuts_of put self.now.puts) }
+        ensures { result ≡ total_length (kept_cuts put self.now.puts) }
     {
         match self.puts.get(&put) {
             Some(kept) => kept.cuts.total(),
@@ -260,13 +261,13 @@ impl OpenDirectory {
     pub fn writers(&self) -> u32
         ensures count { result ≡ length self.now.writers }
         ensures few { result ≤ 64 }
-        ensures held { IsHeld self.now }
+        ensures held { IsHeldDirectory self.now }
     {
         self.writers.len() as u32
     }
 
     fn end(&mut self, put: u64, phase: Phase) -> Result<(), OpenRefusal>
-        requires { is_writing phase ≡ false }
+        requires { is_writing_phase phase ≡ false }
         ensures exact { RefusesOnly result (writing_refusal put self.old.puts) }
         ensures ok { OnOk result (self.new ≡ ended phase put self.old) }
         ensures err { OnErr result (self.new ≡ self.old) }
@@ -281,7 +282,7 @@ impl OpenDirectory {
 }
 
 fn last_match(writers: &[Writer], key: Key, request: &Fields) -> Option<u64>
-    ensures { result ≡ followed key request.now writers.now }
+    ensures { result ≡ put_followed key request.now writers.now }
 {
     writers.iter().fold(None, |last, writer| {
         if writer.is_match(key, request) {

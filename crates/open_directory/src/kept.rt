@@ -1,7 +1,7 @@
 // What is kept of each writer, put and reader.
 
 ghost use Rattle.std.specs.Prelude.{◌≡◌, ◌≤◌, IfSome};
-ghost use Rattle.open_directory.specs.Directory.{is_follow, row_of, state_of};
+ghost use Rattle.open_directory.specs.Directory.{is_follow, put_state_of, row_of_index};
 
 use alternate_vector::{Fields, request_matches};
 use fragment_table::FragTable;
@@ -65,7 +65,7 @@ pub struct KeptPut {
 
 impl KeptPut {
     pub fn state(&self) -> PutState
-        ensures { result ≡ state_of self.now }
+        ensures { result ≡ put_state_of self.now }
     {
         let cut = self.cuts.len();
         match self.phase {
@@ -80,7 +80,7 @@ impl KeptPut {
 
     /// The length and the digest of a fragment, counted from 1.
     pub fn row(&self, index: u32) -> Option<(u32, Digest)>
-        ensures row { result ≡ row_of index self.now.cuts.rows }
+        ensures row { result ≡ row_of_index index self.now.cuts.rows }
         ensures few { IfSome result (λ row. index ≤ 4096) }
     {
         if index == 0 || self.cuts.len() < index {

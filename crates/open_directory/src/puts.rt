@@ -2,8 +2,8 @@
 
 ghost use Rattle.std.specs.Prelude.{◌≡◌, ◌<◌, ◌^◌, IsSome, OnOk, OnErr, IfOk};
 ghost use Rattle.fragment_table.specs.Table.{CanGrow, made_row};
-ghost use Rattle.open_directory.specs.Directory.{AddsFollower, Forgets, KeepsFollowers, KeepsStanding, changed, count_of, cuts_of, followers_kept, is_done_put, is_open, kept_put, one_fewer, one_more, room_of, with_cut, with_phase, with_room, without_done};
-ghost use Rattle.open_directory.specs.Refusal.{IsMemory, Refuses, writing_refusal};
+ghost use Rattle.open_directory.specs.Directory.{AddsFollower, Forgets, KeepsFollowers, KeepsStanding, changed, count_of_rows, followers_kept, is_done_put, is_kept_open, kept_cuts, kept_put, kept_with_cut, one_fewer, room_for_fragments, with_follower, with_phase, with_room, without_done};
+ghost use Rattle.open_directory.specs.Refusal.{IsWantOfMemory, RefusesCall, writing_refusal};
 
 use crate::kept::{KeptPut, Phase};
 use crate::refusal::OpenRefusal;
@@ -13,7 +13,7 @@ use tape_base::Digest;
 pub(crate) type Puts = BTreeMap<u64, KeptPut>;
 
 pub(crate) fn is_open(puts: &Puts, put: u64) -> bool
-    ensures { result ≡ is_open put puts.now.entries }
+    ensures { result ≡ is_kept_open put puts.now.entries }
 {
     match puts.get(&put) {
         Some(kept) => kept.phase == Phase::Writing,
@@ -29,12 +29,12 @@ pub(crate) fn push_row(
     digest: Digest,
 ) -> Result<u32, OpenRefusal>
     requires some { 0 < length }
-    requires few { CanGrow (cuts_of put puts.old.entries) }
-    ensures exact { Refuses result (writing_refusal put puts.old.entries) }
-    ensures ok { OnOk result (puts.new.entries ≡ with_cut put (made_row length digest.0) (room_of put puts.new.entries) puts.old.entries) }
-    ensures count { IfOk result (λ n. n ≡ count_of (cuts_of put puts.new.entries)) }
-    ensures err { OnErr result (puts.new.entries ≡ with_room put (room_of put puts.new.entries) puts.old.entries) }
-    ensures reserved { IsMemory result → room_of put puts.old.entries ≡ 0 }
+    requires few { CanGrow (kept_cuts put puts.old.entries) }
+    ensures exact { RefusesCall result (writing_refusal put puts.old.entries) }
+    ensures ok { OnOk result (puts.new.entries ≡ kept_with_cut put (made_row length digest.0) (room_for_fragments put puts.new.entries) puts.old.entries) }
+    ensures count { IfOk result (λ n. n ≡ count_of_rows (kept_cuts put puts.new.entries)) }
+    ensures err { OnErr result (puts.new.entries ≡ with_room put (room_for_fragments put puts.new.entries) puts.old.entries) }
+    ensures reserved { IsWantOfMemory result → room_for_fragments put puts.old.entries ≡ 0 }
     ensures followers { KeepsFollowers puts.old.entries puts.new.entries }
     ensures standing { KeepsStanding puts.old.entries puts.new.entries }
 {
@@ -49,10 +49,10 @@ pub(crate) fn push_row(
 
 #[tactic(auto, using(crate::proofs::Entries::written, crate::proofs::Entries::absent, crate::proofs::Entries::kept_as_is))]
 pub(crate) fn reserve_row(puts: &mut Puts, put: u64) -> Result<(), OpenRefusal>
-    ensures exact { Refuses result (writing_refusal put puts.old.entries) }
-    ensures room { OnOk result (0 < room_of put puts.new.entries) }
-    ensures rest { puts.new.entries ≡ with_room put (room_of put puts.new.entries) puts.old.entries }
-    ensures reserved { IsMemory result → room_of put puts.old.entries ≡ 0 }
+    ensures exact { RefusesCall result (writing_refusal put puts.old.entries) }
+    ensures room { OnOk result (0 < room_for_fragments put puts.new.entries) }
+    ensures rest { puts.new.entries ≡ with_room put (room_for_fragments put puts.new.entries) puts.old.entries }
+    ensures reserved { IsWantOfMemory result → room_for_fragments put puts.old.entries ≡ 0 }
     ensures followers { KeepsFollowers puts.old.entries puts.new.entries }
     ensures standing { KeepsStanding puts.old.entries puts.new.entries }
 {
@@ -109,7 +109,7 @@ fn is_done(puts: &Puts, put: u64) -> bool
 pub(crate) fn add_follower(puts: &mut Puts, put: u64)
     requires kept { IsSome (kept_put put puts.old.entries) }
     requires few { followers_kept (kept_put put puts.old.entries) < 2 ^ 63 }
-    ensures more { puts.new.entries ≡ one_more put puts.old.entries }
+    ensures more { puts.new.entries ≡ with_follower put puts.old.entries }
     ensures followers { AddsFollower put puts.old.entries puts.new.entries }
 {
     if let Some(kept) = puts.get_mut(&put) {

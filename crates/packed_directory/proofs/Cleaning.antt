@@ -9,9 +9,9 @@ use Rattle.std.proofs.Math.Nat.{div-mul-le_self, mul-div-le}
 use Rattle.tape_base.specs.declared.geometries.Geometry.{Geometry}
 use Rattle.tape_base.specs.Place.{lap_of, floor_of}
 use Rattle.dir_entry.specs.declared.entry.Entry.{Entry}
-use Rattle.dir_segment.specs.Lists.{Row, Lists}
+use Rattle.dir_segment.specs.Lists.{SlotRow, Lists}
 use Rattle.dir_segment.specs.Cleaning.{clean_buckets}
-use Rattle.dir_segment.specs.Entries.{AreStored, CleanKeeps}
+use Rattle.dir_segment.specs.Entries.{CleanKeeps, EntriesAreStored}
 use Rattle.dir_table.specs.declared.rows.StoredRow.{StoredRow}
 use Rattle.packed_directory.specs.Entering.{BucketEntry, entries_from}
 use Rattle.packed_directory.specs.Phases.{IsCursor, least_place, place_of_entry, has_block, stands_between}
@@ -29,7 +29,7 @@ map-filter t b (e ∷ es) =
     elim (t e) as (λ k. map (in_bucket b) (cond k (e ∷ filter t es) (filter t es)) ≡ cond k (in_bucket b e ∷ filter (λ (it : BucketEntry). t it.entry) (map (in_bucket b) es)) (filter (λ (it : BucketEntry). t it.entry) (map (in_bucket b) es)))
     [ true ↦ ap (λ (q : List BucketEntry). in_bucket b e ∷ q) (map-filter t b es) | false ↦ map-filter t b es ]
 
-entries_kept : (t : Entry → Bool) (b : ℕ) (cs ds : List (List Row)) → length ds ≡ length cs → ((j : ℕ) → entries_of (get_or ds j []) ≡ filter t (entries_of (get_or cs j [])))
+entries_kept : (t : Entry → Bool) (b : ℕ) (cs ds : List (List SlotRow)) → length ds ≡ length cs → ((j : ℕ) → entries_of (get_or ds j []) ≡ filter t (entries_of (get_or cs j [])))
     → entries_from b ds ≡ filter (λ (it : BucketEntry). t it.entry) (entries_from b cs)
 entries_kept t b [] [] long each = refl
 entries_kept t b [] (d ∷ ds) long each = absurd (omega (arith, long))
@@ -43,7 +43,7 @@ entries_kept t b (c ∷ cs) (d ∷ ds) long each =
     ∙ sym (filter-append T (map (in_bucket b) (entries_of c)) (entries_from (suc b) cs))
     ∙ ap (filter T) (sym (entries-cons b c cs))
 
-pub cleaned_from_law : (law : CleanKeeps) (g : Geometry) (cursor low high : ℕ) (before after : Lists) → AreStored before
+pub cleaned_from_law : (law : CleanKeeps) (g : Geometry) (cursor low high : ℕ) (before after : Lists) → EntriesAreStored before
     → after ≡ clean_buckets (stands_between g cursor low high) 0 (length before.chains) before → length after.chains ≡ length before.chains → IsCleaned g cursor low high before after
 cleaned_from_law law g cursor low high before after stored is wide = record {
   entries = entries_kept (stands_between g cursor low high) 0 before.chains after.chains wide

@@ -14,9 +14,9 @@ use Rattle.dir_segment.specs.Entries.{AreCounted}
 use Rattle.dir_segment.specs.Purging.{tenth_of}
 use Rattle.dir_table.specs.declared.rows.StoredRow.{StoredRow}
 use Rattle.packed_directory.specs.Entering.{BucketEntry, entries_from, GoOut, TakesIn}
-use Rattle.packed_directory.specs.Full.{is_full}
+use Rattle.packed_directory.specs.Full.{is_bucket_full}
 use Rattle.packed_directory.specs.Phases.{place_of_entry, has_block, stands_between}
-use Rattle.packed_directory.specs.StoredRows.{row_of_entry, entry_of_row, rows_of_segment, rows_of_segments}
+use Rattle.packed_directory.specs.StoredRows.{row_of_entry, entry_of_row, stored_rows_of_segment, rows_of_segments}
 use Rattle.packed_directory.specs.Packed.{AreBetween, segment_at, GoesOut, EntersRow}
 use Rattle.packed_directory.proofs.Fullness.{full_by_rows, open_by_rows}
 use Rattle.packed_directory.proofs.Gathering.{in_bucket}
@@ -44,7 +44,7 @@ module _ (g : Geometry) (cursor : ℕ) (row : StoredRow) (purged : Bool) (out : 
   gone : List StoredRow
   gone = map (λ (it : BucketEntry). row_of_entry g cursor row.segment it.bucket it.entry) t.gone
 
-  segment_takes : TakesRow row gone (rows_of_segment g cursor row.segment (segment_at before row.segment)) (rows_of_segment g cursor row.segment new)
+  segment_takes : TakesRow row gone (stored_rows_of_segment g cursor row.segment (segment_at before row.segment)) (stored_rows_of_segment g cursor row.segment new)
   unfolding gone
   segment_takes =
       let f : BucketEntry → StoredRow = λ it. row_of_entry g cursor row.segment it.bucket it.entry in
@@ -79,7 +79,7 @@ module _ (g : Geometry) (cursor : ℕ) (row : StoredRow) (purged : Bool) (out : 
     go true d o = (d.0, length-map t.gone (λ (it : BucketEntry). row_of_entry g cursor row.segment it.bucket it.entry) ∙ d.1 ∙ ap tenth_of wide, o, record { its = t.gone; are = refl; entries = d.2 })
     go false d o = (d.0, ap (map (λ (it : BucketEntry). row_of_entry g cursor row.segment it.bucket it.entry)) d.1)
 
-  full : (b : Bool) → GoOut b t.gone (segment_at before row.segment) row.bucket → b ≡ is_full g row.segment row.bucket (rows_of_segments g cursor 0 before)
+  full : (b : Bool) → GoOut b t.gone (segment_at before row.segment) row.bucket → b ≡ is_bucket_full g row.segment row.bucket (rows_of_segments g cursor 0 before)
   full true d = sym (full_by_rows g cursor row.segment before within wide counted row.bucket d.0)
   full false d = sym (open_by_rows g cursor row.segment before within wide counted row.bucket d.0)
 
@@ -111,7 +111,7 @@ module _ (g : Geometry) (cursor : ℕ) (row : StoredRow) (purged : Bool) (out : 
       record {
         gone = gone;
         takes = all_take g cursor row gone new (record { chains = []; free = [] }) 0 row.segment before within
-            (subst (λ n. TakesRow row gone (rows_of_segment g cursor n (segment_at before row.segment)) (rows_of_segment g cursor n new)) (sym place) segment_takes);
+            (subst (λ n. TakesRow row gone (stored_rows_of_segment g cursor n (segment_at before row.segment)) (stored_rows_of_segment g cursor n new)) (sym place) segment_takes);
         told = told;
         full = full purged t.due;
         due = due;

@@ -3,12 +3,12 @@ use Rattle.std.proofs.Common.{◌≡◌, ◌≢◌, ℕ, zero, suc, ◌+◌, ◌
 use Rattle.std.specs.List.Sorted.{IsPermutation}
 use Rattle.std.proofs.lemmas.List.Sorted.{IsPermutation-refl, IsPermutation-sym, IsPermutation-trans, IsPermutation-middle, IsPermutation-append_left, IsPermutation-append_right, IsPermutation-map}
 use Rattle.dir_entry.specs.declared.entry.Entry.{Entry}
-use Rattle.dir_segment.specs.Lists.{Row, Lists}
-use Rattle.dir_segment.specs.Entries.{Housed, housed, with_entry, SetsEntries, bucket_entries}
+use Rattle.dir_segment.specs.Lists.{SlotRow, Lists}
+use Rattle.dir_segment.specs.Entries.{Housed, housed, with_entry_behind_root, SetsEntries, bucket_entries}
 use Rattle.packed_directory.specs.Entering.{BucketEntry, entries_from}
 
-abbrev pub entries_of : List Row → List Entry
-entries_of = map (λ (r : Row). r.entry)
+abbrev pub entries_of : List SlotRow → List Entry
+entries_of = map (λ (r : SlotRow). r.entry)
 
 abbrev pub in_bucket : ℕ → Entry → BucketEntry
 in_bucket b e = record { bucket = b; entry = e }
@@ -16,14 +16,14 @@ in_bucket b e = record { bucket = b; entry = e }
 abbrev entry_of : Housed → BucketEntry
 entry_of h = record { bucket = h.bucket; entry = h.row.entry }
 
-pub entries-cons : (b : ℕ) (c : List Row) (cs : List (List Row)) → entries_from b (c ∷ cs) ≡ map (in_bucket b) (entries_of c) ++ entries_from (suc b) cs
+pub entries-cons : (b : ℕ) (c : List SlotRow) (cs : List (List SlotRow)) → entries_from b (c ∷ cs) ≡ map (in_bucket b) (entries_of c) ++ entries_from (suc b) cs
 entries-cons b c cs = go c where
-  go : (rows : List Row) → map entry_of (map (λ (r : Row). record { bucket = b; row = r }) rows ++ housed (suc b) cs) ≡ map (in_bucket b) (entries_of rows) ++ entries_from (suc b) cs
+  go : (rows : List SlotRow) → map entry_of (map (λ (r : SlotRow). record { bucket = b; row = r }) rows ++ housed (suc b) cs) ≡ map (in_bucket b) (entries_of rows) ++ entries_from (suc b) cs
   go [] = refl
   go (r ∷ rows) = ap (λ (q : List BucketEntry). in_bucket b r.entry ∷ q) (go rows)
 
 -- chains with the same entries
-pub entries_same : (b : ℕ) (cs ds : List (List Row)) → length ds ≡ length cs → ((j : ℕ) → entries_of (get_or ds j []) ≡ entries_of (get_or cs j [])) → entries_from b cs ≡ entries_from b ds
+pub entries_same : (b : ℕ) (cs ds : List (List SlotRow)) → length ds ≡ length cs → ((j : ℕ) → entries_of (get_or ds j []) ≡ entries_of (get_or cs j [])) → entries_from b cs ≡ entries_from b ds
 entries_same b [] [] long each = refl
 entries_same b [] (d ∷ ds) long each = absurd (omega (arith, long))
 entries_same b (c ∷ cs) [] long each = absurd (omega (arith, long))
@@ -33,7 +33,7 @@ entries_same b (c ∷ cs) (d ∷ ds) long each =
     ∙ sym (entries-cons b d ds)
 
 -- one bucket has one entry more
-pub one_more : (b k : ℕ) (e : Entry) (cs ds : List (List Row)) → length ds ≡ length cs → k < length cs
+pub one_more : (b k : ℕ) (e : Entry) (cs ds : List (List SlotRow)) → length ds ≡ length cs → k < length cs
     → IsPermutation (e ∷ entries_of (get_or cs k [])) (entries_of (get_or ds k []))
     → ((j : ℕ) → j ≢ k → entries_of (get_or ds j []) ≡ entries_of (get_or cs j []))
     → IsPermutation (in_bucket (b + k) e ∷ entries_from b cs) (entries_from b ds)
@@ -67,11 +67,11 @@ one_more b (suc k) e (c ∷ cs) (d ∷ ds) long lt more others =
     (subst (λ (q : List BucketEntry). IsPermutation (it ∷ (front ++ entries_from (suc b) cs)) q) right all) in
     subst (λ n. IsPermutation (in_bucket n e ∷ entries_from b (c ∷ cs)) (entries_from b (d ∷ ds))) place made
 
-with_entry_more : (e : Entry) (entries : List Entry) → IsPermutation (e ∷ entries) (with_entry e entries)
+with_entry_more : (e : Entry) (entries : List Entry) → IsPermutation (e ∷ entries) (with_entry_behind_root e entries)
 with_entry_more e [] = IsPermutation-refl (e ∷ [])
 with_entry_more e (root ∷ rest) = IsPermutation-sym (root ∷ e ∷ rest) (e ∷ root ∷ rest) (IsPermutation-middle (root ∷ []) e rest)
 
-pub entered_more : (lists new : Lists) (b : ℕ) (e : Entry) → b < length lists.chains → SetsEntries b (with_entry e (bucket_entries lists b)) lists new
+pub entered_more : (lists new : Lists) (b : ℕ) (e : Entry) → b < length lists.chains → SetsEntries b (with_entry_behind_root e (bucket_entries lists b)) lists new
     → IsPermutation (in_bucket b e ∷ entries_from 0 lists.chains) (entries_from 0 new.chains)
 entered_more lists new b e lt set =
     let place : 0 + b ≡ b = omega arith in

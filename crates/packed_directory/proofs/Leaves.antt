@@ -11,14 +11,14 @@ use Rattle.std.proofs.lemmas.List.Sorted.{IsPermutation-refl, IsPermutation-sym,
 use Rattle.tape_base.specs.declared.geometries.Geometry.{Geometry}
 use Rattle.tape_base.specs.Place.{lap_of, slot_of, phase_of}
 use Rattle.dir_entry.specs.declared.entry.Entry.{Entry}
-use Rattle.dir_segment.specs.Lists.{Row, Lists, is_that, passes, deleted, chain_of}
-use Rattle.dir_segment.specs.Entries.{AreStored, DeleteTakes, MissedStays, SetsEntries, without_first, bucket_entries}
+use Rattle.dir_segment.specs.Lists.{SlotRow, Lists, is_that, passes, deleted, chain_of}
+use Rattle.dir_segment.specs.Entries.{EntriesAreStored, DeleteTakes, MissedStays, SetsEntries, without_first, bucket_entries}
 use Rattle.dir_table.specs.declared.rows.StoredRow.{StoredRow}
 use Rattle.packed_directory.specs.Entering.{BucketEntry, entries_from}
 use Rattle.packed_directory.specs.Phases.{place_of_entry, has_block, stands_between, least_place}
-use Rattle.packed_directory.specs.StoredRows.{row_of_entry, rows_of_segment, rows_of_segments, is_spot}
+use Rattle.packed_directory.specs.StoredRows.{row_of_entry, stored_rows_of_segment, rows_of_segments, is_spot}
 use Rattle.packed_directory.specs.Packed.{AreBetween, segment_at}
-use Rattle.packed_directory.specs.Leaving.{is_row, LosesRow, TakesOut}
+use Rattle.packed_directory.specs.Leaving.{is_row, LosesRow, TakesOutOfSegment}
 use Rattle.packed_directory.proofs.Gathering.{entries_of, in_bucket, one_more}
 use Rattle.packed_directory.proofs.Phasing.{place_back, of_place, parts_between, same_beq, beq_same}
 use Rattle.packed_directory.proofs.Segments.{all_take}
@@ -40,7 +40,7 @@ any_same : {X : Type 0} (P : X → Type 0) (p q : X → Bool) → ((x : X) → P
 any_same P p q same [] h = refl
 any_same P p q same (x ∷ xs) h = λ i. same x (All-head P x xs h) i || any_same P p q same xs (All-tail P x xs h) i
 
-any-entries : (test : Entry → Bool) (rows : List Row) → list_any (passes test) rows ≡ list_any test (entries_of rows)
+any-entries : (test : Entry → Bool) (rows : List SlotRow) → list_any (passes test) rows ≡ list_any test (entries_of rows)
 any-entries test [] = refl
 any-entries test (r ∷ rows) = ap (λ (k : Bool). test r.entry || k) (any-entries test rows)
 
@@ -110,7 +110,7 @@ module _ (g : Geometry) (cursor : ℕ) (seg bkt tag : ℕ) (place : ℕ) (first 
     abbrev Block : Entry → Type 0
     Block e = has_block g e ≡ true
 
-    entry_blocks : All (λ (r : Row). has_block g r.entry ≡ true) (chain_of (segment_at before seg) bkt)
+    entry_blocks : All (λ (r : SlotRow). has_block g r.entry ≡ true) (chain_of (segment_at before seg) bkt)
     entry_blocks =
         let P : BucketEntry → Type 0 = λ it. stands_between g cursor low high it.entry ≡ true in
         let Q : BucketEntry → Type 0 = λ it. has_block g it.entry ≡ true in
@@ -120,9 +120,9 @@ module _ (g : Geometry) (cursor : ℕ) (seg bkt tag : ℕ) (place : ℕ) (first 
 
     blocks : All (λ (e : Entry). has_block g e ≡ true) (bucket_entries (segment_at before seg) bkt)
     blocks = go (chain_of old bkt) entry_blocks where
-      go : (rows : List Row) → All (λ (r : Row). has_block g r.entry ≡ true) rows → All (λ (e : Entry). has_block g e ≡ true) (entries_of rows)
+      go : (rows : List SlotRow) → All (λ (r : SlotRow). has_block g r.entry ≡ true) rows → All (λ (e : Entry). has_block g e ≡ true) (entries_of rows)
       go [] h = All-nil (λ (e : Entry). has_block g e ≡ true)
-      go (r ∷ rows) h = All-cons (λ (e : Entry). has_block g e ≡ true) r.entry (entries_of rows) (All-head (λ (q : Row). has_block g q.entry ≡ true) r rows h) (go rows (All-tail (λ (q : Row). has_block g q.entry ≡ true) r rows h))
+      go (r ∷ rows) h = All-cons (λ (e : Entry). has_block g e ≡ true) r.entry (entries_of rows) (All-head (λ (q : SlotRow). has_block g q.entry ≡ true) r rows h) (go rows (All-tail (λ (q : SlotRow). has_block g q.entry ≡ true) r rows h))
 
     pub stood_is : list_any (passes that) (chain_of (segment_at before seg) bkt) ≡ list_any (is_row seg bkt tag place) (rows_of_segments g cursor 0 before)
     stood_is =
@@ -137,7 +137,7 @@ module _ (g : Geometry) (cursor : ℕ) (seg bkt tag : ℕ) (place : ℕ) (first 
         ∙ ap (list_any at) (sym (rows_under g cursor seg bkt tag before within in_chains))
         ∙ sym (any-filter (is_spot seg bkt tag) at rows)
 
-    module _ (takes : DeleteTakes) (missed : MissedStays) (stored : AreStored (segment_at before seg)) (found : Bool)
+    module _ (takes : DeleteTakes) (missed : MissedStays) (stored : EntriesAreStored (segment_at before seg)) (found : Bool)
         (is : found ≡ list_any (passes that) (chain_of (segment_at before seg) bkt))
         (new : Lists) (done : new ≡ deleted (segment_at before seg) bkt that) where
       sets : SetsEntries bkt (without_first that (bucket_entries (segment_at before seg) bkt)) (segment_at before seg) new
@@ -168,14 +168,14 @@ module _ (g : Geometry) (cursor : ℕ) (seg bkt tag : ℕ) (place : ℕ) (first 
           let row : StoredRow = f (in_bucket b out.it) in
           let zero_s : s ≡ 0 + s = omega arith in
           let after : List Lists = set before s new in
-          let here : IsPermutation (row ∷ rows_of_segment g cursor s new) (rows_of_segment g cursor s old) =
+          let here : IsPermutation (row ∷ stored_rows_of_segment g cursor s new) (stored_rows_of_segment g cursor s old) =
           IsPermutation-map f (in_bucket b out.it ∷ entries_from 0 new.chains) (entries_from 0 old.chains) (all_back was) in
-          let there' : TakesRow row [] (rows_of_segment g cursor s (get_or after s (record { chains = []; free = [] }))) (rows_of_segment g cursor s old) =
-          subst (λ (l : Lists). TakesRow row [] (rows_of_segment g cursor s l) (rows_of_segment g cursor s old)) (sym (get_or-set_same before s new (record { chains = []; free = [] }) within))
-          (record { left = rows_of_segment g cursor s new; parted = IsPermutation-refl (rows_of_segment g cursor s new); entered = here }) in
+          let there' : TakesRow row [] (stored_rows_of_segment g cursor s (get_or after s (record { chains = []; free = [] }))) (stored_rows_of_segment g cursor s old) =
+          subst (λ (l : Lists). TakesRow row [] (stored_rows_of_segment g cursor s l) (stored_rows_of_segment g cursor s old)) (sym (get_or-set_same before s new (record { chains = []; free = [] }) within))
+          (record { left = stored_rows_of_segment g cursor s new; parted = IsPermutation-refl (stored_rows_of_segment g cursor s new); entered = here }) in
           let all : TakesRow row [] (rows_of_segments g cursor 0 after) (rows_of_segments g cursor 0 (set after s old)) =
           all_take g cursor row [] old (record { chains = []; free = [] }) 0 s after (omega (arith, within, length-set before s new))
-          (subst (λ n. TakesRow row [] (rows_of_segment g cursor n (get_or after s (record { chains = []; free = [] }))) (rows_of_segment g cursor n old)) zero_s there') in
+          (subst (λ n. TakesRow row [] (stored_rows_of_segment g cursor n (get_or after s (record { chains = []; free = [] }))) (stored_rows_of_segment g cursor n old)) zero_s there') in
           let parts = and_parts (eqb out.it.tag tag) (eqb (place_of_entry g cursor out.it) place) (sym (that_is out.it out.holds) ∙ out.passed) in
           let under : is_spot seg bkt tag row ≡ true = and_from (eqb s s) (eqb b b && eqb out.it.tag tag) (eq-eqb s s refl) (and_from (eqb b b) (eqb out.it.tag tag) (eq-eqb b b refl) parts.0) in
           record {
@@ -200,7 +200,7 @@ module _ (g : Geometry) (cursor : ℕ) (seg bkt tag : ℕ) (place : ℕ) (first 
           All-set (AreBetween g cursor low' high') before seg new (All-tail P it (entries_from 0 new.chains) with_it) all
       left_between low' high' false wasnt all = subst (All (AreBetween g cursor low' high')) (sym (stays wasnt)) all
 
-      pub takes_out : TakesOut g cursor seg bkt tag place found before (set before seg new)
+      pub takes_out : TakesOutOfSegment g cursor seg bkt tag place found before (set before seg new)
       takes_out = record {
         stood = is ∙ stood_is;
         gone = loses;

@@ -15,24 +15,24 @@ use Rattle.std.proofs.lemmas.List.Sums.{sum_by-cons, sum_by-append}
 use Rattle.tape_base.specs.declared.geometries.Geometry.{Geometry}
 use Rattle.tape_base.specs.declared.keys.Key.{Key}
 use Rattle.tape_base.specs.Key.{segment_of, bucket_of}
-use Rattle.dir_segment.specs.Lists.{Row, Lists, chain_of, entry_count, first_of_tag, steps_to, ticked}
+use Rattle.dir_segment.specs.Lists.{SlotRow, Lists, chain_of, entry_count, first_of_tag, steps_to, ticked}
 use Rattle.dir_segment.specs.Entries.{AreCounted, used_roots}
 use Rattle.dir_segment.specs.Purging.{purged}
 use Rattle.dir_table.specs.declared.rows.DirRow.{DirRow}
 use Rattle.dir_table.specs.declared.rows.StoredRow.{StoredRow}
 use Rattle.dir_table.specs.declared.window.Window.{Window}
 use Rattle.dir_table.specs.Candidates.{candidates_of, Counts}
-use Rattle.dir_table.specs.Displacement.{Displacement, Displaces, IsPurge, NoneGoes, AreFew, live_rows, is_used, used_buckets}
+use Rattle.dir_table.specs.Displacement.{Displacement, Displaces, IsPurge, NoneGoes, AreFew, segment_rows_in_range, is_used, buckets_in_range}
 use Rattle.dir_table.specs.Displacement as plain
 use Rattle.dir_table.specs.Rows.{is_in_bucket, same_row, has_row, spot_of_key, plain_row, plain_rows, LosesPlain}
 use Rattle.dir_table.specs.Links.{stands_at}
 use Rattle.dir_table.specs.Window.{is_in_range}
 use Rattle.dir_table.proofs.RowLists.{plain_filter, plain_places, places_under as listed_under}
 use Rattle.packed_directory.specs.Entering.{BucketEntry, entries_from}
-use Rattle.packed_directory.specs.Full.{is_in, segment_rows, buckets_in_use, is_full}
+use Rattle.packed_directory.specs.Full.{is_stored_in_bucket, rows_of_one_segment, stored_buckets, is_bucket_full}
 use Rattle.packed_directory.specs.Leaving.{is_row, LosesRow}
 use Rattle.packed_directory.specs.Phases.{place_of_entry}
-use Rattle.packed_directory.specs.StoredRows.{row_of_entry, rows_of_segment, rows_of_segments, is_under, is_spot}
+use Rattle.packed_directory.specs.StoredRows.{row_of_entry, stored_rows_of_segment, rows_of_segments, is_under, is_spot}
 use Rattle.packed_directory.specs.Packed.{Packed, packed_rows, window_of, segment_at, IsPacked, IsReadable, GoesOut}
 use Rattle.packed_directory.specs.PackedWalks.{places_under, slot_before}
 use Rattle.packed_directory.proofs.Enters.{all_before}
@@ -91,16 +91,17 @@ and-true false = refl
 
 -- ---- how many rows a segment has
 
-plain_segment : (seg : ℕ) (rows : List StoredRow) → length (plain.segment_rows seg (plain_rows rows)) ≡ length (segment_rows seg rows)
+plain_segment : (seg : ℕ) (rows : List StoredRow)
+    → length (plain.segment_rows seg (plain_rows rows)) ≡ length (rows_of_one_segment seg rows)
 plain_segment seg rows =
-    ap (λ (q : List DirRow). length q) (plain_filter (λ (r : DirRow). eqb r.segment seg) rows) ∙ length-map (segment_rows seg rows) plain_row
+    ap (λ (q : List DirRow). length q) (plain_filter (λ (r : DirRow). eqb r.segment seg) rows) ∙ length-map (rows_of_one_segment seg rows) plain_row
 
-plain_in_use : (g : Geometry) (seg : ℕ) (rows : List StoredRow) → plain.buckets_in_use g seg (plain_rows rows) ≡ buckets_in_use g seg rows
+plain_in_use : (g : Geometry) (seg : ℕ) (rows : List StoredRow) → plain.buckets_in_use g seg (plain_rows rows) ≡ stored_buckets g seg rows
 plain_in_use g seg rows = ap (λ (f : ℕ → Bool). count_by f (range_with_len 0 g.buckets)) (fun_ext (λ b. any-map (plain.is_in seg b) plain_row rows))
 
 module _ (g : Geometry) (cursor : ℕ) (segments : List Lists) (widths : All (λ (l : Lists). length l.chains ≡ g.buckets) segments)
     (counted : (k : ℕ) → k < length segments → AreCounted (segment_at segments k)) where
-  few_stored : (seg : ℕ) → length (segment_rows seg (rows_of_segments g cursor 0 segments)) ≤ 3 * g.buckets + buckets_in_use g seg (rows_of_segments g cursor 0 segments)
+  few_stored : (seg : ℕ) → length (rows_of_one_segment seg (rows_of_segments g cursor 0 segments)) ≤ 3 * g.buckets + stored_buckets g seg (rows_of_segments g cursor 0 segments)
   few_stored seg = elim (cases_lt seg (length segments)) [
     | inl lt ↦
         let wide : length (segment_at segments seg).chains ≡ g.buckets = All-get_or (λ (l : Lists). length l.chains ≡ g.buckets) segments seg (record { chains = []; free = [] }) lt widths in
@@ -128,27 +129,28 @@ module _ (w : Window) where
   abbrev Ranged : StoredRow → Type 0
   Ranged r = is_in_range w r.place ≡ true
 
-  live_plain : (seg : ℕ) (rows : List StoredRow) → All (λ r. is_in_range w r.place ≡ true) rows → live_rows w seg (plain_rows rows) ≡ plain_rows (segment_rows seg rows)
+  live_plain : (seg : ℕ) (rows : List StoredRow) → All (λ r. is_in_range w r.place ≡ true) rows → segment_rows_in_range w seg (plain_rows rows) ≡ plain_rows (rows_of_one_segment seg rows)
   live_plain seg [] all = refl
   live_plain seg (r ∷ rows) all =
-      let L : List DirRow = live_rows w seg (plain_rows rows) in
+      let L : List DirRow = segment_rows_in_range w seg (plain_rows rows) in
       ap (λ (b : Bool). cond (eqb r.segment seg && b) (plain_row r ∷ L) L) (All-head Ranged r rows all)
       ∙ go (eqb r.segment seg) (live_plain seg rows (All-tail Ranged r rows all)) where
-        go : (t : Bool) → live_rows w seg (plain_rows rows) ≡ plain_rows (segment_rows seg rows)
-            → cond (t && true) (plain_row r ∷ live_rows w seg (plain_rows rows)) (live_rows w seg (plain_rows rows)) ≡ plain_rows (cond t (r ∷ segment_rows seg rows) (segment_rows seg rows))
+        go : (t : Bool) → segment_rows_in_range w seg (plain_rows rows) ≡ plain_rows (rows_of_one_segment seg rows)
+            → cond (t && true) (plain_row r ∷ segment_rows_in_range w seg (plain_rows rows)) (segment_rows_in_range w seg (plain_rows rows)) ≡ plain_rows (cond t (r ∷ rows_of_one_segment seg rows) (rows_of_one_segment seg rows))
         go true rest = ap (λ (q : List DirRow). plain_row r ∷ q) rest
         go false rest = rest
 
-  used_plain : (seg : ℕ) (rows : List StoredRow) → All (λ r. is_in_range w r.place ≡ true) rows → (b : ℕ) → is_used w seg (plain_rows rows) b ≡ list_any (is_in seg b) rows
+  used_plain : (seg : ℕ) (rows : List StoredRow) → All (λ r. is_in_range w r.place ≡ true) rows → (b : ℕ) → is_used w seg (plain_rows rows) b ≡ list_any (is_stored_in_bucket seg b) rows
   used_plain seg rows all b =
       ap (list_any (λ (r : DirRow). eqb r.bucket b)) (live_plain seg rows all)
-      ∙ any-map (λ (r : DirRow). eqb r.bucket b) plain_row (segment_rows seg rows)
+      ∙ any-map (λ (r : DirRow). eqb r.bucket b) plain_row (rows_of_one_segment seg rows)
       ∙ sym (any-filter (λ (r : StoredRow). eqb r.segment seg) (λ (r : StoredRow). eqb r.bucket b) rows)
 
-  live_length : (seg : ℕ) (rows : List StoredRow) → All (λ r. is_in_range w r.place ≡ true) rows → length (live_rows w seg (plain_rows rows)) ≡ length (segment_rows seg rows)
-  live_length seg rows all = ap (λ (q : List DirRow). length q) (live_plain seg rows all) ∙ length-map (segment_rows seg rows) plain_row
+  live_length : (seg : ℕ) (rows : List StoredRow) → All (λ r. is_in_range w r.place ≡ true) rows → length (segment_rows_in_range w seg (plain_rows rows)) ≡ length (rows_of_one_segment seg rows)
+  live_length seg rows all = ap (λ (q : List DirRow). length q) (live_plain seg rows all)
+      ∙ length-map (rows_of_one_segment seg rows) plain_row
 
-  pub full_plain : (row : StoredRow) (rows : List StoredRow) → All (λ r. is_in_range w r.place ≡ true) rows → plain.is_full w (plain_row row) (plain_rows rows) ≡ is_full w.geometry row.segment row.bucket rows
+  pub full_plain : (row : StoredRow) (rows : List StoredRow) → All (λ r. is_in_range w r.place ≡ true) rows → plain.is_full w (plain_row row) (plain_rows rows) ≡ is_bucket_full w.geometry row.segment row.bucket rows
   full_plain row rows all =
       let seg : ℕ = row.segment in
       let used = ap (λ (f : ℕ → Bool). count_by f (range_with_len 0 w.geometry.buckets)) (fun_ext (used_plain seg rows all)) in
@@ -165,7 +167,7 @@ module _ (w : Window) where
     gone_ranged : All (λ (r : StoredRow). is_in_range w r.place ≡ true) gone
     gone_ranged = all_before Ranged gone left (All-permutation Ranged before (gone ++ left) parted all)
 
-    told : (b : Bool) → d.segment ≡ row.segment → d.live ≡ length (segment_rows row.segment before) → GoesOut b w.geometry w.cursor lists row gone
+    told : (b : Bool) → d.segment ≡ row.segment → d.live ≡ length (rows_of_one_segment row.segment before) → GoesOut b w.geometry w.cursor lists row gone
         → MatchBool b (IsPurge w (plain_row row) (plain_rows before) (plain_rows gone) d) (NoneGoes (plain_rows gone) d)
     told true segment live due = record {
       segment = segment;
@@ -180,7 +182,7 @@ module _ (w : Window) where
       untold = places ∙ ap (map (λ (r : StoredRow). r.place)) due.1;
     }
 
-    pub displaces : d.segment ≡ row.segment → d.live ≡ length (segment_rows row.segment before) → goes ≡ is_full w.geometry row.segment row.bucket before
+    pub displaces : d.segment ≡ row.segment → d.live ≡ length (rows_of_one_segment row.segment before) → goes ≡ is_bucket_full w.geometry row.segment row.bucket before
         → GoesOut goes w.geometry w.cursor lists row gone
         → Displaces true w (plain_row row) (plain_rows before) (plain_rows gone) d
     displaces segment live full due =
@@ -188,9 +190,9 @@ module _ (w : Window) where
         (full ∙ sym (full_plain row before all)) (told goes segment live due)
 
     -- the places that go are those due
-    pub places_due : goes ≡ is_full w.geometry row.segment row.bucket before → GoesOut goes w.geometry w.cursor lists row gone
+    pub places_due : goes ≡ is_bucket_full w.geometry row.segment row.bucket before → GoesOut goes w.geometry w.cursor lists row gone
         → plain.is_full w (plain_row row) (plain_rows before) ≡ true
-        → d.places ≡ map (place_of_entry w.geometry w.cursor) (map (λ (r : Row). r.entry) (purged lists))
+        → d.places ≡ map (place_of_entry w.geometry w.cursor) (map (λ (r : SlotRow). r.entry) (purged lists))
     places_due full due is = told_due goes (full ∙ sym (full_plain row before all) ∙ is) due where
       of_entries : (its : List BucketEntry)
           → map (λ (r : StoredRow). r.place) (map (λ (it : BucketEntry). row_of_entry w.geometry w.cursor row.segment it.bucket it.entry) its)
@@ -199,7 +201,7 @@ module _ (w : Window) where
       of_entries (it ∷ its) = ap (λ (q : List ℕ). place_of_entry w.geometry w.cursor it.entry ∷ q) (of_entries its)
 
       told_due : (b : Bool) → b ≡ true → GoesOut b w.geometry w.cursor lists row gone
-          → d.places ≡ map (place_of_entry w.geometry w.cursor) (map (λ (r : Row). r.entry) (purged lists))
+          → d.places ≡ map (place_of_entry w.geometry w.cursor) (map (λ (r : SlotRow). r.entry) (purged lists))
       told_due true same due =
           let taken = due.3 in
           places ∙ ap (map (λ (r : StoredRow). r.place)) taken.are ∙ of_entries taken.its ∙ ap (map (place_of_entry w.geometry w.cursor)) taken.entries
@@ -247,7 +249,8 @@ module _ (g : Geometry) (cursor : ℕ) (key : Key) where
       ap (λ (q : List DirRow). count_by (is_in_bucket g key) q) (map-append plain_row xs ys)
       ∙ sum_by-append (λ (q : DirRow). cond {A = ℕ} (is_in_bucket g key q) 1 0) (plain_rows xs) (plain_rows ys)
 
-  own : (b : ℕ) (c : List Row) → b ≡ bucket_of g key → here (map (row_at (segment_of g key)) (map (in_bucket b) (entries_of c))) ≡ length c
+  own : (b : ℕ) (c : List SlotRow) → b ≡ bucket_of g key
+      → here (map (row_at (segment_of g key)) (map (in_bucket b) (entries_of c))) ≡ length c
   own b [] is = refl
   own b (r ∷ c) is =
       let first : StoredRow = row_at seg (in_bucket b r.entry) in
@@ -256,7 +259,7 @@ module _ (g : Geometry) (cursor : ℕ) (key : Key) where
       let one : cond {A = ℕ} (is_in_bucket g key (plain_row first)) 1 0 ≡ 1 = ap (λ (t : Bool). cond {A = ℕ} t 1 0) test in
       omega (arith, here-cons first (map (row_at seg) (map (in_bucket b) (entries_of c))), one, own b c is)
 
-  in_chains : (b k : ℕ) (cs : List (List Row)) → b + k ≡ bucket_of g key → length (get_or cs k []) ≤ here (map (row_at (segment_of g key)) (entries_from b cs))
+  in_chains : (b k : ℕ) (cs : List (List SlotRow)) → b + k ≡ bucket_of g key → length (get_or cs k []) ≤ here (map (row_at (segment_of g key)) (entries_from b cs))
   in_chains b k [] is = omega arith
   in_chains b zero (c ∷ cs) is =
       let f : BucketEntry → StoredRow = row_at seg in
@@ -272,15 +275,15 @@ module _ (g : Geometry) (cursor : ℕ) (key : Key) where
       omega (arith, parts, in_chains (suc b) k cs (omega (arith, is)))
 
   in_segments : (s i : ℕ) (segments : List Lists) (none : Lists) → i < length segments → s + i ≡ segment_of g key
-      → here (rows_of_segment g cursor (segment_of g key) (get_or segments i none)) ≤ here (rows_of_segments g cursor s segments)
+      → here (stored_rows_of_segment g cursor (segment_of g key) (get_or segments i none)) ≤ here (rows_of_segments g cursor s segments)
   in_segments s i [] none lt is = absurd (omega (arith, lt))
   in_segments s zero (l ∷ rest) none lt is =
       let same : s ≡ seg = omega (arith, is) in
-      let parts = here-append (rows_of_segment g cursor s l) (rows_of_segments g cursor (suc s) rest) in
-      let first = ap (λ n. here (rows_of_segment g cursor n l)) same in
+      let parts = here-append (stored_rows_of_segment g cursor s l) (rows_of_segments g cursor (suc s) rest) in
+      let first = ap (λ n. here (stored_rows_of_segment g cursor n l)) same in
       omega (arith, parts, first)
   in_segments s (suc i) (l ∷ rest) none lt is =
-      let parts = here-append (rows_of_segment g cursor s l) (rows_of_segments g cursor (suc s) rest) in
+      let parts = here-append (stored_rows_of_segment g cursor s l) (rows_of_segments g cursor (suc s) rest) in
       let later = in_segments (suc s) i rest none (omega (arith, lt)) (omega (arith, is)) in
       omega (arith, parts, later)
 
@@ -318,7 +321,7 @@ counts n ahead ahead' before after place below is fewer some =
       passed = omega (arith, is, most, fewer);
     }
 
-pub steps_one : (tag : ℕ) (rows : List Row) (first : Row) → first_of_tag tag rows ≡ Some first → 1 ≤ steps_to tag rows
+pub steps_one : (tag : ℕ) (rows : List SlotRow) (first : SlotRow) → first_of_tag tag rows ≡ Some first → 1 ≤ steps_to tag rows
 steps_one tag [] first some = absurd (cc some)
 steps_one tag (r ∷ rows) first some = omega arith
 

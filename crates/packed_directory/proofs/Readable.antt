@@ -7,7 +7,7 @@ use Rattle.std.proofs.lemmas.List.Elements.{All-nil, All-cons, All-append, All-h
 use Rattle.std.proofs.lemmas.List.Folds.{list_any_none}
 use Rattle.tape_base.specs.declared.geometries.Geometry.{Geometry}
 use Rattle.dir_entry.specs.declared.entry.Entry.{Entry}
-use Rattle.dir_segment.specs.Lists.{Row, Lists}
+use Rattle.dir_segment.specs.Lists.{SlotRow, Lists}
 use Rattle.dir_table.specs.declared.rows.StoredRow.{StoredRow}
 use Rattle.packed_directory.specs.Entering.{BucketEntry, entries_from}
 use Rattle.packed_directory.specs.Phases.{IsOfPlace, place_of_entry, stands_between}
@@ -17,7 +17,7 @@ use Rattle.packed_directory.proofs.Gathering.{entries_of, in_bucket, entries-con
 use Rattle.packed_directory.proofs.Phasing.{parts_between, lap_there, of_place}
 
 -- entries stand in buckets from one on and below the last
-buckets_below : (b : ℕ) (cs : List (List Row)) → All (λ (it : BucketEntry). it.bucket < b + length cs) (entries_from b cs)
+buckets_below : (b : ℕ) (cs : List (List SlotRow)) → All (λ (it : BucketEntry). it.bucket < b + length cs) (entries_from b cs)
 buckets_below b [] = All-nil (λ (it : BucketEntry). it.bucket < b + 0)
 buckets_below b (c ∷ cs) =
     let P : BucketEntry → Type 0 = λ it. it.bucket < b + suc (length cs) in

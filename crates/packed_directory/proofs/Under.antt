@@ -7,10 +7,10 @@ use Rattle.std.proofs.lemmas.List.Elements.{filter-append}
 use Rattle.std.proofs.Math.Bool.{and-false}
 use Rattle.tape_base.specs.declared.geometries.Geometry.{Geometry}
 use Rattle.dir_entry.specs.declared.entry.Entry.{Entry}
-use Rattle.dir_segment.specs.Lists.{Row, Lists, first_of_tag, rest_of_tag, steps_to}
+use Rattle.dir_segment.specs.Lists.{SlotRow, Lists, first_of_tag, rest_of_tag, steps_to}
 use Rattle.dir_table.specs.declared.rows.StoredRow.{StoredRow}
 use Rattle.packed_directory.specs.Entering.{BucketEntry, entries_from}
-use Rattle.packed_directory.specs.StoredRows.{row_of_entry, rows_of_segment, rows_of_segments, is_spot}
+use Rattle.packed_directory.specs.StoredRows.{row_of_entry, stored_rows_of_segment, rows_of_segments, is_spot}
 use Rattle.packed_directory.specs.Packed.{segment_at}
 use Rattle.packed_directory.proofs.Gathering.{entries_of, in_bucket, entries-cons}
 
@@ -46,19 +46,19 @@ module _ (g : Geometry) (cursor : ℕ) (seg bkt tag : ℕ) where
       ∙ elim (eqb e.tag tag) as (λ t. cond t (row ∷ left) left ≡ map f (cond t (e ∷ filter (λ (k : Entry). eqb k.tag tag) es) (filter (λ (k : Entry). eqb k.tag tag) es)))
       [ true ↦ ap (λ (q : List StoredRow). row ∷ q) (own_bucket es) | false ↦ own_bucket es ]
 
-  split : (s b : ℕ) (c : List Row) (cs : List (List Row)) → under (map (row_at s) (entries_from b (c ∷ cs)))
+  split : (s b : ℕ) (c : List SlotRow) (cs : List (List SlotRow)) → under (map (row_at s) (entries_from b (c ∷ cs)))
       ≡ under (map (row_at s) (map (in_bucket b) (entries_of c))) ++ under (map (row_at s) (entries_from (suc b) cs))
   split s b c cs =
       ap (λ (q : List BucketEntry). under (map (row_at s) q)) (entries-cons b c cs)
       ∙ ap under (map-append (row_at s) (map (in_bucket b) (entries_of c)) (entries_from (suc b) cs))
       ∙ filter-append (is_spot seg bkt tag) (map (row_at s) (map (in_bucket b) (entries_of c))) (map (row_at s) (entries_from (suc b) cs))
 
-  later_buckets : (s b : ℕ) (cs : List (List Row)) → bkt < b → under (map (row_at s) (entries_from b cs)) ≡ []
+  later_buckets : (s b : ℕ) (cs : List (List SlotRow)) → bkt < b → under (map (row_at s) (entries_from b cs)) ≡ []
   later_buckets s b [] lt = refl
   later_buckets s b (c ∷ cs) lt =
       split s b c cs ∙ (λ i. other_bucket s b (entries_of c) (λ q. let no : b < b = subst (λ n. n < b) (sym q) lt in absurd (omega (arith, no))) i ++ later_buckets s (suc b) cs (omega (arith, lt)) i)
 
-  in_segment : (b k : ℕ) (cs : List (List Row)) → k < length cs → b + k ≡ bkt
+  in_segment : (b k : ℕ) (cs : List (List SlotRow)) → k < length cs → b + k ≡ bkt
       → under (map (row_at seg) (entries_from b cs))
       ≡ map (row_of_entry g cursor seg bkt) (filter (λ (e : Entry). eqb e.tag tag) (entries_of (get_or cs k [])))
   in_segment b k [] lt is = absurd (omega (arith, lt))
@@ -83,19 +83,19 @@ module _ (g : Geometry) (cursor : ℕ) (seg bkt tag : ℕ) where
   later_segments : (s : ℕ) (segments : List Lists) → seg < s → under (rows_of_segments g cursor s segments) ≡ []
   later_segments s [] lt = refl
   later_segments s (l ∷ rest) lt =
-      filter-append (is_spot seg bkt tag) (rows_of_segment g cursor s l) (rows_of_segments g cursor (suc s) rest)
+      filter-append (is_spot seg bkt tag) (stored_rows_of_segment g cursor s l) (rows_of_segments g cursor (suc s) rest)
       ∙ (λ i. other_segment s (entries_from 0 l.chains) (λ q. let no : s < s = subst (λ n. n < s) (sym q) lt in absurd (omega (arith, no))) i ++ later_segments (suc s) rest (omega (arith, lt)) i)
 
   in_segments : (s i : ℕ) (segments : List Lists) (none : Lists) → i < length segments → s + i ≡ seg
-      → under (rows_of_segments g cursor s segments) ≡ under (rows_of_segment g cursor seg (get_or segments i none))
+      → under (rows_of_segments g cursor s segments) ≡ under (stored_rows_of_segment g cursor seg (get_or segments i none))
   in_segments s i [] none lt is = absurd (omega (arith, lt))
   in_segments s zero (l ∷ rest) none lt is =
       let here : s ≡ seg = omega (arith, is) in
-      filter-append (is_spot seg bkt tag) (rows_of_segment g cursor s l) (rows_of_segments g cursor (suc s) rest)
-      ∙ (λ j. under (rows_of_segment g cursor (here j) l) ++ later_segments (suc s) rest (omega (arith, here)) j)
-      ∙ append-nil (under (rows_of_segment g cursor seg l))
+      filter-append (is_spot seg bkt tag) (stored_rows_of_segment g cursor s l) (rows_of_segments g cursor (suc s) rest)
+      ∙ (λ j. under (stored_rows_of_segment g cursor (here j) l) ++ later_segments (suc s) rest (omega (arith, here)) j)
+      ∙ append-nil (under (stored_rows_of_segment g cursor seg l))
   in_segments s (suc i) (l ∷ rest) none lt is =
-      filter-append (is_spot seg bkt tag) (rows_of_segment g cursor s l) (rows_of_segments g cursor (suc s) rest)
+      filter-append (is_spot seg bkt tag) (stored_rows_of_segment g cursor s l) (rows_of_segments g cursor (suc s) rest)
       ∙ (λ j. other_segment s (entries_from 0 l.chains) (omega (arith, is)) j ++ in_segments (suc s) i rest none (omega (arith, lt)) (omega (arith, is)) j)
 
   pub rows_under : (segments : List Lists) → seg < length segments → bkt < length (segment_at segments seg).chains
@@ -105,37 +105,38 @@ module _ (g : Geometry) (cursor : ℕ) (seg bkt tag : ℕ) where
       in_segments 0 seg segments (record { chains = []; free = [] }) within (omega arith)
       ∙ in_segment 0 bkt (segment_at segments seg).chains below (omega arith)
 
-pub entries-filter : (t : Entry → Bool) (rows : List Row) → filter t (entries_of rows) ≡ entries_of (filter (λ (r : Row). t r.entry) rows)
+pub entries-filter : (t : Entry → Bool) (rows : List SlotRow)
+    → filter t (entries_of rows) ≡ entries_of (filter (λ (r : SlotRow). t r.entry) rows)
 entries-filter t [] = refl
 entries-filter t (r ∷ rows) =
-    elim (t r.entry) as (λ k. cond k (r.entry ∷ filter t (entries_of rows)) (filter t (entries_of rows)) ≡ entries_of (cond k (r ∷ filter (λ (q : Row). t q.entry) rows) (filter (λ (q : Row). t q.entry) rows)))
+    elim (t r.entry) as (λ k. cond k (r.entry ∷ filter t (entries_of rows)) (filter t (entries_of rows)) ≡ entries_of (cond k (r ∷ filter (λ (q : SlotRow). t q.entry) rows) (filter (λ (q : SlotRow). t q.entry) rows)))
     [ true ↦ ap (λ (q : List Entry). r.entry ∷ q) (entries-filter t rows) | false ↦ entries-filter t rows ]
 
 -- ---- the first of a tag
 
-pub none_of_tag : (tag : ℕ) (rows : List Row) → first_of_tag tag rows ≡ None → filter (λ (r : Row). eqb r.entry.tag tag) rows ≡ []
+pub none_of_tag : (tag : ℕ) (rows : List SlotRow) → first_of_tag tag rows ≡ None → filter (λ (r : SlotRow). eqb r.entry.tag tag) rows ≡ []
 none_of_tag tag [] none = refl
 none_of_tag tag (r ∷ rows) none =
-    elim (eqb r.entry.tag tag) as (λ t. cond t (Some r) (first_of_tag tag rows) ≡ None → cond t (r ∷ filter (λ (q : Row). eqb q.entry.tag tag) rows) (filter (λ (q : Row). eqb q.entry.tag tag) rows) ≡ [])
+    elim (eqb r.entry.tag tag) as (λ t. cond t (Some r) (first_of_tag tag rows) ≡ None → cond t (r ∷ filter (λ (q : SlotRow). eqb q.entry.tag tag) rows) (filter (λ (q : SlotRow). eqb q.entry.tag tag) rows) ≡ [])
     [ true ↦ λ q. absurd (cc q) | false ↦ λ q. none_of_tag tag rows q ] none
 
-pub some_of_tag : (tag : ℕ) (rows : List Row) (first : Row) → first_of_tag tag rows ≡ Some first
-    → filter (λ (r : Row). eqb r.entry.tag tag) rows ≡ first ∷ filter (λ (r : Row). eqb r.entry.tag tag) (rest_of_tag tag rows)
+pub some_of_tag : (tag : ℕ) (rows : List SlotRow) (first : SlotRow) → first_of_tag tag rows ≡ Some first
+    → filter (λ (r : SlotRow). eqb r.entry.tag tag) rows ≡ first ∷ filter (λ (r : SlotRow). eqb r.entry.tag tag) (rest_of_tag tag rows)
 some_of_tag tag [] first some = absurd (cc some)
 some_of_tag tag (r ∷ rows) first some =
-    elim (eqb r.entry.tag tag) as (λ t. cond t (Some r) (first_of_tag tag rows) ≡ Some first → cond t (r ∷ filter (λ (q : Row). eqb q.entry.tag tag) rows) (filter (λ (q : Row). eqb q.entry.tag tag) rows)
-    ≡ first ∷ filter (λ (q : Row). eqb q.entry.tag tag) (cond t rows (rest_of_tag tag rows)))
-    [ true ↦ λ q. let same : r ≡ first = cc q in ap (λ (k : Row). k ∷ filter (λ (p : Row). eqb p.entry.tag tag) rows) same | false ↦ λ q. some_of_tag tag rows first q ] some
+    elim (eqb r.entry.tag tag) as (λ t. cond t (Some r) (first_of_tag tag rows) ≡ Some first → cond t (r ∷ filter (λ (q : SlotRow). eqb q.entry.tag tag) rows) (filter (λ (q : SlotRow). eqb q.entry.tag tag) rows)
+    ≡ first ∷ filter (λ (q : SlotRow). eqb q.entry.tag tag) (cond t rows (rest_of_tag tag rows)))
+    [ true ↦ λ q. let same : r ≡ first = cc q in ap (λ (k : SlotRow). k ∷ filter (λ (p : SlotRow). eqb p.entry.tag tag) rows) same | false ↦ λ q. some_of_tag tag rows first q ] some
 
 -- ---- the steps of a walk
 
-pub steps_none : (tag : ℕ) (rows : List Row) → first_of_tag tag rows ≡ None → steps_to tag rows ≡ length rows
+pub steps_none : (tag : ℕ) (rows : List SlotRow) → first_of_tag tag rows ≡ None → steps_to tag rows ≡ length rows
 steps_none tag [] none = refl
 steps_none tag (r ∷ rows) none =
     elim (eqb r.entry.tag tag) as (λ t. cond t (Some r) (first_of_tag tag rows) ≡ None → suc (cond t 0 (steps_to tag rows)) ≡ suc (length rows))
     [ true ↦ λ q. absurd (cc q) | false ↦ λ q. ap suc (steps_none tag rows q) ] none
 
-pub steps_some : (tag : ℕ) (rows : List Row) (first : Row) → first_of_tag tag rows ≡ Some first → steps_to tag rows + length (rest_of_tag tag rows) ≡ length rows
+pub steps_some : (tag : ℕ) (rows : List SlotRow) (first : SlotRow) → first_of_tag tag rows ≡ Some first → steps_to tag rows + length (rest_of_tag tag rows) ≡ length rows
 steps_some tag [] first some = absurd (cc some)
 steps_some tag (r ∷ rows) first some =
     elim (eqb r.entry.tag tag) as (λ t. cond t (Some r) (first_of_tag tag rows) ≡ Some first

@@ -9,7 +9,7 @@ use Rattle.std.proofs.Math.ListN.{get_or-eq_default}
 use Rattle.std.specs.Prelude.{Option, Some, None}
 use Rattle.tape_base.specs.declared.geometries.Geometry.{Geometry}
 use Rattle.dir_entry.specs.declared.entry.Entry.{Entry}
-use Rattle.dir_segment.specs.Lists.{Row, Lists, row, unlinked, chain_of, behind}
+use Rattle.dir_segment.specs.Lists.{SlotRow, Lists, row, unlinked, chain_of, all_or_behind}
 use Rattle.dir_table.specs.declared.rows.StoredRow.{StoredRow}
 use Rattle.packed_directory.specs.declared.walks.AllWalk.{AllWalk}
 use Rattle.packed_directory.specs.Entering.{BucketEntry, entries_from}
@@ -28,17 +28,17 @@ module _ (g : Geometry) (cursor s : ℕ) where
   abbrev row_at : BucketEntry → StoredRow
   row_at it = row_of_entry g cursor s it.bucket it.entry
 
-  rows_here : (b : ℕ) (c : List Row) → map row_at (map (in_bucket b) (entries_of c)) ≡ map (λ (r : Row). row_of_entry g cursor s b r.entry) c
+  rows_here : (b : ℕ) (c : List SlotRow) → map row_at (map (in_bucket b) (entries_of c)) ≡ map (λ (r : SlotRow). row_of_entry g cursor s b r.entry) c
   rows_here b [] = refl
   rows_here b (r ∷ c) = ap (λ (q : List StoredRow). row_of_entry g cursor s b r.entry ∷ q) (rows_here b c)
 
   -- the rows of one bucket and then those of the next
-  next_bucket : (b : ℕ) (cs : List (List Row)) → b < length cs
-      → map row_at (entries_from b (drop b cs)) ≡ map (λ (r : Row). row_of_entry g cursor s b r.entry) (get_or cs b []) ++ map row_at (entries_from (suc b) (drop (suc b) cs))
+  next_bucket : (b : ℕ) (cs : List (List SlotRow)) → b < length cs
+      → map row_at (entries_from b (drop b cs)) ≡ map (λ (r : SlotRow). row_of_entry g cursor s b r.entry) (get_or cs b []) ++ map row_at (entries_from (suc b) (drop (suc b) cs))
   next_bucket b cs lt =
-      let c : List Row = get_or cs b [] in
-      let rest : List (List Row) = drop (suc b) cs in
-      ap (λ (q : List (List Row)). map row_at (entries_from b q)) (drop-cons cs b [] lt)
+      let c : List SlotRow = get_or cs b [] in
+      let rest : List (List SlotRow) = drop (suc b) cs in
+      ap (λ (q : List (List SlotRow)). map row_at (entries_from b q)) (drop-cons cs b [] lt)
       ∙ ap (map row_at) (entries-cons b c rest)
       ∙ map-append row_at (map (in_bucket b) (entries_of c)) (entries_from (suc b) rest)
       ∙ ap (λ (q : List StoredRow). q ++ map row_at (entries_from (suc b) rest)) (rows_here b c)
@@ -47,8 +47,8 @@ module _ (g : Geometry) (cursor s : ℕ) where
 pub before_bucket : (d : Packed) (s b : ℕ) → b < length (segment_at d.segments s).chains
     → rows_ahead d (record { segment = s; bucket = b; after = None }) ≡ rows_from_bucket d s b
 before_bucket d s b lt =
-    let cs : List (List Row) = (segment_at d.segments s).chains in
-    let own : List StoredRow = map (λ (r : Row). row_of_entry d.geometry d.cursor s b r.entry) (get_or cs b []) in
+    let cs : List (List SlotRow) = (segment_at d.segments s).chains in
+    let own : List StoredRow = map (λ (r : SlotRow). row_of_entry d.geometry d.cursor s b r.entry) (get_or cs b []) in
     let mid : List StoredRow = map (row_at d.geometry d.cursor s) (entries_from (suc b) (drop (suc b) cs)) in
     let later : List StoredRow = rows_of_segments d.geometry d.cursor (suc s) (drop (suc s) d.segments) in
     sym (append_assoc own mid later) ∙ ap (λ (q : List StoredRow). q ++ later) (sym (next_bucket d.geometry d.cursor s b cs lt))
@@ -57,7 +57,7 @@ before_bucket d s b lt =
 past_buckets : (d : Packed) (s b : ℕ) → length (segment_at d.segments s).chains ≤ b
     → rows_from_bucket d s b ≡ rows_of_segments d.geometry d.cursor (suc s) (drop (suc s) d.segments)
 past_buckets d s b le =
-    ap (λ (q : List (List Row)). map (row_at d.geometry d.cursor s) (entries_from b q) ++ rows_of_segments d.geometry d.cursor (suc s) (drop (suc s) d.segments))
+    ap (λ (q : List (List SlotRow)). map (row_at d.geometry d.cursor s) (entries_from b q) ++ rows_of_segments d.geometry d.cursor (suc s) (drop (suc s) d.segments))
     (drop_all b (segment_at d.segments s).chains le)
 
 -- a walk that stands before a segment
@@ -69,7 +69,7 @@ before_segment d s some = elim (cases_lt s (length d.segments)) [
       let empty : segment_at d.segments s ≡ none = get_or-eq_default d.segments none le in
       let over : drop s d.segments ≡ [] = drop_all s d.segments le in
       let over' : drop (suc s) d.segments ≡ [] = drop_all (suc s) d.segments (omega (arith, le)) in
-      (λ i. map (λ (r : Row). row_of_entry d.geometry d.cursor s 0 r.entry) (chain_of (empty i) 0)
+      (λ i. map (λ (r : SlotRow). row_of_entry d.geometry d.cursor s 0 r.entry) (chain_of (empty i) 0)
       ++ (map (row_at d.geometry d.cursor s) (entries_from 1 (drop 1 (empty i).chains)) ++ rows_of_segments d.geometry d.cursor (suc s) (over' i)))
       ∙ ap (rows_of_segments d.geometry d.cursor s) (sym over)
 ]
@@ -81,13 +81,14 @@ after_bucket d s b some le = before_segment d (suc s) some ∙ sym (past_buckets
 
 -- ---- the entry that comes next
 
-module _ (g : Geometry) (cursor low high b : ℕ) (after : Option ℕ) (lists : Lists) (slot : ℕ) (e : Entry) (rest : List Row)
-    (between : AreBetween g cursor low high lists) (is : behind after (chain_of lists b) ≡ row slot e ∷ rest) where
+module _ (g : Geometry) (cursor low high b : ℕ) (after : Option ℕ) (lists : Lists) (slot : ℕ) (e : Entry) (rest : List SlotRow)
+    (between : AreBetween g cursor low high lists) (is : all_or_behind after (chain_of lists b) ≡ row slot e ∷ rest) where
   pub next_block : e.offset ≤ g.content
   next_block =
       let P : Entry → Type 0 = λ k. stands_between g cursor low high k ≡ true in
-      let all = subst (All (λ (r : Row). P r.entry)) is (behind_all P after (chain_of lists b) (chain_all P 0 b lists.chains between)) in
-      let here : P (unlinked e) = All-head (λ (r : Row). P r.entry) (row slot e) rest all in
+      let all =
+      subst (All (λ (r : SlotRow). P r.entry)) is (behind_all P after (chain_of lists b) (chain_all P 0 b lists.chains between)) in
+      let here : P (unlinked e) = All-head (λ (r : SlotRow). P r.entry) (row slot e) rest all in
       block_few g (unlinked e) (parts_between g cursor low high (unlinked e) here).0
 
 pub same_row : (g : Geometry) (cursor s b : ℕ) (e : Entry) → row_of_entry g cursor s b (unlinked e) ≡ row_of_entry g cursor s b e
@@ -117,7 +118,7 @@ each_has g segments widths i lt =
     omega (arith, wide, g.accepted.buckets_fit.0)
 
 -- behind the last segment no row is left
-behind_none : (after : Option ℕ) → behind after [] ≡ []
+behind_none : (after : Option ℕ) → all_or_behind after [] ≡ []
 behind_none None = refl
 behind_none (Some slot) = refl
 
@@ -125,9 +126,10 @@ pub over_all : (d : Packed) (w : AllWalk) → length d.segments ≤ w.segment �
 over_all d w le =
     let empty : segment_at d.segments w.segment ≡ none = get_or-eq_default d.segments none le in
     let over : drop (suc w.segment) d.segments ≡ [] = drop_all (suc w.segment) d.segments (omega (arith, le)) in
-    let nil : List (List Row) = [] in
+    let nil : List (List SlotRow) = [] in
     let short : drop (suc w.bucket) nil ≡ nil = drop_all (suc w.bucket) nil (omega arith) in
-    (λ i. map (λ (r : Row). row_of_entry d.geometry d.cursor w.segment w.bucket r.entry) (behind w.after (chain_of (empty i) w.bucket))
+    (λ i. map (λ (r : SlotRow). row_of_entry d.geometry d.cursor w.segment w.bucket r.entry)
+    (all_or_behind w.after (chain_of (empty i) w.bucket))
     ++ (map (row_at d.geometry d.cursor w.segment) (entries_from (suc w.bucket) (drop (suc w.bucket) (empty i).chains)) ++ rows_of_segments d.geometry d.cursor (suc w.segment) (over i)))
-    ∙ (λ i. map (λ (r : Row). row_of_entry d.geometry d.cursor w.segment w.bucket r.entry) (behind_none w.after i)
+    ∙ (λ i. map (λ (r : SlotRow). row_of_entry d.geometry d.cursor w.segment w.bucket r.entry) (behind_none w.after i)
     ++ (map (row_at d.geometry d.cursor w.segment) (entries_from (suc w.bucket) (short i)) ++ []))

@@ -1,6 +1,6 @@
 -- What a walk over all rows has left.
 use Rattle.std.specs.Prelude.{ℕ, suc, ◌≡◌, ◌-◌, ◌*◌, ◌<◌, ◌≤◌, true, List, ◌++◌, map, drop, IfSome}
-use Rattle.dir_segment.specs.Lists.{Row, chain_of, behind, has_slot}
+use Rattle.dir_segment.specs.Lists.{SlotRow, chain_of, all_or_behind, has_slot}
 use Rattle.tape_base.specs.declared.geometries.Geometry.{Geometry}
 use Rattle.dir_table.specs.declared.rows.StoredRow.{StoredRow}
 use Rattle.packed_directory.specs.declared.walks.AllWalk.{AllWalk}
@@ -9,8 +9,8 @@ use Rattle.packed_directory.specs.StoredRows.{row_of_entry, rows_of_segments}
 use Rattle.packed_directory.specs.Packed.{Packed, segment_at}
 
 -- the rows of its chain behind the one at which a walk stands
-abbrev pub chain_left : Packed → AllWalk → List Row
-chain_left d w = behind w.after (chain_of (segment_at d.segments w.segment) w.bucket)
+abbrev pub chain_left : Packed → AllWalk → List SlotRow
+chain_left d w = all_or_behind w.after (chain_of (segment_at d.segments w.segment) w.bucket)
 
 -- the rows of the buckets of a segment from one on, and those of the later segments
 abbrev pub rows_from_bucket : Packed → ℕ → ℕ → List StoredRow

@@ -2,7 +2,7 @@
 use Rattle.std.specs.Prelude.{ℕ, ◌≡◌, Bool, true, false, List, [], ◌∷◌, ◌++◌, length, map}
 use Rattle.std.specs.List.Sorted.{IsPermutation}
 use Rattle.dir_entry.specs.declared.entry.Entry.{Entry}
-use Rattle.dir_segment.specs.Lists.{Row, Lists, IsFull}
+use Rattle.dir_segment.specs.Lists.{SlotRow, Lists, IsFull}
 use Rattle.dir_segment.specs.Entries.{housed}
 use Rattle.dir_segment.specs.Purging.{purged, tenth_of}
 
@@ -12,11 +12,11 @@ pub record BucketEntry : Type 0 where
   pub entry : Entry
 
 -- the entries of the chains from a bucket on, by bucket and along each chain
-abbrev pub entries_from : ℕ → List (List Row) → List BucketEntry
+abbrev pub entries_from : ℕ → List (List SlotRow) → List BucketEntry
 entries_from bucket chains = map (λ h. record { bucket = h.bucket; entry = h.row.entry }) (housed bucket chains)
 
 -- a segment takes an entry in, and these entries go out
-pub record Enters (it : BucketEntry) (gone : List BucketEntry) (before after : Lists) : Type 0 where
+pub record EntersSegment (it : BucketEntry) (gone : List BucketEntry) (before after : Lists) : Type 0 where
   pub left : List BucketEntry
   pub parted : IsPermutation (entries_from 0 before.chains) (gone ++ left)
   pub entered : IsPermutation (it ∷ left) (entries_from 0 after.chains)
@@ -34,5 +34,5 @@ GoOut false gone before bucket = (IsFull before bucket → ⊥) × (gone ≡ [])
 pub record TakesIn (it : BucketEntry) (purged : Bool) (out : List Entry) (before after : Lists) : Type 0 where
   pub gone : List BucketEntry
   pub told : map (λ g. g.entry) gone ≡ out
-  pub enters : Enters it gone before after
+  pub enters : EntersSegment it gone before after
   pub due : GoOut purged gone before it.bucket

@@ -4,13 +4,13 @@ use Rattle.std.proofs.Common.{sym, ap, subst, ◌∙◌, inl, inr}
 use Rattle.std.proofs.lemmas.Bool.{cases_lt}
 use Rattle.std.proofs.Math.Nat.{le_antisymm}
 use Rattle.tape_base.specs.declared.geometries.Geometry.{Geometry}
-use Rattle.dir_segment.specs.Image.{Marks, image_walk, IsSound}
+use Rattle.dir_segment.specs.Image.{Marks, image_walk, WalkIsSound}
 use Rattle.dir_segment.specs.declared.fault.SegmentFault.{SegmentFault}
-use Rattle.packed_directory.specs.PackedImage.{segment_image, IsImage, IsFirstFault}
+use Rattle.packed_directory.specs.PackedImage.{segment_image, IsImageOfSegments, IsFirstFault}
 
 -- a walk that ends with a fault is not sound
-abbrev pub unsound : (walk : Result Marks SegmentFault) (fault : SegmentFault) → walk ≡ Err fault → IsSound walk → ⊥
-unsound walk fault is sound = subst IsSound is sound
+abbrev pub unsound : (walk : Result Marks SegmentFault) (fault : SegmentFault) → walk ≡ Err fault → WalkIsSound walk → ⊥
+unsound walk fault is sound = subst WalkIsSound is sound
 
 -- the fault of a walk, or another
 abbrev pub fault_of : SegmentFault → Result Marks SegmentFault → SegmentFault
@@ -19,7 +19,7 @@ fault_of other (Err fault) = fault
 
 -- no image has a first fault
 abbrev pub no_image : (g : Geometry) (bytes : List ℕ) (n : ℕ) (fault : SegmentFault)
-    → IsImage g bytes → IsFirstFault g bytes n fault → ⊥
+    → IsImageOfSegments g bytes → IsFirstFault g bytes n fault → ⊥
 no_image g bytes n fault image first =
     unsound (image_walk g.buckets (segment_image g n bytes)) fault first.is (image n first.within)
 

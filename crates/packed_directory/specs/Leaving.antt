@@ -19,7 +19,7 @@ pub record LosesRow (test : StoredRow → Bool) (before after : List StoredRow) 
   pub left : IsPermutation (row ∷ after) before
 
 -- a row of the place is taken out of its segment, where there is one
-pub record TakesOut (g : Geometry) (cursor segment bucket tag place : ℕ) (found : Bool) (before after : List Lists) : Type 0 where
+pub record TakesOutOfSegment (g : Geometry) (cursor segment bucket tag place : ℕ) (found : Bool) (before after : List Lists) : Type 0 where
   pub stood : found ≡ list_any (is_row segment bucket tag place) (rows_of_segments g cursor 0 before)
   pub gone : found ≡ true → LosesRow (is_row segment bucket tag place) (rows_of_segments g cursor 0 before) (rows_of_segments g cursor 0 after)
   pub none : found ≡ false → after ≡ before

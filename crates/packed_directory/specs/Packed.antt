@@ -11,7 +11,7 @@ use Rattle.dir_table.specs.declared.window.Window.{Window}
 use Rattle.dir_table.specs.Displacement.{Displacement, none_displaced}
 use Rattle.dir_table.specs.Entering.{TakesRow}
 use Rattle.packed_directory.specs.Entering.{BucketEntry, entries_from}
-use Rattle.packed_directory.specs.Full.{is_full}
+use Rattle.packed_directory.specs.Full.{is_bucket_full}
 use Rattle.packed_directory.specs.Phases.{IsCursor, IsOfPlace, least_place, place_of_entry, has_block, stands_between}
 use Rattle.packed_directory.specs.StoredRows.{row_of_entry, rows_of_segments}
 
@@ -77,7 +77,7 @@ segment_at segments n = slice_index_or segments n (record { chains = []; free = 
 
 -- rows of a segment are those of the entries that a purge takes: of those behind the roots the first, the
 -- eleventh and so on, in slot order
-pub record ArePurged (g : Geometry) (cursor segment : ℕ) (lists : Lists) (gone : List StoredRow) : Type 0 where
+pub record EntriesArePurged (g : Geometry) (cursor segment : ℕ) (lists : Lists) (gone : List StoredRow) : Type 0 where
   pub its : List BucketEntry
   pub are : gone ≡ map (λ it. row_of_entry g cursor segment it.bucket it.entry) its
   pub entries : map (λ it. it.entry) its ≡ map (λ r. r.entry) (purged lists)
@@ -86,7 +86,7 @@ pub record ArePurged (g : Geometry) (cursor segment : ℕ) (lists : Lists) (gone
 abbrev pub GoesOut : Bool → Geometry → ℕ → Lists → StoredRow → List StoredRow → Type 0
 GoesOut true g cursor lists row gone =
     IsFull lists row.bucket × (length gone ≡ tenth_of g.buckets)
-    × All (λ r. r.segment ≡ row.segment) gone × ArePurged g cursor row.segment lists gone
+    × All (λ r. r.segment ≡ row.segment) gone × EntriesArePurged g cursor row.segment lists gone
 GoesOut false g cursor lists row gone = (IsFull lists row.bucket → ⊥) × (gone ≡ [])
 
 -- a row goes into its segment
@@ -94,7 +94,7 @@ pub record EntersRow (g : Geometry) (cursor : ℕ) (row : StoredRow) (purged : B
   pub gone : List StoredRow
   pub takes : TakesRow row gone (rows_of_segments g cursor 0 before) (rows_of_segments g cursor 0 after)
   pub told : map (λ r. r.place) gone ≡ map (place_of_entry g cursor) out
-  pub full : purged ≡ is_full g row.segment row.bucket (rows_of_segments g cursor 0 before)
+  pub full : purged ≡ is_bucket_full g row.segment row.bucket (rows_of_segments g cursor 0 before)
   pub due : GoesOut purged g cursor (segment_at before row.segment) row gone
   pub count : length after ≡ length before
   pub widths : All (λ lists. length lists.chains ≡ g.buckets) after

@@ -3,7 +3,7 @@ use Rattle.std.specs.Prelude.{ℕ, suc, ◌≡◌, ◌+◌, ◌*◌, ◌/◌, �
 use Rattle.std.specs.List.{range_with_len}
 use Rattle.tape_base.specs.declared.geometries.Geometry.{Geometry}
 use Rattle.dir_segment.specs.Lists.{Lists, entry_count}
-use Rattle.dir_segment.specs.Image.{image_lists, image_walk, IsSound}
+use Rattle.dir_segment.specs.Image.{image_lists, image_walk, WalkIsSound}
 use Rattle.dir_segment.specs.declared.fault.SegmentFault.{SegmentFault}
 use Rattle.packed_directory.specs.declared.fault.ImageFault.{ImageFault}
 use Rattle.packed_directory.specs.declared.fault.ImageFault.TheVariants.{Segment, Memory}
@@ -37,13 +37,13 @@ abbrev pub entries_in : List Lists → ℕ
 entries_in segments = sum_by (λ lists. entry_count lists.chains) segments
 
 -- the walks over all segments end without a fault
-abbrev pub IsImage : Geometry → List ℕ → Type 0
-IsImage g bytes = (n : ℕ) → n < g.segments → IsSound (image_walk g.buckets (segment_image g n bytes))
+abbrev pub IsImageOfSegments : Geometry → List ℕ → Type 0
+IsImageOfSegments g bytes = (n : ℕ) → n < g.segments → WalkIsSound (image_walk g.buckets (segment_image g n bytes))
 
 -- the first segment with a fault, and its first fault
 pub record IsFirstFault (g : Geometry) (bytes : List ℕ) (number : ℕ) (fault : SegmentFault) : Type 0 where
   pub within : number < g.segments
-  pub before : (n : ℕ) → n < number → IsSound (image_walk g.buckets (segment_image g n bytes))
+  pub before : (n : ℕ) → n < number → WalkIsSound (image_walk g.buckets (segment_image g n bytes))
   pub is : image_walk g.buckets (segment_image g number bytes) ≡ Err fault
 
 -- why bytes are no image, or memory ran out

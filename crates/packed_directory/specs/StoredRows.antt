@@ -39,15 +39,15 @@ entry_of_row g row = record {
 }
 
 -- the rows of a segment, by bucket and along each chain
-abbrev pub rows_of_segment : Geometry → ℕ → ℕ → Lists → List StoredRow
-rows_of_segment g cursor segment lists =
+abbrev pub stored_rows_of_segment : Geometry → ℕ → ℕ → Lists → List StoredRow
+stored_rows_of_segment g cursor segment lists =
     map (λ it. row_of_entry g cursor segment it.bucket it.entry) (entries_from 0 lists.chains)
 
 -- the rows of the segments from one on, segment by segment
 abbrev pub rows_of_segments : Geometry → ℕ → ℕ → List Lists → List StoredRow
 rows_of_segments g cursor segment [] = []
 rows_of_segments g cursor segment (lists ∷ rest) =
-    rows_of_segment g cursor segment lists ++ rows_of_segments g cursor (suc segment) rest
+    stored_rows_of_segment g cursor segment lists ++ rows_of_segments g cursor (suc segment) rest
 
 -- the row stands under this segment, bucket and tag
 abbrev pub is_spot : ℕ → ℕ → ℕ → StoredRow → Bool

@@ -1,7 +1,7 @@
 // The bytes of a packed directory, and what they say.
 ghost use Rattle.std.specs.Prelude.{◌≡◌, ℕ, ◌+◌, ◌*◌, ◌≤◌, ◌<◌, ◌++◌, ◌∷◌, [], length, take, drop, replicate, ◌-◌, All, IfOk, IfErr, OnOk};
-ghost use Rattle.dir_segment.specs.Image.{image_lists, image_walk, IsFault, IsSound};
-ghost use Rattle.packed_directory.specs.PackedImage.{segment_length, segment_image, image_segments, entries_in, IsImage, IsImageFault, IsFirstFault};
+ghost use Rattle.dir_segment.specs.Image.{image_lists, image_walk, IsFault, WalkIsSound};
+ghost use Rattle.packed_directory.specs.PackedImage.{segment_length, segment_image, image_segments, entries_in, IsImageOfSegments, IsImageFault, IsFirstFault};
 
 use crate::fault::ImageFault;
 use dir_segment::{Segment, SegmentFault};
@@ -25,10 +25,10 @@ fn read_segment(
     requires within { number < g.now.segments }
     requires len { g.now.segments * segment_length g.now ≤ length bytes.now }
     requires before { (n : ℕ) → n < number
-        → IsSound (image_walk g.now.buckets (segment_image g.now n bytes.now)) }
+        → WalkIsSound (image_walk g.now.buckets (segment_image g.now n bytes.now)) }
     ensures lists { IfOk result (λ s. s ≡ image_lists g.now.buckets (segment_image g.now number bytes.now)) }
     ensures width { IfOk result (λ s. length s.chains ≡ g.now.buckets) }
-    ensures sound { OnOk result (IsSound (image_walk g.now.buckets (segment_image g.now number bytes.now))) }
+    ensures sound { OnOk result (WalkIsSound (image_walk g.now.buckets (segment_image g.now number bytes.now))) }
     ensures fault { IfErr result (λ f. IsImageFault g.now bytes.now f) }
 {
     let length = segment_length(g);
@@ -63,7 +63,7 @@ fn push(segments: &mut Vec<Segment>, segment: Segment) -> Result<(), AllocError>
 pub fn read_segments(alloc: Global, g: &Geometry, bytes: &[u8]) -> Result<Vec<Segment>, ImageFault>
     requires len { g.now.segments * segment_length g.now ≤ length bytes.now }
     ensures segments { IfOk result (λ all. all.items ≡ image_segments g.now bytes.now) }
-    ensures sound { OnOk result (IsImage g.now bytes.now) }
+    ensures sound { OnOk result (IsImageOfSegments g.now bytes.now) }
     ensures widths { IfOk result (λ all. All (λ l. length l.chains ≡ g.now.buckets) all.items) }
     ensures fault { IfErr result (λ f. IsImageFault g.now bytes.now f) }
 {
@@ -95,7 +95,7 @@ fn put(segment: &Segment, start: usize, len: usize, into: &mut [u8])
     ensures before { take start into.new ≡ take start into.old }
     ensures lists { image_lists (length segment.now.chains) (take len (drop start into.new))
         ≡ segment.now }
-    ensures sound { IsSound (image_walk (length segment.now.chains) (take len (drop start into.new))) }
+    ensures sound { WalkIsSound (image_walk (length segment.now.chains) (take len (drop start into.new))) }
 {
     segment.to_bytes(&mut into[start..start + len]);
 }
@@ -116,7 +116,7 @@ pub fn write_segments(g: &Geometry, segments: &[Segment], into: &mut [u8])
     requires widths { All (λ l. length l.chains ≡ g.now.buckets) segments.now }
     requires len { g.now.segments * segment_length g.now ≤ length into.old }
     ensures segments { image_segments g.now into.new ≡ segments.now }
-    ensures sound { IsImage g.now into.new }
+    ensures sound { IsImageOfSegments g.now into.new }
     ensures zero { let end = g.now.segments * segment_length g.now in
         drop end into.new ≡ replicate (length into.old - end) 0 }
 {

@@ -1,6 +1,6 @@
 // A directory of packed entries.
 ghost use Rattle.std.specs.Prelude.{◌≡◌, ℕ, [], ◌∷◌, IfSome, IfNone, ◌+◌, ◌-◌, ◌*◌, ◌^◌, ◌<◌, ◌≤◌, true, false, length, map, drop, replicate, All, IfOk, IfErr, OnOk};
-ghost use Rattle.dir_entry.specs.Layout.{IsEntry};
+ghost use Rattle.dir_entry.specs.Layout.{EntryFits};
 ghost use Rattle.std.specs.Bool.{OnTrue};
 ghost use Rattle.std.specs.List.{list_any};
 ghost use Rattle.tape_base.specs.Place.{lap_of, lap_end_of};
@@ -8,10 +8,10 @@ ghost use Rattle.dir_table.specs.Candidates.{GivesFirst};
 ghost use Rattle.dir_table.specs.Displacement.{none_displaced};
 ghost use Rattle.dir_table.specs.Rows.{has_row, plain_rows, LosesPlain};
 ghost use Rattle.dir_table.specs.Wrap.{stored_from};
-ghost use Rattle.packed_directory.specs.Leaving.{is_row, LosesRow, TakesOut};
+ghost use Rattle.packed_directory.specs.Leaving.{is_row, LosesRow, TakesOutOfSegment};
 ghost use Rattle.packed_directory.specs.Phases.{IsCursor, least_place, place_of_entry, has_block};
 ghost use Rattle.packed_directory.specs.StoredRows.{entry_of_row};
-ghost use Rattle.packed_directory.specs.PackedImage.{image_blocks_of, image_segments, segment_length, entries_in, means, IsImage, IsImageFault};
+ghost use Rattle.packed_directory.specs.PackedImage.{image_blocks_of, image_segments, segment_length, entries_in, means, IsImageOfSegments, IsImageFault};
 ghost use Rattle.packed_directory.specs.AllWalks.{IsAllWalk, chain_left, rows_ahead, buckets_ahead};
 ghost use Rattle.packed_directory.specs.Cleaned.{AreCleaned};
 ghost use Rattle.dir_segment.specs.Entries.{AreCounted};
@@ -63,7 +63,7 @@ fn enter(
     requires bucket { row.now.bucket < beside.now.geometry.buckets }
     requires widths { All (λ lists. length lists.chains ≡ beside.now.geometry.buckets)
         segments.old.items }
-    requires entry { IsEntry (entry_of_row beside.now.geometry row.now) }
+    requires entry { EntryFits (entry_of_row beside.now.geometry row.now) }
     requires place { let g = beside.now.geometry in
         place_of_entry g beside.now.cursor (entry_of_row g row.now) ≡ row.now.place }
     requires made { purge.old.buckets ≡ beside.now.geometry.buckets }
@@ -118,7 +118,8 @@ fn take_out(beside: &Beside, segments: &mut Vec<Segment>, spot: &Spot, place: u6
     requires least { least_place beside.now.geometry beside.now.cursor ≤ place }
     requires lap { lap_of beside.now.geometry place
         ≤ lap_of beside.now.geometry beside.now.cursor }
-    ensures { TakesOut beside.now.geometry beside.now.cursor spot.now.segment spot.now.bucket
+    ensures { TakesOutOfSegment beside.now.geometry beside.now.cursor spot.now.segment
+        spot.now.bucket
         spot.now.tag place result segments.old.items segments.new.items }
 {
     let g = &beside.geometry;
@@ -308,7 +309,7 @@ impl PackedDirectory {
         requires len { length into.old ≡ 512 * image_blocks_of self.now.geometry }
         requires next { (self.now.end ≤ cursor)
             × (cursor ≤ lap_end_of self.now.geometry self.now.cursor) }
-        ensures sound { IsImage self.now.geometry into.new }
+        ensures sound { IsImageOfSegments self.now.geometry into.new }
         ensures low { let g = self.now.geometry in least_place g cursor ≤ cursor - g.content }
         ensures rows { means self.now.geometry cursor into.new
             ≡ stored_from (least_place self.now.geometry cursor) (packed_rows self.now) }
@@ -340,7 +341,7 @@ impl PackedDirectory {
           segments = d.segments;
           out = none_displaced;
         }) }
-        ensures sound { OnOk result (IsImage g.now bytes.now) }
+        ensures sound { OnOk result (IsImageOfSegments g.now bytes.now) }
         ensures fault { IfErr result (λ f. IsImageFault g.now bytes.now f) }
     {
         let mut segments = read_segments(alloc, g, bytes)?;
@@ -357,7 +358,7 @@ impl PackedDirectory {
     fn count_image(alloc: Global, g: &Geometry, bytes: &[u8]) -> Result<u64, ImageFault>
         requires len { length bytes.now ≡ 512 * image_blocks_of g.now }
         ensures count { IfOk result (λ n. n ≡ entries_in (image_segments g.now bytes.now)) }
-        ensures sound { OnOk result (IsImage g.now bytes.now) }
+        ensures sound { OnOk result (IsImageOfSegments g.now bytes.now) }
         ensures fault { IfErr result (λ f. IsImageFault g.now bytes.now f) }
     {
         let segments = read_segments(alloc, g, bytes)?;
@@ -462,13 +463,13 @@ impl Directory for PackedDirectory {
 impl StoredDirectory for PackedDirectory {
     ghost use Rattle.packed_directory.specs.FirstFault.{no_image, one_fault};
     ghost use Rattle.packed_directory.specs.AllWalks.{IsAllWalk, rows_ahead};
-    ghost use Rattle.packed_directory.specs.PackedImage.{image_blocks_of, segments_length, image_segments, entries_in, means, IsImage, IsImageFault};
+    ghost use Rattle.packed_directory.specs.PackedImage.{image_blocks_of, segments_length, image_segments, entries_in, means, IsImageOfSegments, IsImageFault};
 
     ghost blocks = { image_blocks_of };
 
     ghost telling = { segments_length };
 
-    ghost is_image = { IsImage };
+    ghost is_image = { IsImageOfSegments };
 
     ghost refuses = { IsImageFault };
 

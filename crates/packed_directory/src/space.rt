@@ -1,6 +1,6 @@
 // One segment: what an entry pushes out.
 ghost use Rattle.std.specs.Prelude.{◌≡◌, ◌<◌, [], length};
-ghost use Rattle.dir_entry.specs.Layout.{IsEntry};
+ghost use Rattle.dir_entry.specs.Layout.{EntryFits};
 ghost use Rattle.dir_segment.specs.Entries.{AreCounted};
 ghost use Rattle.dir_segment.specs.Lists.{unlinked};
 ghost use Rattle.packed_directory.specs.Cleaned.{IsCleaned};
@@ -24,7 +24,7 @@ fn forget(out: &mut PurgeList)
 /// Puts an entry into a segment, and says whether a tenth of the others had to go first.
 pub fn take_in(segment: &mut Segment, bucket: u32, entry: Entry, out: &mut PurgeList) -> bool
     requires bucket { bucket < length segment.old.chains }
-    requires entry { IsEntry entry }
+    requires entry { EntryFits entry }
     requires some { 0 < entry.offset }
     requires made { out.old.buckets ≡ length segment.old.chains }
     ensures takes { TakesIn (record { bucket = bucket; entry = unlinked entry }) result

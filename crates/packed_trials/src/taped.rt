@@ -1,6 +1,6 @@
 // A directory beside the tape whose pieces it has.
 ghost use Rattle.std.specs.Prelude.{◌≡◌, ◌+◌, ◌≤◌, ◌<◌, ◌^◌, [], true, IfOk};
-ghost use Rattle.dir_table.specs.Window.{IsNext};
+ghost use Rattle.dir_table.specs.Window.{IsNextPlace};
 ghost use Rattle.dir_table.specs.Candidates.{candidates_of};
 ghost use Rattle.dir_table.specs.Rows.{plain_rows};
 
@@ -62,7 +62,7 @@ impl<D: Directory + Drop> Taped<D> {
     fn has_room(&self, blocks: u32) -> bool
         ensures some { result ≡ true → 1 ≤ blocks }
         ensures few { result ≡ true → blocks ≤ self.now.geometry.agg }
-        ensures next { result ≡ true → IsNext (D.window self.now.directory) self.now.end }
+        ensures next { result ≡ true → IsNextPlace (D.window self.now.directory) self.now.end }
         ensures bound { result ≡ true → self.now.end + blocks < 2 ^ 64 }
     {
         let g = &self.geometry;

@@ -7,7 +7,7 @@ use Rattle.tape_base.specs.declared.keys.Key.{Key}
 use Rattle.tape_base.specs.declared.geometries.BadGeometry.{BadGeometry}
 use Rattle.tape_base.specs.Limits.{first_refusal}
 use Rattle.alternate_vector.specs.Field.{Field}
-use Rattle.actor_table.specs.Table.{number_of, same_name, with_actor}
+use Rattle.actor_table.specs.Table.{number_of_name, same_name, with_actor}
 use Rattle.cache_model.specs.declared.record.Rec.{Rec}
 use Rattle.cache_model.specs.declared.record.Rec.TheVariants as rec
 use Rattle.cache_model.specs.State.{State, ReaderRow, AllAlong, after_all, reader_of, state_after}
@@ -22,11 +22,11 @@ use Rattle.script_lang.specs.Grammar.{reading_of}
 use Rattle.script_run.specs.Run.{Holding, Reads, Run, Writes, actor_of, fresh, held_by, reader_by, reader_in, with_value}
 use Rattle.script_run.specs.Asked.{asked}
 use Rattle.script_run.specs.Turn.{Turn}
-use Rattle.script_run.specs.Behind.{after_format, after_line, after_reading, behind, held_behind, holds_behind, in_session, or_else, reader_at, still_open, writer_at}
+use Rattle.script_run.specs.Behind.{after_format, after_line, after_reading, behind, held_behind, holds_behind, in_session, open_reader_at, or_else, still_open, writer_at}
 use Rattle.script_run.specs.Takes.{IsRun, ReadingTakes, SessionTakes, Takes, run_after}
 use Rattle.script_run.proofs.Values.{value_by}
 use Rattle.reader_laws.specs.Along.{KeepsSession, begins_session}
-use Rattle.reader_laws.specs.Given.{given_in, given_to, given_where}
+use Rattle.reader_laws.specs.Given.{given_by_line, given_to, given_where}
 use Rattle.reader_laws.specs.Actors.{asked_by, given_by_name}
 use Rattle.reader_laws.proofs.Beside.{AllBeside, AllOther, AnyNumber, IsBeside, IsOther, grown_beside}
 use Rattle.reader_laws.proofs.Fronts.{own_begun}
@@ -65,7 +65,7 @@ pub record OpensHere (run : Run) (s t : State) (name : List ℕ) (st : Step) (n 
   pub found : reader_of t s.next_reader ≡ Some r
 
 opened_by : (run : Run) (s t : State) (name : List ℕ) (key : Key) (request : List Field) (n : ℕ) (o : Option Holding) → held_by run name ≡ o
-    → or_else o (reader_at t s.next_reader) ≡ Some (Reads n)
+    → or_else o (open_reader_at t s.next_reader) ≡ Some (Reads n)
     → (o ≡ Some (Reads n)) ⊎ OpensHere run s t name (step.OpenRead name key request) n
 opened_by run s t name key request n (Some holding) e h = inl h
 opened_by run s t name key request n None e h =
@@ -98,7 +98,7 @@ module _ (k n : ℕ) where
 
   pub record Makes (run : Run) (turn : Turn) (l : LineAnswer) : Type 0 where
     pub name : List ℕ
-    pub numbered : number_of run.actors name ≡ k
+    pub numbered : number_of_name run.actors name ≡ k
     pub s : State
     pub state : run.state ≡ Some s
     pub st : Step
@@ -110,7 +110,7 @@ module _ (k n : ℕ) where
       → Has run ⊎ Makes run turn (line.Step st)
   held_before run turn s st None e is h = inl h
   held_before run turn s st (Some name) e is h =
-      value_by (λ (x : Option Holding). x ≡ Some (Reads n) → Has run ⊎ Makes run turn (line.Step st)) (holds_behind run s (after_all s turn.added) st name) (run.held k) k (number_of run.actors name)
+      value_by (λ (x : Option Holding). x ≡ Some (Reads n) → Has run ⊎ Makes run turn (line.Step st)) (holds_behind run s (after_all s turn.added) st name) (run.held k) k (number_of_name run.actors name)
       (λ same has. elim (holds_by run s (after_all s turn.added) st name n is has) [
         | inl before ↦ inl (ap run.held same ∙ before)
         | inr opens ↦ inr (record { name = name; numbered = sym same; s = s; state = e; st = st; is = refl; opens = opens })
@@ -157,8 +157,8 @@ run_extends (bytes ∷ lines) (turn ∷ turns) run is =
 
 -- the name of an actor that has come is known, with this number
 pub record IsKnown (run : Run) (name : List ℕ) (k : ℕ) : Type 0 where
-  pub number : number_of run.actors name ≡ k
-  pub known : number_of run.actors name < 1 + length run.actors
+  pub number : number_of_name run.actors name ≡ k
+  pub known : number_of_name run.actors name < 1 + length run.actors
 
 pub known_on : (run after : Run) (name : List ℕ) (k : ℕ) → Extends run.actors after.actors → IsKnown run name k → IsKnown after name k
 known_on run after name k more h = let on = known_kept run.actors after.actors name more h.known in record { number = on.0 ∙ h.number; known = on.1 }
@@ -172,8 +172,8 @@ known_opened k n run turn l m =
     ∙ ap (λ (o : Option State). (behind run turn o (step.OpenRead m.name m.opens.key m.opens.request)).actors) m.state) in
     let h : HasCome run.actors (with_actor run.actors m.name) m.name = come run.actors m.name in
     record {
-      number = ap (λ (xs : List (List ℕ)). number_of xs m.name) actors ∙ (h.number ∙ m.numbered);
-      known = subst (λ (xs : List (List ℕ)). number_of xs m.name < 1 + length xs) (sym actors) h.known;
+      number = ap (λ (xs : List (List ℕ)). number_of_name xs m.name) actors ∙ (h.number ∙ m.numbered);
+      known = subst (λ (xs : List (List ℕ)). number_of_name xs m.name < 1 + length xs) (sym actors) h.known;
     }
 
 -- ---- no two actors have one reader
@@ -212,7 +212,7 @@ module _ (laws : OfKept) (run : Run) (turn : Turn) where
     abbrev IsOldOrNext : ℕ → ℕ → Type 0
     IsOldOrNext k m = (run.held k ≡ Some (Reads m)) ⊎ ((s.next_reader ≡ m) × (m < Behind.next_reader))
 
-    old_or_next : (name : List ℕ) (m : ℕ) → actor_of st ≡ Some name → holds_behind run s Behind st name ≡ Some (Reads m) → IsOldOrNext (number_of run.actors name) m
+    old_or_next : (name : List ℕ) (m : ℕ) → actor_of st ≡ Some name → holds_behind run s Behind st name ≡ Some (Reads m) → IsOldOrNext (number_of_name run.actors name) m
     old_or_next name m is has = elim (holds_by run s Behind st name m is has) [
       | inl before ↦ inl before
       | inr o ↦
@@ -247,11 +247,11 @@ module _ (laws : OfKept) (run : Run) (turn : Turn) where
     apart_behind : (o : Option (List ℕ)) → actor_of st ≡ o → (i j m : ℕ) → held_behind run s Behind st o i ≡ Some (Reads m)
         → held_behind run s Behind st o j ≡ Some (Reads m) → i ≡ j
     apart_behind None is i j m = h.apart i j m
-    apart_behind (Some name) is i j m = apart_by (number_of run.actors name) (holds_behind run s Behind st name) (λ x has. old_or_next name x is has) i j m
+    apart_behind (Some name) is i j m = apart_by (number_of_name run.actors name) (holds_behind run s Behind st name) (λ x has. old_or_next name x is has) i j m
 
     below_behind : (o : Option (List ℕ)) → actor_of st ≡ o → (i m : ℕ) → held_behind run s Behind st o i ≡ Some (Reads m) → m < Behind.next_reader
     below_behind None is i m has = (let below : m < s.next_reader = h.below s e i m has in omega (arith, below, on))
-    below_behind (Some name) is i m has = below_by (number_of run.actors name) (holds_behind run s Behind st name) (λ x now. old_or_next name x is now) i m has
+    below_behind (Some name) is i m has = below_by (number_of_name run.actors name) (holds_behind run s Behind st name) (λ x now. old_or_next name x is now) i m has
 
     step_apart : AreApart (in_session run s Behind turn st)
     step_apart = record {
@@ -298,8 +298,8 @@ module _ (name : List ℕ) (k n : ℕ) (run : Run) (turn : Turn) (h : AreApart r
   others_none actor given None other e = refl
   others_none actor given (Some m) other e = value_by (λ (xs : List ℕ). xs ≡ []) given [] m n
       (λ same.
-      let held : run.held (number_of run.actors actor) ≡ Some (Reads n) = reader_held (run.held (number_of run.actors actor)) n (e ∙ ap Some same) in
-      let number : number_of run.actors name ≡ number_of run.actors actor = known.number ∙ h.apart k (number_of run.actors actor) n has held in
+      let held : run.held (number_of_name run.actors actor) ≡ Some (Reads n) = reader_held (run.held (number_of_name run.actors actor)) n (e ∙ ap Some same) in
+      let number : number_of_name run.actors name ≡ number_of_name run.actors actor = known.number ∙ h.apart k (number_of_name run.actors actor) n has held in
       absurd (other_text actor name (sym other) (sym (same_number run.actors name actor number known.known))))
       (λ apart. refl)
 
@@ -310,7 +310,7 @@ module _ (name : List ℕ) (k n : ℕ) (run : Run) (turn : Turn) (h : AreApart r
       ∙ (ap (given_where n turn.given) own_reader ∙ value_by (λ (xs : List ℕ). xs ≡ turn.given) turn.given [] n n (λ e. refl) (λ other. absurd (other refl)))
   next_given actor false e = others_none actor turn.given (reader_by run actor) e refl
 
-  line_given : (l : LineAnswer) → given_in n run turn l ≡ asked_by name l turn.given
+  line_given : (l : LineAnswer) → given_by_line n run turn l ≡ asked_by name l turn.given
   line_given (line.Step (step.Next actor)) = next_given actor (same_name actor name) refl
   line_given (line.Step _) = refl
   line_given line.Nothing = refl

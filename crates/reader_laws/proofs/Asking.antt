@@ -8,7 +8,7 @@ use Rattle.cache_model.specs.Verdict.{cuts_of}
 use Rattle.cache_model.specs.Permit.{Intent, Fragment, Overflow}
 use Rattle.cache_model.proofs.Steps.{all_append}
 use Rattle.script_run.specs.Run.{Holding, Run, gathered_of}
-use Rattle.script_run.specs.Asked.{body_intents, close_intents, closing, cut_intents, feed_intents, feeding, get_intents, if_free, if_has, put_intents, rest_behind, whole_fragments}
+use Rattle.script_run.specs.Asked.{asks_if_free, asks_if_has, body_intents, close_intents, closing, cut_intents, feed_intents, feeding, get_intents, put_intents, rest_behind, whole_fragments}
 use Rattle.reader_laws.proofs.Beside.{AllOther, IsOther}
 
 module _ (R P : ℕ → Type 0) where
@@ -43,11 +43,12 @@ module _ (R P : ℕ → Type 0) where
   pub get_other : (s : State) (key : Key) (request : List Field) → R s.next_reader → AllOther R P (get_intents s key request)
   get_other s key request of = (tt, (of, (of, tt)))
 
-  pub free_other : (o : Option Holding) (i : Intent) → IsOther R P i → AllOther R P (if_free o (i ∷ []))
+  pub free_other : (o : Option Holding) (i : Intent) → IsOther R P i → AllOther R P (asks_if_free o (i ∷ []))
   free_other None i h = (h, tt)
   free_other (Some holding) i h = tt
 
-  pub has_other : (o : Option ℕ) (i : ℕ → Intent) → ((k : ℕ) → o ≡ Some k → IsOther R P (i k)) → AllOther R P (if_has o (λ k. i k ∷ []))
+  pub has_other : (o : Option ℕ) (i : ℕ → Intent) → ((k : ℕ) → o ≡ Some k → IsOther R P (i k))
+      → AllOther R P (asks_if_has o (λ k. i k ∷ []))
   has_other None i h = tt
   has_other (Some k) i h = (h k refl, tt)
 
@@ -55,11 +56,12 @@ module _ (R P : ℕ → Type 0) where
   fed_by true is h = tt
   fed_by false is h = h
 
-  pub feeding_other : (run : Run) (s : State) (body : List ℕ) (o : Option ℕ) → ((put : ℕ) → o ≡ Some put → P put) → AllOther R P (if_has o (feeding run s body))
+  pub feeding_other : (run : Run) (s : State) (body : List ℕ) (o : Option ℕ) → ((put : ℕ) → o ≡ Some put → P put) → AllOther R P (asks_if_has o (feeding run s body))
   feeding_other run s body None of = tt
   feeding_other run s body (Some put) of =
       fed_by (run.streams put).sealed _ (cuts_other (length (gathered_of run s put ++ body)) s.geometry.fragment put (length (cuts_of s put)) (gathered_of run s put ++ body) (of put refl))
 
-  pub close_other : (run : Run) (s : State) (o : Option ℕ) → ((put : ℕ) → o ≡ Some put → P put) → AllOther R P (if_has o (closing run s))
+  pub close_other : (run : Run) (s : State) (o : Option ℕ) → ((put : ℕ) → o ≡ Some put → P put)
+      → AllOther R P (asks_if_has o (closing run s))
   close_other run s None of = tt
   close_other run s (Some put) of = closing_other put (length (cuts_of s put)) (gathered_of run s put) (of put refl)

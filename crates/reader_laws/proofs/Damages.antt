@@ -31,11 +31,11 @@ use Rattle.model_laws.specs.StepLaws.{IsOfGiven}
 use Rattle.model_laws.proofs.Unsynced.{clean_on, drain_on, never, step_on, sync_on, unmark_on}
 use Rattle.script_lang.specs.declared.step.Step.{Step}
 use Rattle.script_lang.specs.declared.step.Step.TheVariants as step
-use Rattle.script_run.specs.Run.{Run, Stream, fresh, held_by, reader_by, writer_of}
+use Rattle.script_run.specs.Run.{Run, Stream, fresh, held_by, put_written_by, reader_by}
 use Rattle.script_run.specs.Turn.{Turn}
-use Rattle.script_run.specs.Asked.{asked, if_has}
+use Rattle.script_run.specs.Asked.{asked, asks_if_has}
 use Rattle.script_run.specs.Laws.{NoneIsUnlike, ReadsKeep, is_reading}
-use Rattle.script_run.specs.Own.{AreKept}
+use Rattle.script_run.specs.Own.{ArePayloadsOwn}
 use Rattle.script_run.specs.Takes.{IsRun, SessionTakes, run_after}
 use Rattle.script_run.proofs.Carried.{all_filter}
 use Rattle.script_run.proofs.Finding.{found_in}
@@ -171,24 +171,24 @@ module _ (p : Permit) (s : State) where
 
   -- the fragment that a reader takes next, of what is kept
   module _ (unlike : NoneIsUnlike) (streams : ℕ → Stream) where
-    read_trouble : (t : State) (reader : ℕ) (r : ReaderRow) (row : Row) (entry : TableRow) (before : List Rec) (why : Cause) → Same t → AreKept t streams → 0 < r.next
+    read_trouble : (t : State) (reader : ℕ) (r : ReaderRow) (row : Row) (entry : TableRow) (before : List Rec) (why : Cause) → Same t → ArePayloadsOwn t streams → 0 < r.next
         → reader_of t reader ≡ Some r → next_row t r ≡ Some entry → live_row_of t (next_piece r) ≡ Some row → Legal.ReadTrouble p t row entry before why → AllTold before
     read_trouble t reader r row entry before why same kept some is_open next live (Legal.ReadTrouble.troubled b c x) = trouble t row before why same x
     read_trouble t reader r row entry before why same kept some is_open next live (Legal.ReadTrouble.mismatched found read other) =
         absurd (unlike t streams reader r entry row found kept some is_open next live other)
 
-    reading : (t : State) (reader : ℕ) (r : ReaderRow) (before : List Rec) (answer : NextAnswer) → Same t → AreKept t streams → 0 < r.next → reader_of t reader ≡ Some r
+    reading : (t : State) (reader : ℕ) (r : ReaderRow) (before : List Rec) (answer : NextAnswer) → Same t → ArePayloadsOwn t streams → 0 < r.next → reader_of t reader ≡ Some r
         → Legal.IsReading p t r before answer → AllTold before
     reading t reader r before answer same kept some is_open (Legal.IsReading.verdict x listed) = tt
     reading t reader r before answer same kept some is_open (Legal.IsReading.trouble entry row b why next live x) = read_trouble t reader r row entry before why same kept some is_open next live x
 
-    reads : (t : State) (reader : ℕ) (answer : NextAnswer) (added : List Rec) → Same t → AreKept t streams → ArePlaced t → Legal.MayReadOn p t reader answer added → AllTold added
+    reads : (t : State) (reader : ℕ) (answer : NextAnswer) (added : List Rec) → Same t → ArePayloadsOwn t streams → ArePlaced t → Legal.MayReadOn p t reader answer added → AllTold added
     reads t reader answer added same kept placed m =
         let some : 0 < m.r.next = found_in IsPlaced (λ (r : ReaderRow). r.reader == reader) t.readers m.r placed m.reading in
         adds added _ m.is (all_append IsTold m.before _ (reading t reader m.r m.before answer same kept some m.reading m.right) (answer_told reader answer, tt))
 
     -- what only reads
-    reads_told : (t : State) (i : Intent) (added : List Rec) (e : End) → is_reading i ≡ true → Same t → AreKept t streams → ArePlaced t → Does p t i added e → AllTold added
+    reads_told : (t : State) (i : Intent) (added : List Rec) (e : End) → is_reading i ≡ true → Same t → ArePayloadsOwn t streams → ArePlaced t → Does p t i added e → AllTold added
     reads_told t (Look actor key request) added e only same kept placed (Legal.DoesLook.looks m) = looked t actor key request added same m
     reads_told t (ReadOn reader) added e only same kept placed (Legal.DoesReadOn.reads_on answer m) = reads t reader answer added same kept placed m
     reads_told t (ReadAll reader) added e only same kept placed (Legal.DoesReadAll.reads_on answer x m y) = reads t reader answer added same kept placed m
@@ -249,7 +249,7 @@ module _ (p : Permit) (s : State) where
     module _ (unlike : NoneIsUnlike) (keep : ReadsKeep) (streams : ℕ → Stream) where
       -- what is asked reads no fragment, or does nothing but read of what is kept
       record IsReadOfKept (t : State) (is : List Intent) : Type 0 where
-        kept : AreKept t streams
+        kept : ArePayloadsOwn t streams
         placed : ArePlaced t
         only : OnlyReads is
 
@@ -299,7 +299,7 @@ unread_of _ h = tt
 unread : (is : List Intent) → AllOther NoNumber AnyNumber is → AreUnread is
 unread is h = all_as (IsOther NoNumber AnyNumber) IsUnread unread_of is h
 
-only_has : (o : Option ℕ) (i : ℕ → Intent) → ((k : ℕ) → is_reading (i k) ≡ true) → OnlyReads (if_has o (λ k. i k ∷ []))
+only_has : (o : Option ℕ) (i : ℕ → Intent) → ((k : ℕ) → is_reading (i k) ≡ true) → OnlyReads (asks_if_has o (λ k. i k ∷ []))
 only_has None i h = tt
 only_has (Some k) i h = (h k, tt)
 
@@ -311,9 +311,9 @@ asks_of run s (step.Format name segments buckets content agg reach fragment gene
 asks_of run s (step.Put key body request response) = other_asks run s (step.Put key body request response) (put_other NoNumber AnyNumber s key body request response tt)
 asks_of run s (step.Get key request) = inr (refl, (refl, (refl, tt)))
 asks_of run s (step.OpenWrite actor key pin request response) = other_asks run s (step.OpenWrite actor key pin request response) (free_other NoNumber AnyNumber (held_by run actor) (Write _ key request response pin) tt)
-asks_of run s (step.Feed actor body) = other_asks run s (step.Feed actor body) (feeding_other NoNumber AnyNumber run s body (writer_of run actor) (λ put e. tt))
-asks_of run s (step.Close actor) = other_asks run s (step.Close actor) (close_other NoNumber AnyNumber run s (writer_of run actor) (λ put e. tt))
-asks_of run s (step.Abort actor) = other_asks run s (step.Abort actor) (has_other NoNumber AnyNumber (writer_of run actor) (λ put. GiveUp put) (λ k e. tt))
+asks_of run s (step.Feed actor body) = other_asks run s (step.Feed actor body) (feeding_other NoNumber AnyNumber run s body (put_written_by run actor) (λ put e. tt))
+asks_of run s (step.Close actor) = other_asks run s (step.Close actor) (close_other NoNumber AnyNumber run s (put_written_by run actor) (λ put e. tt))
+asks_of run s (step.Abort actor) = other_asks run s (step.Abort actor) (has_other NoNumber AnyNumber (put_written_by run actor) (λ put. GiveUp put) (λ k e. tt))
 asks_of run s (step.OpenRead actor key request) = other_asks run s (step.OpenRead actor key request) (free_other NoNumber AnyNumber (held_by run actor) (Look _ key request) tt)
 asks_of run s (step.Next actor) = inr (only_has (reader_by run actor) (λ reader. ReadOn reader) (λ k. refl))
 asks_of run s (step.Done actor) = inr (only_has (reader_by run actor) (λ reader. StopReading reader) (λ k. refl))

@@ -19,11 +19,11 @@ use Rattle.cache_model.proofs.Found.{none_is, number_of, same_some}
 use Rattle.script_lang.specs.declared.answer.StepAnswer.TheVariants as answer
 use Rattle.script_lang.specs.declared.step.Step.TheVariants as step
 use Rattle.script_run.specs.Run.{Run, Stream, reader_by}
-use Rattle.script_run.specs.Asked.{if_has}
+use Rattle.script_run.specs.Asked.{asks_if_has}
 use Rattle.script_run.specs.Turn.{Turn, told_in}
 use Rattle.script_run.specs.Answers
 use Rattle.script_run.specs.Answers.{broken_said, next_said, step_answer, step_said}
-use Rattle.script_run.specs.Own.{AreKept, IsOwnPut, IsOwnReader, IsTableOf, IsTableOfHit}
+use Rattle.script_run.specs.Own.{ArePayloadsOwn, IsOwnPut, IsOwnReader, IsTableOf, IsTableOfHit}
 use Rattle.script_run.specs.Takes.{IsRun, SessionTakes, StepTakes, Takes, run_after}
 use Rattle.script_run.proofs.Finding.{found_in}
 use Rattle.script_run.proofs.Reading.{kept_is_followed, kept_is_given}
@@ -87,7 +87,7 @@ ended_is n p s added e given size (Legal.DoesReadOn.reads_on a m) h = record {
 -- ---- all was given
 
 -- the put of a table is complete, and its table has all that its writer took
-table_told : (s : State) (streams : ℕ → Stream) (put : ℕ) (table : List TableRow) → IsQuiet s → AreKept s streams → IsTableOf s put table → total_length table ≡ length (streams put).bytes
+table_told : (s : State) (streams : ℕ → Stream) (put : ℕ) (table : List TableRow) → IsQuiet s → ArePayloadsOwn s streams → IsTableOf s put table → total_length table ≡ length (streams put).bytes
 table_told s streams put table quiet own t =
     let p : IsOwnPut s streams t.w = own.puts put t.w t.found in
     let whole : total_length t.w.cuts ≡ length (streams t.w.put).bytes = elim t.complete [ inl closed ↦ p.whole closed | inr pending ↦ none_is (sym quiet ∙ pending) ] in
@@ -100,21 +100,21 @@ at_end s r size table none hit verdict =
     cc
 
 -- the table of a reader that hit something tells the length of all that the writer of its put took
-pub hit_told : (n : ℕ) (s : State) (streams : ℕ → Stream) (r : ReaderRow) (table : List TableRow) → r.table ≡ Some table → AreKept s streams → IsQuiet s → reader_of s n ≡ Some r
+pub hit_told : (n : ℕ) (s : State) (streams : ℕ → Stream) (r : ReaderRow) (table : List TableRow) → r.table ≡ Some table → ArePayloadsOwn s streams → IsQuiet s → reader_of s n ≡ Some r
     → total_length table ≡ length (streams r.put).bytes
 hit_told n s streams r table hit own quiet found =
     let o : IsOwnReader s r = found_in (IsOwnReader s) _ s.readers r own.readers found in
     table_told s streams r.put table quiet own (subst (IsTableOfHit s r) hit o.table)
 
 -- and so does the end that is told
-pub end_told : (n : ℕ) (s : State) (streams : ℕ → Stream) (r : ReaderRow) (size : ℕ) (o : Option (List TableRow)) → r.table ≡ o → AreKept s streams → IsQuiet s → reader_of s n ≡ Some r
+pub end_told : (n : ℕ) (s : State) (streams : ℕ → Stream) (r : ReaderRow) (size : ℕ) (o : Option (List TableRow)) → r.table ≡ o → ArePayloadsOwn s streams → IsQuiet s → reader_of s n ≡ Some r
     → reader_verdict s r ≡ next.Ended size → size ≡ length (streams r.put).bytes
 end_told n s streams r size (Some table) hit own quiet found verdict = sym (at_end s r size table (end_is_whole s r size verdict) hit verdict) ∙ hit_told n s streams r table hit own quiet found
 end_told n s streams r size None follows own quiet found verdict =
     let c = followed_is_closed s r size follows verdict in
     c.1.2 ∙ table_told s streams r.put c.0.cuts quiet own (record { w = c.0; found = c.1.0; cuts = refl; complete = inl c.1.1 })
 
-all_by : (n : ℕ) (s : State) (streams : ℕ → Stream) (r : ReaderRow) (size : ℕ) (o : Option (List TableRow)) → r.table ≡ o → AreKept s streams → IsQuiet s → 0 < r.next → reader_of s n ≡ Some r
+all_by : (n : ℕ) (s : State) (streams : ℕ → Stream) (r : ReaderRow) (size : ℕ) (o : Option (List TableRow)) → r.table ≡ o → ArePayloadsOwn s streams → IsQuiet s → 0 < r.next → reader_of s n ≡ Some r
     → reader_verdict s r ≡ next.Ended size → take ((r.next - 1) * s.geometry.fragment) (streams r.put).bytes ≡ (streams r.put).bytes
 all_by n s streams r size (Some table) hit own quiet first found verdict = kept_is_given s streams n r table own quiet first found hit (end_is_whole s r size verdict)
 all_by n s streams r size None follows own quiet first found verdict =
@@ -128,7 +128,7 @@ ended_line : (laws : OfSteps) (run : Run) (s : State) (n : ℕ) (actor : List �
 ended_line laws run s n actor turn size e by takes said =
     let here : SessionTakes run s turn (step.Next actor) = subst (λ (o : Option State). Takes run turn o (step.Next actor)) e takes in
     let legal : IsStep turn.device s (ReadOn n ∷ []) turn.added turn.refused =
-    subst (λ (o : Option ℕ). IsStep turn.device s (if_has o (λ reader. ReadOn reader ∷ [])) turn.added turn.refused) by here.legal in
+    subst (λ (o : Option ℕ). IsStep turn.device s (asks_if_has o (λ reader. ReadOn reader ∷ [])) turn.added turn.refused) by here.legal in
     let does = laws.one_group turn.device s (ReadOn n) turn.added turn.refused refl legal in
     let there : step_said run turn (Some s) (step.Next actor) ≡ answer.End size = subst (λ (o : Option State). step_said run turn o (step.Next actor) ≡ answer.End size) e said in
     let told : next_said turn.given (told_in turn.added) ≡ answer.End size =
@@ -136,7 +136,7 @@ ended_line laws run s n actor turn size e by takes said =
     ended_is n turn.device s turn.added does.0 turn.given size does.1 told
 
 has_all : (s t : State) (n : ℕ) (r u : ReaderRow) (old now : ℕ → Stream) (given : List ℕ) (size : ℕ) → IsOpenAt s n r → (g : GoesOn n s.geometry.fragment s t old now given u) → g.r ≡ r
-    → t.geometry ≡ s.geometry → AreKept t now → IsQuiet t → reader_of t n ≡ Some u → reader_verdict t u ≡ next.Ended size
+    → t.geometry ≡ s.geometry → ArePayloadsOwn t now → IsQuiet t → reader_of t n ≡ Some u → reader_verdict t u ≡ next.Ended size
     → HasGivenAll ((r.next - 1) * s.geometry.fragment) (now r.put).bytes given size
 has_all s t n r u old now given size at g first geometry own quiet found verdict =
     let here : IsOpenAt s n g.r = subst (IsOpenAt s n) (sym first) at in

@@ -11,10 +11,10 @@ use Rattle.cache_model.specs.Permit.{Reason}
 use Rattle.cache_model.proofs.Found.{none_is, number_of, same_some}
 use Rattle.script_lang.specs.declared.step.Step.{Step}
 use Rattle.script_lang.specs.declared.step.Step.TheVariants as step
-use Rattle.script_run.specs.Run.{Holding, Run, Stream, held_by, with_value, writer_of}
+use Rattle.script_run.specs.Run.{Holding, Run, Stream, held_by, put_written_by, with_value}
 use Rattle.script_run.specs.Turn.{Turn}
-use Rattle.script_run.specs.Behind.{fed, of_put, seals, streams_behind, streams_closed, streams_fed, streams_opened, taken_of}
-use Rattle.script_run.specs.Own.{AreKept, IsOwnPut, IsOwnReader, IsTableOfHit}
+use Rattle.script_run.specs.Behind.{fed, of_put, seals, streams_behind, streams_closed, streams_fed, streams_opened, taken_in_line}
+use Rattle.script_run.specs.Own.{ArePayloadsOwn, IsOwnPut, IsOwnReader, IsTableOfHit}
 use Rattle.script_run.proofs.Ended.{IsFoundOpen, open_row}
 use Rattle.script_run.proofs.Finding.{found_in, found_true}
 use Rattle.script_run.proofs.Values.{other_than, value_by}
@@ -23,7 +23,8 @@ use Rattle.reader_laws.specs.Along.{IsOpenAt, StandsKept}
 -- ---- readers
 
 -- an open reader has begun
-pub own_begun : (s : State) (streams : ℕ → Stream) (n : ℕ) (r : ReaderRow) → AreKept s streams → reader_of s n ≡ Some r → n < s.next_reader
+pub own_begun : (s : State) (streams : ℕ → Stream) (n : ℕ) (r : ReaderRow) → ArePayloadsOwn s streams → reader_of s n ≡ Some r
+    → n < s.next_reader
 own_begun s streams n r own found =
     let o : IsOwnReader s r = found_in (IsOwnReader s) _ s.readers r own.readers found in
     subst (λ k. k < s.next_reader) (eqb-true r.reader n (found_true (λ (x : ReaderRow). x.reader == n) s.readers r found)) o.begun
@@ -96,7 +97,7 @@ module _ (run : Run) (s t : State) (n : ℕ) (r : ReaderRow) (stands : StandsKep
       → take Given (run.streams r.put).bytes ≡ take Given (of_put run o (streams_fed run t body why) r.put).bytes
   fed_front body why None writing = refl
   fed_front body why (Some put) writing =
-      fed_by Given put r.put (taken_of run t body why put) run body (run.streams put).sealed refl (λ same unsealed.
+      fed_by Given put r.put (taken_in_line run t body why put) run body (run.streams put).sealed refl (λ same unsealed.
       let here : is_writing s r.put ≡ true = subst (λ k. is_writing s k ≡ true) (sym same) (writing put refl) in
       let open_here : (run.streams r.put).sealed ≡ false = subst (λ k. (run.streams k).sealed ≡ false) (sym same) unsealed in
       subst (λ k. Given ≤ length (run.streams k).bytes) same (cut_within run s n r stands quiet at here open_here))
@@ -109,6 +110,6 @@ module _ (run : Run) (s t : State) (n : ℕ) (r : ReaderRow) (stands : StandsKep
   pub fronts : (turn : Turn) (step : Step) → take Given (run.streams r.put).bytes ≡ take Given (streams_behind run s t turn step r.put).bytes
   fronts turn (step.Put key body request response) = front_beside Given s.next_put r.put run.streams _ not_next
   fronts turn (step.OpenWrite actor key pin request response) = opened_front (held_by run actor)
-  fronts turn (step.Feed actor body) = fed_front body turn.refused (writer_of run actor) (stands.writing actor)
-  fronts turn (step.Close actor) = closed_front turn.refused (writer_of run actor)
+  fronts turn (step.Feed actor body) = fed_front body turn.refused (put_written_by run actor) (stands.writing actor)
+  fronts turn (step.Close actor) = closed_front turn.refused (put_written_by run actor)
   fronts turn _ = refl

@@ -28,7 +28,7 @@ use Rattle.script_lang.specs.declared.answer.StepAnswer.{StepAnswer}
 use Rattle.script_lang.specs.declared.answer.StepAnswer.TheVariants as answer
 use Rattle.script_lang.specs.declared.step.Step.{Step}
 use Rattle.script_lang.specs.declared.step.Step.TheVariants as step
-use Rattle.actor_table.specs.Table.{number_of as number_in}
+use Rattle.actor_table.specs.Table.{number_of_name as number_in}
 use Rattle.script_run.specs.Run.{Holding, Run, fresh, held_by}
 use Rattle.script_run.specs.Asked
 use Rattle.script_run.specs.Turn.{Turn, lookup_in, told_in}
@@ -170,7 +170,7 @@ module _ (law : HitIsPut) (run : Run) (turn : Turn) (key : Key) (request : List 
   got_put bytes (Some s) keeps takes said =
       law turn.device s run.streams 0 key request _ turn.added turn.refused put keeps.kept takes.legal (got_by turn.given (told_in turn.added) (lookup_in turn.added) put size bytes said).hit
 
-  opens_by : (s : State) (t : State) (actor : ℕ) (o : Option Holding) → Keeps run s → IsStep turn.device s (Asked.if_free o (Look actor key request ∷ [])) turn.added turn.refused
+  opens_by : (s : State) (t : State) (actor : ℕ) (o : Option Holding) → Keeps run s → IsStep turn.device s (Asked.asks_if_free o (Look actor key request ∷ [])) turn.added turn.refused
       → if_free o (lookup_said t s.next_reader (lookup_in turn.added)) ≡ answer.Hit put size → IsPutFor s key request put
   opens_by s t actor None keeps legal said = law turn.device s run.streams actor key request [] turn.added turn.refused put keeps.kept legal (hit_by t s.next_reader (lookup_in turn.added) put size said).0
   opens_by s t actor (Some holding) keeps legal said = absurd cc
@@ -238,7 +238,7 @@ module _ (run : Run) (turn : Turn) (key : Key) (request : List Field) (put : ℕ
   get_followed (Some s) takes said =
       step_follows turn.device s 0 key request _ turn.added turn.refused put takes.legal (get_follows turn.given (told_in turn.added) (lookup_in turn.added) put said)
 
-  free_followed : (s t : State) (actor : ℕ) (o : Option Holding) → IsStep turn.device s (Asked.if_free o (Look actor key request ∷ [])) turn.added turn.refused
+  free_followed : (s t : State) (actor : ℕ) (o : Option Holding) → IsStep turn.device s (Asked.asks_if_free o (Look actor key request ∷ [])) turn.added turn.refused
       → if_free o (lookup_said t s.next_reader (lookup_in turn.added)) ≡ answer.Follow put → IsFollowed s key request put
   free_followed s t actor None legal said = step_follows turn.device s actor key request [] turn.added turn.refused put legal (open_follows t s.next_reader (lookup_in turn.added) put said)
   free_followed s t actor (Some holding) legal said = absurd cc
@@ -301,7 +301,7 @@ look_hit p s actor key request added rest e put (Legal.DoesLook.looks m) told =
     (looked_hit p s m.who key request m.before m.answer rest put m.right (ap (λ recs. lookup_in (recs ++ rest)) (sym m.is) ∙ told))
 
 module _ (one : OneGroup) (run : Run) (s : State) (turn : Turn) (key : Key) (request : List Field) (put size : ℕ) where
-  pub free_hit : (actor : ℕ) (o : Option Holding) → IsStep turn.device s (Asked.if_free o (Look actor key request ∷ [])) turn.added turn.refused
+  pub free_hit : (actor : ℕ) (o : Option Holding) → IsStep turn.device s (Asked.asks_if_free o (Look actor key request ∷ [])) turn.added turn.refused
       → if_free o (lookup_said (after_all s turn.added) s.next_reader (lookup_in turn.added)) ≡ answer.Hit put size
       → OpensHit (after_all s turn.added) s.next_reader put × (hit_length (after_all s turn.added) s.next_reader ≡ size)
   free_hit actor None legal said =

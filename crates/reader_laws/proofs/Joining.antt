@@ -16,7 +16,7 @@ use Rattle.script_run.specs.Turn.{Turn}
 use Rattle.script_run.specs.Answers.{step_answer}
 use Rattle.script_run.specs.Behind.{after_line, after_reading, behind}
 use Rattle.script_run.specs.Takes.{IsRun, ReadingTakes, SessionTakes, StepTakes, Takes, run_after}
-use Rattle.reader_laws.specs.Along.{AreOfSession, IsOfScript, IsOpenAt, KeptAlong, Opens, StandsWhere}
+use Rattle.reader_laws.specs.Along.{AreOfSession, IsOfScript, IsOpenAt, KeptAlong, LineOpens, StandsWhere}
 use Rattle.reader_laws.specs.Given.{given_to}
 use Rattle.reader_laws.specs.Laws.{HasGiven, HasGivenAll}
 use Rattle.reader_laws.proofs.Fronts.{own_begun}
@@ -31,7 +31,7 @@ pub record OfReaders : Type 0 where
   pub lines : OfKept
   pub nothing_asked : NothingAsked
 
-module _ (laws : OfReaders) (run : Run) (s : State) (turn : Turn) (bytes : List ℕ) (r : ReaderRow) (legal : IsOfScript run) (opens : Opens run s turn bytes r) where
+module _ (laws : OfReaders) (run : Run) (s : State) (turn : Turn) (bytes : List ℕ) (r : ReaderRow) (legal : IsOfScript run) (opens : LineOpens run s turn bytes r) where
   abbrev Opened : Run
   Opened = after_line run turn bytes
 

@@ -22,7 +22,7 @@ use Rattle.cache_model.specs.Legal.{Advances, IsQuiet, IsStep, MayGrow, nothing,
 use Rattle.model_laws.specs.StepLaws.{OneGroup}
 use Rattle.cache_model.proofs.Found.{none_is, same_some}
 use Rattle.cache_model.proofs.Steps.{First, all_append, first_of, none_left}
-use Rattle.actor_table.specs.Table.{number_of as number_in}
+use Rattle.actor_table.specs.Table.{number_of_name as number_in}
 use Rattle.script_lang.specs.declared.answer.StepAnswer.TheVariants as answer
 use Rattle.script_lang.specs.declared.line.LineAnswer.TheVariants as line
 use Rattle.script_lang.specs.declared.step.Step.{Step}
@@ -32,7 +32,7 @@ use Rattle.script_run.specs.Asked.{get_intents}
 use Rattle.script_run.specs.Turn.{Turn, is_told, later, lookup_in, told_in}
 use Rattle.script_run.specs.Answers.{hit_length, step_said}
 use Rattle.script_run.specs.Behind.{after_step, behind}
-use Rattle.script_run.specs.Own.{AreKept}
+use Rattle.script_run.specs.Own.{ArePayloadsOwn}
 use Rattle.script_run.specs.Takes.{IsRun, StepTakes, Takes, run_after}
 use Rattle.script_run.proofs.OnlyReading.{reads_keep}
 use Rattle.reader_laws.specs.Along.{StandsWhere}
@@ -106,7 +106,7 @@ module _ (p : Permit) (streams : ℕ → Stream) (n put : ℕ) where
 
   -- what stands is what writers took but for the documents of fragments, and the reader reads this put
   record IsReadingPut (s : State) : Type 0 where
-    kept : AreKept s streams
+    kept : ArePayloadsOwn s streams
     reads : ReadsPut (reader_of s n)
 
   gave_put : (next : ℕ) (b : Bool) (o : Option ReaderRow) → ReadsPut o → ReadsPut (cond b (option_map (λ (r : ReaderRow). record r { next = next }) o) o)
@@ -172,7 +172,7 @@ module _ (p : Permit) (streams : ℕ → Stream) (n put : ℕ) where
         | inr last ↦ stop_grown (left ∙ last) others
       ])
 
-looked_grown : (p : Permit) (s : State) (streams : ℕ → Stream) (key : Key) (request : List Field) (added rest : List Rec) (e : End) (put : ℕ) (after : Work) → AreKept s streams
+looked_grown : (p : Permit) (s : State) (streams : ℕ → Stream) (key : Key) (request : List Field) (added rest : List Rec) (e : End) (put : ℕ) (after : Work) → ArePayloadsOwn s streams
     → Legal.DoesLook p s 0 key request added e → lookup_in (added ++ rest) ≡ Some (read.Hit put)
     → MayGrow p (after_all s added) (work_after (Look 0 key request) (ReadAll s.next_reader ∷ StopReading s.next_reader ∷ []) None e) rest after → AllTell (length (streams put).bytes) rest
 looked_grown p s streams key request added rest e put after kept (Legal.DoesLook.looks m) told grows =
@@ -184,7 +184,7 @@ looked_grown p s streams key request added rest e put after kept (Legal.DoesLook
       reads = λ r found. ap (λ (x : ReaderRow). x.put) (same_some r h.r (reader_of t n) found h.found) ∙ h.put_is;
     }) grows
 
-got_told : (p : Permit) (s : State) (streams : ℕ → Stream) (key : Key) (request : List Field) (added : List Rec) (why : Option Reason) (put reader size : ℕ) → AreKept s streams
+got_told : (p : Permit) (s : State) (streams : ℕ → Stream) (key : Key) (request : List Field) (added : List Rec) (why : Option Reason) (put reader size : ℕ) → ArePayloadsOwn s streams
     → IsStep p s (get_intents s key request) added why → lookup_in added ≡ Some (read.Hit put) → told_in added ≡ Some (rec.Ended reader size) → size ≡ length (streams put).bytes
 got_told p s streams key request added why put reader size kept step looked told =
     let is : List Rattle.cache_model.specs.Permit.Intent = ReadAll s.next_reader ∷ StopReading s.next_reader ∷ [] in
@@ -196,7 +196,7 @@ got_told p s streams key request added why put reader size kept step looked told
 
 -- ---- a reader that opens
 
-opens_told : (t : State) (streams : ℕ → Stream) (n put : ℕ) → OpensHit t n put → IsQuiet t → AreKept t streams → hit_length t n ≡ length (streams put).bytes
+opens_told : (t : State) (streams : ℕ → Stream) (n put : ℕ) → OpensHit t n put → IsQuiet t → ArePayloadsOwn t streams → hit_length t n ≡ length (streams put).bytes
 opens_told t streams n put h quiet kept =
     ap (λ (o : Option ReaderRow). total_length (unwrap_or (option_and_then (λ (r : ReaderRow). r.table) o) [])) h.found
     ∙ (ap (λ (o : Option (List TableRow)). total_length (unwrap_or o [])) h.hit

@@ -16,13 +16,13 @@ use Rattle.script_lang.specs.declared.step.Step.{Step}
 use Rattle.script_lang.specs.declared.step.Step.TheVariants as step
 use Rattle.script_lang.specs.declared.line.LineAnswer.{LineAnswer}
 use Rattle.script_lang.specs.declared.line.LineAnswer.TheVariants as line
-use Rattle.script_run.specs.Run.{Run, Stream, held_by, reader_by, writer_of}
-use Rattle.script_run.specs.Asked.{asked, if_has}
+use Rattle.script_run.specs.Run.{Run, Stream, held_by, put_written_by, reader_by}
+use Rattle.script_run.specs.Asked.{asked, asks_if_has}
 use Rattle.script_run.specs.Turn.{Turn, told_in}
 use Rattle.script_run.specs.Behind.{after_format, after_reading, behind, in_session, streams_behind}
 use Rattle.script_run.specs.Takes.{IsNextPiece, IsPiece, ReadingTakes, SessionTakes, Takes}
 use Rattle.reader_laws.specs.Along.{KeepsSession, StandsKept, begins_session}
-use Rattle.reader_laws.specs.Given.{given_by, given_in, given_where}
+use Rattle.reader_laws.specs.Given.{given_by_line, given_by_step, given_where}
 use Rattle.reader_laws.proofs.Beside.{AllBeside, AnyNumber, OtherThan, AllOther, grown_beside}
 use Rattle.reader_laws.proofs.Keeping.{KeepsReader, keeps_all, keeps_self}
 use Rattle.reader_laws.proofs.Asking.{close_other, feeding_other, free_other, get_other, has_other, put_other}
@@ -120,7 +120,7 @@ module _ (laws : OfSteps) (n : ℕ) (run : Run) (s : State) (turn : Turn) (stand
       mine actor (subst (λ j. IsStep turn.device s (ReadOn j ∷ []) turn.added turn.refused) same legal) (subst (λ j. IsPiece run s j turn.given (told_in turn.added)) same piece)
   next_at actor k false e legal piece = beside_line (step.Next actor) (ReadOn k ∷ []) legal ((λ same. no_truth (sym (eq-eqb k n same) ∙ e)), tt)
 
-  next_line : (actor : List ℕ) (o : Option ℕ) → IsStep turn.device s (if_has o (λ reader. ReadOn reader ∷ [])) turn.added turn.refused → IsNextPiece run s turn o
+  next_line : (actor : List ℕ) (o : Option ℕ) → IsStep turn.device s (asks_if_has o (λ reader. ReadOn reader ∷ [])) turn.added turn.refused → IsNextPiece run s turn o
       → Goes (step.Next actor) (given_where n turn.given o)
   next_line actor None legal own = beside_line (step.Next actor) [] legal tt
   next_line actor (Some k) legal own = next_at actor k (k == n) refl legal own
@@ -145,7 +145,7 @@ module _ (laws : OfSteps) (n : ℕ) (run : Run) (s : State) (turn : Turn) (stand
   done_at actor k true e legal = closed_here actor (subst (λ j. IsStep turn.device s (StopReading j ∷ []) turn.added turn.refused) (eqb-true k n e) legal)
   done_at actor k false e legal = beside_line (step.Done actor) (StopReading k ∷ []) legal ((λ same. no_truth (sym (eq-eqb k n same) ∙ e)), tt)
 
-  done_line : (actor : List ℕ) (o : Option ℕ) → IsStep turn.device s (if_has o (λ reader. StopReading reader ∷ [])) turn.added turn.refused → Goes (step.Done actor) []
+  done_line : (actor : List ℕ) (o : Option ℕ) → IsStep turn.device s (asks_if_has o (λ reader. StopReading reader ∷ [])) turn.added turn.refused → Goes (step.Done actor) []
   done_line actor None legal = beside_line (step.Done actor) [] legal tt
   done_line actor (Some k) legal = done_at actor k (k == n) refl legal
 
@@ -158,15 +158,15 @@ module _ (laws : OfSteps) (n : ℕ) (run : Run) (s : State) (turn : Turn) (stand
   asked_line : (st : Step) → SessionTakes run s turn st → AllOther (OtherThan n) AnyNumber (asked run s st) → Goes st []
   asked_line st takes other = beside_line st (asked run s st) takes.legal other
 
-  step_line : (st : Step) → run.state ≡ Some s → begins_session st ≡ false → Takes run turn (Some s) st → LineGoes n s run.streams (behind run turn (Some s) st) (given_by n run turn st)
+  step_line : (st : Step) → run.state ≡ Some s → begins_session st ≡ false → Takes run turn (Some s) st → LineGoes n s run.streams (behind run turn (Some s) st) (given_by_step n run turn st)
   step_line (step.Format name segments buckets content agg reach fragment generation alternates) e keeps takes =
       format_line name (first_refusal segments buckets content agg reach fragment alternates) e keeps
   step_line (step.Put key body request response) e keeps takes = asked_line (step.Put key body request response) takes (put_other (OtherThan n) AnyNumber s key body request response tt)
   step_line (step.Get key request) e keeps takes = asked_line (step.Get key request) takes (get_other (OtherThan n) AnyNumber s key request (λ e. omega (arith, opened, e)))
   step_line (step.OpenWrite actor key pin request response) e keeps takes = asked_line (step.OpenWrite actor key pin request response) takes (free_other (OtherThan n) AnyNumber (held_by run actor) _ tt)
-  step_line (step.Feed actor body) e keeps takes = asked_line (step.Feed actor body) takes (feeding_other (OtherThan n) AnyNumber run s body (writer_of run actor) (λ put h. tt))
-  step_line (step.Close actor) e keeps takes = asked_line (step.Close actor) takes (close_other (OtherThan n) AnyNumber run s (writer_of run actor) (λ put h. tt))
-  step_line (step.Abort actor) e keeps takes = asked_line (step.Abort actor) takes (has_other (OtherThan n) AnyNumber (writer_of run actor) _ (λ k h. tt))
+  step_line (step.Feed actor body) e keeps takes = asked_line (step.Feed actor body) takes (feeding_other (OtherThan n) AnyNumber run s body (put_written_by run actor) (λ put h. tt))
+  step_line (step.Close actor) e keeps takes = asked_line (step.Close actor) takes (close_other (OtherThan n) AnyNumber run s (put_written_by run actor) (λ put h. tt))
+  step_line (step.Abort actor) e keeps takes = asked_line (step.Abort actor) takes (has_other (OtherThan n) AnyNumber (put_written_by run actor) _ (λ k h. tt))
   step_line (step.OpenRead actor key request) e keeps takes = asked_line (step.OpenRead actor key request) takes (free_other (OtherThan n) AnyNumber (held_by run actor) _ tt)
   step_line (step.Next actor) e keeps takes = next_line actor (reader_by run actor) takes.legal takes.own
   step_line (step.Done actor) e keeps takes = done_line actor (reader_by run actor) takes.legal
@@ -174,9 +174,9 @@ module _ (laws : OfSteps) (n : ℕ) (run : Run) (s : State) (turn : Turn) (stand
   step_line step.Flush e keeps takes = asked_line step.Flush takes (tt, tt)
   step_line (step.Now at) e keeps takes = unchanged n s run.streams _ e refl quiet opened
 
-  pub line_goes : (l : LineAnswer) → run.state ≡ Some s → KeepsSession l → ReadingTakes run turn l → LineGoes n s run.streams (after_reading run turn l) (given_in n run turn l)
+  pub line_goes : (l : LineAnswer) → run.state ≡ Some s → KeepsSession l → ReadingTakes run turn l → LineGoes n s run.streams (after_reading run turn l) (given_by_line n run turn l)
   line_goes (line.Step st) e keeps takes =
-      subst (λ (o : Option State). LineGoes n s run.streams (behind run turn o st) (given_by n run turn st)) (sym e)
+      subst (λ (o : Option State). LineGoes n s run.streams (behind run turn o st) (given_by_step n run turn st)) (sym e)
       (step_line st e keeps (subst (λ (o : Option State). Takes run turn o st) e takes))
   line_goes line.Nothing e keeps takes = unchanged n s run.streams run e refl quiet opened
   line_goes (line.Bad fault) e keeps takes = absurd takes

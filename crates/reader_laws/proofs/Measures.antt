@@ -17,18 +17,18 @@ use Rattle.script_lang.specs.declared.answer.StepAnswer.TheVariants as answer
 use Rattle.script_lang.specs.declared.line.LineAnswer.TheVariants as line
 use Rattle.script_lang.specs.declared.step.Step.{Step}
 use Rattle.script_lang.specs.declared.step.Step.TheVariants as step
-use Rattle.script_run.specs.Run.{Run, fresh, gathered_of, writer_of}
+use Rattle.script_run.specs.Run.{Run, fresh, gathered_of, put_written_by}
 use Rattle.script_run.specs.Asked
 use Rattle.script_run.specs.Asked.{body_intents, close_intents, closing, feed_intents, put_intents, rest_behind, rest_intents, whole_fragments}
 use Rattle.script_run.specs.Turn.{Turn}
 use Rattle.script_run.specs.Answers.{if_has, put_said, refusal_said, said, step_said}
 use Rattle.script_run.specs.Behind.{after_step, behind, in_session}
-use Rattle.script_run.specs.Own.{AreCuts, AreKept, IsOwnPut, piece_of}
+use Rattle.script_run.specs.Own.{AreCuts, ArePayloadsOwn, IsOwnPut, piece_of}
 use Rattle.script_run.specs.Takes.{IsRun, StepTakes, Takes, run_after}
 use Rattle.script_run.proofs.Changed.{changed_to, itself}
 use Rattle.script_run.proofs.Cuts.{length-piece, total_cuts}
 use Rattle.reader_laws.specs.Laws
-use Rattle.reader_laws.specs.Laws.{AnswersPut, IsMeasured}
+use Rattle.reader_laws.specs.Laws.{AnswersPutComplete, IsMeasured}
 use Rattle.reader_laws.proofs.Standing.{KeepsIn, OfKept, keeps_after, reading_keeps}
 
 -- ---- where nothing is refused, all that is asked is done
@@ -173,7 +173,7 @@ most_by total most size least whole = omega (arith, least, whole)
 last_by : (at fragment size piece : ℕ) → piece ≡ min fragment (size - at) → 0 < piece → at < size
 last_by at fragment size piece is some = omega (arith, is, some)
 
-measured : (run : Run) (t : State) (put : ℕ) → run.state ≡ Some t → AreKept t run.streams → IsFoundClosed t put → IsMeasured run put (total_length (cuts_of t put)) (length (cuts_of t put))
+measured : (run : Run) (t : State) (put : ℕ) → run.state ≡ Some t → ArePayloadsOwn t run.streams → IsFoundClosed t put → IsMeasured run put (total_length (cuts_of t put)) (length (cuts_of t put))
 measured run t put state kept c =
     let w : PutRow = c.w in
     let fragment : ℕ = t.geometry.fragment in
@@ -219,7 +219,7 @@ told_by t n None put size fragments h = record { allowed = refl; put_is = cc; si
 told_by t n (Some why) put size fragments h = absurd (refusal_puts_none t why put size fragments h)
 
 module _ (run : Run) (turn : Turn) (put size fragments : ℕ) where
-  told_measured : (s : State) (after : Run) (n : ℕ) (last is : List Intent) → after.state ≡ Some (after_all s turn.added) → AreKept (after_all s turn.added) after.streams
+  told_measured : (s : State) (after : Run) (n : ℕ) (last is : List Intent) → after.state ≡ Some (after_all s turn.added) → ArePayloadsOwn (after_all s turn.added) after.streams
       → Leads (Commit n) last is → AddsNone turn.device n last → IsStep turn.device s is turn.added turn.refused
       → said (after_all s turn.added) None turn.refused (put_said (after_all s turn.added) n) ≡ answer.Put put size fragments → IsMeasured after put size fragments
   told_measured s after n last is state kept leads none legal says =
@@ -239,8 +239,8 @@ module _ (run : Run) (turn : Turn) (put size fragments : ℕ) where
       told_measured s (in_session run s (after_all s turn.added) turn (step.Put key body request response)) s.next_put (GiveUp s.next_put ∷ []) (put_intents s key body request response)
       refl keeps.kept (put_leads s key body request response) (give_up_asked turn.device s.next_put) takes.legal says
 
-  close_by : (s : State) (after : Run) (o : Option ℕ) → after.state ≡ Some (after_all s turn.added) → AreKept (after_all s turn.added) after.streams
-      → IsStep turn.device s (Asked.if_has o (closing run s)) turn.added turn.refused
+  close_by : (s : State) (after : Run) (o : Option ℕ) → after.state ≡ Some (after_all s turn.added) → ArePayloadsOwn (after_all s turn.added) after.streams
+      → IsStep turn.device s (Asked.asks_if_has o (closing run s)) turn.added turn.refused
       → if_has o (λ n. said (after_all s turn.added) None turn.refused (put_said (after_all s turn.added) n)) ≡ answer.Put put size fragments → IsMeasured after put size fragments
   close_by s after None state kept legal says = absurd cc
   close_by s after (Some n) state kept legal says =
@@ -250,14 +250,15 @@ module _ (run : Run) (turn : Turn) (put size fragments : ℕ) where
       KeepsIn (behind run turn o st) → Takes run turn o st → step_said run turn o st ≡ answer.Put put size fragments → IsMeasured (behind run turn o st) put size fragments)
   close_measured actor None keeps takes says = absurd takes
   close_measured actor (Some s) keeps takes says =
-      close_by s (in_session run s (after_all s turn.added) turn (step.Close actor)) (writer_of run actor) refl keeps.kept takes.legal says
+      close_by s (in_session run s (after_all s turn.added) turn (step.Close actor)) (put_written_by run actor) refl keeps.kept
+      takes.legal says
 
-  step_measured : {asks : Step} → KeepsIn (after_step run turn asks) → StepTakes run turn asks → AnswersPut run turn put size fragments asks → IsMeasured (after_step run turn asks) put size fragments
-  step_measured keeps takes (Laws.AnswersPut.puts key body request response says) = put_measured key body request response run.state keeps takes says
-  step_measured keeps takes (Laws.AnswersPut.closes actor says) = close_measured actor run.state keeps takes says
+  step_measured : {asks : Step} → KeepsIn (after_step run turn asks) → StepTakes run turn asks → AnswersPutComplete run turn put size fragments asks → IsMeasured (after_step run turn asks) put size fragments
+  step_measured keeps takes (Laws.AnswersPutComplete.puts key body request response says) = put_measured key body request response run.state keeps takes says
+  step_measured keeps takes (Laws.AnswersPutComplete.closes actor says) = close_measured actor run.state keeps takes says
 
 pub put_is_measured : (laws : OfKept) (lines : List (List ℕ)) (turns : List Turn) (turn : Turn) (asks : Step) (put size fragments : ℕ) → IsRun fresh lines turns
-    → StepTakes (run_after fresh lines turns) turn asks → AnswersPut (run_after fresh lines turns) turn put size fragments asks
+    → StepTakes (run_after fresh lines turns) turn asks → AnswersPutComplete (run_after fresh lines turns) turn put size fragments asks
     → IsMeasured (after_step (run_after fresh lines turns) turn asks) put size fragments
 put_is_measured laws lines turns turn asks put size fragments legal takes says =
     let run : Run = run_after fresh lines turns in

@@ -3,7 +3,7 @@ use Rattle.std.proofs.Common.{◌≡◌, ℕ, ◌+◌, ◌<◌, ◌≤◌, List,
 use Rattle.std.specs.Prelude.{Option, Some, None, if◌then◌else◌, ◌==◌}
 use Rattle.std.proofs.lemmas.Bool.{eqb-false}
 use Rattle.std.specs.Cmp.Lexicographic.{same_text, other_text}
-use Rattle.actor_table.specs.Table.{number_from, number_of, same_name, with_actor}
+use Rattle.actor_table.specs.Table.{number_from, number_of_name, same_name, with_actor}
 use Rattle.script_run.specs.Behind.{actors_behind}
 
 -- no number is below the first
@@ -63,20 +63,21 @@ below n m most other = omega (arith, most, other)
 
 -- a name that has come is known, by the number that it had
 pub record HasCome (names after : List (List ℕ)) (name : List ℕ) : Type 0 where
-  pub number : number_of after name ≡ number_of names name
-  pub known : number_of after name < 1 + length after
+  pub number : number_of_name after name ≡ number_of_name names name
+  pub known : number_of_name after name < 1 + length after
 
 pub come : (names : List (List ℕ)) (name : List ℕ) → HasCome names (with_actor names name) name
-come names name = by_test (number_of names name == length names + 1) refl
+come names name = by_test (number_of_name names name == length names + 1) refl
   where
-    by_test : (b : Bool) → (number_of names name == length names + 1) ≡ b → HasCome names (if b then names ++ name ∷ [] else names) name
+    by_test : (b : Bool) → (number_of_name names name == length names + 1) ≡ b
+        → HasCome names (if b then names ++ name ∷ [] else names) name
     by_test true e =
-        let number : number_of (names ++ name ∷ []) name ≡ number_of names name = itself 1 names name in
+        let number : number_of_name (names ++ name ∷ []) name ≡ number_of_name names name = itself 1 names name in
         record { number = number; known = omega (arith, number, most 1 names name, length-append names (name ∷ [])) }
     by_test false e =
-        let other : number_of names name ≡ length names + 1 → ⊥ = eqb-false (number_of names name) (length names + 1) e in
-        let most_of : number_of names name ≤ 1 + length names = most 1 names name in
-        record { number = refl; known = below (number_of names name) (length names) most_of other }
+        let other : number_of_name names name ≡ length names + 1 → ⊥ = eqb-false (number_of_name names name) (length names + 1) e in
+        let most_of : number_of_name names name ≤ 1 + length names = most 1 names name in
+        record { number = refl; known = below (number_of_name names name) (length names) most_of other }
 
 -- others come behind those that are there
 abbrev pub Extends : List (List ℕ) → List (List ℕ) → Type 0
@@ -89,7 +90,7 @@ pub extends_then : (a b c : List (List ℕ)) → Extends a b → Extends b c →
 extends_then a b c first second = (first.0 ++ second.0, second.1 ∙ (ap (λ (xs : List (List ℕ)). xs ++ second.0) first.1 ∙ append_assoc a first.0 second.0))
 
 pub with_extends : (names : List (List ℕ)) (name : List ℕ) → Extends names (with_actor names name)
-with_extends names name = by_test (number_of names name == length names + 1)
+with_extends names name = by_test (number_of_name names name == length names + 1)
   where
     by_test : (b : Bool) → Extends names (if b then names ++ name ∷ [] else names)
     by_test true = (name ∷ [], refl)
@@ -100,13 +101,13 @@ behind_extends names None = extends_self names
 behind_extends names (Some name) = with_extends names name
 
 -- a known name keeps its number
-pub known_kept : (names after : List (List ℕ)) (name : List ℕ) → Extends names after → number_of names name < 1 + length names
-    → (number_of after name ≡ number_of names name) × (number_of after name < 1 + length after)
+pub known_kept : (names after : List (List ℕ)) (name : List ℕ) → Extends names after → number_of_name names name < 1 + length names
+    → (number_of_name after name ≡ number_of_name names name) × (number_of_name after name < 1 + length after)
 known_kept names after name more known =
-    let same : number_of after name ≡ number_of names name = ap (λ (xs : List (List ℕ)). number_of xs name) more.1 ∙ kept 1 names more.0 name known in
+    let same : number_of_name after name ≡ number_of_name names name = ap (λ (xs : List (List ℕ)). number_of_name xs name) more.1 ∙ kept 1 names more.0 name known in
     let count : length after ≡ length names + length more.0 = ap length more.1 ∙ length-append names more.0 in
     (same, omega (arith, same, count, known))
 
 -- so two that have come with one number are one
-pub same_number : (names : List (List ℕ)) (a b : List ℕ) → number_of names a ≡ number_of names b → number_of names a < 1 + length names → a ≡ b
+pub same_number : (names : List (List ℕ)) (a b : List ℕ) → number_of_name names a ≡ number_of_name names b → number_of_name names a < 1 + length names → a ≡ b
 same_number names a b same known = one_name 1 names a b same known

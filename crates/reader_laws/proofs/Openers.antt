@@ -5,7 +5,7 @@ use Rattle.std.specs.Prelude.{Option, Some, cond, ◌==◌}
 use Rattle.tape_base.specs.declared.actors.Actor.{Actor}
 use Rattle.tape_base.specs.declared.keys.Key.{Key}
 use Rattle.alternate_vector.specs.Field.{Field}
-use Rattle.actor_table.specs.Table.{number_of}
+use Rattle.actor_table.specs.Table.{number_of_name}
 use Rattle.cache_model.specs.declared.answer.ReadAnswer.{ReadAnswer}
 use Rattle.cache_model.specs.declared.answer.ReadAnswer.TheVariants as read
 use Rattle.cache_model.specs.declared.record.Rec.{Rec}
@@ -30,7 +30,7 @@ use Rattle.script_run.specs.Behind.{after_line}
 use Rattle.script_run.specs.Laws.{HitIsPut}
 use Rattle.script_run.specs.Takes.{IsRun, ReadingTakes, SessionTakes, StepTakes, Takes, run_after}
 use Rattle.script_run.proofs.Values.{value_here}
-use Rattle.reader_laws.specs.Along.{Opens, StandsWhere}
+use Rattle.reader_laws.specs.Along.{LineOpens, StandsWhere}
 use Rattle.reader_laws.specs.Laws
 use Rattle.reader_laws.specs.Laws.{WasPutFor}
 use Rattle.reader_laws.specs.Given.{given_to}
@@ -95,7 +95,7 @@ module _ (laws : OfKept) (one : OneGroup) (hits : HitIsPut) (k n : ℕ) where
     session : SessionTakes Before m.s turn Asks
     session = subst (λ (o : Option State). Takes Before turn o Asks) m.state step_takes
 
-    abbrev opens : Opens Before m.s turn bytes m.opens.r
+    abbrev opens : LineOpens Before m.s turn bytes m.opens.r
     opens = record { actor = m.name; key = m.opens.key; request = m.opens.request; state = m.state; reading = reading; takes = takes; found = m.opens.found }
 
     keeps : Keeps Before m.s
@@ -104,13 +104,13 @@ module _ (laws : OfKept) (one : OneGroup) (hits : HitIsPut) (k n : ℕ) where
     none_yet : (r : ReaderRow) → reader_of m.s m.s.next_reader ≡ Some r → ⊥
     none_yet r found = let below : m.s.next_reader < m.s.next_reader = own_begun m.s Before.streams m.s.next_reader r keeps.kept found in omega (arith, below)
 
-    looks : IsStep turn.device m.s (Look (number_of Before.actors m.name) m.opens.key m.opens.request ∷ []) turn.added turn.refused
-    looks = subst (λ (o : Option Holding). IsStep turn.device m.s (Asked.if_free o (Look (number_of Before.actors m.name) m.opens.key m.opens.request ∷ [])) turn.added turn.refused) m.opens.free session.legal
+    looks : IsStep turn.device m.s (Look (number_of_name Before.actors m.name) m.opens.key m.opens.request ∷ []) turn.added turn.refused
+    looks = subst (λ (o : Option Holding). IsStep turn.device m.s (Asked.asks_if_free o (Look (number_of_name Before.actors m.name) m.opens.key m.opens.request ∷ [])) turn.added turn.refused) m.opens.free session.legal
 
     is_of : IsOf turn.added m.opens.r
     is_of =
-        let does = one turn.device m.s (Look (number_of Before.actors m.name) m.opens.key m.opens.request) turn.added turn.refused refl looks in
-        look_of turn.device m.s (number_of Before.actors m.name) m.opens.key m.opens.request turn.added does.0 m.opens.r none_yet does.1 m.opens.found
+        let does = one turn.device m.s (Look (number_of_name Before.actors m.name) m.opens.key m.opens.request) turn.added turn.refused refl looks in
+        look_of turn.device m.s (number_of_name Before.actors m.name) m.opens.key m.opens.request turn.added does.0 m.opens.r none_yet does.1 m.opens.found
 
     said : (look : ReadAnswer) → lookup_in turn.added ≡ Some look → step_answer Before turn Asks ≡ lookup_said (after_all m.s turn.added) m.s.next_reader (Some look)
     said look e =
@@ -137,7 +137,7 @@ module _ (laws : OfKept) (one : OneGroup) (hits : HitIsPut) (lines : List (List 
   Last = run_after fresh lines turns
 
   abbrev Number : ℕ
-  Number = number_of Last.actors name
+  Number = number_of_name Last.actors name
 
   by_made : MadeAlong (Has Number reader) (Makes Number reader) fresh lines turns → IsOpenedBy lines turns name reader
   by_made m =

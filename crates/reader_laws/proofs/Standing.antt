@@ -27,9 +27,9 @@ use Rattle.script_lang.specs.Grammar.{reading_of}
 use Rattle.script_run.specs.Run.{Run, fresh, no_stream}
 use Rattle.script_run.specs.Asked.{asked}
 use Rattle.script_run.specs.Turn.{Turn}
-use Rattle.script_run.specs.Behind.{after_format, after_line, after_reading, at_moment, behind, formatted, in_session}
+use Rattle.script_run.specs.Behind.{after_format, after_line, after_reading, at_moment, behind, in_session, with_format}
 use Rattle.script_run.specs.Laws.{FormatsKeep, FormatsOwn, OwnIsKept, StepsKeep, StepsOwn}
-use Rattle.script_run.specs.Own.{AreKept, AreOwn, IsPlacedAs}
+use Rattle.script_run.specs.Own.{AreOwn, ArePayloadsOwn, IsPlacedAs}
 use Rattle.script_run.specs.Takes
 use Rattle.script_run.specs.Takes.{FormatTakes, IsRun, ReadingShows, ReadingTakes, SessionShows, SessionTakes, StepShows, run_after, streams_with}
 use Rattle.reader_laws.specs.Along.{AreOfSession, KeptAlong, OwnAlong, QuietWhere, ShowsAlong, StandsKept, StandsOwn, StandsWhere, begins_session}
@@ -56,7 +56,7 @@ pub record OfLines : Type 0 where
 
 -- it begins a session, changes nothing that stands, or is one step of a session
 pub data Goes (run : Run) (turn : Turn) : Option State → Step → Run → Type 0 where
-  begins : {o : Option State} {st : Step} (name : List ℕ) (g : Geometry) → turn.added ≡ format_records g → Goes run turn o st (formatted run name turn.added)
+  begins : {o : Option State} {st : Step} (name : List ℕ) (g : Geometry) → turn.added ≡ format_records g → Goes run turn o st (with_format run name turn.added)
   stays : {o : Option State} {st : Step} → begins_session st ≡ false → Goes run turn o st run
   waits : {o : Option State} {st : Step} (at : ℕ) → begins_session st ≡ false → Goes run turn o st (at_moment run at)
   steps : {st : Step} (s : State) → begins_session st ≡ false → SessionTakes run s turn st → Goes run turn (Some s) st (in_session run s (after_all s turn.added) turn st)
@@ -80,7 +80,7 @@ pub record Keeps (run : Run) (s : State) : Type 0 where
   pub sound : IsSound s
   pub displaced : s.displaced ≡ []
   pub quiet : IsQuiet s
-  pub kept : AreKept s run.streams
+  pub kept : ArePayloadsOwn s run.streams
   pub held : AreHeld run.held s
 
 -- the same, where there is a session
@@ -88,8 +88,8 @@ abbrev pub KeepsIn : Run → Type 0
 KeepsIn run = StandsWhere Keeps run run.state
 
 module _ (laws : OfKept) (run : Run) (turn : Turn) where
-  formatted_keeps : (name : List ℕ) (added : List Rec) (g : Geometry) → added ≡ format_records g → KeepsIn (formatted run name added)
-  formatted_keeps name added g is = subst (λ recs. KeepsIn (formatted run name recs)) (sym is) (record {
+  formatted_keeps : (name : List ℕ) (added : List Rec) (g : Geometry) → added ≡ format_records g → KeepsIn (with_format run name added)
+  formatted_keeps name added g is = subst (λ recs. KeepsIn (with_format run name recs)) (sym is) (record {
     sound = laws.legal_is_sound (record { packed = false; syncs = false; area = 0 }) [] (format_records g) (Legal.IsLegal.begins g);
     displaced = refl;
     quiet = refl;
@@ -161,8 +161,8 @@ abbrev HoldsIn : Run → Type 0
 HoldsIn run = StandsWhere Holds run run.state
 
 module _ (laws : OfLines) (run : Run) (turn : Turn) where
-  formatted_holds : (name : List ℕ) (added : List Rec) (g : Geometry) → added ≡ format_records g → HoldsIn (formatted run name added)
-  formatted_holds name added g is = subst (λ recs. HoldsIn (formatted run name recs)) (sym is) (record {
+  formatted_holds : (name : List ℕ) (added : List Rec) (g : Geometry) → added ≡ format_records g → HoldsIn (with_format run name added)
+  formatted_holds name added g is = subst (λ recs. HoldsIn (with_format run name recs)) (sym is) (record {
     keeps = formatted_keeps laws.kept run turn name (format_records g) g refl;
     told = laws.formats_tell nothing_yet g;
     own = laws.formats_own nothing_yet g (λ put. no_stream);

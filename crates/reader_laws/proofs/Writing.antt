@@ -10,14 +10,14 @@ use Rattle.cache_model.specs.Permit.{Intent, GiveUp, ReadOn, StopReading}
 use Rattle.cache_model.specs.Legal.{IsStep, is_writing}
 use Rattle.model_laws.specs.StepLaws.{IsNumbered, NumbersFollow}
 use Rattle.cache_model.proofs.Found.{none_is, number_of}
-use Rattle.actor_table.specs.Table.{number_of as number_in}
+use Rattle.actor_table.specs.Table.{number_of_name as number_in}
 use Rattle.script_lang.specs.declared.step.Step.{Step}
 use Rattle.script_lang.specs.declared.step.Step.TheVariants as step
-use Rattle.script_run.specs.Run.{Holding, Reads, Run, Stream, Writes, held_by, put_in, reader_by, with_value, writer_of}
+use Rattle.script_run.specs.Run.{Holding, Reads, Run, Stream, Writes, held_by, put_in, put_written_by, reader_by, with_value}
 use Rattle.script_run.specs.Asked.{asked}
 use Rattle.script_run.specs.Turn.{Turn}
-use Rattle.script_run.specs.Behind.{in_session, or_else, reader_at, still_open, writer_at}
-use Rattle.script_run.specs.Own.{AreKept, AreWriting, IsOwnPut}
+use Rattle.script_run.specs.Behind.{in_session, open_reader_at, or_else, still_open, writer_at}
+use Rattle.script_run.specs.Own.{ArePayloadsOwn, AreWriting, IsOwnPut}
 use Rattle.script_run.proofs.Changed.{changed, either, found_changed, other_stays}
 use Rattle.script_run.proofs.Ended.{IsFoundOpen, open_row}
 use Rattle.script_run.proofs.Values.{other_than, value_by}
@@ -99,7 +99,7 @@ pub are_writing : (run : Run) (s : State) → AreHeld run.held s → AreWriting 
 are_writing run s h name put writes = h.writing (number_in run.actors name) put (writer_held (held_by run name) put writes)
 
 -- an open put has begun
-open_begun : (s : State) (streams : ℕ → Stream) (put : ℕ) → AreKept s streams → is_writing s put ≡ true → put < s.next_put
+open_begun : (s : State) (streams : ℕ → Stream) (put : ℕ) → ArePayloadsOwn s streams → is_writing s put ≡ true → put < s.next_put
 open_begun s streams put own writing =
     let f : IsFoundOpen s put = open_row s put writing in
     let p : IsOwnPut s streams f.w = own.puts put f.w f.found in
@@ -151,7 +151,7 @@ still_writes t (Some (Writes put)) m h =
     (ap (λ k. Some (Writes k)) is.0, is.1)
 still_writes t (Some (Reads reader)) m h = absurd (reader_is_none reader m (is_some (reader_of t reader)) h)
 
-module _ (numbers : NumbersFollow) (run : Run) (s : State) (turn : Turn) (own : AreKept s run.streams) (h : AreHeld run.held s) where
+module _ (numbers : NumbersFollow) (run : Run) (s : State) (turn : Turn) (own : ArePayloadsOwn s run.streams) (h : AreHeld run.held s) where
   abbrev Behind : State
   Behind = after_all s turn.added
 
@@ -178,7 +178,7 @@ module _ (numbers : NumbersFollow) (run : Run) (s : State) (turn : Turn) (own : 
   })
 
   -- an actor that asks of its own put
-  mine_apart : (name : List ℕ) (i m put : ℕ) → (i ≡ number_in run.actors name → ⊥) → run.held i ≡ Some (Writes m) → writer_of run name ≡ Some put → put ≡ m → ⊥
+  mine_apart : (name : List ℕ) (i m put : ℕ) → (i ≡ number_in run.actors name → ⊥) → run.held i ≡ Some (Writes m) → put_written_by run name ≡ Some put → put ≡ m → ⊥
   mine_apart name i m put other has writes same =
       other (h.apart i (number_in run.actors name) m has (writer_held (held_by run name) put writes ∙ ap (λ k. Some (Writes k)) same))
 
@@ -206,7 +206,7 @@ module _ (numbers : NumbersFollow) (run : Run) (s : State) (turn : Turn) (own : 
 
   -- a reader that opens
   looked_changes : (k : ℕ) (asks : List Intent) (o : Option Holding) → run.held k ≡ o → IsStep turn.device s asks turn.added turn.refused → ((m : ℕ) → is_writing s m ≡ true → AllOther AnyNumber (OtherThan m) asks)
-      → Changes run.held Behind k (or_else o (reader_at Behind s.next_reader))
+      → Changes run.held Behind k (or_else o (open_reader_at Behind s.next_reader))
   looked_changes k asks (Some holding) e legal other = kept_changes k asks (Some holding) e legal other
   looked_changes k asks None e legal other = record {
     others = λ i put apart has. let before : is_writing s put ≡ true = h.writing i put has in open_still asks put legal (other put before) before;
@@ -227,11 +227,11 @@ module _ (numbers : NumbersFollow) (run : Run) (s : State) (turn : Turn) (own : 
   held_step (step.OpenWrite actor key pin request response) legal =
       held_with run.held s Behind (number_in run.actors actor) _ h (opened_changes (number_in run.actors actor) _ (held_by run actor) refl legal (λ m w. free_other AnyNumber (OtherThan m) (held_by run actor) _ tt))
   held_step (step.Feed actor body) legal =
-      still_held (number_in run.actors actor) _ legal (λ i m apart has. feeding_other AnyNumber (OtherThan m) run s body (writer_of run actor) (λ put writes. mine_apart actor i m put apart has writes))
+      still_held (number_in run.actors actor) _ legal (λ i m apart has. feeding_other AnyNumber (OtherThan m) run s body (put_written_by run actor) (λ put writes. mine_apart actor i m put apart has writes))
   held_step (step.Close actor) legal =
-      still_held (number_in run.actors actor) _ legal (λ i m apart has. close_other AnyNumber (OtherThan m) run s (writer_of run actor) (λ put writes. mine_apart actor i m put apart has writes))
+      still_held (number_in run.actors actor) _ legal (λ i m apart has. close_other AnyNumber (OtherThan m) run s (put_written_by run actor) (λ put writes. mine_apart actor i m put apart has writes))
   held_step (step.Abort actor) legal =
-      still_held (number_in run.actors actor) _ legal (λ i m apart has. has_other AnyNumber (OtherThan m) (writer_of run actor) (λ put. GiveUp put) (λ put writes. mine_apart actor i m put apart has writes))
+      still_held (number_in run.actors actor) _ legal (λ i m apart has. has_other AnyNumber (OtherThan m) (put_written_by run actor) (λ put. GiveUp put) (λ put writes. mine_apart actor i m put apart has writes))
   held_step (step.OpenRead actor key request) legal =
       held_with run.held s Behind (number_in run.actors actor) _ h (looked_changes (number_in run.actors actor) _ (held_by run actor) refl legal (λ m w. free_other AnyNumber (OtherThan m) (held_by run actor) _ tt))
   held_step (step.Next actor) legal = still_held (number_in run.actors actor) _ legal (λ i m apart has. has_other AnyNumber (OtherThan m) (reader_by run actor) (λ reader. ReadOn reader) (λ k e. tt))

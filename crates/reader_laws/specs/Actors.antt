@@ -15,7 +15,7 @@ use Rattle.script_run.specs.Turn.{Turn}
 use Rattle.script_run.specs.Answers.{step_answer}
 use Rattle.script_run.specs.Behind.{after_line}
 use Rattle.script_run.specs.Takes.{IsRun, run_after}
-use Rattle.reader_laws.specs.Along.{AreOfSession, Opens}
+use Rattle.reader_laws.specs.Along.{AreOfSession, LineOpens}
 use Rattle.reader_laws.specs.Given.{given_to}
 use Rattle.reader_laws.specs.Laws.{WasPutFor}
 
@@ -65,7 +65,7 @@ pub record IsOpenedBy (lines : List (List ℕ)) (turns : List Turn) (name : List
   pub legal : IsRun fresh before earlier
   pub s : State
   pub r : ReaderRow
-  pub opens : Opens (run_after fresh before earlier) s turn bytes r
+  pub opens : LineOpens (run_after fresh before earlier) s turn bytes r
   pub actor_is : opens.actor ≡ name
   pub number : s.next_reader ≡ reader
   pub same_session : AreOfSession later

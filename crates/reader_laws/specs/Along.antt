@@ -17,7 +17,7 @@ use Rattle.script_lang.specs.Grammar.{reading_of}
 use Rattle.script_run.specs.Run.{Run, fresh}
 use Rattle.script_run.specs.Turn.{Turn}
 use Rattle.script_run.specs.Behind.{after_line}
-use Rattle.script_run.specs.Own.{AreKept, AreOwn, AreWriting}
+use Rattle.script_run.specs.Own.{AreOwn, ArePayloadsOwn, AreWriting}
 use Rattle.script_run.specs.Takes.{IsRun, LineShows, LineTakes, run_after}
 
 -- a format that is not refused begins another session
@@ -43,7 +43,7 @@ pub record StandsOwn (run : Run) (s : State) : Type 0 where
 
 -- the same, but for the documents of fragments
 pub record StandsKept (run : Run) (s : State) : Type 0 where
-  pub kept : AreKept s run.streams
+  pub kept : ArePayloadsOwn s run.streams
   pub writing : AreWriting run s
 
 -- so it stands, where there is a session
@@ -86,7 +86,7 @@ pub record IsOfScript (run : Run) : Type 0 where
   pub is : run ≡ run_after fresh lines turns
 
 -- the line opens the reader of the next number
-pub record Opens (run : Run) (s : State) (turn : Turn) (bytes : List ℕ) (r : ReaderRow) : Type 0 where
+pub record LineOpens (run : Run) (s : State) (turn : Turn) (bytes : List ℕ) (r : ReaderRow) : Type 0 where
   pub actor : List ℕ
   pub key : Key
   pub request : List Field

@@ -15,21 +15,21 @@ given_where reader given None = []
 given_where reader given (Some asked) = if asked == reader then given else []
 
 -- what a step gives to the reader of this number
-abbrev pub given_by : ℕ → Run → Turn → Step → List ℕ
-given_by reader run turn (step.Next actor) = given_where reader turn.given (reader_by run actor)
-given_by reader run turn _ = []
+abbrev pub given_by_step : ℕ → Run → Turn → Step → List ℕ
+given_by_step reader run turn (step.Next actor) = given_where reader turn.given (reader_by run actor)
+given_by_step reader run turn _ = []
 
 -- and what a line gives to it that is read so
-abbrev pub given_in : ℕ → Run → Turn → LineAnswer → List ℕ
-given_in reader run turn (line.Step s) = given_by reader run turn s
-given_in reader run turn line.Nothing = []
-given_in reader run turn (line.Bad fault) = []
+abbrev pub given_by_line : ℕ → Run → Turn → LineAnswer → List ℕ
+given_by_line reader run turn (line.Step s) = given_by_step reader run turn s
+given_by_line reader run turn line.Nothing = []
+given_by_line reader run turn (line.Bad fault) = []
 
 -- all that lines give to it, one after the other
 abbrev pub given_to : ℕ → Run → List (List ℕ) → List Turn → List ℕ
 given_to reader run [] turns = []
 given_to reader run (bytes ∷ lines) [] = []
-given_to reader run (bytes ∷ lines) (turn ∷ turns) = given_in reader run turn (reading_of bytes) ++ given_to reader (after_line run turn bytes) lines turns
+given_to reader run (bytes ∷ lines) (turn ∷ turns) = given_by_line reader run turn (reading_of bytes) ++ given_to reader (after_line run turn bytes) lines turns
 
 -- the fragments of a body from one index on, up to another and without that
 abbrev pub fragments_between : ℕ → List ℕ → ℕ → ℕ → List ℕ

@@ -17,9 +17,9 @@ use Rattle.script_run.specs.Run.{Run, fresh, reader_by}
 use Rattle.script_run.specs.Turn.{Turn}
 use Rattle.script_run.specs.Behind.{after_line, after_step}
 use Rattle.script_run.specs.Answers.{step_answer}
-use Rattle.script_run.specs.Own.{AreKept}
+use Rattle.script_run.specs.Own.{ArePayloadsOwn}
 use Rattle.script_run.specs.Takes.{IsRun, SessionTakes, StepTakes, run_after}
-use Rattle.reader_laws.specs.Along.{AreOfSession, IsOfScript, IsOpenAt, KeptAlong, OpenedAlong, Opens, OwnAlong, QuietWhere, ShowsAlong}
+use Rattle.reader_laws.specs.Along.{AreOfSession, IsOfScript, IsOpenAt, KeptAlong, LineOpens, OpenedAlong, OwnAlong, QuietWhere, ShowsAlong}
 use Rattle.reader_laws.specs.Given.{fragments_between, given_to}
 
 -- along lines of a legal script that begin no other session what stands is what writers took, each put
@@ -42,7 +42,7 @@ OwnIsKeptAlong = (run : Run) (lines : List (List ℕ)) (turns : List Turn) → O
 
 -- a reader that a line opens is at its first fragment
 abbrev pub OpensFirst : Type 0
-OpensFirst = (run : Run) (s : State) (turn : Turn) (actor : List ℕ) (key : Key) (request : List Field) (r : ReaderRow) → AreKept s run.streams
+OpensFirst = (run : Run) (s : State) (turn : Turn) (actor : List ℕ) (key : Key) (request : List Field) (r : ReaderRow) → ArePayloadsOwn s run.streams
     → SessionTakes run s turn (step.OpenRead actor key request) → reader_of (after_all s turn.added) s.next_reader ≡ Some r
     → IsOpenAt (after_all s turn.added) s.next_reader r × (r.next ≡ 1)
 
@@ -78,7 +78,7 @@ EndIsAll = (run : Run) (lines : List (List ℕ)) (turns : List Turn) (s : State)
 -- in each legal script all that lines give to a reader that a line opened are the first fragments of what
 -- the writer of its put took
 abbrev pub FirstGiven : Type 0
-FirstGiven = (run : Run) (s t : State) (turn : Turn) (bytes : List ℕ) (lines : List (List ℕ)) (turns : List Turn) (r u : ReaderRow) → IsOfScript run → Opens run s turn bytes r
+FirstGiven = (run : Run) (s t : State) (turn : Turn) (bytes : List ℕ) (lines : List (List ℕ)) (turns : List Turn) (r u : ReaderRow) → IsOfScript run → LineOpens run s turn bytes r
     → IsRun (after_line run turn bytes) lines turns → AreOfSession lines
     → (run_after (after_line run turn bytes) lines turns).state ≡ Some t → reader_of t s.next_reader ≡ Some u
     → given_to s.next_reader (after_line run turn bytes) lines turns
@@ -87,7 +87,7 @@ FirstGiven = (run : Run) (s t : State) (turn : Turn) (bytes : List ℕ) (lines :
 -- and where the reader is then answered the end, they are all of it
 abbrev pub AllGiven : Type 0
 AllGiven = (run : Run) (s : State) (turn : Turn) (bytes : List ℕ) (lines : List (List ℕ)) (turns : List Turn) (r : ReaderRow) (actor : List ℕ) (last : Turn) (size : ℕ) → IsOfScript run
-    → Opens run s turn bytes r → IsRun (after_line run turn bytes) lines turns → AreOfSession lines
+    → LineOpens run s turn bytes r → IsRun (after_line run turn bytes) lines turns → AreOfSession lines
     → reader_by (run_after (after_line run turn bytes) lines turns) actor ≡ Some s.next_reader
     → StepTakes (run_after (after_line run turn bytes) lines turns) last (step.Next actor)
     → step_answer (run_after (after_line run turn bytes) lines turns) last (step.Next actor) ≡ answer.End size
@@ -147,10 +147,10 @@ LengthIsTold = (lines : List (List ℕ)) (turns : List Turn) (turn : Turn) (asks
     → size ≡ length ((run_after fresh lines turns).streams put).bytes
 
 -- the step is answered that this put is complete, with so many bytes in so many fragments
-pub data AnswersPut (run : Run) (turn : Turn) (put size fragments : ℕ) : Step → Type 0 where
+pub data AnswersPutComplete (run : Run) (turn : Turn) (put size fragments : ℕ) : Step → Type 0 where
   puts : (key : Key) (body : List ℕ) (request response : List Field) → step_answer run turn (step.Put key body request response) ≡ answer.Put put size fragments
-      → AnswersPut run turn put size fragments (step.Put key body request response)
-  closes : (actor : List ℕ) → step_answer run turn (step.Close actor) ≡ answer.Put put size fragments → AnswersPut run turn put size fragments (step.Close actor)
+      → AnswersPutComplete run turn put size fragments (step.Put key body request response)
+  closes : (actor : List ℕ) → step_answer run turn (step.Close actor) ≡ answer.Put put size fragments → AnswersPutComplete run turn put size fragments (step.Close actor)
 
 -- so many bytes are all that the put's writer took, and so many fragments are the fewest that have room for
 -- them
@@ -165,7 +165,7 @@ pub record IsMeasured (run : Run) (put size fragments : ℕ) : Type 0 where
 -- the writer took the whole body
 abbrev pub PutIsMeasured : Type 0
 PutIsMeasured = (lines : List (List ℕ)) (turns : List Turn) (turn : Turn) (asks : Step) (put size fragments : ℕ) → IsRun fresh lines turns
-    → StepTakes (run_after fresh lines turns) turn asks → AnswersPut (run_after fresh lines turns) turn put size fragments asks
+    → StepTakes (run_after fresh lines turns) turn asks → AnswersPutComplete (run_after fresh lines turns) turn put size fragments asks
     → IsMeasured (after_step (run_after fresh lines turns) turn asks) put size fragments
 
 -- ---- what is told as damaged

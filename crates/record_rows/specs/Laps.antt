@@ -12,8 +12,8 @@ use Rattle.cache_model.specs.Legal.{IsStep, format_records}
 use Rattle.cache_model.specs.Permit.{Flush}
 use Rattle.cache_model.specs.State.{State, after_all, nothing_yet}
 use Rattle.cache_model.specs.Syncing.{WhereDue}
-use Rattle.record_rows.specs.Refused.{IsBlock, behind_calls, put_of}
-use Rattle.record_rows.specs.Steps.{IsBody, calls_of_sync, opened, shut}
+use Rattle.record_rows.specs.Refused.{IsBlock, behind_calls, put_of_no_bytes}
+use Rattle.record_rows.specs.Steps.{IsCopyBody, calls_of_sync, gate_written, shut}
 use Rattle.record_rows.specs.Worked.{b, fillers, flushed, no_digest, other, synced}
 
 -- 64 blocks and buffers of 8, as the small geometry, with a reach of 64
@@ -40,7 +40,7 @@ far = record {
 
 -- seven full buffers, and the one object of the last buffer of the lap
 abbrev pub first_lap : State
-first_lap = after_all (flushed WhereDue (fillers 7 (after_all nothing_yet (format_records far)))) (put_of 120 8 b no_digest)
+first_lap = after_all (flushed WhereDue (fillers 7 (after_all nothing_yet (format_records far)))) (put_of_no_bytes 120 8 b no_digest)
 
 -- the flush of that syncs; seven full buffers are written in the next lap, none of them with a sync, and one object is in the
 -- last buffer
@@ -49,7 +49,7 @@ second_lap = flushed WhereDue (fillers 7 (flushed WhereDue first_lap))
 
 -- the device refuses to read for a lookup
 abbrev pub in_last : Digest → State
-in_last digest = after_all second_lap (put_of 184 16 other digest ++ (rec.Fault 1 ∷ []))
+in_last digest = after_all second_lap (put_of_no_bytes 184 16 other digest ++ (rec.Fault 1 ∷ []))
 
 -- the calls of the session since the last buffer of the first lap was written, each other buffer with these bytes
 abbrev pub lap_calls : (written : ℕ → List ℕ) (one body : List ℕ) → List Call
@@ -62,14 +62,14 @@ abbrev pub ended_lap : List Rec
 ended_lap = synced 3 192 false ++ (rec.Began 192 136 ∷ [])
 
 abbrev pub ends_lap : List ℕ → List Call
-ends_lap body = Synced ∷ opened 1 ∷ Synced ∷ Wrote 3 body ∷ Synced ∷ shut 1 ∷ []
+ends_lap body = Synced ∷ gate_written 1 ∷ Synced ∷ Wrote 3 body ∷ Synced ∷ shut 1 ∷ []
 
 -- the buffer is written before that
 abbrev pub ABufferIsWrittenInEachLap : Type 0
-ABufferIsWrittenInEachLap = (written : ℕ → List ℕ) (one body block again : List ℕ) → IsBlock one → IsBlock block → IsBody again
+ABufferIsWrittenInEachLap = (written : ℕ → List ℕ) (one body block again : List ℕ) → IsBlock one → IsBlock block → IsCopyBody again
     → IsStep (behind_calls (lap_calls written one body) (ends_lap again ++ (Wrote 75 block ∷ []))) (in_last (document_digest block)) (Flush ∷ []) ended_lap None
 
 -- it is left, since as many blocks stand there
 abbrev pub ABufferOfTheLapBeforeDoesNotStand : Type 0
-ABufferOfTheLapBeforeDoesNotStand = (digest : Digest) (written : ℕ → List ℕ) (one body again : List ℕ) → IsBlock one → IsBody again
+ABufferOfTheLapBeforeDoesNotStand = (digest : Digest) (written : ℕ → List ℕ) (one body again : List ℕ) → IsBlock one → IsCopyBody again
     → IsStep (behind_calls (lap_calls written one body) (ends_lap again)) (in_last digest) (Flush ∷ []) ended_lap None → ⊥

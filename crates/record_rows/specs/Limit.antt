@@ -16,7 +16,7 @@ use Rattle.cache_model.specs.Opening.{Opening}
 use Rattle.cache_model.specs.Openings.{opened_records}
 use Rattle.cache_model.specs.Permit.{Exhausted, Flush, Permit}
 use Rattle.cache_model.specs.State.{State, after_all, fragment_piece, nothing_yet}
-use Rattle.record_rows.specs.Refused.{IsBlock, put_of}
+use Rattle.record_rows.specs.Refused.{IsBlock, put_of_no_bytes}
 use Rattle.record_rows.specs.Worked.{a, b, no_digest}
 
 -- 96 blocks, so that a lap goes on above 2^62; buffers of 8, and fragments of up to 1,600 bytes, which take half of one
@@ -46,12 +46,22 @@ abbrev pub unsynced : List Call → Permit
 unsynced events = record { packed = false; syncs = false; now = 0; area = 3; past = []; events = events }
 
 -- a fragment of four blocks, pinned, which stands so far below the cursor that the next floor passes it
-abbrev pub pinned : PieceId
-pinned = fragment_piece a 1 1
+abbrev pub pinned_piece : PieceId
+pinned_piece = fragment_piece a 1 1
 
 abbrev pub pinned_at : ℕ → Digest → FoundRow
 pinned_at cursor digest =
-    record { id = pinned; place = cursor - 88; blocks = 4; digest = digest; length = 1600; payload = no_digest; pin = 9; alternates = None }
+    record {
+      id = pinned_piece;
+      place = cursor - 88;
+      blocks = 4;
+      digest = digest;
+      length = 1600;
+      payload = no_digest;
+      pin =
+          9;
+      alternates = None;
+    }
 
 -- an opening finds it
 abbrev pub pinned_found : ℕ → Digest → Opening
@@ -60,12 +70,13 @@ pinned_found cursor digest =
 
 -- an object of no bytes is in the buffer
 abbrev pub before_flush : (cursor : ℕ) (piece object : Digest) → State
-before_flush cursor piece object = after_all nothing_yet (opened_records over_the_end (pinned_found cursor piece) ++ put_of cursor 2 b object)
+before_flush cursor piece object = after_all nothing_yet (opened_records over_the_end (pinned_found cursor piece) ++ put_of_no_bytes cursor 2 b object)
 
 -- a flush copies the fragment to the front of the next buffer
 abbrev pub copied_from : ℕ → List ℕ → List Rec
 copied_from cursor bytes =
-    rec.Began (cursor + 1) (cursor - 87) ∷ rec.Moved pinned (cursor - 88) (cursor + 1) (document_digest (moved_to (cursor + 1) bytes)) ∷ []
+    rec.Began (cursor + 1) (cursor - 87)
+    ∷ rec.Moved pinned_piece (cursor - 88) (cursor + 1) (document_digest (moved_to (cursor + 1) bytes)) ∷ []
 
 -- bytes of a document of four blocks
 pub record AreFour (bytes : List ℕ) : Type 0 where

@@ -14,12 +14,13 @@ use Rattle.cache_model.specs.Permit.{Commit, Faulted, Finish, Flush, Intent, Per
 use Rattle.cache_model.specs.State.{State, after_all, vector_piece}
 use Rattle.cache_model.specs.Syncing.{InParts}
 use Rattle.record_rows.specs.Rows.{document_of, once_refused}
-use Rattle.record_rows.specs.Steps.{IsBody, calls_of_sync, opened, shut, with_calls}
+use Rattle.record_rows.specs.Steps.{IsCopyBody, calls_of_sync, gate_written, shut, with_calls}
 use Rattle.record_rows.specs.Worked.{a, b, behind_format, fillers, flushed, no_bytes, other, synced}
 
 -- an object of no bytes: its vector alone, which has this digest
-abbrev pub put_of : ℕ → ℕ → Key → Digest → List Rec
-put_of place put key digest = rec.WriteOpened (record { 0 = 0 }) put key [] [] 0 ∷ rec.Placed (vector_piece key put) place 1 digest 0
+abbrev pub put_of_no_bytes : ℕ → ℕ → Key → Digest → List Rec
+put_of_no_bytes place put key digest =
+    rec.WriteOpened (record { 0 = 0 }) put key [] [] 0 ∷ rec.Placed (vector_piece key put) place 1 digest 0
     ∷ rec.Committed put key 0 (no_bytes put ∷ []) ∷ []
 
 -- what is asked for it
@@ -32,7 +33,7 @@ behind_calls past events = record (with_calls events) { past = past }
 
 -- one object is in the buffer
 abbrev pub with_one : Digest → State
-with_one digest = behind_format (put_of 64 1 a digest)
+with_one digest = behind_format (put_of_no_bytes 64 1 a digest)
 
 -- the block of its vector
 abbrev pub IsBlock : List ℕ → Type 0
@@ -46,7 +47,7 @@ synced_once = synced 2 65 false ++ (rec.Began 65 9 ∷ [])
 
 -- the buffer is written before the sync
 abbrev pub AWriteBeforeItsSyncIsAStep : Type 0
-AWriteBeforeItsSyncIsAStep = (body block : List ℕ) → IsBody body → IsBlock block
+AWriteBeforeItsSyncIsAStep = (body block : List ℕ) → IsCopyBody body → IsBlock block
     → IsStep (with_calls (calls_of_sync body ++ (Wrote 19 block ∷ []))) (with_one (document_digest block)) (Sync ∷ []) synced_once None
 
 -- it is written once more behind that
@@ -67,11 +68,11 @@ stopped_once = rec.SyncBegun 2 65 false false ∷ rec.Fault 1 ∷ []
 
 -- the gate is open, and the device refuses to sync that
 abbrev pub open_gate : List ℕ → List Call
-open_gate body = RefusedCall ToSync 1 ∷ opened 2 ∷ Synced ∷ Wrote 11 body ∷ Synced ∷ []
+open_gate body = RefusedCall ToSync 1 ∷ gate_written 2 ∷ Synced ∷ Wrote 11 body ∷ Synced ∷ []
 
 -- the buffer is written before
 abbrev pub AnOpenGateMayStaySo : Type 0
-AnOpenGateMayStaySo = (body block : List ℕ) → IsBody body → IsBlock block
+AnOpenGateMayStaySo = (body block : List ℕ) → IsCopyBody body → IsBlock block
     → IsStep (with_calls (open_gate body ++ (Wrote 19 block ∷ []))) (with_one (document_digest block)) (Sync ∷ []) stopped_once (Some (Faulted 1))
 
 -- it is written only behind that, so that the copy may be found without it
@@ -81,13 +82,13 @@ AWriteBehindAnOpenGateIsNoStep = (digest : Digest) (body bytes : List ℕ)
 
 -- the device refuses to take the gate, which may be open then, behind the body
 abbrev pub AGateMayBeRefused : Type 0
-AGateMayBeRefused = (body block left : List ℕ) → IsBody body → IsBlock block
+AGateMayBeRefused = (body block left : List ℕ) → IsCopyBody body → IsBlock block
     → IsStep (with_calls (RefusedCall (ToWrite 2 1 left) 1 ∷ Synced ∷ Wrote 11 body ∷ Synced ∷ Wrote 19 block ∷ [])) (with_one (document_digest block))
     (Sync ∷ []) stopped_once (Some (Faulted 1))
 
 -- it is asked to before the body is durable
 abbrev pub AGateRefusedEarlyIsNoStep : Type 0
-AGateRefusedEarlyIsNoStep = (digest : Digest) (body bytes left : List ℕ) → IsBody body
+AGateRefusedEarlyIsNoStep = (digest : Digest) (body bytes left : List ℕ) → IsCopyBody body
     → IsStep (with_calls (RefusedCall (ToWrite 2 1 left) 1 ∷ Wrote 11 body ∷ Synced ∷ Wrote 19 bytes ∷ [])) (with_one digest) (Sync ∷ []) stopped_once (Some (Faulted 1)) → ⊥
 
 -- or in a later step, which writes no body
@@ -98,13 +99,13 @@ abbrev pub stopped_again : List Rec
 stopped_again = rec.SyncBegun 3 65 false false ∷ rec.Fault 2 ∷ []
 
 abbrev pub AGateRefusedBehindALeftBodyIsNoStep : Type 0
-AGateRefusedBehindALeftBodyIsNoStep = (digest : Digest) (body block bytes left : List ℕ) → IsBody body → IsBlock bytes
+AGateRefusedBehindALeftBodyIsNoStep = (digest : Digest) (body block bytes left : List ℕ) → IsCopyBody body → IsBlock bytes
     → IsStep (behind_calls (left_body body block) (RefusedCall (ToWrite 2 1 left) 2 ∷ Wrote 19 bytes ∷ [])) (after_all (with_one digest) stopped_once)
     (Sync ∷ []) stopped_again (Some (Faulted 2)) → ⊥
 
 -- it is asked to behind the body, which that step writes anew
 abbrev pub AGateMayBeRefusedInALaterStep : Type 0
-AGateMayBeRefusedInALaterStep = (body block again left : List ℕ) → IsBody body → IsBlock block → IsBody again
+AGateMayBeRefusedInALaterStep = (body block again left : List ℕ) → IsCopyBody body → IsBlock block → IsCopyBody again
     → IsStep (behind_calls (left_body body block) (RefusedCall (ToWrite 2 1 left) 2 ∷ Synced ∷ Wrote 11 again ∷ Synced ∷ Wrote 19 block ∷ []))
     (after_all (with_one (document_digest block)) stopped_once) (Sync ∷ []) stopped_again (Some (Faulted 2))
 
@@ -116,7 +117,7 @@ AWriteBehindARefusedGateIsNoStep = (digest : Digest) (body bytes left : List ℕ
 
 -- or between the body and that gate, which the device does not sync
 abbrev pub AWriteBeforeARefusedGateIsNoStep : Type 0
-AWriteBeforeARefusedGateIsNoStep = (digest : Digest) (body bytes left : List ℕ) → IsBody body → IsBlock bytes
+AWriteBeforeARefusedGateIsNoStep = (digest : Digest) (body bytes left : List ℕ) → IsCopyBody body → IsBlock bytes
     → IsStep (with_calls (RefusedCall (ToWrite 2 1 left) 1 ∷ Wrote 19 bytes ∷ Synced ∷ Wrote 11 body ∷ Synced ∷ [])) (with_one digest)
     (Sync ∷ []) stopped_once (Some (Faulted 1)) → ⊥
 
@@ -141,7 +142,7 @@ AWriteThatIsNotSyncedIsNoStep = (digest : Digest) (bytes : List ℕ)
 -- another object, which has room beside the first one: the buffer is written
 abbrev pub AWriteWithoutAFlushIsNoStep : Type 0
 AWriteWithoutAFlushIsNoStep = (first second : Digest) (bytes : List ℕ)
-    → IsStep (with_calls (Wrote 19 bytes ∷ [])) (with_one first) (asked_for 2 b) (put_of 65 2 b second) None → ⊥
+    → IsStep (with_calls (Wrote 19 bytes ∷ [])) (with_one first) (asked_for 2 b) (put_of_no_bytes 65 2 b second) None → ⊥
 
 -- a clean copy may be found
 abbrev pub under_a_mark : State
@@ -155,13 +156,13 @@ unmarked_by digest = rec.WriteOpened (record { 0 = 0 }) 1 a [] [] 0 ∷ (synced 
 -- its block is written before that
 abbrev pub AWriteUnderAMarkIsNoStep : Type 0
 AWriteUnderAMarkIsNoStep = (digest : Digest) (body bytes : List ℕ)
-    → IsStep (with_calls (Synced ∷ opened 1 ∷ Synced ∷ Wrote 3 body ∷ Synced ∷ shut 1 ∷ Wrote 19 bytes ∷ [])) under_a_mark (asked_for 1 a) (unmarked_by digest) None → ⊥
+    → IsStep (with_calls (Synced ∷ gate_written 1 ∷ Synced ∷ Wrote 3 body ∷ Synced ∷ shut 1 ∷ Wrote 19 bytes ∷ [])) under_a_mark (asked_for 1 a) (unmarked_by digest) None → ⊥
 
 -- ---- reach
 
 -- a sync in parts was begun at the end of a lap, and an object is in the buffer behind it
 abbrev pub out_of_reach : Digest → State
-out_of_reach digest = after_all once_refused (put_of 128 9 b digest)
+out_of_reach digest = after_all once_refused (put_of_no_bytes 128 9 b digest)
 
 -- a flush ends that sync
 abbrev pub ended_fifth : List Rec
@@ -169,11 +170,11 @@ ended_fifth = rec.SyncDone 5 ∷ rec.Began 129 73 ∷ []
 
 -- into the first copy, whose gate is known to be shut
 abbrev pub ends_fifth : List ℕ → List Call
-ends_fifth body = Synced ∷ opened 1 ∷ Synced ∷ Wrote 3 body ∷ Synced ∷ []
+ends_fifth body = Synced ∷ gate_written 1 ∷ Synced ∷ Wrote 3 body ∷ Synced ∷ []
 
 -- the buffer is written behind that
 abbrev pub AWriteBehindTheEndIsAStep : Type 0
-AWriteBehindTheEndIsAStep = (body block : List ℕ) → IsBody body → IsBlock block
+AWriteBehindTheEndIsAStep = (body block : List ℕ) → IsCopyBody body → IsBlock block
     → IsStep (with_calls (Wrote 19 block ∷ ends_fifth body)) (out_of_reach (document_digest block)) (Flush ∷ []) ended_fifth None
 
 -- it is written before
@@ -185,7 +186,7 @@ AWriteOutOfReachIsNoStep = (digest : Digest) (body bytes : List ℕ)
 
 -- the first one is written out, another object is put, and the device stops the sync of its buffer
 abbrev pub two_buffers : Digest → List Rec
-two_buffers digest = rec.Began 65 9 ∷ (put_of 65 2 b digest ++ (rec.SyncBegun 2 66 false false ∷ rec.Fault 1 ∷ []))
+two_buffers digest = rec.Began 65 9 ∷ (put_of_no_bytes 65 2 b digest ++ (rec.SyncBegun 2 66 false false ∷ rec.Fault 1 ∷ []))
 
 -- the digest of that object's vector
 abbrev pub second_digest : Digest
@@ -193,7 +194,8 @@ second_digest = digest_of_document (document_of 65 2 b) (vector_bytes (no_bytes 
 
 -- they are written in their order
 abbrev pub TwoBuffersAreAStep : Type 0
-TwoBuffersAreAStep = (body first second : List ℕ) → IsBody body → IsBlock first → IsBlock second → document_digest second ≡ second_digest
+TwoBuffersAreAStep = (body first second : List ℕ) → IsCopyBody body → IsBlock first → IsBlock second
+    → document_digest second ≡ second_digest
     → IsStep (with_calls (open_gate body ++ (Wrote 20 second ∷ Wrote 19 first ∷ []))) (with_one (document_digest first)) (Flush ∷ (asked_for 2 b ++ (Sync ∷ [])))
     (two_buffers second_digest) (Some (Faulted 1))
 
@@ -212,12 +214,13 @@ durable_calls first = RefusedCall (ToWrite 11 8 []) 1 ∷ Synced ∷ Wrote 19 fi
 
 -- so the flush of it writes nothing; two objects are put into the next one, and the device stops the sync of that
 abbrev pub one_buffer : (one two : Digest) → List Rec
-one_buffer one two = rec.Began 65 9 ∷ (put_of 65 2 b one ++ (put_of 66 3 other two ++ (rec.SyncBegun 3 67 false false ∷ rec.Fault 2 ∷ [])))
+one_buffer one two =
+    rec.Began 65 9 ∷ (put_of_no_bytes 65 2 b one ++ (put_of_no_bytes 66 3 other two ++ (rec.SyncBegun 3 67 false false ∷ rec.Fault 2 ∷ [])))
 
 -- behind both blocks of that buffer one of them is written again
 abbrev pub ASecondWriteIsNoStep : Type 0
 ASecondWriteIsNoStep = (digest one two : Digest) (first body both again : List ℕ) → length both ≡ 512 * 2
-    → IsStep (behind_calls (durable_calls first) (RefusedCall ToSync 2 ∷ opened 2 ∷ Synced ∷ Wrote 11 body ∷ Synced ∷ Wrote 20 again ∷ Wrote 20 both ∷ []))
+    → IsStep (behind_calls (durable_calls first) (RefusedCall ToSync 2 ∷ gate_written 2 ∷ Synced ∷ Wrote 11 body ∷ Synced ∷ Wrote 20 again ∷ Wrote 20 both ∷ []))
     (with_durable digest) (Flush ∷ (asked_for 2 b ++ (asked_for 3 other ++ (Sync ∷ [])))) (one_buffer one two) (Some (Faulted 2)) → ⊥
 
 -- ---- a buffer that a refused write may have spoiled
@@ -225,7 +228,7 @@ ASecondWriteIsNoStep = (digest one two : Digest) (first body both again : List �
 -- a sync in parts was begun behind a full buffer, and an object is in the next one; a flush writes that and cannot end the
 -- sync, another one cannot write it again, and then the sync ends
 abbrev pub once_spoiled : Digest → State
-once_spoiled digest = after_all (flushed InParts (fillers 1 (behind_format []))) (put_of 72 2 b digest ++ (rec.Fault 1 ∷ rec.Fault 2 ∷ rec.SyncDone 2 ∷ []))
+once_spoiled digest = after_all (flushed InParts (fillers 1 (behind_format []))) (put_of_no_bytes 72 2 b digest ++ (rec.Fault 1 ∷ rec.Fault 2 ∷ rec.SyncDone 2 ∷ []))
 
 -- the calls of those steps, the newest first: the device's sync makes durable what the refused write left
 abbrev pub spoiling : (first block left body : List ℕ) → List Call

@@ -15,29 +15,29 @@ abbrev pub with_calls : List Call → Permit
 with_calls events = record { packed = true; syncs = true; now = 0; area = 19; past = []; events = events }
 
 -- the bytes of a gate behind its first one
-abbrev pub zeros : List ℕ
-zeros = repeat 511 (0 ∷ [])
+abbrev pub gate_zeros : List ℕ
+gate_zeros = repeat 511 (0 ∷ [])
 
 -- a gate is opened, or shut
-abbrev pub opened : ℕ → Call
-opened gate = Wrote gate (1 ∷ zeros)
+abbrev pub gate_written : ℕ → Call
+gate_written gate = Wrote gate (1 ∷ gate_zeros)
 
 abbrev pub shut : ℕ → Call
-shut gate = Wrote gate (0 ∷ zeros)
+shut gate = Wrote gate (0 ∷ gate_zeros)
 
 -- the calls of a sync into the second copy, the newest first: its gate is known to be shut
 abbrev pub calls_of_sync : List ℕ → List Call
-calls_of_sync body = Synced ∷ opened 2 ∷ Synced ∷ Wrote 11 body ∷ Synced ∷ []
+calls_of_sync body = Synced ∷ gate_written 2 ∷ Synced ∷ Wrote 11 body ∷ Synced ∷ []
 
 -- a body: a header, six blocks of directory and a footer
-abbrev pub IsBody : List ℕ → Type 0
-IsBody body = length body ≡ 512 * 8
+abbrev pub IsCopyBody : List ℕ → Type 0
+IsCopyBody body = length body ≡ 512 * 8
 
 -- ---- a sync of an empty buffer
 
 -- it is recorded with its end, on those calls
 abbrev pub AnEmptySyncIsAStep : Type 0
-AnEmptySyncIsAStep = (body : List ℕ) → IsBody body
+AnEmptySyncIsAStep = (body : List ℕ) → IsCopyBody body
     → IsStep (with_calls (calls_of_sync body)) (behind_format []) (Sync ∷ []) (synced 2 64 false) None
 
 -- also where the buffer begins right below 2^62, since it takes no place
@@ -45,7 +45,7 @@ abbrev pub at_tape_end : State
 at_tape_end = behind_format (rec.Began (2 ^ 62 - 1) (2 ^ 62 - 49) ∷ [])
 
 abbrev pub AnEmptySyncAtTheTapeEndIsAStep : Type 0
-AnEmptySyncAtTheTapeEndIsAStep = (body : List ℕ) → IsBody body
+AnEmptySyncAtTheTapeEndIsAStep = (body : List ℕ) → IsCopyBody body
     → IsStep (with_calls (calls_of_sync body)) at_tape_end (Sync ∷ []) (synced 2 (2 ^ 62 - 1) false) None
 
 -- there it is not refused
@@ -63,8 +63,9 @@ ASyncBehindAShutGateIsNoStep = (body : List ℕ)
 
 -- nor where it is opened before its body is durable
 abbrev pub AGateOpenedEarlyIsNoStep : Type 0
-AGateOpenedEarlyIsNoStep = (body : List ℕ) → IsBody body
-    → IsStep (with_calls (Synced ∷ opened 2 ∷ Wrote 11 body ∷ Synced ∷ [])) (behind_format []) (Sync ∷ []) (synced 2 64 false) None → ⊥
+AGateOpenedEarlyIsNoStep = (body : List ℕ) → IsCopyBody body
+    → IsStep (with_calls (Synced ∷ gate_written 2 ∷ Wrote 11 body ∷ Synced ∷ [])) (behind_format []) (Sync ∷ [])
+    (synced 2 64 false) None → ⊥
 
 -- ---- writes that are of no sync and of no buffer
 
@@ -85,8 +86,9 @@ ASecondOneIsRefused = IsStep (with_calls []) while_it_runs (SyncBegin ∷ []) []
 
 -- its last part ends it
 abbrev pub ALastPartIsAStep : Type 0
-ALastPartIsAStep = (body : List ℕ) → IsBody body
-    → IsStep (with_calls (Synced ∷ opened 2 ∷ Synced ∷ Wrote 11 body ∷ [])) while_it_runs (SyncStep true ∷ []) (rec.SyncDone 2 ∷ []) None
+ALastPartIsAStep = (body : List ℕ) → IsCopyBody body
+    → IsStep (with_calls (Synced ∷ gate_written 2 ∷ Synced ∷ Wrote 11 body ∷ [])) while_it_runs (SyncStep true ∷ [])
+    (rec.SyncDone 2 ∷ []) None
 
 -- a part that the device refuses leaves it
 abbrev pub ARefusedPartIsAStep : Type 0
@@ -135,10 +137,10 @@ ARefusedPartLeavesTheSync =
 
 -- a clean copy of an empty buffer, behind a drain that finds nothing to write
 abbrev pub AClosedStripeIsAStep : Type 0
-AClosedStripeIsAStep = (body : List ℕ) → IsBody body
+AClosedStripeIsAStep = (body : List ℕ) → IsCopyBody body
     → IsStep (with_calls (calls_of_sync body)) (behind_format []) (Drain ∷ CleanSync ∷ []) (synced 2 64 true) None
 
 -- behind its opening it is closed again, under the next serial: the gate of the older copy is open, and is shut first
 abbrev pub AMarkedStripeMayBeClosed : Type 0
-AMarkedStripeMayBeClosed = (body : List ℕ) → IsBody body
-    → IsStep (with_calls (Synced ∷ opened 2 ∷ Synced ∷ Wrote 11 body ∷ Synced ∷ shut 2 ∷ [])) (behind_opening clean_sync []) (Drain ∷ CleanSync ∷ []) (synced 4 66 true) None
+AMarkedStripeMayBeClosed = (body : List ℕ) → IsCopyBody body
+    → IsStep (with_calls (Synced ∷ gate_written 2 ∷ Synced ∷ Wrote 11 body ∷ Synced ∷ shut 2 ∷ [])) (behind_opening clean_sync []) (Drain ∷ CleanSync ∷ []) (synced 4 66 true) None

@@ -47,8 +47,8 @@ abbrev pub fragment : PieceId
 fragment = fragment_piece a 1 1
 
 -- the document as which its fragment stands
-abbrev pub fragment_doc : Doc
-fragment_doc = record { id = fragment; place = 64; generation = 7; pin = 0; start = 0 }
+abbrev pub doc_of_fragment : Doc
+doc_of_fragment = record { id = fragment; place = 64; generation = 7; pin = 0; start = 0 }
 
 -- the fragment, with the payload that is there
 abbrev pub fragment_of : List ℕ → FoundRow
@@ -56,7 +56,7 @@ fragment_of there = record {
   id = fragment;
   place = 64;
   blocks = 1;
-  digest = digest_of_document fragment_doc there;
+  digest = digest_of_document doc_of_fragment there;
   length = 4;
   payload = digest_of there;
   pin = 0;
@@ -64,15 +64,15 @@ fragment_of there = record {
 }
 
 -- its vector, and the document as which that stands
-abbrev pub vector_doc : Doc
-vector_doc = record { id = vector_piece a 1; place = 65; generation = 7; pin = 0; start = 0 }
+abbrev pub doc_of_vector : Doc
+doc_of_vector = record { id = vector_piece a 1; place = 65; generation = 7; pin = 0; start = 0 }
 
-abbrev pub vector_found : FoundRow
-vector_found = record {
+abbrev pub found_vector_row : FoundRow
+found_vector_row = record {
   id = vector_piece a 1;
   place = 65;
   blocks = 1;
-  digest = digest_of_document vector_doc (vector_bytes (four_bytes ∷ []));
+  digest = digest_of_document doc_of_vector (vector_bytes (four_bytes ∷ []));
   length = length (vector_bytes (four_bytes ∷ []));
   payload = digest_of (vector_bytes (four_bytes ∷ []));
   pin = 0;
@@ -81,7 +81,7 @@ vector_found = record {
 
 abbrev pub both_found : List ℕ → Opening
 both_found there =
-    record { serial = 9; cursor = 66; floor = 18; next_put = 2; clean = false; found = fragment_of there ∷ vector_found ∷ [] }
+    record { serial = 9; cursor = 66; floor = 18; next_put = 2; clean = false; found = fragment_of there ∷ found_vector_row ∷ [] }
 
 -- an opening may take them up, and a lookup hits that put
 abbrev pub AnUnlikePayloadMayBeFound : Type 0
@@ -90,8 +90,8 @@ AnUnlikePayloadMayBeFound = (there : List ℕ) → AreOthers there → IsOpening
 
 -- ---- what a reader is told
 
-abbrev pub hit : Rec
-hit = rec.ReadOpened 1 (record { 0 = 0 }) a [] (read.Hit 1)
+abbrev pub hit_record : Rec
+hit_record = rec.ReadOpened 1 (record { 0 = 0 }) a [] (read.Hit 1)
 
 -- damage at a place, with both digests
 abbrev pub damaged_at : List ℕ → ℕ → List Rec
@@ -100,13 +100,13 @@ damaged_at there place =
 
 -- the fragment was hit, and has still to be read
 abbrev pub before_reading : List ℕ → State
-before_reading there = behind_opening (both_found there) (hit ∷ [])
+before_reading there = behind_opening (both_found there) (hit_record ∷ [])
 
 -- a block of the device has its document
 pub record IsItsBlock (there block : List ℕ) : Type 0 where
   pub whole : length block ≡ 512
   pub of_bytes : IsBytes block
-  pub digest : digest_of_document fragment_doc there ≡ document_digest block
+  pub digest : digest_of_document doc_of_fragment there ≡ document_digest block
 
 -- the device gives its document, which has the recorded digest: it is damaged for its payload
 abbrev pub AnUnlikePayloadIsDamage : Type 0
@@ -120,7 +120,7 @@ AnUnlikePayloadIsNotGiven = (there block : List ℕ) → AreOthers there
 
 -- it was copied ahead meanwhile, into a buffer that is not written out
 abbrev pub once_copied : List ℕ → State
-once_copied there = behind_opening (both_found there) (hit ∷ rec.Began 128 72 ∷ rec.Moved fragment 64 128 no_digest ∷ [])
+once_copied there = behind_opening (both_found there) (hit_record ∷ rec.Began 128 72 ∷ rec.Moved fragment 64 128 no_digest ∷ [])
 
 -- so it is in the buffer, where the device is asked nothing
 abbrev pub ACopyOfItIsDamage : Type 0

@@ -132,12 +132,12 @@ abbrev pub flushed : Syncing → State → State
 flushed k s = after_all s (flush_here k s)
 
 -- where a piece of one block has no room the buffer is flushed
-abbrev pub with_room : State → State
-with_room s = if has_room s 1 then s else flushed WhereDue s
+abbrev pub flushed_for_room : State → State
+flushed_for_room s = if has_room s 1 then s else flushed WhereDue s
 
 -- a piece of one block is placed, behind these records
 abbrev pub placed_here : List Rec → PieceId → State → State
-placed_here before id s = after_all (with_room s) (before ++ rec.Placed id (place_now (with_room s)) 1 no_digest 0 ∷ [])
+placed_here before id s = after_all (flushed_for_room s) (before ++ rec.Placed id (place_now (flushed_for_room s)) 1 no_digest 0 ∷ [])
 
 -- the next fragment of a put, of four bytes
 abbrev pub cut_here : Key → ℕ → ℕ → State → State
@@ -186,17 +186,17 @@ abbrev pub allowed : State → List Mark
 allowed s = filter (λ m. nat_le s.finished m.serial) s.marks
 
 -- the bytes of a piece's payload: those of a fragment, or what spells the alternates of a vector
-abbrev pub bytes_of : Row → ℕ
-bytes_of row = unwrap_or (option_map (λ (entry : TableRow). entry.length) row.payload) (vector_size (unwrap_or row.alternates []))
+abbrev pub payload_bytes : Row → ℕ
+payload_bytes row = unwrap_or (option_map (λ (entry : TableRow). entry.length) row.payload) (vector_size (unwrap_or row.alternates []))
 
 -- a piece as an opening finds it
-abbrev pub found_of : Row → FoundRow
-found_of row = record {
+abbrev pub found_row_of : Row → FoundRow
+found_row_of row = record {
   id = row.id;
   place = row.place;
   blocks = row.blocks;
   digest = row.digest;
-  length = bytes_of row;
+  length = payload_bytes row;
   payload = unwrap_or (option_map digest_in row.payload) no_digest;
   pin = row.pin;
   alternates = row.alternates;
@@ -204,10 +204,10 @@ found_of row = record {
 
 -- the opening that takes a sync up
 abbrev pub taking : Mark → Opening
-taking m = record { serial = m.serial; cursor = m.cursor; floor = m.low; next_put = m.next_put; clean = m.clean; found = map found_of m.rows }
+taking m = record { serial = m.serial; cursor = m.cursor; floor = m.low; next_put = m.next_put; clean = m.clean; found = map found_row_of m.rows }
 
 -- the numbers of an opening: what a line tells of it
-pub record Told : Type 0 where
+pub record ToldOpening : Type 0 where
   pub serial : ℕ
   pub cursor : ℕ
   pub floor : ℕ
@@ -215,7 +215,7 @@ pub record Told : Type 0 where
   pub clean : Bool
 
 -- those of each sync that may be taken up, the last first
-abbrev pub told : State → List Told
+abbrev pub told : State → List ToldOpening
 told s = map (λ (m : Mark). record { serial = m.serial; cursor = m.cursor; floor = m.low; found = length m.rows; clean = m.clean }) (allowed s)
 
 -- ---- lines

@@ -17,9 +17,9 @@ use Rattle.stripe_header.specs.declared.area.Area.{Area}
 use Rattle.stripe_header.specs.declared.area.Side.{Side}
 use Rattle.stripe_header.specs.declared.area.Side.TheVariants as sides
 use Rattle.stripe_header.specs.declared.states.CopyState.{CopyState}
-use Rattle.stripe_header.specs.Layout.{block_of, body_blocks, body_of, gate_of}
+use Rattle.stripe_header.specs.Layout.{block_of_place, body_blocks, body_of, gate_of}
 use Rattle.stripe_header.specs.Reading.{copy_fault, copy_told}
-use Rattle.doc_header.specs.Reading.{doc_of, field_at, length_of, number_at, payload_of}
+use Rattle.doc_header.specs.Reading.{doc_number, doc_of, length_of, payload_of, slice_at}
 use Rattle.dir_table.specs.declared.rows.StoredRow.{StoredRow}
 use Rattle.packed_directory.specs.StoredRows.{is_under}
 use Rattle.reopening.specs.declared.newest.Newest.{Newest}
@@ -33,8 +33,8 @@ use Rattle.reopening.proofs.Bounds.{some_content}
 use Rattle.reopening.proofs.Pieces.{ends_by}
 
 -- a number in front is that of the front
-number_ahead : (at : ℕ) (xs ys : List ℕ) → at + 4 ≤ length xs → number_at w32 at (xs ++ ys) ≡ number_at w32 at xs
-unfolding number_at field_at
+number_ahead : (at : ℕ) (xs ys : List ℕ) → at + 4 ≤ length xs → doc_number w32 at (xs ++ ys) ≡ doc_number w32 at xs
+unfolding doc_number slice_at
 number_ahead at xs ys within =
     ap (λ l. from_le_bytes w32 (take 4 l)) (drop-append-le at xs ys (omega (arith, within)))
     ∙ ap (from_le_bytes w32) (take-append-le 4 (drop at xs) ys (omega (arith, within, length-drop at xs)))
@@ -45,10 +45,10 @@ some_read a c p =
     omega (arith, small)
 
 -- a document tells the length that its first block tells
-first_block : (a : Area) (c : Image) (p : ℕ) → length (c (block_of a p)) ≡ 512 → length_of (document_at a c p) ≡ length_of (c (block_of a p))
+first_block : (a : Area) (c : Image) (p : ℕ) → length (c (block_of_place a p)) ≡ 512 → length_of (document_at a c p) ≡ length_of (c (block_of_place a p))
 unfolding document_at
 first_block a c p whole =
-    let at = block_of a p in
+    let at = block_of_place a p in
     let some = some_read a c p in
     let n : blocks_read a c p ≡ suc (blocks_read a c p - 1) = omega (arith, some) in
     ap (λ k. length_of (span c at k)) n
@@ -90,7 +90,7 @@ rowless_none g told rows p bytes none =
     ∙ ap (λ b. if b then Some (standing_of p bytes) else None) (and_false (is_document g p bytes)))
 
 -- places of a lap stand block by block
-in_row : (a : Area) (p i : ℕ) → i < a.geometry.content - slot_of a.geometry p → block_of a (p + i) ≡ block_of a p + i
+in_row : (a : Area) (p i : ℕ) → i < a.geometry.content - slot_of a.geometry p → block_of_place a (p + i) ≡ block_of_place a p + i
 in_row a p i lt =
     let n = a.geometry.content in
     let same = mod-add-div p n in
@@ -98,11 +98,11 @@ in_row a p i lt =
     let e : (p + i) % n ≡ p % n + i = ap (λ x. x % n) (let f : p + i ≡ p % n + i + n * (p / n) = omega (arith, same) in f) ∙ add-mul-mod_self_left (p % n + i) n (p / n) ∙ mod-eq_of_lt small in
     omega (arith, e)
 
-document_same : (a : Area) (c d : Image) (p : ℕ) → c (block_of a p) ≡ d (block_of a p)
-    → ((i : ℕ) → i < blocks_read a c p → c (block_of a p + i) ≡ d (block_of a p + i)) → document_at a c p ≡ document_at a d p
+document_same : (a : Area) (c d : Image) (p : ℕ) → c (block_of_place a p) ≡ d (block_of_place a p)
+    → ((i : ℕ) → i < blocks_read a c p → c (block_of_place a p + i) ≡ d (block_of_place a p + i)) → document_at a c p ≡ document_at a d p
 unfolding document_at
 document_same a c d p first each =
-    let at = block_of a p in
+    let at = block_of_place a p in
     span_same c d at (blocks_read a c p) (λ j low high.
     let e : at + (j - at) ≡ j = omega (arith, low) in
     subst (λ k. c k ≡ d k) e (each (j - at) (omega (arith, low, high))))
@@ -130,16 +130,17 @@ module _ (a : Area) (n : Newest) (end : ℕ) (c d : Image) (whole : IsImage c) (
   there_alike : (p : ℕ) → bound_of g told ≤ p → (p < end) × (is_inside g told.cursor p (blocks_told a c p) ≡ true → p + blocks_told a c p ≤ end)
       → standing_at a told rows c p ≡ standing_at a told rows d p
   there_alike p low e =
-      let first : c (block_of a p) ≡ d (block_of a p) = agree (block_of a p) (inr (inr (p, low, e.0, refl))) in
+      let first : c (block_of_place a p) ≡ d (block_of_place a p) = agree (block_of_place a p) (inr (inr (p, low, e.0, refl))) in
       elim (cases_Bool (is_inside g told.cursor p (blocks_told a c p))) [
         | inl inside ↦ ap (judged g told rows p) (document_same a c d p first (λ i lt.
             let to = e.1 inside in
             let at = in_row a p i (omega (arith, lt)) in
-            subst (λ j. c j ≡ d j) at (agree (block_of a (p + i)) (inr (inr (p + i, omega (arith, low), omega (arith, lt, to), refl))))))
+            subst (λ j. c j ≡ d j) at
+            (agree (block_of_place a (p + i)) (inr (inr (p + i, omega (arith, low), omega (arith, lt, to), refl))))))
         | inr out ↦
-            outside_none g told rows p (document_at a c p) (ap (λ l. is_inside g told.cursor p (blocks_of l)) (first_block a c p (whole.whole (block_of a p))) ∙ out)
+            outside_none g told rows p (document_at a c p) (ap (λ l. is_inside g told.cursor p (blocks_of l)) (first_block a c p (whole.whole (block_of_place a p))) ∙ out)
             ∙ sym (outside_none g told rows p (document_at a d p)
-            (ap (λ l. is_inside g told.cursor p (blocks_of l)) (first_block a d p (other.whole (block_of a p)) ∙ ap length_of (sym first)) ∙ out))
+            (ap (λ l. is_inside g told.cursor p (blocks_of l)) (first_block a d p (other.whole (block_of_place a p)) ∙ ap length_of (sym first)) ∙ out))
       ]
 
   place_alike : (p : ℕ) → bound_of g told ≤ p → p < told.cursor → standing_at a told rows c p ≡ standing_at a told rows d p

@@ -7,8 +7,8 @@ use Rattle.tape_base.specs.declared.geometries.Geometry.{Geometry}
 use Rattle.tape_base.specs.Place.{reach_of}
 use Rattle.stripe_header.specs.declared.area.Area.{Area}
 use Rattle.stripe_header.specs.declared.states.CopyState.{CopyState}
-use Rattle.stripe_header.specs.Layout.{block_of}
-use Rattle.stripe_header.specs.Spelling.{has_cursor, has_counts, has_floor, is_within}
+use Rattle.stripe_header.specs.Layout.{block_of_place}
+use Rattle.stripe_header.specs.Spelling.{has_cursor, has_counts, has_floor, lies_within}
 use Rattle.reopening.specs.Newest.{bound_of}
 use Rattle.reopening.specs.Windows.{WindowsAreApart, CleanWindowsAreApart}
 use Rattle.reopening.proofs.Bounds.{in_lap, within, cursor_fits}
@@ -26,7 +26,8 @@ mod_apart p q n low high same =
     ]
 
 -- places of a lap's length, wherever they begin
-pub places_apart : (a : Area) (low end p q : ℕ) → low ≤ p → p < end → end ≤ q → q < low + a.geometry.content → block_of a p ≢ block_of a q
+pub places_apart : (a : Area) (low end p q : ℕ) → low ≤ p → p < end → end ≤ q → q < low + a.geometry.content
+    → block_of_place a p ≢ block_of_place a q
 places_apart a low end p q from to behind below same =
     mod_apart p q a.geometry.content (omega (arith, to, behind)) (omega (arith, from, below))
     (let e : p % a.geometry.content ≡ q % a.geometry.content = omega (arith, same) in e)
@@ -44,8 +45,8 @@ windows_apart a told end p q says is from to behind below =
 
 clean_floor : (g : Geometry) (told : CopyState) → has_floor g told ≡ true → told.clean ≡ true → told.cursor + g.agg - g.content ≤ bound_of g told
 clean_floor g told h is =
-    let inside : is_within (told.cursor + g.agg - g.content) (reach_of g told.cursor - g.content) told.floor ≡ true =
-    subst (λ b. cond b (is_within (told.cursor + g.agg - g.content) (reach_of g told.cursor - g.content) told.floor) (told.floor == 0) ≡ true) is h in
+    let inside : lies_within (told.cursor + g.agg - g.content) (reach_of g told.cursor - g.content) told.floor ≡ true =
+    subst (λ b. cond b (lies_within (told.cursor + g.agg - g.content) (reach_of g told.cursor - g.content) told.floor) (told.floor == 0) ≡ true) is h in
     subst (λ b. told.cursor + g.agg - g.content ≤ cond b told.floor (reach_of g told.cursor - g.content)) (sym is)
     (within (told.cursor + g.agg - g.content) (reach_of g told.cursor - g.content) told.floor inside).0
 

@@ -13,7 +13,7 @@ use Rattle.cache_model.specs.State.{row_of_found}
 use Rattle.cache_model.specs.Tape.{AreRising}
 use Rattle.reopening.specs.declared.later.Measure.{Measure}
 use Rattle.reopening.specs.Documents.{document_at, standing_of}
-use Rattle.reopening.specs.Tests.{judged, passes, standing_from}
+use Rattle.reopening.specs.Tests.{judged, passes_tests, standing_from}
 use Rattle.reopening.specs.Later.{has_lengths, kept_rows, latest, measure_of, replaces, with_lengths}
 use Rattle.reopening.proofs.Pieces.{ends_by, passed_all}
 
@@ -28,8 +28,8 @@ module _ (a : Area) (told : CopyState) (rows : List StoredRow) (c : Image) where
   one_judged : (p : ℕ) (bytes : List ℕ) (rest : List FoundRow) → p < told.cursor → Rise (max a.geometry.content (p + 1)) rest told.cursor
       → Rise (max a.geometry.content p) (cons_option (judged a.geometry told rows p bytes) rest) told.cursor
   unfolding judged
-  one_judged p bytes rest lt rise = by (passes a.geometry told rows p bytes) refl where
-    by : (b : Bool) → passes a.geometry told rows p bytes ≡ b
+  one_judged p bytes rest lt rise = by (passes_tests a.geometry told rows p bytes) refl where
+    by : (b : Bool) → passes_tests a.geometry told rows p bytes ≡ b
         → Rise (max a.geometry.content p) (cons_option (if b then Some (standing_of p bytes) else None) rest) told.cursor
     by true is =
         let e = passed_all a.geometry told rows p bytes is in (

@@ -12,7 +12,7 @@ use Rattle.tape_base.specs.Key.{segment_of, word_of}
 use Rattle.tape_base.specs.Piece.{key_of_piece}
 use Rattle.stripe_header.specs.declared.area.Area.{Area}
 use Rattle.stripe_header.specs.declared.states.CopyState.{CopyState}
-use Rattle.stripe_header.specs.Layout.{block_of}
+use Rattle.stripe_header.specs.Layout.{block_of_place}
 use Rattle.stripe_header.specs.Spelling.{may_say}
 use Rattle.dir_table.specs.declared.rows.StoredRow.{StoredRow}
 use Rattle.packed_directory.specs.PackedImage.{image_segments}
@@ -53,7 +53,7 @@ each_weaker P Q step (x ∷ all) each = (step x each.0, each_weaker P Q step all
 
 document_bytes : (a : Area) (c : Image) (p : ℕ) → ((j : ℕ) → IsBytes (c j)) → IsBytes (document_at a c p)
 unfolding document_at
-document_bytes a c p bytes = span_bytes c (block_of a p) (blocks_read a c p) bytes
+document_bytes a c p bytes = span_bytes c (block_of_place a p) (blocks_read a c p) bytes
 
 told_stored : (g : Geometry) (told : CopyState) (bytes : List ℕ) (test : StoredRow → Bool) → list_any test (rows_told g told bytes) ≡ true
     → list_any test (rows_of_segments g told.cursor 0 (image_segments g bytes)) ≡ true

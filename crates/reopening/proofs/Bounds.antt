@@ -6,11 +6,11 @@ use Rattle.std.proofs.Math.Nat.{mod-add-div, mod-lt, mul-suc}
 use Rattle.tape_base.specs.declared.geometries.Geometry.{Geometry}
 use Rattle.tape_base.specs.Place.{lap_of, slot_of, reach_of}
 use Rattle.stripe_header.specs.declared.states.CopyState.{CopyState}
-use Rattle.stripe_header.specs.Spelling.{is_within, has_cursor, has_counts, has_floor, may_say}
+use Rattle.stripe_header.specs.Spelling.{lies_within, has_cursor, has_counts, has_floor, may_say}
 use Rattle.packed_directory.specs.Phases.{least_place}
 use Rattle.reopening.specs.Newest.{bound_of}
 
-pub within : (least most n : ℕ) → is_within least most n ≡ true → (least ≤ n) × (n ≤ most)
+pub within : (least most n : ℕ) → lies_within least most n ≡ true → (least ≤ n) × (n ≤ most)
 within least most n h =
     let e = and_parts (not (nat_lt n least)) (not (nat_lt most n)) h in
     grind (arith, e)
@@ -47,11 +47,11 @@ module _ (g : Geometry) (told : CopyState) (says : IsTrue (may_say g told)) wher
   pub cursor_fits : (g.content ≤ told.cursor) × (told.cursor < 2 ^ 62)
   cursor_fits =
       let a = and_parts (has_cursor g told) (has_counts told) parts.0 in
-      let b = and_parts (is_within g.content (2 ^ 62 - 1) told.cursor) (not (nat_lt g.content (slot_of g told.cursor + g.agg))) a.0 in
+      let b = and_parts (lies_within g.content (2 ^ 62 - 1) told.cursor) (not (nat_lt g.content (slot_of g told.cursor + g.agg))) a.0 in
       let w = within g.content (2 ^ 62 - 1) told.cursor b.0 in
       (w.0, omega (arith, w.1))
 
-  floor_of : (clean : Bool) → cond clean (is_within (told.cursor + g.agg - g.content) (reach_of g told.cursor - g.content) told.floor) (told.floor == 0) ≡ true
+  floor_of : (clean : Bool) → cond clean (lies_within (told.cursor + g.agg - g.content) (reach_of g told.cursor - g.content) told.floor) (told.floor == 0) ≡ true
       → (told.cursor - g.content ≤ cond clean told.floor (reach_of g told.cursor - g.content)) × (cond clean told.floor (reach_of g told.cursor - g.content) ≤ told.cursor)
   floor_of true h =
       let w = within (told.cursor + g.agg - g.content) (reach_of g told.cursor - g.content) told.floor h in

@@ -16,7 +16,7 @@ use Rattle.stripe_header.specs.declared.states.CopyFault.{CopyFault}
 use Rattle.stripe_header.specs.declared.states.CopyFault.TheVariants as copy_faults
 use Rattle.stripe_header.specs.Layout.{gate_of}
 use Rattle.stripe_header.specs.Reading.{are_spelled, copy_fault, copy_told, digest_fault, form_fault, geometry_fault}
-use Rattle.stripe_header.specs.Spelling.{has_counts, has_cursor, has_floor, is_within, may_say}
+use Rattle.stripe_header.specs.Spelling.{has_counts, has_cursor, has_floor, lies_within, may_say}
 use Rattle.cache_model.specs.declared.findings.FoundRow.{FoundRow}
 use Rattle.cache_model.specs.Openings.{IsCopyOf}
 use Rattle.reopening.specs.declared.newest.Newest.{Newest}
@@ -83,7 +83,7 @@ module _ (g : Geometry) (told : CopyState) (says : IsTrue (may_say g told)) wher
   parts : (IsTrue (has_cursor g told && has_counts told)) × IsTrue (has_floor g told)
   parts = and_parts (has_cursor g told && has_counts told) (has_floor g told) says
 
-  floor_as : (clean : Bool) → cond clean (is_within (told.cursor + g.agg - g.content) (reach_of g told.cursor - g.content) told.floor) (told.floor == 0) ≡ true
+  floor_as : (clean : Bool) → cond clean (lies_within (told.cursor + g.agg - g.content) (reach_of g told.cursor - g.content) told.floor) (told.floor == 0) ≡ true
       → (clean ≡ true → (told.cursor + g.agg - g.content ≤ cond clean told.floor (reach_of g told.cursor - g.content)) × (cond clean told.floor (reach_of g told.cursor - g.content) ≤ reach_of g told.cursor - g.content))
       × (clean ≡ false → cond clean told.floor (reach_of g told.cursor - g.content) ≡ reach_of g told.cursor - g.content)
   floor_as true h = (λ is. within (told.cursor + g.agg - g.content) (reach_of g told.cursor - g.content) told.floor h, λ no. absurd (cc no))
@@ -93,8 +93,8 @@ module _ (g : Geometry) (told : CopyState) (says : IsTrue (may_say g told)) wher
   pub copy_of : (found : List FoundRow) → IsCopyOf g (opening_with g told found)
   copy_of found =
       let a = and_parts (has_cursor g told) (has_counts told) parts.0 in
-      let b = and_parts (is_within g.content (2 ^ 62 - 1) told.cursor) (not (nat_lt g.content (slot_of g told.cursor + g.agg))) a.0 in
-      let e = and_parts (is_within 1 (2 ^ 62 - 1) told.serial) (is_within 1 (2 ^ 62 - 1) told.next_put) a.1 in
+      let b = and_parts (lies_within g.content (2 ^ 62 - 1) told.cursor) (not (nat_lt g.content (slot_of g told.cursor + g.agg))) a.0 in
+      let e = and_parts (lies_within 1 (2 ^ 62 - 1) told.serial) (lies_within 1 (2 ^ 62 - 1) told.next_put) a.1 in
       let cursor = within g.content (2 ^ 62 - 1) told.cursor b.0 in
       let serial = within 1 (2 ^ 62 - 1) told.serial e.0 in
       let number = within 1 (2 ^ 62 - 1) told.next_put e.1 in

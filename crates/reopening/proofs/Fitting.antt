@@ -22,7 +22,7 @@ use Rattle.dir_segment.proofs.Walks.{length-lists_of, lists_of-is}
 use Rattle.dir_table.specs.declared.rows.StoredRow.{StoredRow}
 use Rattle.dir_table.specs.Wrap.{stored_from}
 use Rattle.packed_directory.specs.Entering.{BucketEntry, entries_from}
-use Rattle.packed_directory.specs.Full.{buckets_in_use, is_in, segment_rows}
+use Rattle.packed_directory.specs.Full.{is_stored_in_bucket, rows_of_one_segment, stored_buckets}
 use Rattle.packed_directory.specs.Packed.{segment_at}
 use Rattle.packed_directory.specs.PackedImage.{image_segments, meant_from, means, segment_image}
 use Rattle.packed_directory.specs.Phases.{stands_between}
@@ -77,8 +77,8 @@ module _ (g : Geometry) (cursor : ℕ) (bytes : List ℕ) (sound : is_sound g by
   segment_is = get_or-map-range_with_len (λ n. image_lists g.buckets (segment_image g n bytes)) 0 g.segments seg seg (record { chains = []; free = [] }) within (omega arith)
 
   -- the elements of a segment are no more than its slots that are no roots and its roots in use
-  pub entries_fit : length (segment_rows seg (rows_of_segments g cursor 0 (image_segments g bytes)))
-      ≤ 3 * g.buckets + buckets_in_use g seg (rows_of_segments g cursor 0 (image_segments g bytes))
+  pub entries_fit : length (rows_of_one_segment seg (rows_of_segments g cursor 0 (image_segments g bytes)))
+      ≤ 3 * g.buckets + stored_buckets g seg (rows_of_segments g cursor 0 (image_segments g bytes))
   entries_fit =
       let segments = image_segments g bytes in
       let lists = segment_at segments seg in
@@ -169,7 +169,7 @@ bit_and false q = omega arith
 module _ (g : Geometry) (rows : List StoredRow) (seg : ℕ) where
   -- a row of the bucket from a place on
   abbrev is_from : ℕ → ℕ → StoredRow → Bool
-  is_from bucket low r = is_in seg bucket r && nat_le low r.place
+  is_from bucket low r = is_stored_in_bucket seg bucket r && nat_le low r.place
 
   fewer_from : (bucket low from : ℕ) → low ≤ from → (all : List StoredRow) → count_by (is_from bucket from) all ≤ count_by (is_from bucket low) all
   fewer_from bucket low from le [] = omega arith
@@ -179,49 +179,54 @@ module _ (g : Geometry) (rows : List StoredRow) (seg : ℕ) where
         count_cons (is_from bucket from) r all,
         count_cons (is_from bucket low) r all,
         fewer_from bucket low from le all,
-        one (is_in seg bucket r),
+        one (is_stored_in_bucket seg bucket r),
       ) where
         one : (t : Bool) → bit (t && nat_le from r.place) ≤ bit (t && nat_le low r.place)
         one false = omega arith
         one true = grind (arith, le)
 
   -- the row of a place is not among those behind it
-  one_less : (bucket low p : ℕ) → low ≤ p → (all : List StoredRow) → list_any (λ r. r.place == p && is_in seg bucket r) all ≡ true
+  one_less : (bucket low p : ℕ) → low ≤ p → (all : List StoredRow)
+      → list_any (λ r. r.place == p && is_stored_in_bucket seg bucket r) all ≡ true
       → count_by (is_from bucket (p + 1)) all + 1 ≤ count_by (is_from bucket low) all
   one_less bucket low p le [] some = absurd cc
   one_less bucket low p le (r ∷ all) some =
       let behind = count_cons (is_from bucket (p + 1)) r all in
       let from = count_cons (is_from bucket low) r all in
-      elim (cases_Bool (r.place == p && is_in seg bucket r)) [
+      elim (cases_Bool (r.place == p && is_stored_in_bucket seg bucket r)) [
         | inl this ↦
-            let e = and_parts (r.place == p) (is_in seg bucket r) this in
+            let e = and_parts (r.place == p) (is_stored_in_bucket seg bucket r) this in
             let here : r.place ≡ p = eqb-true r.place p e.0 in
             let out : nat_le (p + 1) r.place ≡ false = grind (arith, here) in
             let in_ : nat_le low r.place ≡ true = grind (arith, here, le) in
-            let no : bit (is_from bucket (p + 1) r) ≡ 0 = ap (λ t. bit (is_in seg bucket r && t)) out ∙ ap (λ t. bit (t && false)) e.1 in
-            let yes : bit (is_from bucket low r) ≡ 1 = ap (λ t. bit (is_in seg bucket r && t)) in_ ∙ ap (λ t. bit (t && true)) e.1 in
+            let no : bit (is_from bucket (p + 1) r) ≡ 0 = ap (λ t. bit (is_stored_in_bucket seg bucket r && t)) out
+            ∙ ap (λ t. bit (t && false)) e.1 in
+            let yes : bit (is_from bucket low r) ≡ 1 = ap (λ t. bit (is_stored_in_bucket seg bucket r && t)) in_
+            ∙ ap (λ t. bit (t && true)) e.1 in
             omega (arith, behind, from, no, yes, fewer_from bucket low (p + 1) (omega (arith, le)) all)
         | inr other ↦
-            let rest = subst (λ t. (t || list_any (λ q. q.place == p && is_in seg bucket q) all) ≡ true) other some in
-            omega (arith, behind, from, one_less bucket low p le all rest, no_more (is_in seg bucket r))
+            let rest = subst (λ t. (t || list_any (λ q. q.place == p && is_stored_in_bucket seg bucket q) all) ≡ true) other some in
+            omega (arith, behind, from, one_less bucket low p le all rest, no_more (is_stored_in_bucket seg bucket r))
       ] where
         no_more : (t : Bool) → bit (t && nat_le (p + 1) r.place) ≤ bit (t && nat_le low r.place)
         no_more false = omega arith
         no_more true = grind (arith, le)
 
-  all_from : (bucket low : ℕ) (all : List StoredRow) → count_by (is_from bucket low) all ≤ count_by (is_in seg bucket) all
+  all_from : (bucket low : ℕ) (all : List StoredRow) → count_by (is_from bucket low) all ≤ count_by (is_stored_in_bucket seg bucket) all
   all_from bucket low [] = omega arith
   all_from bucket low (r ∷ all) =
-      omega (arith, count_cons (is_from bucket low) r all, count_cons (is_in seg bucket) r all, all_from bucket low all, bit_and (is_in seg bucket r) (nat_le low r.place))
+      omega (arith, count_cons (is_from bucket low) r all, count_cons (is_stored_in_bucket seg bucket) r all, all_from bucket low all, bit_and (is_stored_in_bucket seg bucket r) (nat_le low r.place))
 
   -- the rows of a segment, counted by bucket
-  rows_total : (n : ℕ) (all : List StoredRow) → total (λ b. count_by (is_in seg b) all) 0 n ≤ length (segment_rows seg all)
-  rows_total n [] = omega (arith, total_none (λ b. count_by (is_in seg b) []) 0 n (λ b. refl))
+  rows_total : (n : ℕ) (all : List StoredRow)
+      → total (λ b. count_by (is_stored_in_bucket seg b) all) 0 n ≤ length (rows_of_one_segment seg all)
+  rows_total n [] = omega (arith, total_none (λ b. count_by (is_stored_in_bucket seg b) []) 0 n (λ b. refl))
   rows_total n (r ∷ all) =
-      let split = total_le (λ b. count_by (is_in seg b) (r ∷ all)) (λ b. bit (is_in seg b r) + count_by (is_in seg b) all) 0 n
-      (λ b. let e = count_cons (is_in seg b) r all in omega (arith, e)) in
-      let sum = total_add (λ b. bit (is_in seg b r)) (λ b. count_by (is_in seg b) all) 0 n in
-      omega (arith, split, sum, one (r.segment == seg), rows_total n all, longer (r.segment == seg) (segment_rows seg all)) where
+      let split = total_le (λ b. count_by (is_stored_in_bucket seg b) (r ∷ all))
+      (λ b. bit (is_stored_in_bucket seg b r) + count_by (is_stored_in_bucket seg b) all) 0 n
+      (λ b. let e = count_cons (is_stored_in_bucket seg b) r all in omega (arith, e)) in
+      let sum = total_add (λ b. bit (is_stored_in_bucket seg b r)) (λ b. count_by (is_stored_in_bucket seg b) all) 0 n in
+      omega (arith, split, sum, one (r.segment == seg), rows_total n all, longer (r.segment == seg) (rows_of_one_segment seg all)) where
         one : (t : Bool) → total (λ b. bit (t && r.bucket == b)) 0 n ≤ bit t
         one true = one_most r.bucket 0 n
         one false = omega (arith, total_none (λ b. 0) 0 n (λ b. refl))
@@ -234,14 +239,15 @@ module _ (g : Geometry) (rows : List StoredRow) (seg : ℕ) where
   abbrev pub IsTold : Row → Type 0
   IsTold row = (segment_of g (key_of_piece row.id) ≡ seg) × (list_any (λ r. r.place == row.place && is_under g (key_of_piece row.id) r) rows ≡ true)
 
-  told_in : (row : Row) (bucket : ℕ) → IsTold row → bucket_of g (key_of_piece row.id) ≡ bucket → list_any (λ r. r.place == row.place && is_in seg bucket r) rows ≡ true
+  told_in : (row : Row) (bucket : ℕ) → IsTold row → bucket_of g (key_of_piece row.id) ≡ bucket → list_any (λ r. r.place == row.place && is_stored_in_bucket seg bucket r) rows ≡ true
   told_in row bucket told is =
       let key = key_of_piece row.id in
-      let own : list_any (λ r. r.place == row.place && is_in (segment_of g key) (bucket_of g key) r) rows ≡ true =
-      any_weaker (λ r. r.place == row.place && is_under g key r) (λ r. r.place == row.place && is_in (segment_of g key) (bucket_of g key) r)
+      let own : list_any (λ r. r.place == row.place && is_stored_in_bucket (segment_of g key) (bucket_of g key) r) rows ≡ true =
+      any_weaker (λ r. r.place == row.place && is_under g key r)
+      (λ r. r.place == row.place && is_stored_in_bucket (segment_of g key) (bucket_of g key) r)
       (λ r. first_three (r.place == row.place) (r.segment == segment_of g key) (r.bucket == bucket_of g key) (r.tag == tag_of key)) rows told.1 in
-      subst (λ b. list_any (λ r. r.place == row.place && is_in seg b r) rows ≡ true) is
-      (subst (λ n. list_any (λ r. r.place == row.place && is_in n (bucket_of g key) r) rows ≡ true) told.0 own)
+      subst (λ b. list_any (λ r. r.place == row.place && is_stored_in_bucket seg b r) rows ≡ true) is
+      (subst (λ n. list_any (λ r. r.place == row.place && is_stored_in_bucket n (bucket_of g key) r) rows ≡ true) told.0 own)
 
   -- rows that rise, of which each is told, are told apart
   bucket_counted : (bucket low high : ℕ) (all : List Row) → AreRising low all high → AllByRecursion IsTold all
@@ -265,13 +271,14 @@ module _ (g : Geometry) (rows : List StoredRow) (seg : ℕ) where
     of_bucket bucket = count_by (λ (row : Row). bucket_of g (key_of_piece row.id) == bucket) all
 
     -- a bucket has as many more than its first as it is told, or fewer
-    one_bucket : (b : ℕ) → of_bucket b + bit (list_any (is_in seg b) rows) ≤ count_by (is_in seg b) rows + bit (has b)
+    one_bucket : (b : ℕ)
+        → of_bucket b + bit (list_any (is_stored_in_bucket seg b) rows) ≤ count_by (is_stored_in_bucket seg b) rows + bit (has b)
     one_bucket b =
         let in_all = bucket_counted b low high all rise told in
         let from = all_from b low rows in
-        let used = any_le (is_in seg b) rows in
+        let used = any_le (is_stored_in_bucket seg b) rows in
         elim (cases_Bool (has b)) [
-          | inl some ↦ omega (arith, in_all, from, ap bit some, one_bit (list_any (is_in seg b) rows))
+          | inl some ↦ omega (arith, in_all, from, ap bit some, one_bit (list_any (is_stored_in_bucket seg b) rows))
           | inr lacks ↦ omega (arith, used, ap bit lacks, none_counted (λ (row : Row). bucket_of g (key_of_piece row.id)) b all lacks)
         ] where
           one_bit : (t : Bool) → bit t ≤ 1
@@ -283,15 +290,15 @@ module _ (g : Geometry) (rows : List StoredRow) (seg : ℕ) where
     buckets_below (x ∷ xs) = (mod-lt (word_of (key_of_piece x.id) 1) (let fit = g.accepted.buckets_fit in omega (arith, fit.0)), buckets_below xs)
 
     -- so there are slots for all of them
-    pub rows_fit : length (segment_rows seg rows) ≤ 3 * g.buckets + buckets_in_use g seg rows
+    pub rows_fit : length (rows_of_one_segment seg rows) ≤ 3 * g.buckets + stored_buckets g seg rows
         → length all ≤ 3 * g.buckets + count_by (λ b. list_any (λ (row : Row). bucket_of g (key_of_piece row.id) == b) all) (range_with_len 0 g.buckets)
     rows_fit fits =
         let n = g.buckets in
         let mine = all_counted (λ (row : Row). bucket_of g (key_of_piece row.id)) n all (buckets_below all) in
         let its = rows_total n rows in
-        let sums = total_le (λ b. of_bucket b + bit (list_any (is_in seg b) rows)) (λ b. count_by (is_in seg b) rows + bit (has b)) 0 n one_bucket in
-        let left = total_add of_bucket (λ b. bit (list_any (is_in seg b) rows)) 0 n in
-        let right = total_add (λ b. count_by (is_in seg b) rows) (λ b. bit (has b)) 0 n in
-        let used = count_range (λ b. list_any (is_in seg b) rows) 0 n in
+        let sums = total_le (λ b. of_bucket b + bit (list_any (is_stored_in_bucket seg b) rows)) (λ b. count_by (is_stored_in_bucket seg b) rows + bit (has b)) 0 n one_bucket in
+        let left = total_add of_bucket (λ b. bit (list_any (is_stored_in_bucket seg b) rows)) 0 n in
+        let right = total_add (λ b. count_by (is_stored_in_bucket seg b) rows) (λ b. bit (has b)) 0 n in
+        let used = count_range (λ b. list_any (is_stored_in_bucket seg b) rows) 0 n in
         let has_some = count_range has 0 n in
         omega (arith, fits, mine, its, sums, left, right, used, has_some)

@@ -10,7 +10,7 @@ use Rattle.dir_table.specs.declared.rows.StoredRow.{StoredRow}
 use Rattle.cache_model.specs.declared.findings.FoundRow.{FoundRow}
 use Rattle.reopening.specs.declared.later.Measure.{Measure}
 use Rattle.reopening.specs.Documents.{document_at, standing_of}
-use Rattle.reopening.specs.Tests.{judged, passes, standing_from}
+use Rattle.reopening.specs.Tests.{judged, passes_tests, standing_from}
 use Rattle.reopening.specs.Later.{has_lengths, latest, replaces, with_lengths}
 
 module _ (P : FoundRow → Type 0) where
@@ -20,14 +20,15 @@ module _ (P : FoundRow → Type 0) where
   one_more false x rest here all = all
 
   judged_one : (g : Geometry) (told : CopyState) (rows : List StoredRow) (p : ℕ) (bytes : List ℕ) (rest : List FoundRow)
-      → (passes g told rows p bytes ≡ true → P (standing_of p bytes)) → AllByRecursion P rest
+      → (passes_tests g told rows p bytes ≡ true → P (standing_of p bytes)) → AllByRecursion P rest
       → AllByRecursion P (cons_option (judged g told rows p bytes) rest)
   unfolding judged
-  judged_one g told rows p bytes rest = one_more (passes g told rows p bytes) (standing_of p bytes) rest
+  judged_one g told rows p bytes rest = one_more (passes_tests g told rows p bytes) (standing_of p bytes) rest
 
   -- what holds of each that passes
   pub each_standing : (a : Area) (told : CopyState) (rows : List StoredRow) (c : Image) (low n : ℕ)
-      → ((p : ℕ) → low ≤ p → p < low + n → passes a.geometry told rows p (document_at a c p) ≡ true → P (standing_of p (document_at a c p)))
+      → ((p : ℕ) → low ≤ p → p < low + n → passes_tests a.geometry told rows p (document_at a c p) ≡ true
+      → P (standing_of p (document_at a c p)))
       → AllByRecursion P (standing_from a told rows c low n)
   each_standing a told rows c low zero each = tt
   each_standing a told rows c low (suc n) each =

@@ -14,7 +14,7 @@ use Rattle.reopening.specs.Tests.{standing_at}
 use Rattle.reopening.specs.Later.{has_lengths, kept_rows, latest, measure_of, with_lengths}
 use Rattle.reopening.specs.Opens.{found_of, opening_with, rows_at}
 use Rattle.reopening.specs.Alike.{has_place}
-use Rattle.reopening.specs.Kept.{AreAlone, AreRising, RowsAreKept, StandAll, is_place_of}
+use Rattle.reopening.specs.Kept.{AreAlone, FoundRowsRise, RowsAreKept, StandAll, is_found_at}
 use Rattle.reopening.proofs.Alike.{rowless_none}
 use Rattle.reopening.proofs.Whole.{image_is_sound, opens_newest}
 
@@ -25,13 +25,13 @@ lower_place : (x p : ℕ) → x < p → (x == p) ≡ false
 lower_place x p lt = grind (arith, lt)
 
 -- below the first none stands
-none_below : (low high p : ℕ) (all : List FoundRow) → p < low → AreRising low high all → is_place_of all p ≡ false
+none_below : (low high p : ℕ) (all : List FoundRow) → p < low → FoundRowsRise low high all → is_found_at all p ≡ false
 none_below low high p [] lt rising = refl
 none_below low high p (x ∷ rest) lt rising =
-    ap (λ b. b || is_place_of rest p) (other_place x.place p (omega (arith, lt, rising.0)))
+    ap (λ b. b || is_found_at rest p) (other_place x.place p (omega (arith, lt, rising.0)))
     ∙ none_below (x.place + 1) high p rest (omega (arith, lt, rising.0)) rising.2
 
-less_rising : (low from high : ℕ) (all : List FoundRow) → low ≤ from → AreRising from high all → AreRising low high all
+less_rising : (low from high : ℕ) (all : List FoundRow) → low ≤ from → FoundRowsRise from high all → FoundRowsRise low high all
 less_rising low from high [] le rising = tt
 less_rising low from high (x ∷ rest) le rising = (omega (arith, le, rising.0), rising.1, rising.2)
 
@@ -41,8 +41,8 @@ not_both false h none = absurd cc
 
 module _ (f : ℕ → Option FoundRow) where
   -- what stands at places one by one is what stands at all of them
-  rising_found : (low high n : ℕ) (all : List FoundRow) → n ≡ high - low → AreRising low high all → AllByRecursion (λ x. f x.place ≡ Some x) all
-      → ((p : ℕ) → low ≤ p → p < high → (f p ≡ None) ⊎ (is_place_of all p ≡ true)) → filter_map f (range_with_len low n) ≡ all
+  rising_found : (low high n : ℕ) (all : List FoundRow) → n ≡ high - low → FoundRowsRise low high all → AllByRecursion (λ x. f x.place ≡ Some x) all
+      → ((p : ℕ) → low ≤ p → p < high → (f p ≡ None) ⊎ (is_found_at all p ≡ true)) → filter_map f (range_with_len low n) ≡ all
   rising_found low high zero [] e rising stand each = refl
   rising_found low high zero (x ∷ rest) e rising stand each = absurd (omega (arith, e, rising.0, rising.1))
   rising_found low high (suc n) [] e rising stand each = elim (each low (omega arith) (omega (arith, e))) [
@@ -54,7 +54,7 @@ module _ (f : ℕ → Option FoundRow) where
     | inl below ↦ elim (each low (omega arith) (omega (arith, e))) [
       | inl none ↦ ap (λ o. cons_option o (filter_map f (range_with_len (low + 1) n))) none
           ∙ rising_found (low + 1) high n (x ∷ rest) (omega (arith, e)) (omega (arith, below), rising.1, rising.2) stand (λ p from to. each p (omega (arith, from)) to)
-      | inr some ↦ absurd (not_both (is_place_of (x ∷ rest) low) some
+      | inr some ↦ absurd (not_both (is_found_at (x ∷ rest) low) some
           (none_below x.place high low (x ∷ rest) below (omega arith, rising.1, rising.2)))
     ]
     | inr le ↦
@@ -64,7 +64,7 @@ module _ (f : ℕ → Option FoundRow) where
         ∙ ap (λ l. x ∷ l) (rising_found (low + 1) high n rest (omega (arith, e)) (less_rising (low + 1) (x.place + 1) high rest (omega (arith, here)) rising.2) stand.1
         (λ p from to. elim (each p (omega (arith, from)) to) [
           | inl none ↦ inl none
-          | inr some ↦ inr (subst (λ b. (b || is_place_of rest p) ≡ true) (lower_place x.place p (omega (arith, here, from))) some)
+          | inr some ↦ inr (subst (λ b. (b || is_found_at rest p) ≡ true) (lower_place x.place p (omega (arith, here, from))) some)
         ]))
   ]
 

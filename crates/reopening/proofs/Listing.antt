@@ -9,7 +9,7 @@ use Rattle.alternate_vector.specs.Alternates.{Stored}
 use Rattle.cache_model.specs.declared.findings.FoundRow.{FoundRow}
 use Rattle.cache_model.specs.Openings.{StatesLength, StatesLengths}
 use Rattle.reopening.specs.declared.later.Measure.{Measure}
-use Rattle.reopening.specs.Later.{agrees, all_state, has_length, has_lengths, kept_rows, latest, measure_of, row_at, states, with_lengths}
+use Rattle.reopening.specs.Later.{all_state, has_length, has_lengths, kept_rows, latest, lengths_agree, measure_of, row_of_fragment, states, with_lengths}
 use Rattle.reopening.proofs.Holding.{each_kept}
 
 key_back : (a b : Key) → same_key a b ≡ true → same_key b a ≡ true
@@ -22,9 +22,9 @@ asked false rest h is = absurd cc
 
 one_states : (x : FoundRow) (s : Stored) → states (measure_of x) s ≡ true → StatesLength x s
 one_states x s h put some entry is =
-    let length : has_length x.length (row_at s.table x.id.index) ≡ true = asked (s.put == x.id.put) (has_length x.length (row_at s.table x.id.index)) h (eq-eqb s.put x.id.put put) in
+    let length : has_length x.length (row_of_fragment s.table x.id.index) ≡ true = asked (s.put == x.id.put) (has_length x.length (row_of_fragment s.table x.id.index)) h (eq-eqb s.put x.id.put put) in
     let index : x.id.index ≡ suc (x.id.index - 1) = omega (arith, some) in
-    let row : row_at s.table x.id.index ≡ Some entry = ap (row_at s.table) index ∙ is in
+    let row : row_of_fragment s.table x.id.index ≡ Some entry = ap (row_of_fragment s.table) index ∙ is in
     sym (eqb-true entry.length x.length (ap (has_length x.length) (sym row) ∙ length))
 
 each_states : (x : FoundRow) (list : List Stored) → list_all (states (measure_of x)) list ≡ true → AllByRecursion (StatesLength x) list
@@ -39,14 +39,14 @@ listed_state x (Some all) h list is =
     let same : all ≡ list = cc is in
     subst (λ (l : List Stored). AllByRecursion (StatesLength x) l) same (each_states x all h)
 
-agreed : (f x : FoundRow) → agrees f (measure_of x) ≡ true → StatesLengths f x
+agreed : (f x : FoundRow) → lengths_agree f (measure_of x) ≡ true → StatesLengths f x
 agreed f x h list is key =
     listed_state x f.alternates (asked (same_key f.id.first x.id.first) (all_state (measure_of x) f.alternates) h (key_back x.id.first f.id.first key)) list is
 
 each_agreed : (f : FoundRow) (all : List FoundRow) → has_lengths (map measure_of all) f ≡ true → AllByRecursion (StatesLengths f) all
 each_agreed f [] h = tt
 each_agreed f (x ∷ all) h =
-    let e = and_parts (agrees f (measure_of x)) (list_all (agrees f) (map measure_of all)) h in
+    let e = and_parts (lengths_agree f (measure_of x)) (list_all (lengths_agree f) (map measure_of all)) h in
     (agreed f x e.0, each_agreed f all e.1)
 
 -- those that are kept have passed

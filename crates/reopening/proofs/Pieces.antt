@@ -19,7 +19,7 @@ use Rattle.alternate_vector.specs.Alternates.{Stored}
 use Rattle.cache_model.specs.declared.findings.FoundRow.{FoundRow}
 use Rattle.cache_model.specs.Openings.{AreEarlierPuts, IsFoundDocument, IsFoundPiece}
 use Rattle.reopening.specs.Documents.{listed_in, standing_of}
-use Rattle.reopening.specs.Tests.{has_put, is_begun, is_document, is_entered, is_inside, lists_begun, lists_puts, passes}
+use Rattle.reopening.specs.Tests.{has_put, is_begun, is_document, is_entered, is_inside, lists_begun, lists_puts, passes_tests}
 use Rattle.reopening.specs.Opens.{opening_with}
 use Rattle.reopening.proofs.Bounds.{in_lap}
 
@@ -38,7 +38,7 @@ pub record Passed (g : Geometry) (told : CopyState) (rows : List StoredRow) (p :
   pub begun : has_put told.next_put (doc_of bytes).id ≡ true
   pub lists : lists_puts told.next_put (doc_of bytes).id (payload_of bytes) ≡ true
 
-pub passed_all : (g : Geometry) (told : CopyState) (rows : List StoredRow) (p : ℕ) (bytes : List ℕ) → passes g told rows p bytes ≡ true → Passed g told rows p bytes
+pub passed_all : (g : Geometry) (told : CopyState) (rows : List StoredRow) (p : ℕ) (bytes : List ℕ) → passes_tests g told rows p bytes ≡ true → Passed g told rows p bytes
 passed_all g told rows p bytes h =
     let blocks = blocks_of (length_of bytes) in
     let id = (doc_of bytes).id in

@@ -3,7 +3,7 @@ use Rattle.std.proofs.Common.{◌≡◌, ℕ, zero, suc, ◌+◌, ◌*◌, List,
 use Rattle.device_log.specs.Image.{Image, span}
 use Rattle.device_log.proofs.Spans.{span_none, span_first}
 use Rattle.stripe_header.specs.declared.area.Area.{Area}
-use Rattle.stripe_header.specs.Layout.{block_of}
+use Rattle.stripe_header.specs.Layout.{block_of_place}
 use Rattle.reopening.specs.Slices.{image_of}
 use Rattle.reopening.specs.Documents.{blocks_read, document_at}
 
@@ -21,6 +21,6 @@ span_image bytes at (suc n) =
     ∙ ap (λ i. take i (drop (512 * at) bytes)) (sym m)))))
 
 -- blocks from that of a place on, as many as are read there
-pub document_spans : (a : Area) (c : Image) (place at n : ℕ) → at ≡ block_of a place → n ≡ blocks_read a c place → span c at n ≡ document_at a c place
+pub document_spans : (a : Area) (c : Image) (place at n : ℕ) → at ≡ block_of_place a place → n ≡ blocks_read a c place → span c at n ≡ document_at a c place
 unfolding document_at
-document_spans a c place at n here count = ap (λ k. span c k n) here ∙ ap (span c (block_of a place)) count
+document_spans a c place at n here count = ap (λ k. span c k n) here ∙ ap (span c (block_of_place a place)) count

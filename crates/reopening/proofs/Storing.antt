@@ -8,7 +8,7 @@ use Rattle.http_header.specs.Token.{lowercase}
 use Rattle.hex.specs.Hex.{IsBytes}
 use Rattle.tape_base.proofs.Bytes.{IsBytes-drop, IsBytes-take}
 use Rattle.doc_header.proofs.Stands.{below_64}
-use Rattle.doc_header.specs.Reading.{field_at as bytes_at, number_at as number_in}
+use Rattle.doc_header.specs.Reading.{doc_number as number_in, slice_at as bytes_at}
 use Rattle.fragment_table.specs.Table.{TableRow, AreRows, total_length}
 use Rattle.fragment_table.specs.Reading.{read_table}
 use Rattle.fragment_table.specs.declared.fault.TableFault.{TableFault}
@@ -16,7 +16,7 @@ use Rattle.fragment_table.proofs.Whole.{is_spelled}
 use Rattle.alternate_vector.specs.declared.fault.VectorFault.{VectorFault}
 use Rattle.alternate_vector.specs.declared.fault.VectorFault.TheVariants.{Short, Count, Name, Value, Rest}
 use Rattle.alternate_vector.specs.Field.{Field, AreFields, IsKept, IsRising, is_above, is_name, is_value}
-use Rattle.alternate_vector.specs.Alternates.{Stored, AreStored, IsStored}
+use Rattle.alternate_vector.specs.Alternates.{Stored, AreStoredAlternates, IsStored}
 use Rattle.alternate_vector.specs.Reading.{◌>>=◌, alternate_at, alternates_at, field_at, fields_at, fields_from, follows, number_at, only_alternates, read_vector, table_at, text_at, told_table, value_at}
 use Rattle.alternate_vector.specs.Spelling.{IsSpelling, vector_bytes}
 use Rattle.alternate_vector.proofs.Loops.{follows_lower, follows_name, follows_order}
@@ -218,7 +218,7 @@ alternates_kept (suc n) bytes x fits e =
     subst (λ (y : List Stored × List ℕ). AllByRecursion IsStored y.0 × (length y.0 ≡ suc n)) (ok_is (a.0.0 ∷ b.0.0, b.0.1) x b.2)
     ((first.0, others.0), ap suc others.1)
 
-vector_kept : (bytes : List ℕ) (list : List Stored) → IsBytes bytes → read_vector bytes ≡ Ok list → AreStored list
+vector_kept : (bytes : List ℕ) (list : List Stored) → IsBytes bytes → read_vector bytes ≡ Ok list → AreStoredAlternates list
 unfolding read_vector
 vector_kept bytes list fits e =
     let a = bind_ok (number_at w32 bytes) (λ count. cond (eqb count.0 0 || ltb 16 count.0) (Err Count) (only_alternates count.0 count.1)) list e in
@@ -227,7 +227,7 @@ vector_kept bytes list fits e =
     let b = bind_ok (alternates_at a.0.0 a.0.1) (λ read. cond (eqb (length read.1) 0) (Ok read.0) (Err Rest)) list g.1 in
     let h = held (eqb (length b.0.1) 0) Rest (Ok b.0.0) list b.2 in
     let each = alternates_kept a.0.0 a.0.1 b.0 (number_rest w32 bytes a.0 fits a.1).1 b.1 in
-    subst AreStored (ok_is b.0.0 list h.1) (record { few = omega (arith, few, each.1); each = each.0 })
+    subst AreStoredAlternates (ok_is b.0.0 list h.1) (record { few = omega (arith, few, each.1); each = each.0 })
 
 -- what is read spells what is kept of it
 pub vector_spelled : (bytes : List ℕ) (list : List Stored) → IsBytes bytes → read_vector bytes ≡ Ok list → IsSpelling (vector_bytes list) list × (bytes ≡ vector_bytes list)

@@ -12,7 +12,7 @@ use Rattle.stripe_header.specs.declared.states.CopyState.{CopyState}
 use Rattle.doc_header.specs.declared.documents.Doc.{Doc}
 use Rattle.doc_header.specs.declared.documents.DocFault.{DocFault}
 use Rattle.doc_header.specs.Document.{IsDocument, digest_of_document}
-use Rattle.doc_header.specs.Reading.{doc_of, field_at, first_fault, length_of, payload_of}
+use Rattle.doc_header.specs.Reading.{doc_of, first_fault, length_of, payload_of, slice_at}
 use Rattle.doc_header.proofs.ReadingLaws.{again, kept_is, recorded, spelled}
 use Rattle.doc_header.proofs.Stands.{length-field}
 use Rattle.dir_table.specs.declared.rows.StoredRow.{StoredRow}
@@ -35,15 +35,15 @@ long_enough : (short : Bool) (fault : DocFault) (rest : Option DocFault) → con
 long_enough true fault rest h = absurd cc
 long_enough false fault rest h = refl
 
-field_small : (at n : ℕ) (bytes : List ℕ) → IsBytes bytes → IsBytes (field_at at n bytes)
-unfolding field_at
+field_small : (at n : ℕ) (bytes : List ℕ) → IsBytes bytes → IsBytes (slice_at at n bytes)
+unfolding slice_at
 field_small at n bytes fits = IsBytes-take n (drop at bytes) (IsBytes-drop at bytes fits)
 
 pub is_document : (g : Geometry) (p : ℕ) (bytes : List ℕ) → IsBytes bytes → first_fault bytes g.generation p ≡ None → IsDocument bytes g.generation p (doc_of bytes) (payload_of bytes)
 is_document g p bytes fits sound =
     let long : 128 ≤ length bytes = ltb-false _ _ (long_enough (nat_lt (length bytes) 128) _ _ sound) in
-    let sixteen : length (field_at 16 16 bytes) ≡ 16 = length-field 16 16 bytes (omega (arith, long)) in
-    spelled bytes g.generation p fits (key_back (field_at 16 16 bytes) sixteen (field_small 16 16 bytes fits)) sound
+    let sixteen : length (slice_at 16 16 bytes) ≡ 16 = length-field 16 16 bytes (omega (arith, long)) in
+    spelled bytes g.generation p fits (key_back (slice_at 16 16 bytes) sixteen (field_small 16 16 bytes fits)) sound
 
 -- ---- a vector
 

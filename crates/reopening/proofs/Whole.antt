@@ -12,11 +12,11 @@ use Rattle.tape_base.specs.Piece.{key_of_piece}
 use Rattle.stripe_header.specs.declared.area.Area.{Area}
 use Rattle.stripe_header.specs.declared.states.CopyState.{CopyState}
 use Rattle.doc_header.specs.Reading.{doc_of, length_of, payload_of}
-use Rattle.dir_segment.specs.Image.{Marks, image_walk, IsSound}
+use Rattle.dir_segment.specs.Image.{Marks, image_walk, WalkIsSound}
 use Rattle.dir_segment.specs.declared.fault.SegmentFault.{SegmentFault}
 use Rattle.dir_table.specs.declared.rows.StoredRow.{StoredRow}
 use Rattle.packed_directory.specs.StoredRows.{is_under}
-use Rattle.packed_directory.specs.PackedImage.{segment_image, IsFirstFault, IsImage}
+use Rattle.packed_directory.specs.PackedImage.{segment_image, IsFirstFault, IsImageOfSegments}
 use Rattle.stripe_header.specs.declared.area.Side.TheVariants as sides
 use Rattle.stripe_header.specs.Reading.{copy_told}
 use Rattle.std.proofs.lemmas.Bool.{cases_lt}
@@ -28,7 +28,7 @@ use Rattle.reopening.specs.Tests.{has_put, is_document, is_inside, judged, lists
 use Rattle.reopening.specs.Later.{kept_rows}
 use Rattle.reopening.specs.Opens.{found_of, is_sound, opened, opening_at, opens_to}
 
-sound_ok : (walk : Result Marks SegmentFault) → IsSound walk → is_ok walk ≡ true
+sound_ok : (walk : Result Marks SegmentFault) → WalkIsSound walk → is_ok walk ≡ true
 sound_ok (Ok marks) sound = refl
 sound_ok (Err fault) sound = absurd sound
 
@@ -43,7 +43,7 @@ nothing true = refl
 nothing false = refl
 
 -- an image is sound
-pub image_is_sound : (g : Geometry) (bytes : List ℕ) → IsImage g bytes → is_sound g bytes ≡ true
+pub image_is_sound : (g : Geometry) (bytes : List ℕ) → IsImageOfSegments g bytes → is_sound g bytes ≡ true
 image_is_sound g bytes image =
     all_in_range (λ n. is_ok (image_walk g.buckets (segment_image g n bytes))) 0 g.segments
     (λ k low high. sound_ok (image_walk g.buckets (segment_image g k bytes)) (image k (omega (arith, high))))

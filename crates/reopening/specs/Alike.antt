@@ -7,7 +7,7 @@ use Rattle.device_log.specs.Seen.{MayLeave, is_pending, seen_of}
 use Rattle.tape_base.specs.Blocks.{blocks_of}
 use Rattle.stripe_header.specs.declared.area.Area.{Area}
 use Rattle.stripe_header.specs.declared.area.Side.{Side}
-use Rattle.stripe_header.specs.Layout.{block_of, body_blocks, body_of, gate_of}
+use Rattle.stripe_header.specs.Layout.{block_of_place, body_blocks, body_of, gate_of}
 use Rattle.doc_header.specs.Reading.{length_of}
 use Rattle.dir_table.specs.declared.rows.StoredRow.{StoredRow}
 use Rattle.reopening.specs.declared.newest.Newest.{Newest}
@@ -20,11 +20,11 @@ abbrev pub IsRestedOn : Area → Newest → ℕ → ℕ → Type 0
 IsRestedOn a n end j =
     ((side : Side) × (j ≡ gate_of side))
     ⊎ (((side : Side) × (body_of a side ≤ j) × (j < body_of a side + body_blocks a))
-    ⊎ ((p : ℕ) × (bound_of a.geometry n.told ≤ p) × (p < end) × (j ≡ block_of a p)))
+    ⊎ ((p : ℕ) × (bound_of a.geometry n.told ≤ p) × (p < end) × (j ≡ block_of_place a p)))
 
 -- the blocks that the first one at a place tells
 abbrev pub blocks_told : Area → Image → ℕ → ℕ
-blocks_told a c place = blocks_of (length_of (c (block_of a place)))
+blocks_told a c place = blocks_of (length_of (c (block_of_place a place)))
 
 -- an element is one for this place
 abbrev pub has_place : ℕ → List StoredRow → Bool

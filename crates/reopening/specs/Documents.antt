@@ -7,19 +7,19 @@ use Rattle.tape_base.specs.Blocks.{blocks_of}
 use Rattle.tape_base.specs.Piece.{is_vector}
 use Rattle.tape_base.specs.Place.{slot_of}
 use Rattle.stripe_header.specs.declared.area.Area.{Area}
-use Rattle.stripe_header.specs.Layout.{block_of}
-use Rattle.doc_header.specs.Reading.{doc_of, document_digest, kept_of, length_of, payload_of}
+use Rattle.stripe_header.specs.Layout.{block_of_place}
+use Rattle.doc_header.specs.Reading.{doc_of, document_digest, kept_digest, length_of, payload_of}
 use Rattle.alternate_vector.specs.Alternates.{Stored}
 use Rattle.alternate_vector.specs.Reading.{read_vector}
 use Rattle.cache_model.specs.declared.findings.FoundRow.{FoundRow}
 
 -- how many blocks are read at a place: as many as its first block tells, at most to the end of the lap
 abbrev pub blocks_read : Area → Image → ℕ → ℕ
-blocks_read a c place = min (blocks_of (length_of (c (block_of a place)))) (a.geometry.content - slot_of a.geometry place)
+blocks_read a c place = min (blocks_of (length_of (c (block_of_place a place)))) (a.geometry.content - slot_of a.geometry place)
 
 -- the bytes that are read there
 unfoldable pub document_at : Area → Image → ℕ → List ℕ
-document_at a c place = span c (block_of a place) (blocks_read a c place)
+document_at a c place = span c (block_of_place a place) (blocks_read a c place)
 
 -- what a payload lists, where it is a vector
 abbrev pub listed_in : List ℕ → Option (List Stored)
@@ -38,7 +38,7 @@ standing_of place bytes =
       blocks = blocks_of (length_of bytes);
       digest = document_digest bytes;
       length = length_of bytes;
-      payload = kept_of bytes;
+      payload = kept_digest bytes;
       pin = (doc_of bytes).pin;
       alternates = alternates_in (doc_of bytes).id (payload_of bytes);
     }

@@ -38,14 +38,14 @@ IsOpenFault a c (BadDirectory side number fault) =
 IsOpenFault a c (Memory e) = Unit {0}
 
 -- the newest copy is the one of the answer, and so many of its elements were dropped
-pub record IsCounted (a : Area) (c : Image) (o : Opened) : Type 0 where
+pub record DroppedAreCounted (a : Area) (c : Image) (o : Opened) : Type 0 where
   pub newest : newest_of a c ≡ Some o.newest
   pub dropped : o.dropped ≡ dropped_at a c o.newest
 
 -- the first fault of a copy's directory as one of the opening
-abbrev pub fault_of : Side → ImageFault → OpenFault
-fault_of side (Segment number fault) = BadDirectory side number fault
-fault_of side (NoImage e) = Memory e
+abbrev pub opening_fault : Side → ImageFault → OpenFault
+opening_fault side (Segment number fault) = BadDirectory side number fault
+opening_fault side (NoImage e) = Memory e
 
 -- what does not open for a fault opens to nothing
 abbrev pub FaultsOpenNothing : Type 0

@@ -8,7 +8,7 @@ use Rattle.stripe_header.specs.declared.states.CopyState.{CopyState}
 use Rattle.doc_header.specs.declared.documents.Doc.{Doc}
 use Rattle.doc_header.specs.Document.{IsDocument}
 use Rattle.dir_table.specs.declared.rows.StoredRow.{StoredRow}
-use Rattle.packed_directory.specs.PackedImage.{IsImage}
+use Rattle.packed_directory.specs.PackedImage.{IsImageOfSegments}
 use Rattle.cache_model.specs.declared.findings.FoundRow.{FoundRow}
 use Rattle.reopening.specs.declared.newest.Newest.{Newest}
 use Rattle.reopening.specs.Newest.{bound_of, directory_at, newest_of}
@@ -19,9 +19,9 @@ use Rattle.reopening.specs.Opens.{opening_with, opens_to, rows_at}
 use Rattle.reopening.specs.Alike.{has_place}
 
 -- they stand in rising place, from one place up to another
-abbrev pub AreRising : ℕ → ℕ → List FoundRow → Type 0
-AreRising low high [] = Unit {0}
-AreRising low high (x ∷ rest) = (low ≤ x.place) × (x.place < high) × AreRising (x.place + 1) high rest
+abbrev pub FoundRowsRise : ℕ → ℕ → List FoundRow → Type 0
+FoundRowsRise low high [] = Unit {0}
+FoundRowsRise low high (x ∷ rest) = (low ≤ x.place) × (x.place < high) × FoundRowsRise (x.place + 1) high rest
 
 -- none is replaced by one behind it
 abbrev pub AreAlone : List FoundRow → Type 0
@@ -29,22 +29,22 @@ AreAlone [] = Unit {0}
 AreAlone (x ∷ later) = (list_any (λ y. replaces y.id x.id) later ≡ false) × AreAlone later
 
 -- one of them stands at this place
-abbrev pub is_place_of : List FoundRow → ℕ → Bool
-is_place_of all place = list_any (λ x. x.place == place) all
+abbrev pub is_found_at : List FoundRow → ℕ → Bool
+is_found_at all place = list_any (λ x. x.place == place) all
 
 -- the elements of a copy at or above its bound are for these places, and there these stand as their documents,
 -- pass the tests by themselves, and no two are at odds
 pub record StandAll (a : Area) (c : Image) (n : Newest) (all : List FoundRow) : Type 0 where
-  pub rising : AreRising (bound_of a.geometry n.told) n.told.cursor all
+  pub rising : FoundRowsRise (bound_of a.geometry n.told) n.told.cursor all
   pub stand : AllByRecursion (λ x. standing_at a n.told (rows_at a c n) c x.place ≡ Some x) all
-  pub no_more : (p : ℕ) → has_place p (rows_at a c n) ≡ true → is_place_of all p ≡ true
+  pub no_more : (p : ℕ) → has_place p (rows_at a c n) ≡ true → is_found_at all p ≡ true
   pub alone : AreAlone all
   pub lengths : AllByRecursion (λ x. has_lengths (map measure_of all) x ≡ true) all
 
 -- such a copy opens to all of them
 abbrev pub RowsAreKept : Type 0
 RowsAreKept = (a : Area) (c : Image) (n : Newest) (all : List FoundRow)
-    → newest_of a c ≡ Some n → IsImage a.geometry (directory_at a c n.side) → StandAll a c n all
+    → newest_of a c ≡ Some n → IsImageOfSegments a.geometry (directory_at a c n.side) → StandAll a c n all
     → opens_to a c ≡ Some (opening_with a.geometry n.told all)
 
 -- what stands at a place as a document, inside, and as its elements name it, passes by itself, and is the row of

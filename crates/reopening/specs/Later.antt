@@ -20,9 +20,9 @@ latest [] = []
 latest (x ∷ later) = if list_any (λ y. replaces y.id x.id) later then latest later else x ∷ latest later
 
 -- the row of a fragment, counted from 1
-abbrev pub row_at : List TableRow → ℕ → Option TableRow
-row_at rows zero = None
-row_at rows (suc i) = slice_get rows i
+abbrev pub row_of_fragment : List TableRow → ℕ → Option TableRow
+row_of_fragment rows zero = None
+row_of_fragment rows (suc i) = slice_get rows i
 
 -- a row that is there states this length
 abbrev pub has_length : ℕ → Option TableRow → Bool
@@ -31,7 +31,7 @@ has_length length (Some row) = row.length == length
 
 -- the alternate states no other length for a piece of its put
 abbrev pub states : Measure → Stored → Bool
-states y x = not (x.put == y.id.put) || has_length y.length (row_at x.table y.id.index)
+states y x = not (x.put == y.id.put) || has_length y.length (row_of_fragment x.table y.id.index)
 
 -- none of these does
 abbrev pub all_state : Measure → Option (List Stored) → Bool
@@ -39,12 +39,12 @@ all_state y None = true
 all_state y (Some list) = list_all (states y) list
 
 -- where the piece is one of the same object, its payload has the length that each row of the alternates states
-abbrev pub agrees : FoundRow → Measure → Bool
-agrees x y = not (same_key x.id.first y.id.first) || all_state y x.alternates
+abbrev pub lengths_agree : FoundRow → Measure → Bool
+lengths_agree x y = not (same_key x.id.first y.id.first) || all_state y x.alternates
 
 -- so of each that passed
 abbrev pub has_lengths : List Measure → FoundRow → Bool
-has_lengths measures x = list_all (agrees x) measures
+has_lengths measures x = list_all (lengths_agree x) measures
 
 -- what is compared with a table
 abbrev pub measure_of : FoundRow → Measure

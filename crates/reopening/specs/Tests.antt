@@ -51,8 +51,8 @@ abbrev pub lists_puts : ℕ → PieceId → List ℕ → Bool
 lists_puts next id payload = if is_vector id then lists_begun next (listed_in payload) else true
 
 -- what is asked of the document by itself, and of the entry beside it
-abbrev pub passes : Geometry → CopyState → List StoredRow → ℕ → List ℕ → Bool
-passes g told rows place bytes =
+abbrev pub passes_tests : Geometry → CopyState → List StoredRow → ℕ → List ℕ → Bool
+passes_tests g told rows place bytes =
     is_document g place bytes
     && (is_inside g told.cursor place (blocks_of (length_of bytes))
     && (is_entered g rows place (doc_of bytes).id
@@ -61,7 +61,7 @@ passes g told rows place bytes =
 
 -- of bytes at a place what stands there, where the tests are passed
 unfoldable pub judged : Geometry → CopyState → List StoredRow → ℕ → List ℕ → Option FoundRow
-judged g told rows place bytes = if passes g told rows place bytes then Some (standing_of place bytes) else None
+judged g told rows place bytes = if passes_tests g told rows place bytes then Some (standing_of place bytes) else None
 
 -- what an entry of the directory that passes stands for at a place; two that pass there are equal
 abbrev pub standing_at : Area → CopyState → List StoredRow → Image → ℕ → Option FoundRow

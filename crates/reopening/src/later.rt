@@ -2,7 +2,7 @@
 ghost use Rattle.std.specs.Prelude.{◌≡◌, ◌≤◌, ◌<◌, ◌+◌, ◌-◌, [], ◌∷◌, ◌++◌, length, map, IfOk, OnOk};
 ghost use Rattle.std.specs.List.{list_any, list_all};
 ghost use Rattle.alternate_vector.specs.Alternates.{stored_of};
-ghost use Rattle.reopening.specs.Later.{agrees, has_length, has_lengths, kept_rows, latest, measure_of, replaces, row_at, states, with_lengths};
+ghost use Rattle.reopening.specs.Later.{has_length, has_lengths, kept_rows, latest, lengths_agree, measure_of, replaces, row_of_fragment, states, with_lengths};
 
 use alternate_vector::{Alternate, Vector};
 use cache_model::{FoundList, FoundRow};
@@ -72,7 +72,7 @@ fn measures_of(alloc: Global, all: &[FoundRow]) -> Result<Vec<Measure>, AllocErr
 
 // Whether the row of a fragment states this length, where there is such a row.
 fn has_length(length: u32, alternate: &Alternate, index: u32) -> bool
-    ensures { result ≡ has_length length (row_at alternate.now.table.rows index) }
+    ensures { result ≡ has_length length (row_of_fragment alternate.now.table.rows index) }
 {
     if index == 0 || index > alternate.table.len() {
         return true;
@@ -98,7 +98,7 @@ fn all_state(y: Measure, vector: &Vector) -> bool
 }
 
 fn agrees(row: &FoundRow, y: Measure) -> bool
-    ensures { result ≡ agrees row.now y }
+    ensures { result ≡ lengths_agree row.now y }
 {
     if row.id.first != y.id.first {
         return true;

@@ -6,7 +6,7 @@ ghost use Rattle.packed_directory.specs.PackedImage.{image_blocks_of};
 ghost use Rattle.reopening.specs.Slices.{image_of};
 ghost use Rattle.reopening.specs.Newest.{newest_of};
 ghost use Rattle.reopening.specs.Opens.{found_of, opening_with, opens_to};
-ghost use Rattle.reopening.specs.Faults.{IsCounted, IsOpenFault, fault_of, opening_of};
+ghost use Rattle.reopening.specs.Faults.{DroppedAreCounted, IsOpenFault, opening_fault, opening_of};
 
 use crate::later::kept_rows;
 use crate::newest::{Newest, bound_of, directory_at, newest_of};
@@ -79,7 +79,7 @@ fn found_of(
 
 // The fault of a copy's directory.
 fn fault_of(side: Side, fault: ImageFault) -> OpenFault
-    ensures { result ≡ fault_of side fault }
+    ensures { result ≡ opening_fault side fault }
 {
     match fault {
         ImageFault::Segment { number, fault } => OpenFault::BadDirectory {
@@ -130,7 +130,7 @@ fn open_newest(
     requires newest { newest_of area.now (image_of image.now) ≡ Some newest }
     ensures opened { IfOk result (λ o. opens_to area.now (image_of image.now)
         ≡ Some (opening_of o)) }
-    ensures dropped { IfOk result (λ o. IsCounted area.now (image_of image.now) o) }
+    ensures dropped { IfOk result (λ o. DroppedAreCounted area.now (image_of image.now) o) }
     ensures fault { IfErr result (λ f. IsOpenFault area.now (image_of image.now) f) }
 {
     let bytes = directory_at(area, image, newest.side);
@@ -147,7 +147,7 @@ pub fn open_image(alloc: Global, area: &Area, image: &[u8]) -> Result<Opened, Op
     requires directory { area.now.directory ≡ image_blocks_of area.now.geometry }
     ensures opened { IfOk result (λ o. opens_to area.now (image_of image.now)
         ≡ Some (opening_of o)) }
-    ensures dropped { IfOk result (λ o. IsCounted area.now (image_of image.now) o) }
+    ensures dropped { IfOk result (λ o. DroppedAreCounted area.now (image_of image.now) o) }
     ensures fault { IfErr result (λ f. IsOpenFault area.now (image_of image.now) f) }
 {
     match newest_of(area, image) {

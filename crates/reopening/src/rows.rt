@@ -3,7 +3,7 @@ ghost use Rattle.std.specs.Prelude.{◌≡◌, ◌≤◌, ◌<◌, ◌*◌, ◌+
 ghost use Rattle.std.specs.List.Sorted.{IsPermutation};
 ghost use Rattle.stripe_header.specs.Spelling.{may_say};
 ghost use Rattle.packed_directory.specs.Packed.{packed_rows};
-ghost use Rattle.packed_directory.specs.PackedImage.{image_blocks_of, IsImage, IsImageFault};
+ghost use Rattle.packed_directory.specs.PackedImage.{image_blocks_of, IsImageOfSegments, IsImageFault};
 ghost use Rattle.reopening.specs.Opens.{rows_told};
 
 use crate::newest::bound_of;
@@ -36,7 +36,7 @@ pub fn rows_told(
     requires says { IsTrue (may_say g.now told.now) }
     ensures rows { IfOk result (λ rows.
         IsPermutation (rows_told g.now told.now bytes.now) rows.items) }
-    ensures sound { OnOk result (IsImage g.now bytes.now) }
+    ensures sound { OnOk result (IsImageOfSegments g.now bytes.now) }
     ensures fault { IfErr result (λ f. IsImageFault g.now bytes.now f) }
 {
     let low = bound_of(g, told);

@@ -31,7 +31,7 @@ pub fn gate_at(image: &[u8], side: Side) -> [u8; 512]
 }
 
 /// The length that a document tells of its payload.
-#[tactic(auto, unfolding(doc_header::specs::Reading::number_at, doc_header::specs::Reading::field_at))]
+#[tactic(auto, unfolding(doc_header::specs::Reading::doc_number, doc_header::specs::Reading::slice_at))]
 pub fn length_told(bytes: &[u8]) -> u32
     requires { 512 ≤ length bytes.now }
     ensures { result ≡ length_of bytes.now }

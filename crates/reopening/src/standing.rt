@@ -6,7 +6,7 @@ ghost use Rattle.packed_directory.specs.StoredRows.{is_spot};
 ghost use Rattle.tape_base.specs.Blocks.{blocks_of};
 ghost use Rattle.tape_base.specs.Geometry.{budget_of};
 ghost use Rattle.stripe_header.specs.Layout.{device_blocks};
-ghost use Rattle.doc_header.specs.Reading.{doc_of, kept_of, length_of, payload_of};
+ghost use Rattle.doc_header.specs.Reading.{doc_of, kept_digest, length_of, payload_of};
 ghost use Rattle.reopening.specs.Slices.{image_of};
 ghost use Rattle.reopening.specs.Documents.{alternates_in, document_at, listed_in, standing_of};
 ghost use Rattle.reopening.specs.Tests.{has_put, is_begun, is_entered, is_inside, judged, lists_begun, standing_at, standing_from};
@@ -91,10 +91,10 @@ fn vector_in(alloc: Global, next: u64, payload: &[u8]) -> Result<Option<Vector>,
 }
 
 // The digest of its payload that a header keeps.
-#[tactic(auto, unfolding(doc_header::specs::Reading::field_at))]
+#[tactic(auto, unfolding(doc_header::specs::Reading::slice_at))]
 fn kept_of(bytes: &[u8]) -> Digest
     requires { 512 ≤ length bytes.now }
-    ensures { result ≡ kept_of bytes.now }
+    ensures { result ≡ kept_digest bytes.now }
 {
     let mut field = [0; 32];
     field.copy_from_slice(&bytes[80..112]);

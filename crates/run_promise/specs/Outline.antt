@@ -20,20 +20,20 @@ use Rattle.run_promise.specs.Needs.{NeedsSession}
 -- ---- the counts that answers tell
 
 -- the count of a cause that is a device fault; 0 of any other
-abbrev pub count_of : Cause → ℕ
-count_of (cause.DeviceFault count) = count
-count_of _ = 0
+abbrev pub count_of_cause : Cause → ℕ
+count_of_cause (cause.DeviceFault count) = count
+count_of_cause _ = 0
 
 -- that of the cause for which a fragment is lost; 0 of any other refusal
 abbrev pub count_in_refusal : Refused → ℕ
-count_in_refusal (refused.Lost index why) = count_of why
+count_in_refusal (refused.Lost index why) = count_of_cause why
 count_in_refusal _ = 0
 
 -- the count of the device fault that an answer tells; 0 where it tells none
 abbrev pub count_in : StepAnswer → ℕ
-count_in (answer.Miss why) = count_of why
-count_in (answer.Broken why) = count_of why
-count_in (answer.Absent why) = count_of why
+count_in (answer.Miss why) = count_of_cause why
+count_in (answer.Broken why) = count_of_cause why
+count_in (answer.Absent why) = count_of_cause why
 count_in (answer.Refused why took) = count_in_refusal why
 count_in (answer.DeviceFault count took) = count
 count_in _ = 0
@@ -48,8 +48,8 @@ pub record Outline : Type 0 where
   pub names : List (List ℕ)
 
 -- before the first line
-abbrev pub blank : Outline
-blank = record { session = None; ended = []; names = [] }
+abbrev pub blank_outline : Outline
+blank_outline = record { session = None; ended = []; names = [] }
 
 -- what a run tells of its devices, of which that of the session may make more calls then
 abbrev pub outline_in : Run → Outline
@@ -60,8 +60,8 @@ abbrev pub doubted : Outline → Outline
 doubted o = record { session = option_map (λ (harm : Harm). record harm { damaged = true }) o.session; ended = o.ended; names = o.names }
 
 -- a run of which behind a turn only this is known: that the session's device made the calls of that turn
-abbrev pub called : Run → Turn → Run
-called run turn = record run { calls = turn.device.events ++ run.calls }
+abbrev pub with_calls_of : Run → Turn → Run
+with_calls_of run turn = record run { calls = turn.device.events ++ run.calls }
 
 -- a count that is told raises what was told; of damage it tells nothing, nor of the calls that were made meanwhile
 abbrev pub raised : ℕ → Harm → Harm
@@ -88,12 +88,12 @@ begun_by o (step.Format name segments buckets content agg reach fragment generat
 begun_by o _ = o
 
 -- a count that is told of the session's device
-abbrev pub joined : Outline → ℕ → Outline
-joined o count = record { session = option_map (raised count) o.session; ended = o.ended; names = o.names }
+abbrev pub with_told_count : Outline → ℕ → Outline
+with_told_count o count = record { session = option_map (raised count) o.session; ended = o.ended; names = o.names }
 
 -- the outline behind a step, by its answer
 abbrev pub outline_after : Outline → Step → StepAnswer → Outline
-outline_after o step said = joined (begun_by o step) (count_in said)
+outline_after o step said = with_told_count (begun_by o step) (count_in said)
 
 -- what a format answers, by its numbers: the first one that is refused, or where cursor and floor then stand
 abbrev pub format_answer : (content agg : ℕ) → Option BadGeometry → StepAnswer

@@ -19,7 +19,7 @@ use Rattle.script_run.specs.Run.{Harm, Run, fresh, loosened, no_harm}
 use Rattle.script_run.specs.Turn.{Turn}
 use Rattle.script_run.specs.Behind.{harm_of}
 use Rattle.script_run.specs.Takes.{IsRun, run_after, LineShows}
-use Rattle.run_promise.specs.Outline.{Outline, blank, called, doubted, outline_in, told_of}
+use Rattle.run_promise.specs.Outline.{Outline, blank_outline, doubted, outline_in, told_of, with_calls_of}
 use Rattle.run_promise.specs.Lines.{AreAnswered, answers_of, outline_of, texts_before, texts_of}
 use Rattle.script_run.specs.Ledger.{Ledger, Deals}
 use Rattle.device_bay.specs.Calls.{Refusal}
@@ -44,8 +44,8 @@ abbrev pub told_by : Outline → Told
 told_by o = record { ended = o.ended; own = told_of o.session; names = o.names }
 
 -- by the records: counts of faults, damage, and of each session all calls that its lines made
-abbrev pub told_in : Run → Told
-told_in run = record { ended = run.ended; own = harm_of run.calls run.state; names = run.names }
+abbrev pub told_by_records : Run → Told
+told_by_records run = record { ended = run.ended; own = harm_of run.calls run.state; names = run.names }
 
 -- the same, where the session's own device may have made more calls
 abbrev pub own_loosened : Told → Told
@@ -62,7 +62,7 @@ pub record Recorded (lines : List (List ℕ)) (answers : List (Option StepAnswer
   pub turns : List Turn
   pub legal : IsRun fresh lines turns
   pub says : answers ≡ answers_of fresh lines turns
-  pub devices : Devices (told_in (run_after fresh lines turns))
+  pub devices : Devices (told_by_records (run_after fresh lines turns))
   pub known : Known (run_after fresh lines turns)
 
 -- from this outline on each step is answered where it can be, and this is what the outline behind the lines keeps
@@ -87,7 +87,8 @@ pub record ShownAlong (lines : List (List ℕ)) (answers : List (Option StepAnsw
   pub says : answers ≡ answers_of fresh before earlier ++ rest
   pub turn : Turn
   pub shows : LineShows (run_after fresh before earlier) turn bytes
-  pub outline : AnsweredFrom (doubted (outline_in (called (run_after fresh before earlier) turn))) (bytes ∷ after) rest Devices Behind
+  pub outline : AnsweredFrom (doubted (outline_in (with_calls_of (run_after fresh before earlier) turn))) (bytes ∷ after) rest
+      Devices Behind
 
 -- Lines were taken from what the source gave since the first of these logs, and these bytes are in no line. Each step
 -- among them was answered, and this is what the text of their answers (of all but the last, and of all), what was told of
@@ -101,14 +102,14 @@ pub record Story (first now : List SourceRead) (held : List ℕ) (given : ℕ) (
   pub taken : Taken (text_read reads) lines held
   pub counted : given ≡ length lines
   pub text : Text (texts_before answers) (texts_of answers)
-  pub outline : AnsweredFrom blank lines answers Devices Behind
+  pub outline : AnsweredFrom blank_outline lines answers Devices Behind
   pub records : Recorded lines answers Devices Known ⊎ ShownAlong lines answers Devices Behind
 
 -- ---- how a run ends
 
 -- these are the bytes of the next line, which is not too long nor one too many
-abbrev pub IsNext : ℕ → List ℕ → List ℕ → Type 0
-IsNext given held bytes = (behind : List ℕ) × GivesLine given held bytes behind
+abbrev pub IsNextLine : ℕ → List ℕ → List ℕ → Type 0
+IsNextLine given held bytes = (behind : List ℕ) × GivesLine given held bytes behind
 
 -- the source came to its end, and no byte is in no line
 pub record IsReadThrough (now : List SourceRead) (held : List ℕ) : Type 0 where
@@ -122,13 +123,13 @@ pub record HoldsNoLine (given : ℕ) (held : List ℕ) : Type 0 where
 -- a line is not in the grammar
 pub record IsBadLine (given : ℕ) (held : List ℕ) (fault : BadLine) : Type 0 where
   pub bytes : List ℕ
-  pub next : IsNext given held bytes
+  pub next : IsNextLine given held bytes
   pub bad : reading_of bytes ≡ line.Bad fault
 
 -- a line needs a session, and there is none
 pub record LacksCache (o : Outline) (given : ℕ) (held : List ℕ) : Type 0 where
   pub bytes : List ℕ
-  pub next : IsNext given held bytes
+  pub next : IsNextLine given held bytes
   pub step : Step
   pub asks : reading_of bytes ≡ line.Step step
   pub needs : NeedsSession step
@@ -137,7 +138,7 @@ pub record LacksCache (o : Outline) (given : ℕ) (held : List ℕ) : Type 0 whe
 -- the next line is a format whose attach was refused, as the bay's log has it, and no other was
 pub record MeetsBayFault (given : ℕ) (held : List ℕ) (before now : List Refusal) : Type 0 where
   pub bytes : List ℕ
-  pub next : IsNext given held bytes
+  pub next : IsNextLine given held bytes
   pub step : Step
   pub asks : reading_of bytes ≡ line.Step step
   pub refusal : Refusal
@@ -150,8 +151,8 @@ pub record Refusals : Type 0 where
   pub now : List Refusal
 
 -- the two lists, the earlier one first
-abbrev pub refusals : List Refusal → List Refusal → Refusals
-refusals before now = record { before = before; now = now }
+abbrev pub refusals_around : List Refusal → List Refusal → Refusals
+refusals_around before now = record { before = before; now = now }
 
 -- why a run ends with this last line, behind so many lines
 abbrev pub Because : (bay : Refusals) → (held : List ℕ) → ℕ → Outline → LastLine → Type 0
@@ -222,7 +223,7 @@ pub record Owes (ledger_first ledger : Ledger) (Reached : List Harm → Type 0) 
 -- the format of the next line wanted memory: it attached a device of its name, and gave it back behind that of the session
 pub record GaveBack (ledger_first ledger : Ledger) (held : List ℕ) (given : ℕ) (t : Told) : Type 0 where
   pub bytes : List ℕ
-  pub next : IsNext given held bytes
+  pub next : IsNextLine given held bytes
   pub step : Step
   pub asks : reading_of bytes ≡ line.Step step
   pub name : List ℕ
@@ -232,7 +233,7 @@ pub record GaveBack (ledger_first ledger : Ledger) (held : List ℕ) (given : �
 -- memory was wanting in the next line, which works on the session, and this stands of the devices
 pub record WantsInLine (held : List ℕ) (given : ℕ) (Devices : Type 0) : Type 0 where
   pub bytes : List ℕ
-  pub next : IsNext given held bytes
+  pub next : IsNextLine given held bytes
   pub step : Step
   pub asks : reading_of bytes ≡ line.Step step
   pub needs : NeedsSession step

@@ -3,7 +3,7 @@ use Rattle.std.specs.Prelude.{◌≡◌, ℕ, ◌⊎◌, true, List, [], ◌∷�
 use Rattle.std.specs.declared.string.String.{String}
 use Rattle.device_log.specs.Streams.{SourceRead, SinkWrite}
 use Rattle.edge_io.specs.Source.{LastReadFailed, NoReadFailed}
-use Rattle.logged_disk.specs.Device.{State as Device}
+use Rattle.logged_disk.specs.Device.{DeviceState as Device}
 use Rattle.device_bay.specs.Calls.{Refusal}
 use Rattle.script_lang.specs.declared.last.LastLine.{LastLine}
 use Rattle.script_lang.specs.declared.last.LastLine.TheVariants as last

@@ -15,10 +15,10 @@ use Rattle.script_lang.specs.declared.step.Step.TheVariants as step
 use Rattle.script_lang.specs.declared.verbs.Verb.{Verb}
 use Rattle.script_lang.specs.declared.verbs.Verb.TheVariants as verb
 use Rattle.script_lang.specs.Words.{WordAt, is_word_byte, located}
-use Rattle.script_lang.specs.Tokens.{is_digit, is_actor_byte, actor_of}
+use Rattle.script_lang.specs.Tokens.{is_digit, is_actor_byte, actor_of_word}
 use Rattle.script_lang.specs.Verbs.{same_word, verb_of}
-use Rattle.script_lang.specs.Grammar.{take_number, alternates_kept, numbers_of, format_of, put_of, get_of, take_actor, open_write_of, data_of, open_read_of, only_actor, by_actor, remove_of, now_of, step_by, step_of, is_passed_over, reading_of}
-use Rattle.script_lang.specs.Spelled.{FitsFormat, HoldsFields, IsActor, IsKey, SpelledIsRead, alternates_words, body_word, key_word, request_words, response_words, spelled, step_words}
+use Rattle.script_lang.specs.Grammar.{take_number, alternates_kept, format_of_numbers, format_of, put_line_of, get_of, take_actor, open_write_of, data_of, open_read_of, only_actor, by_actor, remove_of, now_of, step_by, step_of, is_passed_over, reading_of}
+use Rattle.script_lang.specs.Spelled.{FitsFormat, HoldsFields, IsActor, IsKey, SpelledIsRead, alternates_words, body_word, key_word, request_words, response_words, spelled_step, step_words}
 use Rattle.script_lang.proofs.Joined.{IsWord, all_wider, words_joined}
 use Rattle.script_lang.proofs.Numbers.{number_below-decimal, all_digits-decimal}
 use Rattle.script_lang.proofs.WrittenWords.{body_of-body_word, body_word_is_word, decimal_is_word, key_word_is_word, object_of-key_word}
@@ -42,7 +42,7 @@ line_read first rest (w ∷ words) v s plain all named steps =
     rw (not_passed first behind plain, words_joined (first ∷ rest) (w ∷ words) all, all.0, named, steps end (1 + length (first ∷ rest) + 1)) refl
 
 step_read : (first : ℕ) (rest : List ℕ) (words : List (List ℕ)) (v : Verb) (s : Step) → step_words s ≡ (first ∷ rest) ∷ words → (first == 35) ≡ false → AllByRecursion IsWord ((first ∷ rest) ∷ words)
-    → verb_of (first ∷ rest) ≡ Some v → ((end column : ℕ) → step_by end v (located column words) ≡ Ok s) → reading_of (spelled s) ≡ answer.Step s
+    → verb_of (first ∷ rest) ≡ Some v → ((end column : ℕ) → step_by end v (located column words) ≡ Ok s) → reading_of (spelled_step s) ≡ answer.Step s
 step_read first rest words v s shape plain all named steps = ap (λ (ws : List (List ℕ)). reading_of (join_with_byte 32 ws)) shape ∙ line_read first rest words v s plain all named steps
 
 -- ---- the words of steps
@@ -67,7 +67,7 @@ actor_is_word actor h =
     grind (arith, nat_tests)
 
 actor_taken : (end column : ℕ) (actor : List ℕ) (words : List WordAt) → IsActor actor → take_actor end (record { column = column; bytes = actor } ∷ words) ≡ Ok (actor, words)
-unfolding take_actor actor_of
+unfolding take_actor actor_of_word
 actor_taken end column actor words h = rw (actor_is_word actor h, h) refl
 
 only_actor_read : (end column : ℕ) (actor : List ℕ) → IsActor actor → only_actor end (located column (actor ∷ [])) ≡ Ok actor
@@ -101,7 +101,7 @@ alternates_words_are m h = by_test (m == 5)
 
 format_read : (end column : ℕ) (name : List ℕ) (s b n a r f g m : ℕ) → FitsFormat name s b n a r f g m
     → format_of end (located column (name ∷ decimal s ∷ decimal b ∷ decimal n ∷ decimal a ∷ decimal r ∷ decimal f ∷ decimal g ∷ alternates_words m)) ≡ Ok (step.Format name s b n a r f g m)
-unfolding format_of numbers_of
+unfolding format_of format_of_numbers
 format_read end column name s b n a r f g m h =
     let small : s < 2 ^ 64 = omega (arith, h.segments_fit) in
     rw (
@@ -125,8 +125,8 @@ format_words_are name s b n a r f g m h =
     (refl, (h.word, (decimal_is_word s (omega (arith, h.segments_fit)), (decimal_is_word b (omega (arith, h.buckets_fit)), (decimal_is_word n h.content_fits, (decimal_is_word a (omega (arith, h.agg_fits)), (decimal_is_word r h.reach_fits, (decimal_is_word f (omega (arith, h.fragment_fits)), (decimal_is_word g h.generation_fits, alternates_words_are m h.alternates_fit)))))))))
 
 put_read : (end column : ℕ) (object : Key) (body : List ℕ) (request response : List Field) → IsKey object → IsBytes body → HoldsFields request → HoldsFields response
-    → put_of end (located column (key_word object ∷ body_word body ∷ (request_words request ++ response_words response))) ≡ Ok (step.Put object body request response)
-unfolding put_of
+    → put_line_of end (located column (key_word object ∷ body_word body ∷ (request_words request ++ response_words response))) ≡ Ok (step.Put object body request response)
+unfolding put_line_of
 put_read end column object body request response key bytes h k =
     rw (key_word_is_word object, object_of-key_word column object key, body_word_is_word body bytes, body_of-body_word _ body bytes, both_read _ request response h k) refl
 

@@ -14,10 +14,10 @@ use Rattle.cache_model.specs.declared.cause.Cause.TheVariants as cause
 use Rattle.script_lang.specs.declared.answer.Refused.TheVariants as refused
 use Rattle.script_lang.specs.declared.answer.StepAnswer.TheVariants as said
 use Rattle.script_lang.specs.Words.{bad}
-use Rattle.script_lang.specs.Tokens.{number_in, number_below, key_in, object_of, hex_body, repeated_body, body_of, actor_of}
+use Rattle.script_lang.specs.Tokens.{number_of_word, number_below, key_in, object_of, hex_body, repeated_body, body_of_word, actor_of_word}
 use Rattle.script_lang.specs.Fields.{with_word}
 use Rattle.script_lang.specs.Verbs.{verb_of}
-use Rattle.script_lang.specs.Grammar.{take_number, alternates_kept, usual_of, format_of, put_of, get_of, take_actor, open_write_of, data_of, remove_of, now_of, step_of, reading_of}
+use Rattle.script_lang.specs.Grammar.{take_number, alternates_kept, usual_of, format_of, put_line_of, get_of, take_actor, open_write_of, data_of, remove_of, now_of, step_of, reading_of}
 use Rattle.script_lang.specs.Texts.{answer_line, cause_line, fault_line, lost_text, number_line, numbered, open_text, passed_text, piece_line, refused_line, shown}
 
 abbrev field : List ℕ → List ℕ → Field
@@ -32,11 +32,11 @@ unfolding reading_of step_of verb_of
 flush = refl
 
 usual : reading_of (codes "format mem:a default 1") ≡ answer.Step (step.Format (codes "mem:a") 4 8192 2097152 8192 65536 1048576 1 5)
-unfolding reading_of step_of verb_of format_of usual_of alternates_kept take_number number_below number_in
+unfolding reading_of step_of verb_of format_of usual_of alternates_kept take_number number_below number_of_word
 usual = refl
 
 usual_of_two : reading_of (codes "format mem:a default 1 2") ≡ answer.Step (step.Format (codes "mem:a") 4 8192 2097152 8192 65536 1048576 1 2)
-unfolding reading_of step_of verb_of format_of usual_of alternates_kept take_number number_below number_in
+unfolding reading_of step_of verb_of format_of usual_of alternates_kept take_number number_below number_of_word
 usual_of_two = refl
 
 -- two fields of a request, of which the first stands behind by its name
@@ -45,15 +45,15 @@ unfolding reading_of step_of verb_of get_of object_of key_in with_word percent_d
 get = refl
 
 bytes : reading_of (codes "data w 2*4f") ≡ answer.Step (step.Feed (codes "w") (79 ∷ 79 ∷ []))
-unfolding reading_of step_of verb_of data_of take_actor actor_of body_of repeated_body number_in decode_pairs
+unfolding reading_of step_of verb_of data_of take_actor actor_of_word body_of_word repeated_body number_of_word decode_pairs
 bytes = refl
 
 at_the_start : reading_of (codes "now 0") ≡ answer.Step (step.Now 0)
-unfolding reading_of step_of verb_of now_of take_number number_below number_in
+unfolding reading_of step_of verb_of now_of take_number number_below number_of_word
 at_the_start = refl
 
 at_the_last : reading_of (codes "now 18446744073709551615") ≡ answer.Step (step.Now 18446744073709551615)
-unfolding reading_of step_of verb_of now_of take_number number_below number_in
+unfolding reading_of step_of verb_of now_of take_number number_below number_of_word
 at_the_last = refl
 
 -- ---- what does not fit
@@ -67,19 +67,19 @@ unfolding reading_of step_of verb_of remove_of
 word_missing = refl
 
 odd_digits : reading_of (codes "put /a 6") ≡ answer.Bad (bad 8 kind.Body)
-unfolding reading_of step_of verb_of put_of object_of key_in body_of hex_body
+unfolding reading_of step_of verb_of put_line_of object_of key_in body_of_word hex_body
 odd_digits = refl
 
 zero_before : reading_of (codes "open-write w /a 01") ≡ answer.Bad (bad 17 kind.Number)
-unfolding reading_of step_of verb_of open_write_of take_actor actor_of object_of key_in take_number number_below number_in
+unfolding reading_of step_of verb_of open_write_of take_actor actor_of_word object_of key_in take_number number_below number_of_word
 zero_before = refl
 
 past_the_last : reading_of (codes "now 18446744073709551616") ≡ answer.Bad (bad 5 kind.Number)
-unfolding reading_of step_of verb_of now_of take_number number_below number_in
+unfolding reading_of step_of verb_of now_of take_number number_below number_of_word
 past_the_last = refl
 
 zero_before_a_moment : reading_of (codes "now 05") ≡ answer.Bad (bad 5 kind.Number)
-unfolding reading_of step_of verb_of now_of take_number number_below number_in
+unfolding reading_of step_of verb_of now_of take_number number_below number_of_word
 zero_before_a_moment = refl
 
 moment_missing : reading_of (codes "now") ≡ answer.Bad (bad 4 kind.Count)
@@ -87,7 +87,7 @@ unfolding reading_of step_of verb_of now_of take_number
 moment_missing = refl
 
 moment_behind : reading_of (codes "now 5 6") ≡ answer.Bad (bad 7 kind.Count)
-unfolding reading_of step_of verb_of now_of take_number number_below number_in
+unfolding reading_of step_of verb_of now_of take_number number_below number_of_word
 moment_behind = refl
 
 of_a_response : reading_of (codes "get /a <x:1") ≡ answer.Bad (bad 8 kind.Field)

@@ -11,7 +11,7 @@ use Rattle.hex.proofs.HexLemmas.{decode_sized-encode_lower, length-encode_with}
 use Rattle.tape_base.specs.declared.keys.Key.{Key}
 use Rattle.tape_base.specs.Key.{key_bytes}
 use Rattle.script_lang.specs.Words.{is_word_byte}
-use Rattle.script_lang.specs.Tokens.{is_digit, is_lower_hex, is_key_word, key_in, object_of, is_star, is_dash, hex_body, body_of}
+use Rattle.script_lang.specs.Tokens.{is_digit, is_lower_hex, is_key_word, key_in, object_of, is_star, is_dash, hex_body, body_of_word}
 use Rattle.script_lang.specs.Spelled.{IsKey, key_word, body_word}
 use Rattle.script_lang.proofs.Joined.{IsWord, all_wider}
 use Rattle.script_lang.proofs.Numbers.{all_digits-decimal}
@@ -100,8 +100,9 @@ body_word_is_word (b ∷ bytes) h =
     let all = hex_all_word (b ∷ bytes) h in
     grind (arith, nat_tests)
 
-pub body_of-body_word : (column : ℕ) (body : List ℕ) → IsBytes body → body_of (record { column = column; bytes = body_word body }) ≡ Ok body
-unfolding body_of hex_body
+pub body_of-body_word : (column : ℕ) (body : List ℕ) → IsBytes body
+    → body_of_word (record { column = column; bytes = body_word body }) ≡ Ok body
+unfolding body_of_word hex_body
 body_of-body_word column [] h = refl
 body_of-body_word column (b ∷ bytes) h =
     let w = encode_lower (b ∷ bytes) in

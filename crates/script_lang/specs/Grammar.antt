@@ -10,7 +10,7 @@ use Rattle.script_lang.specs.declared.step.Step.TheVariants as step
 use Rattle.script_lang.specs.declared.verbs.Verb.{Verb}
 use Rattle.script_lang.specs.declared.verbs.Verb.TheVariants as verb
 use Rattle.script_lang.specs.Words.{WordAt, bad, take_word, take_end, words_from, ◌>>=◌}
-use Rattle.script_lang.specs.Tokens.{number_below, object_of, body_of, actor_of}
+use Rattle.script_lang.specs.Tokens.{number_below, object_of, body_of_word, actor_of_word}
 use Rattle.script_lang.specs.Fields.{fields_after, no_fields}
 use Rattle.script_lang.specs.Verbs.{same_word, verb_of}
 
@@ -37,8 +37,8 @@ usual_of end name words = do
   Ok (step.Format name 4 8192 2097152 8192 65536 1048576 generation.0 alternates)
 
 -- the numbers of a geometry, of which the first was taken
-unfoldable pub numbers_of : ℕ → List ℕ → ℕ → List WordAt → Result Step BadLine
-numbers_of end name segments words = do
+unfoldable pub format_of_numbers : ℕ → List ℕ → ℕ → List WordAt → Result Step BadLine
+format_of_numbers end name segments words = do
   buckets ← take_number (2 ^ 32) end words
   content ← take_number (2 ^ 64) end buckets.1
   agg ← take_number (2 ^ 32) end content.1
@@ -55,7 +55,7 @@ is_default w = same_word w.bytes (codes "default")
 -- a word behind the name: `default`, or the first of the numbers
 abbrev pub geometry_of : ℕ → List ℕ → WordAt → List WordAt → Result Step BadLine
 geometry_of end name w words =
-    if is_default w then usual_of end name words else number_below (2 ^ 32) w >>= (λ segments. numbers_of end name segments words)
+    if is_default w then usual_of end name words else number_below (2 ^ 32) w >>= (λ segments. format_of_numbers end name segments words)
 
 -- format NAME S B N A R F G [M], or format NAME default G [M]
 unfoldable pub format_of : ℕ → List WordAt → Result Step BadLine
@@ -65,12 +65,12 @@ format_of end words = do
   geometry_of end name.0.bytes w.0 w.1
 
 -- put OBJECT BODY FIELD*
-unfoldable pub put_of : ℕ → List WordAt → Result Step BadLine
-put_of end words = do
+unfoldable pub put_line_of : ℕ → List WordAt → Result Step BadLine
+put_line_of end words = do
   w ← take_word end words
   object ← object_of w.0
   v ← take_word end w.1
-  body ← body_of v.0
+  body ← body_of_word v.0
   sides ← fields_after Both no_fields v.1
   Ok (step.Put object body sides.request sides.response)
 
@@ -86,7 +86,7 @@ get_of end words = do
 unfoldable pub take_actor : ℕ → List WordAt → Result (List ℕ × List WordAt) BadLine
 take_actor end words = do
   w ← take_word end words
-  actor ← actor_of w.0
+  actor ← actor_of_word w.0
   Ok (actor, w.1)
 
 -- open-write ACTOR OBJECT PIN FIELD*
@@ -104,7 +104,7 @@ unfoldable pub data_of : ℕ → List WordAt → Result Step BadLine
 data_of end words = do
   actor ← take_actor end words
   w ← take_word end actor.1
-  body ← body_of w.0
+  body ← body_of_word w.0
   done ← take_end w.1
   Ok (step.Feed actor.0 body)
 
@@ -150,7 +150,7 @@ now_of end words = do
 -- the step of a verb and the words behind it
 abbrev pub step_by : ℕ → Verb → List WordAt → Result Step BadLine
 step_by end verb.Format words = format_of end words
-step_by end verb.Put words = put_of end words
+step_by end verb.Put words = put_line_of end words
 step_by end verb.Get words = get_of end words
 step_by end verb.OpenWrite words = open_write_of end words
 step_by end verb.Data words = data_of end words

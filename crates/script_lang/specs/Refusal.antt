@@ -10,13 +10,13 @@ IsFaultOf want (Bad fault) = want ≡ Err fault
 IsFaultOf want (Memory error) = ⊤
 
 -- the value is the one that stands there, and so is the fault
-abbrev pub Reads : {A : Type 0} → Result A BadLine → Result A Refusal → Type 0
-Reads want result = MatchResult result (λ value. want ≡ Ok value) (IsFaultOf want)
+abbrev pub ReadsValue : {A : Type 0} → Result A BadLine → Result A Refusal → Type 0
+ReadsValue want result = MatchResult result (λ value. want ≡ Ok value) (IsFaultOf want)
 
 -- what a call made in place is what stands there, and so is the fault
-abbrev pub Adds : {A : Type 0} → Result A BadLine → Result Unit Refusal → A → Type 0
-Adds want result new = MatchResult result (λ done. want ≡ Ok new) (IsFaultOf want)
+abbrev pub AddsValue : {A : Type 0} → Result A BadLine → Result Unit Refusal → A → Type 0
+AddsValue want result new = MatchResult result (λ done. want ≡ Ok new) (IsFaultOf want)
 
 -- what stands next was taken, with what is left behind it, and so is the fault
-abbrev pub Takes : {A B : Type 0} → Result (A × B) BadLine → Result A Refusal → B → Type 0
-Takes want result left = MatchResult result (λ value. want ≡ Ok (value, left)) (IsFaultOf want)
+abbrev pub TakesValue : {A B : Type 0} → Result (A × B) BadLine → Result A Refusal → B → Type 0
+TakesValue want result left = MatchResult result (λ value. want ≡ Ok (value, left)) (IsFaultOf want)

@@ -70,8 +70,8 @@ step_words step.Flush = codes "flush" ∷ []
 step_words (step.Now moment) = codes "now" ∷ decimal moment ∷ []
 
 -- the line of a step: its words with a space between any two
-abbrev pub spelled : Step → List ℕ
-spelled s = join_with_byte 32 (step_words s)
+abbrev pub spelled_step : Step → List ℕ
+spelled_step s = join_with_byte 32 (step_words s)
 
 -- ---- which steps can be written
 
@@ -123,4 +123,4 @@ HasSpelling (step.Now moment) = moment < 2 ^ 64
 
 -- the line of a step is read as that step
 abbrev pub SpelledIsRead : Type 0
-SpelledIsRead = (s : Step) → HasSpelling s → reading_of (spelled s) ≡ answer.Step s
+SpelledIsRead = (s : Step) → HasSpelling s → reading_of (spelled_step s) ≡ answer.Step s

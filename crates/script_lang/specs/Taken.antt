@@ -8,8 +8,8 @@ use Rattle.script_lang.specs.Words.{WordAt, is_space, take_word, words_from}
 use Rattle.script_lang.specs.Grammar.{take_number}
 
 -- a word as a list of bytes
-abbrev pub seen : Word → WordAt
-seen word = record { column = word.column; bytes = word.bytes.now }
+abbrev pub seen_word : Word → WordAt
+seen_word word = record { column = word.column; bytes = word.bytes.now }
 
 -- the bytes before a place, or all
 abbrev pub word_to : List ℕ → Option ℕ → List ℕ
@@ -35,7 +35,8 @@ words_in words = words_left words.end (option_copied words.left)
 
 -- the next word was taken, or the fault is the one that stands there
 abbrev pub TakesWord : ℕ → List WordAt → Result Word BadLine → List WordAt → Type 0
-TakesWord end old result new = MatchResult result (λ word. take_word end old ≡ Ok (seen word, new)) (λ fault. take_word end old ≡ Err fault)
+TakesWord end old result new =
+    MatchResult result (λ word. take_word end old ≡ Ok (seen_word word, new)) (λ fault. take_word end old ≡ Err fault)
 
 -- the next word was taken as a number, or the fault is the one that stands there
 abbrev pub TakesNumber : ℕ → ℕ → List WordAt → Result ℕ BadLine → List WordAt → Type 0

@@ -26,16 +26,16 @@ abbrev pub value_of : List ℕ → ℕ
 value_of digits = value_after 0 digits
 
 -- digits alone, without a zero before others
-abbrev pub is_number : List ℕ → Bool
-is_number bytes = list_all is_digit bytes && (length bytes == 1 || not (slice_index bytes 0 == 48))
+abbrev pub is_number_word : List ℕ → Bool
+is_number_word bytes = list_all is_digit bytes && (length bytes == 1 || not (slice_index bytes 0 == 48))
 
 -- the number of one or more digits, if it is below 2^64
-abbrev pub number_of : List ℕ → Option ℕ
-number_of digits = if nat_lt 0 (length digits) && nat_lt (value_of digits) (2 ^ 64) then Some (value_of digits) else None
+abbrev pub number_of_digits : List ℕ → Option ℕ
+number_of_digits digits = if nat_lt 0 (length digits) && nat_lt (value_of digits) (2 ^ 64) then Some (value_of digits) else None
 
 -- the number that a word spells
-unfoldable pub number_in : List ℕ → Option ℕ
-number_in bytes = if is_number bytes then number_of bytes else None
+unfoldable pub number_of_word : List ℕ → Option ℕ
+number_of_word bytes = if is_number_word bytes then number_of_digits bytes else None
 
 -- a number below a limit
 abbrev pub below : ℕ → WordAt → Option ℕ → Result ℕ BadLine
@@ -44,7 +44,7 @@ below limit w None = Err (bad w.column kind.Number)
 
 -- a word as a number below a limit; any other is a `number` fault at its column
 unfoldable pub number_below : ℕ → WordAt → Result ℕ BadLine
-number_below limit w = below limit w (number_in w.bytes)
+number_below limit w = below limit w (number_of_word w.bytes)
 
 -- ---- objects
 
@@ -106,7 +106,7 @@ repeat_times w digits None = Err (bad w.column kind.Body)
 
 -- a count, a star and the two hex digits of a byte
 unfoldable pub repeated_body : WordAt → ℕ → Result (List ℕ) BadLine
-repeated_body w star = repeat_times w (drop (star + 1) w.bytes) (number_in (take star w.bytes))
+repeated_body w star = repeat_times w (drop (star + 1) w.bytes) (number_of_word (take star w.bytes))
 
 -- `-` alone, which stands for no bytes
 abbrev pub is_dash : List ℕ → Bool
@@ -118,8 +118,8 @@ body_by w (Some star) = repeated_body w star
 body_by w None = hex_body w
 
 -- `-` for no bytes, else a byte repeated, else hex digits
-unfoldable pub body_of : WordAt → Result (List ℕ) BadLine
-body_of w = if is_dash w.bytes then Ok [] else body_by w (position is_star w.bytes)
+unfoldable pub body_of_word : WordAt → Result (List ℕ) BadLine
+body_of_word w = if is_dash w.bytes then Ok [] else body_by w (position is_star w.bytes)
 
 -- ---- actors
 
@@ -132,5 +132,5 @@ abbrev pub is_actor : List ℕ → Bool
 is_actor bytes = nat_le 1 (length bytes) && nat_le (length bytes) 32 && list_all is_actor_byte bytes
 
 -- a word as an actor's name, as it stands: case counts
-unfoldable pub actor_of : WordAt → Result (List ℕ) BadLine
-actor_of w = if is_actor w.bytes then Ok w.bytes else Err (bad w.column kind.Word)
+unfoldable pub actor_of_word : WordAt → Result (List ℕ) BadLine
+actor_of_word w = if is_actor w.bytes then Ok w.bytes else Err (bad w.column kind.Word)

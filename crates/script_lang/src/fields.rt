@@ -3,8 +3,8 @@ ghost use Rattle.std.specs.Prelude.{◌≡◌, ◌<◌, length, position, true, 
 ghost use Rattle.hex.specs.Hex.{is_hex_digit};
 ghost use Rattle.script_lang.specs.Words.{bad, is_word};
 ghost use Rattle.script_lang.specs.Fields.{begins_with_digits, is_escaped, unescaped, is_colon, parted, with_line, with_word, takes_response, with_field_of, fields_after, no_fields};
-ghost use Rattle.script_lang.specs.Taken.{seen, words_in};
-ghost use Rattle.script_lang.specs.Refusal.{Adds, Reads};
+ghost use Rattle.script_lang.specs.Taken.{seen_word, words_in};
+ghost use Rattle.script_lang.specs.Refusal.{AddsValue, ReadsValue};
 
 use crate::left::{Word, Words};
 use crate::tokens::Refusal;
@@ -92,7 +92,7 @@ fn parted(text: &[u8]) -> Option<(&[u8], &[u8])>
 
 /// Adds a line that may stand among the fields.
 fn add_line(word: Word, fields: &mut Fields, name: &[u8], value: &[u8]) -> Result<(), Refusal>
-    ensures { Adds (with_line fields.old (seen word.entry) name.now (Some value.now)) result fields.new }
+    ensures { AddsValue (with_line fields.old (seen_word word.entry) name.now (Some value.now)) result fields.new }
 {
     match fields.append(name, value) {
         Ok(()) => Ok(()),
@@ -105,7 +105,7 @@ fn add_line(word: Word, fields: &mut Fields, name: &[u8], value: &[u8]) -> Resul
 #[tactic(auto, unfolding(crate::specs::Fields::with_word))]
 fn add_word(alloc: Global, word: Word, fields: &mut Fields) -> Result<(), Refusal>
     requires { 0 < length word.bytes.now }
-    ensures { Adds (with_word fields.old (seen word.entry)) result fields.new }
+    ensures { AddsValue (with_word fields.old (seen_word word.entry)) result fields.new }
 {
     let Some((name, text)) = parted(&word.bytes[1..]) else {
         return Err(bad_field(word));
@@ -128,7 +128,7 @@ fn takes_response(kinds: FieldKinds) -> bool
 /// Adds the field that a word spells.
 fn add_field(alloc: Global, kinds: FieldKinds, word: Word, sides: &mut Sides) -> Result<(), Refusal>
     requires { is_word word.bytes.now ≡ true }
-    ensures { Adds (with_field_of kinds sides.old (seen word.entry)) result sides.new }
+    ensures { AddsValue (with_field_of kinds sides.old (seen_word word.entry)) result sides.new }
 {
     if word.bytes[0] == b'>' {
         return add_word(alloc, word, &mut sides.request);
@@ -141,7 +141,7 @@ fn add_field(alloc: Global, kinds: FieldKinds, word: Word, sides: &mut Sides) ->
 
 /// The fields that the words left of a line spell.
 pub(crate) fn fields(alloc: Global, kinds: FieldKinds, words: &mut Words) -> Result<Sides, Refusal>
-    ensures { Reads (fields_after kinds no_fields (words_in words.old)) result }
+    ensures { ReadsValue (fields_after kinds no_fields (words_in words.old)) result }
 {
     let mut sides = Sides {
         request: Fields::new(alloc),

@@ -1,7 +1,7 @@
 // Reads one line of a script.
 ghost use Rattle.std.specs.Prelude.{◌≡◌, IfOk};
 ghost use Rattle.script_lang.specs.Grammar.{step_of, is_passed_over, reading_of};
-ghost use Rattle.script_lang.specs.Refusal.{Reads};
+ghost use Rattle.script_lang.specs.Refusal.{ReadsValue};
 
 use crate::left::Words;
 use crate::steps::step_by;
@@ -13,7 +13,7 @@ use std::alloc::{AllocError, Global};
 /// The step that a line asks for.
 #[tactic(auto, unfolding(crate::specs::Grammar::step_of))]
 fn step(alloc: Global, line: &[u8]) -> Result<Step, Refusal>
-    ensures { Reads (step_of line.now) result }
+    ensures { ReadsValue (step_of line.now) result }
 {
     let mut words = Words::new(line);
     let first = words.word()?;

@@ -1,8 +1,8 @@
 // The step of each verb, from the words behind it.
 ghost use Rattle.std.specs.Prelude.{◌≡◌, ◌^◌};
-ghost use Rattle.script_lang.specs.Grammar.{take_number, alternates_kept, usual_of, numbers_of, geometry_of, format_of, put_of, get_of, take_actor, open_write_of, data_of, open_read_of, only_actor, remove_of, flush_of, now_of, step_by};
-ghost use Rattle.script_lang.specs.Taken.{seen, words_in, TakesNumber};
-ghost use Rattle.script_lang.specs.Refusal.{Reads, Takes};
+ghost use Rattle.script_lang.specs.Grammar.{take_number, alternates_kept, usual_of, format_of_numbers, geometry_of, format_of, put_line_of, get_of, take_actor, open_write_of, data_of, open_read_of, only_actor, remove_of, flush_of, now_of, step_by};
+ghost use Rattle.script_lang.specs.Taken.{seen_word, words_in, TakesNumber};
+ghost use Rattle.script_lang.specs.Refusal.{ReadsValue, TakesValue};
 
 use crate::fields::{FieldKinds, fields};
 use crate::left::{Word, Words};
@@ -51,7 +51,7 @@ fn alternates(words: &mut Words) -> Result<u32, BadLine>
 /// What stands behind `default`, and the numbers of the usual geometry.
 #[tactic(auto, unfolding(crate::specs::Grammar::usual_of))]
 fn usual(name: ByteList, words: &mut Words) -> Result<Step, Refusal>
-    ensures { Reads (usual_of words.old.end name (words_in words.old)) result }
+    ensures { ReadsValue (usual_of words.old.end name (words_in words.old)) result }
 {
     let usual = Geometry::usual(take_long(words)?);
     let alternates = alternates(words)?;
@@ -69,9 +69,10 @@ fn usual(name: ByteList, words: &mut Words) -> Result<Step, Refusal>
 }
 
 /// The numbers of a geometry behind the first one.
-#[tactic(auto, unfolding(crate::specs::Grammar::numbers_of))]
+#[tactic(auto, unfolding(crate::specs::Grammar::format_of_numbers))]
 fn numbers(name: ByteList, segments: u32, words: &mut Words) -> Result<Step, Refusal>
-    ensures { Reads (numbers_of words.old.end name segments (words_in words.old)) result }
+    ensures { ReadsValue
+        (format_of_numbers words.old.end name segments (words_in words.old)) result }
 {
     let buckets = take_short(words)?;
     let content = take_long(words)?;
@@ -95,7 +96,8 @@ fn numbers(name: ByteList, segments: u32, words: &mut Words) -> Result<Step, Ref
 
 /// `default`, or the first of the numbers, and the words behind it.
 fn geometry(name: ByteList, word: Word, words: &mut Words) -> Result<Step, Refusal>
-    ensures { Reads (geometry_of words.old.end name (seen word.entry) (words_in words.old)) result }
+    ensures { ReadsValue
+        (geometry_of words.old.end name (seen_word word.entry) (words_in words.old)) result }
 {
     if is_word(word.bytes, b"default") {
         return usual(name, words);
@@ -107,7 +109,7 @@ fn geometry(name: ByteList, word: Word, words: &mut Words) -> Result<Step, Refus
 /// `format NAME S B N A R F G [M]` or `format NAME default G [M]`
 #[tactic(auto, unfolding(crate::specs::Grammar::format_of))]
 fn format_line(alloc: Global, words: &mut Words) -> Result<Step, Refusal>
-    ensures { Reads (format_of words.old.end (words_in words.old)) result }
+    ensures { ReadsValue (format_of words.old.end (words_in words.old)) result }
 {
     let name = words.word()?;
     let word = words.word()?;
@@ -116,9 +118,9 @@ fn format_line(alloc: Global, words: &mut Words) -> Result<Step, Refusal>
 }
 
 /// `put OBJECT BODY FIELD*`
-#[tactic(auto, unfolding(crate::specs::Grammar::put_of))]
+#[tactic(auto, unfolding(crate::specs::Grammar::put_line_of))]
 fn put_line(alloc: Global, words: &mut Words) -> Result<Step, Refusal>
-    ensures { Reads (put_of words.old.end (words_in words.old)) result }
+    ensures { ReadsValue (put_line_of words.old.end (words_in words.old)) result }
 {
     let object = object(words.word()?)?;
     let body = body(alloc, words.word()?)?;
@@ -134,7 +136,7 @@ fn put_line(alloc: Global, words: &mut Words) -> Result<Step, Refusal>
 /// `get OBJECT FIELD*`
 #[tactic(auto, unfolding(crate::specs::Grammar::get_of))]
 fn get_line(alloc: Global, words: &mut Words) -> Result<Step, Refusal>
-    ensures { Reads (get_of words.old.end (words_in words.old)) result }
+    ensures { ReadsValue (get_of words.old.end (words_in words.old)) result }
 {
     let object = object(words.word()?)?;
     let sides = fields(alloc, FieldKinds::Request, words)?;
@@ -147,7 +149,7 @@ fn get_line(alloc: Global, words: &mut Words) -> Result<Step, Refusal>
 /// The next word, as the name of an actor.
 #[tactic(auto, unfolding(crate::specs::Grammar::take_actor))]
 fn take_actor(alloc: Global, words: &mut Words) -> Result<ByteList, Refusal>
-    ensures taken { Takes (take_actor words.old.end (words_in words.old)) result (words_in words.new) }
+    ensures taken { TakesValue (take_actor words.old.end (words_in words.old)) result (words_in words.new) }
     ensures end { words.new.end ≡ words.old.end }
 {
     let word = words.word()?;
@@ -157,7 +159,7 @@ fn take_actor(alloc: Global, words: &mut Words) -> Result<ByteList, Refusal>
 /// `open-write ACTOR OBJECT PIN FIELD*`
 #[tactic(auto, unfolding(crate::specs::Grammar::open_write_of))]
 fn open_write_line(alloc: Global, words: &mut Words) -> Result<Step, Refusal>
-    ensures { Reads (open_write_of words.old.end (words_in words.old)) result }
+    ensures { ReadsValue (open_write_of words.old.end (words_in words.old)) result }
 {
     let actor = take_actor(alloc, words)?;
     let object = object(words.word()?)?;
@@ -175,7 +177,7 @@ fn open_write_line(alloc: Global, words: &mut Words) -> Result<Step, Refusal>
 /// `data ACTOR BODY`
 #[tactic(auto, unfolding(crate::specs::Grammar::data_of))]
 fn data_line(alloc: Global, words: &mut Words) -> Result<Step, Refusal>
-    ensures { Reads (data_of words.old.end (words_in words.old)) result }
+    ensures { ReadsValue (data_of words.old.end (words_in words.old)) result }
 {
     let actor = take_actor(alloc, words)?;
     let body = body(alloc, words.word()?)?;
@@ -186,7 +188,7 @@ fn data_line(alloc: Global, words: &mut Words) -> Result<Step, Refusal>
 /// `open-read ACTOR OBJECT FIELD*`
 #[tactic(auto, unfolding(crate::specs::Grammar::open_read_of))]
 fn open_read_line(alloc: Global, words: &mut Words) -> Result<Step, Refusal>
-    ensures { Reads (open_read_of words.old.end (words_in words.old)) result }
+    ensures { ReadsValue (open_read_of words.old.end (words_in words.old)) result }
 {
     let actor = take_actor(alloc, words)?;
     let object = object(words.word()?)?;
@@ -201,7 +203,7 @@ fn open_read_line(alloc: Global, words: &mut Words) -> Result<Step, Refusal>
 /// An actor and no more.
 #[tactic(auto, unfolding(crate::specs::Grammar::only_actor))]
 fn only_actor(alloc: Global, words: &mut Words) -> Result<ByteList, Refusal>
-    ensures { Reads (only_actor words.old.end (words_in words.old)) result }
+    ensures { ReadsValue (only_actor words.old.end (words_in words.old)) result }
 {
     let actor = take_actor(alloc, words)?;
     words.end()?;
@@ -211,7 +213,7 @@ fn only_actor(alloc: Global, words: &mut Words) -> Result<ByteList, Refusal>
 /// `remove OBJECT`
 #[tactic(auto, unfolding(crate::specs::Grammar::remove_of))]
 fn remove_line(words: &mut Words) -> Result<Step, Refusal>
-    ensures { Reads (remove_of words.old.end (words_in words.old)) result }
+    ensures { ReadsValue (remove_of words.old.end (words_in words.old)) result }
 {
     let object = object(words.word()?)?;
     words.end()?;
@@ -220,7 +222,7 @@ fn remove_line(words: &mut Words) -> Result<Step, Refusal>
 
 /// `flush`
 fn flush_line(words: &Words) -> Result<Step, Refusal>
-    ensures { Reads (flush_of (words_in words.now)) result }
+    ensures { ReadsValue (flush_of (words_in words.now)) result }
 {
     words.end()?;
     Ok(Step::Flush)
@@ -229,7 +231,7 @@ fn flush_line(words: &Words) -> Result<Step, Refusal>
 /// `now MOMENT`
 #[tactic(auto, unfolding(crate::specs::Grammar::now_of))]
 fn now_line(words: &mut Words) -> Result<Step, Refusal>
-    ensures { Reads (now_of words.old.end (words_in words.old)) result }
+    ensures { ReadsValue (now_of words.old.end (words_in words.old)) result }
 {
     let moment = take_long(words)?;
     words.end()?;
@@ -238,7 +240,7 @@ fn now_line(words: &mut Words) -> Result<Step, Refusal>
 
 /// The step of a verb and the words behind it.
 pub(crate) fn step_by(alloc: Global, verb: Verb, words: &mut Words) -> Result<Step, Refusal>
-    ensures { Reads (step_by words.old.end verb (words_in words.old)) result }
+    ensures { ReadsValue (step_by words.old.end verb (words_in words.old)) result }
 {
     match verb {
         Verb::Format => format_line(alloc, words),

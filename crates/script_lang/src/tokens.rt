@@ -1,10 +1,10 @@
 // What single words spell: numbers, objects, bodies and actors.
 ghost use Rattle.std.specs.Prelude.{◌≡◌, ◌/◌, ◌+◌, ◌<◌, ◌≤◌, ◌^◌, ◌==◌, slice_index, true, length, position, nat_le, ◌&&◌, false, Some, IfSome, IfNone};
 ghost use Rattle.std.specs.List.{list_all};
-ghost use Rattle.script_lang.specs.Tokens.{is_digit, is_number, number_of, number_in, number_below, is_lower_hex, is_key_word, key_in, object_of, is_star, is_dash, hex_body, repeated_body, body_of, is_actor_byte, is_actor, actor_of};
-ghost use Rattle.script_lang.specs.Taken.{seen};
+ghost use Rattle.script_lang.specs.Tokens.{is_digit, is_number_word, number_of_digits, number_of_word, number_below, is_lower_hex, is_key_word, key_in, object_of, is_star, is_dash, hex_body, repeated_body, body_of_word, is_actor_byte, is_actor, actor_of_word};
+ghost use Rattle.script_lang.specs.Taken.{seen_word};
 ghost use Rattle.script_lang.specs.Words.{bad};
-ghost use Rattle.script_lang.specs.Refusal.{Reads};
+ghost use Rattle.script_lang.specs.Refusal.{ReadsValue};
 
 use crate::left::Word;
 use crate::{BadKind, BadLine, ByteList};
@@ -56,7 +56,7 @@ fn are_digits(bytes: &[u8]) -> bool
 }
 
 fn is_number(bytes: &[u8]) -> bool
-    ensures { result ≡ is_number bytes.now }
+    ensures { result ≡ is_number_word bytes.now }
 {
     are_digits(bytes) && (bytes.len() == 1 || !begins_with_zero(bytes))
 }
@@ -73,15 +73,15 @@ fn begins_with_zero(bytes: &[u8]) -> bool
 /// The number that digits write, if it fits.
 fn parse(digits: &str) -> Option<u64>
     requires { list_all is_digit digits.now ≡ true }
-    ensures { result ≡ number_of digits.now }
+    ensures { result ≡ number_of_digits digits.now }
 {
     digits.parse::<u64>().ok()
 }
 
 /// The number that these bytes spell: decimal digits, without a zero before others.
-#[tactic(auto, unfolding(crate::specs::Tokens::number_in))]
+#[tactic(auto, unfolding(crate::specs::Tokens::number_of_word))]
 pub(crate) fn number_in(bytes: &[u8]) -> Option<u64>
-    ensures { result ≡ number_in bytes.now }
+    ensures { result ≡ number_of_word bytes.now }
 {
     if !is_number(bytes) {
         return None;
@@ -94,7 +94,7 @@ pub(crate) fn number_in(bytes: &[u8]) -> Option<u64>
 
 #[tactic(auto, unfolding(crate::specs::Tokens::number_below))]
 pub(crate) fn long_number(word: Word) -> Result<u64, BadLine>
-    ensures { result ≡ number_below (2 ^ 64) (seen word.entry) }
+    ensures { result ≡ number_below (2 ^ 64) (seen_word word.entry) }
 {
     match number_in(word.bytes) {
         Some(number) => Ok(number),
@@ -107,7 +107,7 @@ pub(crate) fn long_number(word: Word) -> Result<u64, BadLine>
 
 #[tactic(auto, unfolding(crate::specs::Tokens::number_below))]
 pub(crate) fn short_number(word: Word) -> Result<u32, BadLine>
-    ensures { result ≡ number_below (2 ^ 32) (seen word.entry) }
+    ensures { result ≡ number_below (2 ^ 32) (seen_word word.entry) }
 {
     match number_in(word.bytes) {
         Some(number) if number <= u32::MAX as u64 => Ok(number as u32),
@@ -149,7 +149,7 @@ fn key_in(bytes: &[u8]) -> Option<Key>
 /// The key of the object that a word names.
 #[tactic(auto, unfolding(crate::specs::Tokens::object_of))]
 pub(crate) fn object(word: Word) -> Result<Key, BadLine>
-    ensures { result ≡ object_of (seen word.entry) }
+    ensures { result ≡ object_of (seen_word word.entry) }
 {
     match key_in(word.bytes) {
         Some(key) => Ok(key),
@@ -173,7 +173,7 @@ fn bad_body(word: Word) -> Refusal
 /// The bytes that pairs of hex digits spell.
 #[tactic(auto, unfolding(crate::specs::Tokens::hex_body))]
 fn hex_body(alloc: Global, word: Word) -> Result<ByteList, Refusal>
-    ensures { Reads (hex_body (seen word.entry)) result }
+    ensures { ReadsValue (hex_body (seen_word word.entry)) result }
 {
     let mut bytes = vec![in alloc; 0; word.bytes.len() / 2]?;
     match decode_to_slice(word.bytes, &mut bytes) {
@@ -184,9 +184,9 @@ fn hex_body(alloc: Global, word: Word) -> Result<ByteList, Refusal>
 
 /// The count of a repeated byte, if it may be one.
 fn repeats(bytes: &[u8]) -> Option<u64>
-    ensures value { IfSome result (λ count. number_in bytes.now ≡ Some count) }
+    ensures value { IfSome result (λ count. number_of_word bytes.now ≡ Some count) }
     ensures fits { IfSome result (λ count. (1 ≤ count) × (count ≤ 67108864)) }
-    ensures none { IfNone result (IfSome (number_in bytes.now) (λ count. (nat_le 1 count && nat_le count 67108864) ≡ false)) }
+    ensures none { IfNone result (IfSome (number_of_word bytes.now) (λ count. (nat_le 1 count && nat_le count 67108864) ≡ false)) }
 {
     match number_in(bytes) {
         Some(count) if count >= 1 && count <= MAX_REPEATS => Some(count),
@@ -198,7 +198,7 @@ fn repeats(bytes: &[u8]) -> Option<u64>
 #[tactic(auto, unfolding(crate::specs::Tokens::repeated_body))]
 fn repeated_body(alloc: Global, word: Word, star: usize) -> Result<ByteList, Refusal>
     requires { star < length word.bytes.now }
-    ensures { Reads (repeated_body (seen word.entry) star) result }
+    ensures { ReadsValue (repeated_body (seen_word word.entry) star) result }
 {
     let Some(count) = repeats(&word.bytes[..star]) else {
         return Err(bad_body(word));
@@ -224,9 +224,9 @@ fn is_dash(bytes: &[u8]) -> bool
 }
 
 /// The bytes of the body that a word spells.
-#[tactic(auto, unfolding(crate::specs::Tokens::body_of))]
+#[tactic(auto, unfolding(crate::specs::Tokens::body_of_word))]
 pub(crate) fn body(alloc: Global, word: Word) -> Result<ByteList, Refusal>
-    ensures { Reads (body_of (seen word.entry)) result }
+    ensures { ReadsValue (body_of_word (seen_word word.entry)) result }
 {
     if is_dash(word.bytes) {
         return Ok(ByteList::new(Vec::new(alloc)));
@@ -256,9 +256,9 @@ fn is_actor(bytes: &[u8]) -> bool
 }
 
 /// The actor that a word names.
-#[tactic(auto, unfolding(crate::specs::Tokens::actor_of))]
+#[tactic(auto, unfolding(crate::specs::Tokens::actor_of_word))]
 pub(crate) fn actor(alloc: Global, word: Word) -> Result<ByteList, Refusal>
-    ensures { Reads (actor_of (seen word.entry)) result }
+    ensures { ReadsValue (actor_of_word (seen_word word.entry)) result }
 {
     if !is_actor(word.bytes) {
         return Err(Refusal::Bad(BadLine {

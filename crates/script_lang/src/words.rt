@@ -3,7 +3,7 @@ ghost use Rattle.std.specs.Prelude.{◌≡◌, ◌+◌, ◌<◌, length, positio
 ghost use Rattle.std.specs.List.{list_all};
 ghost use Rattle.std.specs.Option.{ForSome, option_copied};
 ghost use Rattle.script_lang.specs.Words.{is_space, is_word_byte, is_word, bad, take_end, has_more, words_from};
-ghost use Rattle.script_lang.specs.Taken.{first_word, behind_word, seen, TakesWord, words_in};
+ghost use Rattle.script_lang.specs.Taken.{first_word, behind_word, seen_word, TakesWord, words_in};
 
 use crate::left::{Word, Words};
 use crate::{BadKind, BadLine};
@@ -95,7 +95,7 @@ impl<'a> Words<'a> {
 
 /// A word, if these bytes are one.
 fn checked(column: u64, bytes: &[u8]) -> Result<Word<'_>, BadLine>
-    ensures word { IfOk result (λ word. IsTrue (is_word bytes.now) × (seen word ≡ record { column = column; bytes = bytes.now })) }
+    ensures word { IfOk result (λ word. IsTrue (is_word bytes.now) × (seen_word word ≡ record { column = column; bytes = bytes.now })) }
     ensures none { IfErr result (λ fault. (is_word bytes.now ≡ false) × (fault ≡ bad column BadKind.Word)) }
 {
     if is_word(bytes) {

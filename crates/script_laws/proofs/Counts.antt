@@ -4,7 +4,7 @@ use Rattle.std.specs.Prelude.{Option, Some, None}
 use Rattle.tape_base.specs.declared.geometries.BadGeometry.{BadGeometry}
 use Rattle.tape_base.specs.Limits.{first_refusal}
 use Rattle.cache_model.specs.State.{State, after_all, nothing_yet}
-use Rattle.model_laws.specs.VectorLaws.{AreCounted}
+use Rattle.model_laws.specs.VectorLaws.{VectorsAreCounted}
 use Rattle.model_laws.proofs.Counted.{counted_format, counted_step}
 use Rattle.script_lang.specs.declared.step.Step.{Step}
 use Rattle.script_lang.specs.declared.step.Step.TheVariants as step
@@ -22,7 +22,7 @@ by_format : (run : Run) (turn : Turn) (name : List ℕ) (segments buckets conten
     → FormatTakes turn.added segments buckets content agg reach fragment generation alternates bad → IsCountedWhere (after_format run name turn.added bad).state
 by_format run turn name segments buckets content agg reach fragment generation alternates (Some bad) counted takes = counted
 by_format run turn name segments buckets content agg reach fragment generation alternates None counted takes =
-    subst (λ added. AreCounted (after_all nothing_yet added)) (sym takes.2) (counted_format nothing_yet takes.0)
+    subst (λ added. VectorsAreCounted (after_all nothing_yet added)) (sym takes.2) (counted_format nothing_yet takes.0)
 
 played : (run : Run) (turn : Turn) (o : Option State) (step : Step) → run.state ≡ o → IsCountedWhere o → Takes run turn o step → IsCountedWhere (behind run turn o step).state
 played run turn o (step.Format name segments buckets content agg reach fragment generation alternates) e counted takes =

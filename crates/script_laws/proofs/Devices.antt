@@ -21,7 +21,7 @@ use Rattle.script_lang.specs.declared.step.Step.TheVariants as step
 use Rattle.script_lang.specs.declared.answer.Refused.TheVariants as refused
 use Rattle.script_lang.specs.declared.answer.StepAnswer.{StepAnswer}
 use Rattle.script_lang.specs.declared.answer.StepAnswer.TheVariants as answer
-use Rattle.script_run.specs.Run.{Harm, Run, held_by, reader_by, writer_of}
+use Rattle.script_run.specs.Run.{Harm, Run, held_by, put_written_by, reader_by}
 use Rattle.script_run.specs.Turn.{Turn, is_told, later, lookup_in, no_turn, told_in}
 use Rattle.script_run.specs.Asked.{asked}
 use Rattle.script_run.specs.Answers.{feed_said, if_free, if_has, lookup_said, next_said, get_said, put_said, refusal_said, remove_said, said, session_said, took_of}
@@ -109,8 +109,8 @@ says_too run s t turn (step.Get key request) =
     ap (λ (told : Option Rec). get_said turn.given told (lookup_in turn.added)) (sym (told_too turn.added))
     ∙ ap (get_said turn.given (told_in (map without_copy_digest turn.added))) (sym (lookup_too turn.added))
 says_too run s t turn (step.OpenWrite actor key pin request response) = ap (if_free (held_by run actor)) (said_too t None turn.refused (answer.Writer s.next_put))
-says_too run s t turn (step.Feed actor body) = has_too (writer_of run actor) _ _ (fed_too run t body turn.refused)
-says_too run s t turn (step.Close actor) = has_too (writer_of run actor) _ _ (λ put. said_too t None turn.refused (put_said t put))
+says_too run s t turn (step.Feed actor body) = has_too (put_written_by run actor) _ _ (fed_too run t body turn.refused)
+says_too run s t turn (step.Close actor) = has_too (put_written_by run actor) _ _ (λ put. said_too t None turn.refused (put_said t put))
 says_too run s t turn (step.Abort actor) = refl
 says_too run s t turn (step.OpenRead actor key request) =
     ap (if_free (held_by run actor)) (looked_too t s.next_reader (lookup_in turn.added) ∙ ap (lookup_said (without_digests t) s.next_reader) (sym (lookup_too turn.added)))

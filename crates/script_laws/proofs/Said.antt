@@ -18,7 +18,7 @@ use Rattle.script_lang.specs.declared.step.Step.TheVariants as step
 use Rattle.script_lang.specs.declared.answer.Refused.TheVariants as refusing
 use Rattle.script_lang.specs.declared.answer.StepAnswer.{StepAnswer}
 use Rattle.script_lang.specs.declared.answer.StepAnswer.TheVariants as answer
-use Rattle.script_run.specs.Run.{Run, Holding, held_by, reader_by, writer_of}
+use Rattle.script_run.specs.Run.{Run, Holding, held_by, reader_by, put_written_by}
 use Rattle.script_run.specs.Turn.{Turn, is_told, later, lookup_in, told_in}
 use Rattle.script_run.specs.Asked.{asked}
 use Rattle.script_run.specs.Takes.{SessionTakes}
@@ -220,9 +220,9 @@ module _ (s t : State) (turn : Turn) (told_traced : (why : Cause) → IsToldBy t
   line run (step.Put key body request response) = or_refused None turn.refused (put_said t s.next_put) refl tt
   line run (step.Get key request) = get turn.given (lookup_in turn.added) refl
   line run (step.OpenWrite actor key pin request response) = free (held_by run actor) _ (or_refused None turn.refused (answer.Writer s.next_put) refl tt)
-  line run (step.Feed actor body) = has (writer_of run actor) _ (λ put. feed (took_of run t put) (answer.Took (length body)) (run.streams put).sealed tt)
-  line run (step.Close actor) = has (writer_of run actor) _ (λ put. or_refused None turn.refused (put_said t put) refl tt)
-  line run (step.Abort actor) = has (writer_of run actor) answer.Aborted (λ put. tt)
+  line run (step.Feed actor body) = has (put_written_by run actor) _ (λ put. feed (took_of run t put) (answer.Took (length body)) (run.streams put).sealed tt)
+  line run (step.Close actor) = has (put_written_by run actor) _ (λ put. or_refused None turn.refused (put_said t put) refl tt)
+  line run (step.Abort actor) = has (put_written_by run actor) answer.Aborted (λ put. tt)
   line run (step.OpenRead actor key request) = free (held_by run actor) _ (look s.next_reader (lookup_in turn.added) refl)
   line run (step.Next actor) = has (reader_by run actor) _ (λ reader. next turn.given (told_in turn.added) refl)
   line run (step.Done actor) = has (reader_by run actor) _ (λ reader. tt)

@@ -7,7 +7,7 @@ use Rattle.device_log.specs.Calls.{Call}
 use Rattle.cache_model.specs.State.{State, after_all, nothing_yet}
 use Rattle.cache_model.specs.Permit.{IsSetBy}
 use Rattle.cache_model.specs.Legal
-use Rattle.cache_model.specs.Legal.{Course, IsStep, calls_of, format_records}
+use Rattle.cache_model.specs.Legal.{Course, IsStep, calls_of_courses, format_records}
 use Rattle.cache_model.proofs.Steps.{after_all-append}
 use Rattle.script_lang.specs.declared.step.Step.{Step}
 use Rattle.script_lang.specs.declared.step.Step.TheVariants as step
@@ -33,9 +33,9 @@ set_by run s turn step calls takes = record {
 }
 
 -- the calls of a step come behind those before it
-calls_behind : (courses : List Course) (c : Course) → calls_of (courses ++ c ∷ []) ≡ c.permit.events ++ calls_of courses
+calls_behind : (courses : List Course) (c : Course) → calls_of_courses (courses ++ c ∷ []) ≡ c.permit.events ++ calls_of_courses courses
 calls_behind [] c = sym (append-nil c.permit.events)
-calls_behind (first ∷ courses) c = ap (λ calls. calls ++ first.permit.events) (calls_behind courses c) ∙ append_assoc c.permit.events (calls_of courses) first.permit.events
+calls_behind (first ∷ courses) c = ap (λ calls. calls ++ first.permit.events) (calls_behind courses c) ∙ append_assoc c.permit.events (calls_of_courses courses) first.permit.events
 
 goes_on : (run : Run) (s : State) (turn : Turn) (step : Step) → IsOfLegal run.calls s → SessionTakes run s turn step → IsOfLegal (turn.device.events ++ run.calls) (after_all s turn.added)
 goes_on run s turn step h takes =
@@ -43,7 +43,7 @@ goes_on run s turn step h takes =
     record {
       courses = h.courses ++ course ∷ [];
       recs = h.recs ++ turn.added;
-      legal = Legal.IsLegal.steps course (set_by run s turn step (calls_of h.courses) takes) h.legal
+      legal = Legal.IsLegal.steps course (set_by run s turn step (calls_of_courses h.courses) takes) h.legal
           (subst (λ (t : State). IsStep turn.device t (asked run s step) turn.added turn.refused) h.comes_to takes.legal);
       comes_to = ap (λ (t : State). after_all t turn.added) h.comes_to ∙ sym (after_all-append nothing_yet h.recs turn.added);
       made = calls_behind h.courses course ∙ ap (λ calls. turn.device.events ++ calls) h.made;

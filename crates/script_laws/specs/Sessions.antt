@@ -3,7 +3,7 @@ use Rattle.std.specs.Prelude.{ℕ, ◌≡◌, ⊤, List, Option, Some, None}
 use Rattle.device_log.specs.Calls.{Call}
 use Rattle.cache_model.specs.declared.record.Rec.{Rec}
 use Rattle.cache_model.specs.State.{State, after_all, nothing_yet}
-use Rattle.cache_model.specs.Legal.{Course, IsLegal, calls_of}
+use Rattle.cache_model.specs.Legal.{Course, IsLegal, calls_of_courses}
 use Rattle.cache_calls.specs.Keeping.{plain_setting}
 use Rattle.script_run.specs.Run.{fresh}
 use Rattle.script_run.specs.Turn.{Turn}
@@ -15,7 +15,7 @@ pub record IsOfLegal (calls : List Call) (s : State) : Type 0 where
   pub recs : List Rec
   pub legal : IsLegal plain_setting courses recs
   pub comes_to : s ≡ after_all nothing_yet recs
-  pub made : calls_of courses ≡ calls
+  pub made : calls_of_courses courses ≡ calls
 
 -- where there is a session
 abbrev pub IsLegalWhere : List Call → Option State → Type 0

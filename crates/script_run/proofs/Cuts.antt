@@ -9,7 +9,7 @@ use Rattle.hex.specs.Hex.{IsBytes}
 use Rattle.tape_base.specs.Digest.{digest_of}
 use Rattle.doc_header.proofs.Stands.{part_in_front}
 use Rattle.fragment_table.specs.Table.{TableRow, made_row, total_length}
-use Rattle.script_run.specs.Own.{AreCuts, piece_of, row_at, rows_from}
+use Rattle.script_run.specs.Own.{AreCuts, piece_of, row_of_part, rows_of_parts}
 
 -- ---- places of fragments
 
@@ -36,18 +36,18 @@ length-piece fragment body index = length-take fragment (drop ((index - 1) * fra
 sums : (n fragment size at : ℕ) → min fragment (size - at) + min (n * fragment) (size - (at + fragment)) ≡ min (suc n * fragment) (size - at)
 sums n fragment size at = omega arith
 
-total_from : (fragment : ℕ) (body : List ℕ) (index n : ℕ) → 0 < index → total_length (rows_from fragment body index n) ≡ min (n * fragment) (length body - (index - 1) * fragment)
+total_from : (fragment : ℕ) (body : List ℕ) (index n : ℕ) → 0 < index → total_length (rows_of_parts fragment body index n) ≡ min (n * fragment) (length body - (index - 1) * fragment)
 total_from fragment body index zero some = omega arith
 total_from fragment body index (suc n) some =
-    let rest : total_length (rows_from fragment body (index + 1) n) ≡ min (n * fragment) (length body - ((index - 1) * fragment + fragment)) =
+    let rest : total_length (rows_of_parts fragment body (index + 1) n) ≡ min (n * fragment) (length body - ((index - 1) * fragment + fragment)) =
     total_from fragment body (index + 1) n (omega arith) ∙ ap (λ at. min (n * fragment) (length body - at)) (at_next index fragment some) in
-    sum_by-cons {X = TableRow} (λ row. row.length) (row_at fragment body index) (rows_from fragment body (index + 1) n)
+    sum_by-cons {X = TableRow} (λ row. row.length) (row_of_part fragment body index) (rows_of_parts fragment body (index + 1) n)
     ∙ (ap (λ m. length (piece_of fragment body index) + m) rest
     ∙ (ap (λ m. m + min (n * fragment) (length body - ((index - 1) * fragment + fragment))) (length-piece fragment body index)
     ∙ sums n fragment (length body) ((index - 1) * fragment)))
 
 -- the first fragments of a body have its bytes, or as many as they may have
-pub total_rows : (fragment : ℕ) (body : List ℕ) (n : ℕ) → total_length (rows_from fragment body 1 n) ≡ min (n * fragment) (length body)
+pub total_rows : (fragment : ℕ) (body : List ℕ) (n : ℕ) → total_length (rows_of_parts fragment body 1 n) ≡ min (n * fragment) (length body)
 total_rows fragment body n = total_from fragment body 1 n (omega arith) ∙ omega arith
 
 pub total_cuts : (fragment : ℕ) (body : List ℕ) (cuts : List TableRow) → AreCuts fragment body cuts → total_length cuts ≡ min (length cuts * fragment) (length body)
@@ -55,19 +55,20 @@ total_cuts fragment body cuts c = ap total_length c.rows ∙ total_rows fragment
 
 -- bodies that have the same fragments have the same rows
 rows_same : (fragment : ℕ) (a b : List ℕ) (index n : ℕ) → ((i : ℕ) → index ≤ i → i < index + n → piece_of fragment a i ≡ piece_of fragment b i)
-    → rows_from fragment a index n ≡ rows_from fragment b index n
+    → rows_of_parts fragment a index n ≡ rows_of_parts fragment b index n
 rows_same fragment a b index zero same = refl
 rows_same fragment a b index (suc n) same =
-    ap (λ (piece : List ℕ). made_row (length piece) (digest_of piece).0 ∷ rows_from fragment a (index + 1) n) (same index (omega arith) (omega arith))
-    ∙ ap (λ rows. row_at fragment b index ∷ rows) (rows_same fragment a b (index + 1) n (λ i low high. same i (omega arith) (omega arith)))
+    ap (λ (piece : List ℕ). made_row (length piece) (digest_of piece).0 ∷ rows_of_parts fragment a (index + 1) n) (same index (omega arith) (omega arith))
+    ∙ ap (λ rows. row_of_part fragment b index ∷ rows)
+    (rows_same fragment a b (index + 1) n (λ i low high. same i (omega arith) (omega arith)))
 
 -- one fragment more
-rows_more : (fragment : ℕ) (body : List ℕ) (index n : ℕ) → rows_from fragment body index (suc n) ≡ rows_from fragment body index n ++ row_at fragment body (index + n) ∷ []
-rows_more fragment body index zero = let e : index ≡ index + 0 = omega arith in ap (λ i. row_at fragment body i ∷ []) e
+rows_more : (fragment : ℕ) (body : List ℕ) (index n : ℕ) → rows_of_parts fragment body index (suc n) ≡ rows_of_parts fragment body index n ++ row_of_part fragment body (index + n) ∷ []
+rows_more fragment body index zero = let e : index ≡ index + 0 = omega arith in ap (λ i. row_of_part fragment body i ∷ []) e
 rows_more fragment body index (suc n) =
     let e : index + 1 + n ≡ index + suc n = omega arith in
-    ap (λ rows. row_at fragment body index ∷ rows)
-    (rows_more fragment body (index + 1) n ∙ ap (λ i. rows_from fragment body (index + 1) n ++ row_at fragment body i ∷ []) e)
+    ap (λ rows. row_of_part fragment body index ∷ rows)
+    (rows_more fragment body (index + 1) n ∙ ap (λ i. rows_of_parts fragment body (index + 1) n ++ row_of_part fragment body i ∷ []) e)
 
 -- ---- what a put has cut
 
@@ -95,7 +96,7 @@ cuts_more fragment body cuts payload c full is some small =
     let count : length (cuts ++ new ∷ []) ≡ n + 1 = length-append cuts (new ∷ []) in
     let next : n + 1 ≡ suc n = omega arith in
     let place : 1 + n ≡ n + 1 = omega arith in
-    let made : row_at fragment body (n + 1) ≡ new = ap (λ (piece : List ℕ). made_row (length piece) (digest_of piece).0) (sym is) in
+    let made : row_of_part fragment body (n + 1) ≡ new = ap (λ (piece : List ℕ). made_row (length piece) (digest_of piece).0) (sym is) in
     let some_last : 0 < length (piece_of fragment body (n + 1)) = subst (λ (piece : List ℕ). 0 < length piece) is some in
     let index : (n + 1 - 1) * fragment ≡ n * fragment = let e : n + 1 - 1 ≡ n = omega arith in ap (λ k. k * fragment) e in
     let size : length payload ≡ min fragment (length body - n * fragment) =
@@ -103,8 +104,8 @@ cuts_more fragment body cuts payload c full is some small =
     let total : total_length (cuts ++ new ∷ []) ≡ total_length cuts + length payload = sum_by_push {X = TableRow} (λ row. row.length) cuts new in
     record {
       rows = ap (λ rows. rows ++ new ∷ []) c.rows
-          ∙ (ap (λ row. rows_from fragment body 1 n ++ row ∷ []) (sym made ∙ ap (row_at fragment body) (sym place))
-          ∙ (sym (rows_more fragment body 1 n) ∙ ap (rows_from fragment body 1) (sym (count ∙ next))));
+          ∙ (ap (λ row. rows_of_parts fragment body 1 n ++ row ∷ []) (sym made ∙ ap (row_of_part fragment body) (sym place))
+          ∙ (sym (rows_more fragment body 1 n) ∙ ap (rows_of_parts fragment body 1) (sym (count ∙ next))));
       within = let all = whole_before n fragment (length body) (total_length cuts) full c.within in omega (arith, total, size, all);
       of_bytes = λ i positive within. each_more IsBytes fragment body n i (subst IsBytes is small) (c.of_bytes i) (earlier_or_last i n (length (cuts ++ new ∷ [])) within count) positive;
       none_empty = λ i positive within. each_more (λ piece. 0 < length piece) fragment body n i some_last (c.none_empty i) (earlier_or_last i n (length (cuts ++ new ∷ [])) within count) positive;

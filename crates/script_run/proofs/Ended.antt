@@ -12,7 +12,7 @@ use Rattle.cache_model.specs.Syncing
 use Rattle.cache_model.specs.Syncing.{DoesSync, Unmarks, WhereDue}
 use Rattle.cache_model.specs.Legal
 use Rattle.cache_model.specs.Legal.{Advances, Does, IsStep, MayGrow, nothing, more, IsWriting, aborted_record, is_writing}
-use Rattle.model_laws.specs.StepLaws.{EndsWith}
+use Rattle.model_laws.specs.StepLaws.{AsksLast}
 use Rattle.cache_model.proofs.Steps.{after_all-append, none_left}
 use Rattle.cache_model.proofs.Found.{no_truth, number_of}
 use Rattle.script_run.specs.Asked.{close_intents}
@@ -157,7 +157,7 @@ none_cleaned put (i ∷ is) c = rw (no_cleanup put i c.0) (none_cleaned put is c
 -- more is asked of the put, or all is over
 record GoesOnClosing (put : ℕ) (w : Work) : Type 0 where
   closing : AreClosing put w.intents
-  ends : EndsWith (Commit put) w.intents
+  ends : AsksLast (Commit put) w.intents
   allowed : w.refused ≡ None
 
 record IsOver (t : State) (put : ℕ) (w : Work) : Type 0 where
@@ -191,7 +191,7 @@ over_stays p s put w after recs over grows =
     subst (λ why. EndsOrSeals (after_all s recs) put why) q.1 (subst (λ xs. EndsOrSeals (after_all s xs) put w.refused) (sym q.0) over.over)
 
 closed_grown : (put : ℕ) {p : Permit} {s : State} {w after : Work} {recs : List Rec} → GoesOnClosing put w → after.intents ≡ [] → MayGrow p s w recs after → EndsOrSeals (after_all s recs) put after.refused
-closed_grown put g done nothing = absurd (subst (EndsWith (Commit put)) done g.ends)
+closed_grown put g done nothing = absurd (subst (AsksLast (Commit put)) done g.ends)
 closed_grown put {p} {s} {w} {after} g done (more {rest = tail} added between one others) =
     let here : GoesOnClosing put (record { intents = w.intents; refused = None }) = record { closing = g.closing; ends = g.ends; allowed = refl } in
     let first : Advances p s w.intents None added between = subst (λ why. Advances p s w.intents why added between) g.allowed one in

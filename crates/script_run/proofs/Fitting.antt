@@ -8,7 +8,7 @@ use Rattle.fragment_table.specs.Table.{total_length}
 use Rattle.cache_model.specs.Permit.{Intent, Fragment, Overflow}
 use Rattle.cache_model.proofs.Found.{no_truth}
 use Rattle.script_run.specs.Run.{Stream}
-use Rattle.script_run.specs.Own.{rows_from}
+use Rattle.script_run.specs.Own.{rows_of_parts}
 use Rattle.script_run.specs.Asked.{body_intents, close_intents, cut_intents, feed_intents, rest_among, rest_behind, whole_among, whole_fragments}
 use Rattle.script_run.proofs.Cuts.{total_rows}
 use Rattle.script_run.proofs.Placed.{IsPiece, start_next}
@@ -50,7 +50,7 @@ module _ (fragment : ℕ) (streams : ℕ → Stream) where
     -- ---- a put that closes
 
     abbrev Total : ℕ → ℕ
-    Total cut = total_length (rows_from fragment Body 1 cut)
+    Total cut = total_length (rows_of_parts fragment Body 1 cut)
 
     -- the rest stands behind what is cut
     pub record IsRest (cut : ℕ) (rest : List ℕ) : Type 0 where

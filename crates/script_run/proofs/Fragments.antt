@@ -18,7 +18,7 @@ use Rattle.cache_model.proofs.Steps.{all_as}
 use Rattle.model_laws.proofs.Pairs.{AreAlso}
 use Rattle.model_laws.proofs.ToldFlush.{moved}
 use Rattle.script_run.specs.Run.{Stream}
-use Rattle.script_run.specs.Own.{AreKept, AreOwn, AreOwnPuts, HasCutPayload, IsOwnFragment, IsPlacedAs, fragment_doc, fragment_document, piece_of}
+use Rattle.script_run.specs.Own.{AreOwn, AreOwnPuts, ArePayloadsOwn, HasCutPayload, IsOwnFragment, IsPlacedAs, fragment_doc, fragment_document, piece_of}
 use Rattle.script_run.proofs.Carried.{fragment_carried}
 use Rattle.script_run.proofs.Cuts.{length-piece}
 use Rattle.script_run.proofs.Payloads.{piece_told}
@@ -110,7 +110,7 @@ stands_own s streams own = record { puts = own.puts; rows = own.rows; readers = 
 pub own_stands : (s : State) (streams : ℕ → Stream) → Stands own_kind s streams → AreOwn s streams
 own_stands s streams own = record { puts = own.puts; rows = own.rows; readers = own.readers }
 
-pub own_is_kept : (s : State) (streams : ℕ → Stream) → AreOwn s streams → AreKept s streams
+pub own_is_kept : (s : State) (streams : ℕ → Stream) → AreOwn s streams → ArePayloadsOwn s streams
 own_is_kept s streams own = record {
   puts = own.puts;
   payloads = all_as (IsRow own_kind s streams) (HasCutPayload s streams) (λ row is some. let f = is.0 some in record { w = f.w; found = f.found; cut = f.cut; payload = f.payload }) s.rows own.rows;

@@ -33,7 +33,7 @@ use Rattle.model_laws.proofs.ToldFlush.{as_shown, go_on}
 use Rattle.model_laws.proofs.ToldGroups.{pair_of_copy, shown_first, shown_later}
 use Rattle.model_laws.proofs.Unsynced.{may_flush}
 use Rattle.script_run.specs.Run.{Stream}
-use Rattle.script_run.specs.Own.{rows_from}
+use Rattle.script_run.specs.Own.{rows_of_parts}
 use Rattle.script_run.proofs.Saying.{Kind}
 use Rattle.script_run.proofs.Carried.{same_carries}
 use Rattle.script_run.proofs.Flushing.{held_flushed, held_stopped}
@@ -47,7 +47,7 @@ use Rattle.script_run.proofs.Synced.{AllSyncing, IsSyncing, clean_syncing, drain
 -- a fragment is that of its index, and a vector is placed once all is cut
 abbrev pub Fits : ℕ → (ℕ → Stream) → Intent → Type 0
 Fits fragment streams (Fragment put index payload) = IsPiece fragment streams put index payload
-Fits fragment streams (Finish put fragments) = total_length (rows_from fragment (streams put).bytes 1 fragments) ≡ length (streams put).bytes
+Fits fragment streams (Finish put fragments) = total_length (rows_of_parts fragment (streams put).bytes 1 fragments) ≡ length (streams put).bytes
 Fits fragment streams _ = Unit {0}
 
 -- a fragment that is cut has no more bytes than it may have

@@ -23,7 +23,7 @@ use Rattle.model_laws.proofs.Answered.{hit_matches}
 use Rattle.cache_model.proofs.Steps.{First, first_of}
 use Rattle.script_run.specs.Run.{Stream}
 use Rattle.script_run.specs.Turn.{lookup_in}
-use Rattle.script_run.specs.Own.{AreAlternates, AreKept, IsComplete, IsListedOf}
+use Rattle.script_run.specs.Own.{AreAlternates, ArePayloadsOwn, IsComplete, IsListedOf}
 use Rattle.script_run.specs.Laws.{IsPutFor}
 use Rattle.script_run.proofs.Listed.{is_among, listed_among}
 
@@ -88,7 +88,7 @@ step_answers p s actor key request more added why told step h =
     let f : First p s (Look actor key request) more None added why = first_of p s (Look actor key request) more None why added step.grows in
     look p s actor key request f.added f.rest f.end told f.does (ap lookup_in (sym f.split) ∙ h)
 
-pub hit_is_put : (p : Permit) (s : State) (streams : ℕ → Stream) (actor : ℕ) (key : Key) (request : List Field) (more : List Intent) (added : List Rec) (why : Option Reason) (put : ℕ) → AreKept s streams
+pub hit_is_put : (p : Permit) (s : State) (streams : ℕ → Stream) (actor : ℕ) (key : Key) (request : List Field) (more : List Intent) (added : List Rec) (why : Option Reason) (put : ℕ) → ArePayloadsOwn s streams
     → IsStep p s (Look actor key request ∷ more) added why → lookup_in added ≡ Some (read.Hit put) → IsPutFor s key request put
 hit_is_put p s streams actor key request more added why put kept step told = elim (step_answers p s actor key request more added why (read.Hit put) step told) [
   | inl verdict ↦ verdict_put s key request put kept.alternates verdict

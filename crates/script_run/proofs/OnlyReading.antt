@@ -25,7 +25,7 @@ use Rattle.cache_model.specs.Legal.{Does, answer_record}
 use Rattle.cache_model.proofs.Found.{no_truth}
 use Rattle.cache_model.proofs.Steps.{after_all-append}
 use Rattle.script_run.specs.Run.{Stream}
-use Rattle.script_run.specs.Own.{AreKept, AreOwn, IsListedOf, IsOwnReader, IsTableOf}
+use Rattle.script_run.specs.Own.{AreOwn, ArePayloadsOwn, IsListedOf, IsOwnReader, IsTableOf}
 use Rattle.script_run.specs.Laws.{is_reading}
 use Rattle.script_run.proofs.Carried.{Carries, all_filter, puts_stay, readers_carried, same_carries, table_carried}
 use Rattle.script_run.proofs.Listed.{listed_table}
@@ -181,5 +181,5 @@ reads_leave kind p s streams _ added e reads own d = no_truth (sym reads)
 pub reads_own : (p : Permit) (s : State) (streams : ℕ → Stream) (i : Intent) (added : List Rec) (e : End) → is_reading i ≡ true → AreOwn s streams → Does p s i added e → AreOwn (after_all s added) streams
 reads_own p s streams i added e reads own does = own_stands (after_all s added) streams (reads_leave own_kind p s streams i added e reads (stands_own s streams own) does)
 
-pub reads_keep : (p : Permit) (s : State) (streams : ℕ → Stream) (i : Intent) (added : List Rec) (e : End) → is_reading i ≡ true → AreKept s streams → Does p s i added e → AreKept (after_all s added) streams
+pub reads_keep : (p : Permit) (s : State) (streams : ℕ → Stream) (i : Intent) (added : List Rec) (e : End) → is_reading i ≡ true → ArePayloadsOwn s streams → Does p s i added e → ArePayloadsOwn (after_all s added) streams
 reads_keep p s streams i added e reads kept does = kept_stands (after_all s added) streams (reads_leave kept_kind p s streams i added e reads (stands_kept s streams kept) does)

@@ -8,7 +8,7 @@ use Rattle.cache_model.specs.State.{State, Row, PutRow, put_of}
 use Rattle.cache_model.proofs.Found.{number_of}
 use Rattle.cache_model.proofs.Steps.{all_as}
 use Rattle.script_run.specs.Run.{Stream}
-use Rattle.script_run.specs.Own.{AreAlternates, AreKept, HasCutPayload, IsCutFragment, piece_of}
+use Rattle.script_run.specs.Own.{AreAlternates, ArePayloadsOwn, HasCutPayload, IsCutFragment, piece_of}
 use Rattle.script_run.proofs.Carried.{cut_carried}
 use Rattle.script_run.proofs.Saying.{AllTellAlike, IsRow, Kind, Stands, TellAlike, alternates_of_rows}
 
@@ -47,10 +47,10 @@ each_both : (s : State) (streams : ℕ → Stream) (rows : List Row) → AllByRe
 each_both s streams [] payloads listed = tt
 each_both s streams (row ∷ rows) payloads listed = ((payloads.0, listed.0), each_both s streams rows payloads.1 listed.1)
 
-pub stands_kept : (s : State) (streams : ℕ → Stream) → AreKept s streams → Stands kept_kind s streams
+pub stands_kept : (s : State) (streams : ℕ → Stream) → ArePayloadsOwn s streams → Stands kept_kind s streams
 stands_kept s streams kept = record { puts = kept.puts; rows = each_both s streams s.rows kept.payloads kept.alternates; readers = kept.readers }
 
-pub kept_stands : (s : State) (streams : ℕ → Stream) → Stands kept_kind s streams → AreKept s streams
+pub kept_stands : (s : State) (streams : ℕ → Stream) → Stands kept_kind s streams → ArePayloadsOwn s streams
 kept_stands s streams own = record {
   puts = own.puts;
   payloads = all_as (IsRow kept_kind s streams) (HasCutPayload s streams) (λ row is. is.0) s.rows own.rows;

@@ -28,7 +28,7 @@ use Rattle.cache_model.proofs.Rows.{part-filter, each_part}
 use Rattle.cache_model.proofs.Sound.{leaves_one}
 use Rattle.cache_model.proofs.Merged.{list_found}
 use Rattle.script_run.specs.Run.{Stream}
-use Rattle.script_run.specs.Own.{AreAlternates, AreListedOf, IsListedOf, IsOwnPut, piece_of, rows_from}
+use Rattle.script_run.specs.Own.{AreAlternates, AreListedOf, IsListedOf, IsOwnPut, piece_of, rows_of_parts}
 use Rattle.script_run.proofs.Saying.{alternates_of_rows, IsRow, Kind, Stands, stands_alike, rows_carried}
 use Rattle.script_run.proofs.Cuts.{cuts_more}
 use Rattle.script_run.proofs.Carried.{Carries, alternate_carried, put_stays, puts_stay, readers_carried, same_carries}
@@ -160,13 +160,14 @@ held_fragment kind g streams p s put index payload added piece m h =
 
 -- all that the writer took is cut
 pub whole_cut : (kind : Kind) (s : State) (streams : ℕ → Stream) (put fragments : ℕ) (w : PutRow) → Stands kind s streams → put_of s put ≡ Some w → length w.cuts ≡ fragments
-    → total_length (rows_from s.geometry.fragment (streams put).bytes 1 fragments) ≡ length (streams put).bytes → total_length w.cuts ≡ length (streams w.put).bytes
+    → total_length (rows_of_parts s.geometry.fragment (streams put).bytes 1 fragments) ≡ length (streams put).bytes → total_length w.cuts ≡ length (streams w.put).bytes
 whole_cut kind s streams put fragments w own found count whole =
     let p : IsOwnPut s streams w = own.puts put w found in
     let number : w.put ≡ put = number_of s put w found in
     ap total_length p.cuts.rows
-    ∙ (ap (λ n. total_length (rows_from s.geometry.fragment (streams w.put).bytes 1 n)) count
-    ∙ subst (λ n. total_length (rows_from s.geometry.fragment (streams n).bytes 1 fragments) ≡ length (streams n).bytes) (sym number) whole)
+    ∙ (ap (λ n. total_length (rows_of_parts s.geometry.fragment (streams w.put).bytes 1 n)) count
+    ∙ subst (λ n. total_length (rows_of_parts s.geometry.fragment (streams n).bytes 1 fragments) ≡ length (streams n).bytes)
+    (sym number) whole)
 
 -- where no vector was pending, complete puts stay as a piece is placed
 quiet_carries : (t : State) (piece : PieceId) (place blocks : ℕ) (digest : Digest) (pin : ℕ) → IsQuiet t → Carries t (state_after t (rec.Placed piece place blocks digest pin))
@@ -183,7 +184,7 @@ quiet_carries t piece place blocks digest pin quiet = record {
 }
 
 pub held_vector : (kind : Kind) (g : Geometry) (streams : ℕ → Stream) (p : Permit) (s : State) (put fragments : ℕ) (added : List Rec)
-    → total_length (rows_from g.fragment (streams put).bytes 1 fragments) ≡ length (streams put).bytes
+    → total_length (rows_of_parts g.fragment (streams put).bytes 1 fragments) ≡ length (streams put).bytes
     → Legal.MayPlaceVector p s put fragments added → IsHeld kind g streams s → IsHeld kind g streams (after_all s added)
 held_vector kind g streams p s put fragments added whole m h =
     let w : PutRow = m.w in
@@ -216,7 +217,7 @@ held_vector kind g streams p s put fragments added whole m h =
     (kind.own u streams (placed_row t id (place_now s) blocks digest pin) (λ some. absurd (omega (arith, some))), listed) in
     let cut : total_length w.cuts ≡ length (streams w.put).bytes =
     whole_cut kind s streams put fragments w h.stands m.cut.writing.found m.cut.count
-    (subst (λ (x : Geometry). total_length (rows_from x.fragment (streams put).bytes 1 fragments) ≡ length (streams put).bytes) (sym h.geometry) whole) in
+    (subst (λ (x : Geometry). total_length (rows_of_parts x.fragment (streams put).bytes 1 fragments) ≡ length (streams put).bytes) (sym h.geometry) whole) in
     subst (λ xs. IsHeld kind g streams (after_all s xs)) (sym m.is)
     (subst (IsHeld kind g streams) (sym (after_all-append s m.displaced (placed ∷ []))) (record {
       geometry = d.alike.geometry ∙ h.geometry;

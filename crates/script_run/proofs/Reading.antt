@@ -22,7 +22,7 @@ use Rattle.cache_model.proofs.Found.{cuts_found, none_is, number_of}
 use Rattle.cache_model.proofs.Lists.{found_row, own_piece}
 use Rattle.cache_model.specs.Given.{IsDocumentOf}
 use Rattle.script_run.specs.Run.{Stream}
-use Rattle.script_run.specs.Own.{AreKept, AreOwn, IsOwnFragment, IsOwnPut, IsOwnReader, IsOwnRow, IsTableOf, IsTableOfHit, IsPlacedAs, fragment_doc, fragment_document, piece_of}
+use Rattle.script_run.specs.Own.{ArePayloadsOwn, AreOwn, IsOwnFragment, IsOwnPut, IsOwnReader, IsOwnRow, IsTableOf, IsTableOfHit, IsPlacedAs, fragment_doc, fragment_document, piece_of}
 use Rattle.script_run.proofs.Cuts.{total_cuts}
 use Rattle.script_run.proofs.Fragments.{own_is_kept, piece_bytes}
 use Rattle.script_run.proofs.Finding.{found_in}
@@ -30,7 +30,7 @@ use Rattle.script_run.proofs.Finding.{found_in}
 pub formats_own : (s : State) (geometry : Geometry) (streams : ℕ → Stream) → AreOwn (after_all s (format_records geometry)) streams
 formats_own s geometry streams = record { puts = λ put w found. none_is found; rows = tt; readers = tt }
 
-pub formats_keep : (s : State) (geometry : Geometry) (streams : ℕ → Stream) → AreKept (after_all s (format_records geometry)) streams
+pub formats_keep : (s : State) (geometry : Geometry) (streams : ℕ → Stream) → ArePayloadsOwn (after_all s (format_records geometry)) streams
 formats_keep s geometry streams = own_is_kept (after_all s (format_records geometry)) streams (formats_own s geometry streams)
 
 -- ---- a fragment that was read
@@ -77,7 +77,7 @@ past table i h = elim (slice_get_cases table i).1 [ inl within ↦ none_is (sym 
 record IsWhole (s : State) (streams : ℕ → Stream) (put : ℕ) (table : List TableRow) : Type 0 where
   total : length (streams put).bytes ≤ length table * s.geometry.fragment
 
-closed_by : (s : State) (streams : ℕ → Stream) (put : ℕ) (table : List TableRow) → IsQuiet s → AreKept s streams → IsTableOf s put table → IsWhole s streams put table
+closed_by : (s : State) (streams : ℕ → Stream) (put : ℕ) (table : List TableRow) → IsQuiet s → ArePayloadsOwn s streams → IsTableOf s put table → IsWhole s streams put table
 closed_by s streams put table quiet kept t =
     let w : PutRow = t.w in
     let p : IsOwnPut s streams w = kept.puts put w t.found in
@@ -98,7 +98,7 @@ given_whole s streams put next table w none =
     take_all ((next - 1) * s.geometry.fragment) (streams put).bytes
     (omega (arith, w.total, below, mul_comm s.geometry.fragment (length table), mul_comm s.geometry.fragment (next - 1)))
 
-pub kept_is_given : (s : State) (streams : ℕ → Stream) (reader : ℕ) (r : ReaderRow) (table : List TableRow) → AreKept s streams → IsQuiet s → 0 < r.next
+pub kept_is_given : (s : State) (streams : ℕ → Stream) (reader : ℕ) (r : ReaderRow) (table : List TableRow) → ArePayloadsOwn s streams → IsQuiet s → 0 < r.next
     → reader_of s reader ≡ Some r → r.table ≡ Some table → next_row s r ≡ None
     → take ((r.next - 1) * s.geometry.fragment) (streams r.put).bytes ≡ (streams r.put).bytes
 kept_is_given s streams reader r table kept quiet some found hit none =
@@ -107,7 +107,7 @@ kept_is_given s streams reader r table kept quiet some found hit none =
     given_whole s streams r.put r.next table (closed_by s streams r.put table quiet kept t)
     (subst (λ (o : Option (List TableRow)). slice_get (unwrap_or o (cuts_of s r.put)) (r.next - 1) ≡ None) hit none)
 
-pub kept_is_followed : (s : State) (streams : ℕ → Stream) (r : ReaderRow) (w : PutRow) → AreKept s streams → IsQuiet s → 0 < r.next
+pub kept_is_followed : (s : State) (streams : ℕ → Stream) (r : ReaderRow) (w : PutRow) → ArePayloadsOwn s streams → IsQuiet s → 0 < r.next
     → r.table ≡ None → put_of s r.put ≡ Some w → w.writing ≡ Closed → next_row s r ≡ None
     → take ((r.next - 1) * s.geometry.fragment) (streams r.put).bytes ≡ (streams r.put).bytes
 kept_is_followed s streams r w kept quiet some follows found closed none =

@@ -13,18 +13,18 @@ use Rattle.cache_model.specs.Legal
 use Rattle.cache_model.specs.Legal.{Does, IsQuiet, IsStep, is_writing}
 use Rattle.cache_model.specs.Pair.{ShowsPair}
 use Rattle.cache_model.specs.Tape.{IsSound}
-use Rattle.model_laws.specs.StepLaws.{EndsWith, WriterIsEnded}
+use Rattle.model_laws.specs.StepLaws.{AsksLast, WriterIsEnded}
 use Rattle.cache_model.specs.Vectors.{AreTold}
 use Rattle.cache_model.proofs.Steps.{alone}
 use Rattle.cache_model.proofs.Found.{cuts_found, no_truth, number_of, same_some}
 use Rattle.model_laws.proofs.ToldFlush.{go_on}
 use Rattle.script_lang.specs.declared.step.Step.{Step}
 use Rattle.script_lang.specs.declared.step.Step.TheVariants as step
-use Rattle.script_run.specs.Run.{Run, Holding, Stream, gathered_of, held_by, no_stream, reader_by, with_value, writer_of}
-use Rattle.script_run.specs.Asked.{asked, body_intents, closing, feed_intents, feeding, if_free, if_has, put_intents}
+use Rattle.script_run.specs.Run.{Run, Holding, Stream, gathered_of, held_by, no_stream, reader_by, with_value, put_written_by}
+use Rattle.script_run.specs.Asked.{asked, asks_if_free, asks_if_has, body_intents, closing, feed_intents, feeding, put_intents}
 use Rattle.script_run.specs.Turn.{Turn}
-use Rattle.script_run.specs.Behind.{fed, of_put, seals, streams_behind, streams_closed, streams_fed, streams_opened, taken_of, with_bytes}
-use Rattle.script_run.specs.Own.{AreKept, AreOwn, AreWriting, IsOwnPut, IsPlacedAs, rows_from}
+use Rattle.script_run.specs.Behind.{fed, of_put, seals, streams_behind, streams_closed, streams_fed, streams_opened, taken_in_line, with_bytes}
+use Rattle.script_run.specs.Own.{AreOwn, ArePayloadsOwn, AreWriting, IsOwnPut, IsPlacedAs, rows_of_parts}
 use Rattle.script_run.specs.Takes.{offered, streams_offered, streams_with}
 use Rattle.script_run.proofs.Saying.{Kind, Stands}
 use Rattle.script_run.proofs.Payloads.{kept_kind, kept_stands, stands_kept}
@@ -56,17 +56,17 @@ stepped kind p s streams intents added why sound none quiet stands fits step =
 -- ---- lines that give no bytes
 
 -- what only some may ask fits
-free_fits : (fragment : ℕ) (streams : ℕ → Stream) (o : Option Holding) (i : Intent) → AllFit fragment streams (i ∷ []) → AllFit fragment streams (if_free o (i ∷ []))
+free_fits : (fragment : ℕ) (streams : ℕ → Stream) (o : Option Holding) (i : Intent) → AllFit fragment streams (i ∷ []) → AllFit fragment streams (asks_if_free o (i ∷ []))
 free_fits fragment streams None i fits = fits
 free_fits fragment streams (Some holding) i fits = tt
 
-has_fits : (fragment : ℕ) (streams : ℕ → Stream) (o : Option ℕ) (i : ℕ → Intent) → ((n : ℕ) → AllFit fragment streams (i n ∷ [])) → AllFit fragment streams (if_has o (λ n. i n ∷ []))
+has_fits : (fragment : ℕ) (streams : ℕ → Stream) (o : Option ℕ) (i : ℕ → Intent) → ((n : ℕ) → AllFit fragment streams (i n ∷ [])) → AllFit fragment streams (asks_if_has o (λ n. i n ∷ []))
 has_fits fragment streams None i fits = tt
 has_fits fragment streams (Some n) i fits = fits n
 
 -- ---- a whole put
 
-ends_behind : (last : Intent) (is : List Intent) → EndsWith last (is ++ last ∷ [])
+ends_behind : (last : Intent) (is : List Intent) → AsksLast last (is ++ last ∷ [])
 ends_behind last [] = refl
 ends_behind last (i ∷ []) = refl
 ends_behind last (i ∷ j ∷ is) = ends_behind last (j ∷ is)
@@ -113,8 +113,8 @@ written_leaves kind run s turn actor key request response pin none quiet stands 
     record { stands = behind.stands; displaced = behind.displaced }
 
 opened_leaves : (kind : Kind) (run : Run) (s : State) (turn : Turn) (actor : ℕ) (key : Key) (request response : List Field) (pin : ℕ) (o : Option Holding) → IsSound s → s.displaced ≡ [] → IsQuiet s → Stands kind s run.streams
-    → IsStep turn.device s (if_free o (Write actor key request response pin ∷ [])) turn.added turn.refused
-    → Steps kind turn.device run.streams (streams_opened run s o) s (if_free o (Write actor key request response pin ∷ [])) turn.added
+    → IsStep turn.device s (asks_if_free o (Write actor key request response pin ∷ [])) turn.added turn.refused
+    → Steps kind turn.device run.streams (streams_opened run s o) s (asks_if_free o (Write actor key request response pin ∷ [])) turn.added
 opened_leaves kind run s turn actor key request response pin None sound none quiet stands step = inl (written_leaves kind run s turn actor key request response pin none quiet stands step)
 opened_leaves kind run s turn actor key request response pin (Some holding) sound none quiet stands step = stepped kind turn.device s run.streams [] turn.added turn.refused sound none quiet stands tt step
 
@@ -122,7 +122,7 @@ opened_leaves kind run s turn actor key request response pin (Some holding) soun
 
 -- what was cut was taken
 taken_covers : (run : Run) (t : State) (body : List ℕ) (why : Option Reason) (put : ℕ) (w : PutRow) → put_of t put ≡ Some w → total_length w.cuts ≤ length ((run.streams put).bytes ++ body)
-    → total_length w.cuts ≤ length (run.streams put).bytes + taken_of run t body why put
+    → total_length w.cuts ≤ length (run.streams put).bytes + taken_in_line run t body why put
 taken_covers run t body None put w found within = omega (arith, within, length-append (run.streams put).bytes body)
 taken_covers run t body (Some why) put w found within =
     let same : total_length (cuts_of t put) ≡ total_length w.cuts = ap total_length (cuts_found t put w found) in
@@ -155,7 +155,7 @@ module _ (kind : Kind) (run : Run) (s : State) (turn : Turn) (body : List ℕ) (
 
   fed_open : is_writing s put ≡ true → (run.streams put).sealed ≡ false
       → IsStep turn.device s Asks turn.added turn.refused
-      → Steps kind turn.device (with_value run.streams put longer) (with_value run.streams put (fed (run.streams put) body (taken_of run (after_all s turn.added) body turn.refused put))) s Asks turn.added
+      → Steps kind turn.device (with_value run.streams put longer) (with_value run.streams put (fed (run.streams put) body (taken_in_line run (after_all s turn.added) body turn.refused put))) s Asks turn.added
   fed_open writing unsealed step =
       let f : IsFoundOpen s put = open_row s put writing in
       let streams : ℕ → Stream = with_value run.streams put longer in
@@ -170,7 +170,7 @@ module _ (kind : Kind) (run : Run) (s : State) (turn : Turn) (body : List ℕ) (
       (cuts_fit s.geometry.fragment streams put (length (gathered_of run s put ++ body)) (length (cuts_of s put)) (gathered_of run s put ++ body) gathered) step in
       elim behind [
         | inl leaves ↦ inl (record {
-          stands = stands_shorter kind t run.streams put Taken body (run.streams put).sealed (taken_of run t body turn.refused put) (taken_covers run t body turn.refused put) leaves.stands;
+          stands = stands_shorter kind t run.streams put Taken body (run.streams put).sealed (taken_in_line run t body turn.refused put) (taken_covers run t body turn.refused put) leaves.stands;
           displaced = leaves.displaced;
         })
         | inr shown ↦ inr shown
@@ -180,13 +180,13 @@ module _ (kind : Kind) (run : Run) (s : State) (turn : Turn) (body : List ℕ) (
   fed_by : (b : Bool) → (run.streams put).sealed ≡ b → is_writing s put ≡ true
       → IsStep turn.device s (if b then [] else Asks) turn.added turn.refused
       → Steps kind turn.device (if b then run.streams else with_value run.streams put longer)
-      (if b then run.streams else with_value run.streams put (fed (run.streams put) body (taken_of run (after_all s turn.added) body turn.refused put))) s (if b then [] else Asks) turn.added
+      (if b then run.streams else with_value run.streams put (fed (run.streams put) body (taken_in_line run (after_all s turn.added) body turn.refused put))) s (if b then [] else Asks) turn.added
   fed_by true sealed writing step = stepped kind turn.device s run.streams [] turn.added turn.refused sound none quiet stands tt step
   fed_by false unsealed writing step = fed_open writing unsealed step
 
 feeds_leaves : (kind : Kind) (run : Run) (s : State) (turn : Turn) (body : List ℕ) (o : Option ℕ) → ((put : ℕ) → o ≡ Some put → is_writing s put ≡ true) → IsSound s → s.displaced ≡ [] → IsQuiet s → Stands kind s run.streams
-    → IsStep turn.device s (if_has o (feeding run s body)) turn.added turn.refused
-    → Steps kind turn.device (of_put run o (streams_offered run body)) (of_put run o (streams_fed run (after_all s turn.added) body turn.refused)) s (if_has o (feeding run s body)) turn.added
+    → IsStep turn.device s (asks_if_has o (feeding run s body)) turn.added turn.refused
+    → Steps kind turn.device (of_put run o (streams_offered run body)) (of_put run o (streams_fed run (after_all s turn.added) body turn.refused)) s (asks_if_has o (feeding run s body)) turn.added
 feeds_leaves kind run s turn body None writing sound none quiet stands step = stepped kind turn.device s run.streams [] turn.added turn.refused sound none quiet stands tt step
 feeds_leaves kind run s turn body (Some put) writing sound none quiet stands step = fed_by kind run s turn body put sound none quiet stands (run.streams put).sealed refl (writing put refl) step
 
@@ -194,13 +194,13 @@ feeds_leaves kind run s turn body (Some put) writing sound none quiet stands ste
 
 -- what is gathered stands behind what is cut
 rest_by : (kind : Kind) (run : Run) (s : State) (put : ℕ) (o : Option PutRow) → put_of s put ≡ o → Stands kind s run.streams
-    → total_length (cuts_of s put) ≡ total_length (rows_from s.geometry.fragment (run.streams put).bytes 1 (length (cuts_of s put)))
+    → total_length (cuts_of s put) ≡ total_length (rows_of_parts s.geometry.fragment (run.streams put).bytes 1 (length (cuts_of s put)))
 rest_by kind run s put None e stands = let none : cuts_of s put ≡ [] = ap (λ (o : Option PutRow). unwrap_or (option_map (λ (p : PutRow). p.cuts) o) []) e in rw none refl
 rest_by kind run s put (Some w) e stands =
     let p : IsOwnPut s run.streams w = stands.puts put w e in
     let number : w.put ≡ put = number_of s put w e in
-    let rows : w.cuts ≡ rows_from s.geometry.fragment (run.streams put).bytes 1 (length w.cuts) =
-    subst (λ n. w.cuts ≡ rows_from s.geometry.fragment (run.streams n).bytes 1 (length w.cuts)) number p.cuts.rows in
+    let rows : w.cuts ≡ rows_of_parts s.geometry.fragment (run.streams put).bytes 1 (length w.cuts) =
+    subst (λ n. w.cuts ≡ rows_of_parts s.geometry.fragment (run.streams n).bytes 1 (length w.cuts)) number p.cuts.rows in
     rw (cuts_found s put w e) (ap total_length rows)
 
 sealed_again : (kind : Kind) (run : Run) (t : State) (put : ℕ) (why : Option Reason) (b : Bool) → seals why ≡ b → EndsOrSeals t put why
@@ -217,10 +217,10 @@ closed_leaves kind run s turn put sound none quiet stands step =
     let streams : ℕ → Stream = with_value run.streams put sealed in
     let here : streams put ≡ sealed = value_here sealed (run.streams put) put put refl in
     let cut : ℕ = length (cuts_of s put) in
-    let rest : gathered_of run s put ≡ drop (total_length (rows_from s.geometry.fragment (run.streams put).bytes 1 cut)) (run.streams put).bytes =
+    let rest : gathered_of run s put ≡ drop (total_length (rows_of_parts s.geometry.fragment (run.streams put).bytes 1 cut)) (run.streams put).bytes =
     ap (λ n. drop n (run.streams put).bytes) (rest_by kind run s put (put_of s put) refl stands) in
     let is_rest : IsRest s.geometry.fragment streams put cut (gathered_of run s put) = record {
-      is = subst (λ (x : Stream). gathered_of run s put ≡ drop (total_length (rows_from s.geometry.fragment x.bytes 1 cut)) x.bytes) (sym here) rest;
+      is = subst (λ (x : Stream). gathered_of run s put ≡ drop (total_length (rows_of_parts s.geometry.fragment x.bytes 1 cut)) x.bytes) (sym here) rest;
       sealed = ap (λ (x : Stream). x.sealed) here;
     } in
     let behind : Steps kind turn.device streams streams s (closing run s put) turn.added =
@@ -233,8 +233,8 @@ closed_leaves kind run s turn put sound none quiet stands step =
       | inr shown ↦ inr (shown_as kind turn.device streams run.streams s (to_do (closing run s put)) turn.added (same_with run.streams put sealed refl) shown)
     ]
 
-closes_leaves : (kind : Kind) (run : Run) (s : State) (turn : Turn) (o : Option ℕ) → IsSound s → s.displaced ≡ [] → IsQuiet s → Stands kind s run.streams → IsStep turn.device s (if_has o (closing run s)) turn.added turn.refused
-    → Steps kind turn.device run.streams (of_put run o (streams_closed run turn.refused)) s (if_has o (closing run s)) turn.added
+closes_leaves : (kind : Kind) (run : Run) (s : State) (turn : Turn) (o : Option ℕ) → IsSound s → s.displaced ≡ [] → IsQuiet s → Stands kind s run.streams → IsStep turn.device s (asks_if_has o (closing run s)) turn.added turn.refused
+    → Steps kind turn.device run.streams (of_put run o (streams_closed run turn.refused)) s (asks_if_has o (closing run s)) turn.added
 closes_leaves kind run s turn None sound none quiet stands step = stepped kind turn.device s run.streams [] turn.added turn.refused sound none quiet stands tt step
 closes_leaves kind run s turn (Some put) sound none quiet stands step = closed_leaves kind run s turn put sound none quiet stands step
 
@@ -248,10 +248,10 @@ steps_leave kind ended run s turn (step.Format name segments buckets content agg
 steps_leave kind ended run s turn (step.Put key body request response) sound none quiet stands writing step = put_leaves kind ended run s turn key body request response sound none quiet stands step
 steps_leave kind ended run s turn (step.Get key request) sound none quiet stands writing step = stepped kind turn.device s run.streams _ turn.added turn.refused sound none quiet stands (λ a. (tt, λ b. (tt, λ c. (tt, tt)))) step
 steps_leave kind ended run s turn (step.OpenWrite actor key pin request response) sound none quiet stands writing step = opened_leaves kind run s turn _ key request response pin (held_by run actor) sound none quiet stands step
-steps_leave kind ended run s turn (step.Feed actor body) sound none quiet stands writing step = feeds_leaves kind run s turn body (writer_of run actor) (writing actor) sound none quiet stands step
-steps_leave kind ended run s turn (step.Close actor) sound none quiet stands writing step = closes_leaves kind run s turn (writer_of run actor) sound none quiet stands step
+steps_leave kind ended run s turn (step.Feed actor body) sound none quiet stands writing step = feeds_leaves kind run s turn body (put_written_by run actor) (writing actor) sound none quiet stands step
+steps_leave kind ended run s turn (step.Close actor) sound none quiet stands writing step = closes_leaves kind run s turn (put_written_by run actor) sound none quiet stands step
 steps_leave kind ended run s turn (step.Abort actor) sound none quiet stands writing step =
-    stepped kind turn.device s run.streams _ turn.added turn.refused sound none quiet stands (has_fits s.geometry.fragment run.streams (writer_of run actor) (λ put. GiveUp put) (λ n a. (tt, tt))) step
+    stepped kind turn.device s run.streams _ turn.added turn.refused sound none quiet stands (has_fits s.geometry.fragment run.streams (put_written_by run actor) (λ put. GiveUp put) (λ n a. (tt, tt))) step
 steps_leave kind ended run s turn (step.OpenRead actor key request) sound none quiet stands writing step =
     stepped kind turn.device s run.streams _ turn.added turn.refused sound none quiet stands (free_fits s.geometry.fragment run.streams (held_by run actor) (Look _ key request) (λ a. (tt, tt))) step
 steps_leave kind ended run s turn (step.Next actor) sound none quiet stands writing step =
@@ -272,9 +272,10 @@ steps_own ended run s turn step sound told quiet own writing legal =
       | inr v ↦ inr v
     ]
 
-pub steps_keep : (ended : WriterIsEnded) (run : Run) (s : State) (turn : Turn) (step : Step) → IsSound s → s.displaced ≡ [] → IsQuiet s → AreKept s run.streams → AreWriting run s
+pub steps_keep : (ended : WriterIsEnded) (run : Run) (s : State) (turn : Turn) (step : Step) → IsSound s → s.displaced ≡ [] → IsQuiet s → ArePayloadsOwn s run.streams → AreWriting run s
     → IsStep turn.device s (asked run s step) turn.added turn.refused
-    → AreKept (after_all s turn.added) (streams_behind run s (after_all s turn.added) turn step) × ((after_all s turn.added).displaced ≡ [])
+    → ArePayloadsOwn (after_all s turn.added) (streams_behind run s (after_all s turn.added) turn step)
+    × ((after_all s turn.added).displaced ≡ [])
 steps_keep ended run s turn step sound none quiet kept writing legal =
     elim (steps_leave kept_kind ended run s turn step sound none quiet (stands_kept s run.streams kept) writing legal) [
       | inl leaves ↦ (kept_stands (after_all s turn.added) (streams_behind run s (after_all s turn.added) turn step) leaves.stands, leaves.displaced)

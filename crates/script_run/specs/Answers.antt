@@ -20,7 +20,7 @@ use Rattle.script_lang.specs.declared.step.Step.TheVariants as step
 use Rattle.script_lang.specs.declared.answer.Refused.TheVariants as refused
 use Rattle.script_lang.specs.declared.answer.StepAnswer.{StepAnswer}
 use Rattle.script_lang.specs.declared.answer.StepAnswer.TheVariants as answer
-use Rattle.script_run.specs.Run.{Run, Holding, held_by, writer_of, reader_by}
+use Rattle.script_run.specs.Run.{Run, Holding, held_by, put_written_by, reader_by}
 use Rattle.script_run.specs.Turn.{Turn, lookup_in, told_in}
 
 -- ---- a format
@@ -169,9 +169,9 @@ session_said run s t turn (step.Format name segments buckets content agg reach f
 session_said run s t turn (step.Put key body request response) = said t None turn.refused (put_said t s.next_put)
 session_said run s t turn (step.Get key request) = get_said turn.given (told_in turn.added) (lookup_in turn.added)
 session_said run s t turn (step.OpenWrite actor key pin request response) = if_free (held_by run actor) (said t None turn.refused (answer.Writer s.next_put))
-session_said run s t turn (step.Feed actor body) = if_has (writer_of run actor) (feed_said run t body turn.refused)
-session_said run s t turn (step.Close actor) = if_has (writer_of run actor) (λ put. said t None turn.refused (put_said t put))
-session_said run s t turn (step.Abort actor) = if_has (writer_of run actor) answer.Aborted
+session_said run s t turn (step.Feed actor body) = if_has (put_written_by run actor) (feed_said run t body turn.refused)
+session_said run s t turn (step.Close actor) = if_has (put_written_by run actor) (λ put. said t None turn.refused (put_said t put))
+session_said run s t turn (step.Abort actor) = if_has (put_written_by run actor) answer.Aborted
 session_said run s t turn (step.OpenRead actor key request) = if_free (held_by run actor) (lookup_said t s.next_reader (lookup_in turn.added))
 session_said run s t turn (step.Next actor) = if_has (reader_by run actor) (λ reader. next_said turn.given (told_in turn.added))
 session_said run s t turn (step.Done actor) = if_has (reader_by run actor) (λ reader. answer.Done)

@@ -7,8 +7,8 @@ use Rattle.alternate_vector.specs.Field.{Field}
 use Rattle.cache_model.specs.State.{State, most_fragments}
 use Rattle.cache_model.specs.Verdict.{cuts_of}
 use Rattle.cache_model.specs.Permit.{Intent, Flush, Write, Fragment, Overflow, Weigh, Finish, Commit, GiveUp, Remove, Look, ReadOn, ReadAll, StopReading}
-use Rattle.actor_table.specs.Table.{number_of}
-use Rattle.script_run.specs.Run.{Run, Holding, held_by, writer_of, reader_by, gathered_of}
+use Rattle.actor_table.specs.Table.{number_of_name}
+use Rattle.script_run.specs.Run.{Run, Holding, held_by, put_written_by, reader_by, gathered_of}
 
 -- ---- bytes of a put
 
@@ -77,14 +77,14 @@ abbrev pub get_intents : State → Key → List Field → List Intent
 get_intents s key request = Look 0 key request ∷ ReadAll s.next_reader ∷ StopReading s.next_reader ∷ []
 
 -- what only an actor that has nothing may ask
-abbrev pub if_free : Option Holding → List Intent → List Intent
-if_free None asked = asked
-if_free (Some holding) asked = []
+abbrev pub asks_if_free : Option Holding → List Intent → List Intent
+asks_if_free None asked = asked
+asks_if_free (Some holding) asked = []
 
 -- what only one may ask that has what it needs
-abbrev pub if_has : Option ℕ → (ℕ → List Intent) → List Intent
-if_has None asked = []
-if_has (Some n) asked = asked n
+abbrev pub asks_if_has : Option ℕ → (ℕ → List Intent) → List Intent
+asks_if_has None asked = []
+asks_if_has (Some n) asked = asked n
 
 -- a sealed writer is asked nothing
 abbrev pub feeding : Run → State → List ℕ → ℕ → List Intent
@@ -101,13 +101,13 @@ abbrev pub asked : Run → State → Step → List Intent
 asked run s (step.Format name segments buckets content agg reach fragment generation alternates) = []
 asked run s (step.Put key body request response) = put_intents s key body request response
 asked run s (step.Get key request) = get_intents s key request
-asked run s (step.OpenWrite actor key pin request response) = if_free (held_by run actor) (Write (number_of run.actors actor) key request response pin ∷ [])
-asked run s (step.Feed actor body) = if_has (writer_of run actor) (feeding run s body)
-asked run s (step.Close actor) = if_has (writer_of run actor) (closing run s)
-asked run s (step.Abort actor) = if_has (writer_of run actor) (λ put. GiveUp put ∷ [])
-asked run s (step.OpenRead actor key request) = if_free (held_by run actor) (Look (number_of run.actors actor) key request ∷ [])
-asked run s (step.Next actor) = if_has (reader_by run actor) (λ reader. ReadOn reader ∷ [])
-asked run s (step.Done actor) = if_has (reader_by run actor) (λ reader. StopReading reader ∷ [])
+asked run s (step.OpenWrite actor key pin request response) = asks_if_free (held_by run actor) (Write (number_of_name run.actors actor) key request response pin ∷ [])
+asked run s (step.Feed actor body) = asks_if_has (put_written_by run actor) (feeding run s body)
+asked run s (step.Close actor) = asks_if_has (put_written_by run actor) (closing run s)
+asked run s (step.Abort actor) = asks_if_has (put_written_by run actor) (λ put. GiveUp put ∷ [])
+asked run s (step.OpenRead actor key request) = asks_if_free (held_by run actor) (Look (number_of_name run.actors actor) key request ∷ [])
+asked run s (step.Next actor) = asks_if_has (reader_by run actor) (λ reader. ReadOn reader ∷ [])
+asked run s (step.Done actor) = asks_if_has (reader_by run actor) (λ reader. StopReading reader ∷ [])
 asked run s (step.Remove key) = Remove key ∷ []
 asked run s step.Flush = Flush ∷ []
 asked run s (step.Now moment) = []

@@ -12,9 +12,9 @@ use Rattle.script_lang.specs.declared.line.LineAnswer.{LineAnswer}
 use Rattle.script_lang.specs.declared.line.LineAnswer.TheVariants as line
 use Rattle.script_lang.specs.Grammar.{reading_of}
 use Rattle.device_log.specs.Calls.{Call}
-use Rattle.actor_table.specs.Table.{number_of, with_actor}
+use Rattle.actor_table.specs.Table.{number_of_name, with_actor}
 use Rattle.cache_model.specs.Damage.{has_damage}
-use Rattle.script_run.specs.Run.{Harm, Run, Stream, Holding, Writes, Reads, no_stream, with_value, writer_of, held_by, actor_of}
+use Rattle.script_run.specs.Run.{Harm, Run, Stream, Holding, Writes, Reads, no_stream, with_value, put_written_by, held_by, actor_of}
 use Rattle.script_run.specs.Turn.{Turn}
 use Rattle.script_run.specs.Answers.{took_of}
 
@@ -33,15 +33,15 @@ abbrev pub fed : Stream → List ℕ → ℕ → Stream
 fed stream body n = record { bytes = stream.bytes ++ take n body; sealed = stream.sealed }
 
 -- of a line that is not refused all bytes are taken
-abbrev pub taken_of : Run → State → List ℕ → Option Reason → ℕ → ℕ
-taken_of run t body None put = length body
-taken_of run t body (Some why) put = took_of run t put
+abbrev pub taken_in_line : Run → State → List ℕ → Option Reason → ℕ → ℕ
+taken_in_line run t body None put = length body
+taken_in_line run t body (Some why) put = took_of run t put
 
 -- a sealed writer takes none
 abbrev pub streams_fed : Run → State → List ℕ → Option Reason → ℕ → Streams
 streams_fed run t body why put =
     if (run.streams put).sealed then run.streams
-    else with_value run.streams put (fed (run.streams put) body (taken_of run t body why put))
+    else with_value run.streams put (fed (run.streams put) body (taken_in_line run t body why put))
 
 -- a writer that the device, or the end of the tape, kept from closing is sealed
 abbrev pub seals : Option Reason → Bool
@@ -71,8 +71,8 @@ streams_opened run s (Some holding) = run.streams
 abbrev pub streams_behind : Run → State → State → Turn → Step → Streams
 streams_behind run s t turn (step.Put key body request response) = with_bytes run.streams s.next_put body
 streams_behind run s t turn (step.OpenWrite actor key pin request response) = streams_opened run s (held_by run actor)
-streams_behind run s t turn (step.Feed actor body) = of_put run (writer_of run actor) (streams_fed run t body turn.refused)
-streams_behind run s t turn (step.Close actor) = of_put run (writer_of run actor) (streams_closed run turn.refused)
+streams_behind run s t turn (step.Feed actor body) = of_put run (put_written_by run actor) (streams_fed run t body turn.refused)
+streams_behind run s t turn (step.Close actor) = of_put run (put_written_by run actor) (streams_closed run turn.refused)
 streams_behind run s t turn _ = run.streams
 
 -- ---- what actors have
@@ -82,14 +82,14 @@ abbrev pub writer_at : State → ℕ → Option Holding
 writer_at t put = if is_writing t put then Some (Writes put) else None
 
 -- an open reader
-abbrev pub reader_at : State → ℕ → Option Holding
-reader_at t reader = if is_some (reader_of t reader) then Some (Reads reader) else None
+abbrev pub open_reader_at : State → ℕ → Option Holding
+open_reader_at t reader = if is_some (reader_of t reader) then Some (Reads reader) else None
 
 -- what was held, where it is still open
 abbrev pub still_open : State → Option Holding → Option Holding
 still_open t None = None
 still_open t (Some (Writes put)) = writer_at t put
-still_open t (Some (Reads reader)) = reader_at t reader
+still_open t (Some (Reads reader)) = open_reader_at t reader
 
 -- what an actor had, or else what it opened
 abbrev pub or_else : Option Holding → Option Holding → Option Holding
@@ -99,13 +99,13 @@ or_else (Some holding) opened = Some holding
 -- what the actor of a step has behind it
 abbrev pub holds_behind : Run → State → State → Step → List ℕ → Option Holding
 holds_behind run s t (step.OpenWrite actor key pin request response) name = or_else (held_by run name) (writer_at t s.next_put)
-holds_behind run s t (step.OpenRead actor key request) name = or_else (held_by run name) (reader_at t s.next_reader)
+holds_behind run s t (step.OpenRead actor key request) name = or_else (held_by run name) (open_reader_at t s.next_reader)
 holds_behind run s t _ name = still_open t (held_by run name)
 
 -- only the actor of the step may have something else behind it
 abbrev pub held_behind : Run → State → State → Step → Option (List ℕ) → ℕ → Option Holding
 held_behind run s t step None = run.held
-held_behind run s t step (Some name) = with_value run.held (number_of run.actors name) (holds_behind run s t step name)
+held_behind run s t step (Some name) = with_value run.held (number_of_name run.actors name) (holds_behind run s t step name)
 
 -- an actor counts from its first line on, whatever that is answered
 abbrev pub actors_behind : List (List ℕ) → Option (List ℕ) → List (List ℕ)
@@ -128,8 +128,8 @@ abbrev pub harms_of : Run → List Harm
 harms_of run = run.ended ++ harm_of run.calls run.state
 
 -- a format ends the session before it, with its writers and readers, and attaches the device of its name
-abbrev pub formatted : Run → List ℕ → List Rec → Run
-formatted run name added = record {
+abbrev pub with_format : Run → List ℕ → List Rec → Run
+with_format run name added = record {
   state = Some (after_all nothing_yet added);
   streams = λ put. no_stream;
   actors = run.actors;
@@ -143,7 +143,7 @@ formatted run name added = record {
 -- a refused geometry leaves the run as it is: the session before it goes on
 abbrev pub after_format : Run → List ℕ → List Rec → Option BadGeometry → Run
 after_format run name added (Some bad) = run
-after_format run name added None = formatted run name added
+after_format run name added None = with_format run name added
 
 -- a step other than a format or a moment: the session goes on, on the same device
 abbrev pub in_session : Run → State → State → Turn → Step → Run

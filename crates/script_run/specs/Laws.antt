@@ -24,7 +24,7 @@ use Rattle.script_run.specs.Run.{Run, Stream}
 use Rattle.script_run.specs.Asked.{asked}
 use Rattle.script_run.specs.Turn.{Turn, lookup_in}
 use Rattle.script_run.specs.Behind.{streams_behind}
-use Rattle.script_run.specs.Own.{AreKept, AreOwn, AreWriting, IsComplete, IsPlacedAs, piece_of}
+use Rattle.script_run.specs.Own.{AreOwn, ArePayloadsOwn, AreWriting, IsComplete, IsPlacedAs, piece_of}
 use Rattle.script_run.specs.Takes.{streams_with}
 
 -- behind a format nothing was put
@@ -54,18 +54,19 @@ StepsOwn = (run : Run) (s : State) (turn : Turn) (step : Step) → IsSound s →
 
 -- what stands belongs to what writers took, but for the documents of fragments
 abbrev pub OwnIsKept : Type 0
-OwnIsKept = (s : State) (streams : ℕ → Stream) → AreOwn s streams → AreKept s streams
+OwnIsKept = (s : State) (streams : ℕ → Stream) → AreOwn s streams → ArePayloadsOwn s streams
 
 -- so it is behind a format
 abbrev pub FormatsKeep : Type 0
-FormatsKeep = (s : State) (geometry : Geometry) (streams : ℕ → Stream) → AreKept (after_all s (format_records geometry)) streams
+FormatsKeep = (s : State) (geometry : Geometry) (streams : ℕ → Stream) → ArePayloadsOwn (after_all s (format_records geometry)) streams
 
 -- and behind each line as before it, whatever a copy shows, where nothing is displaced before it; and
 -- nothing is displaced behind it
 abbrev pub StepsKeep : Type 0
-StepsKeep = (run : Run) (s : State) (turn : Turn) (step : Step) → IsSound s → s.displaced ≡ [] → IsQuiet s → AreKept s run.streams → AreWriting run s
+StepsKeep = (run : Run) (s : State) (turn : Turn) (step : Step) → IsSound s → s.displaced ≡ [] → IsQuiet s → ArePayloadsOwn s run.streams → AreWriting run s
     → IsStep turn.device s (asked run s step) turn.added turn.refused
-    → AreKept (after_all s turn.added) (streams_behind run s (after_all s turn.added) turn step) × ((after_all s turn.added).displaced ≡ [])
+    → ArePayloadsOwn (after_all s turn.added) (streams_behind run s (after_all s turn.added) turn step)
+    × ((after_all s turn.added).displaced ≡ [])
 
 -- the payload of a fragment that was read is that part of what the writer of its put took, or two
 -- documents of one SHA-256 are shown
@@ -84,14 +85,14 @@ GivenIsListed = (p : Permit) (s : State) (streams : ℕ → Stream) (reader : �
 -- the payload of the fragment that a reader takes next is, as the records tell it, the one that its table lists, or that
 -- the writer which it follows has cut
 abbrev pub OwnIsAsListed : Type 0
-OwnIsAsListed = (s : State) (streams : ℕ → Stream) (reader : ℕ) (r : ReaderRow) (entry : TableRow) (row : Row) → AreKept s streams
+OwnIsAsListed = (s : State) (streams : ℕ → Stream) (reader : ℕ) (r : ReaderRow) (entry : TableRow) (row : Row) → ArePayloadsOwn s streams
     → 0 < r.next → reader_of s reader ≡ Some r → next_row s r ≡ Some entry → live_row_of s (next_piece r) ≡ Some row
     → row.payload ≡ Some entry
 
 -- so no fragment that a reader takes next is unlike the one that is listed
 abbrev pub NoneIsUnlike : Type 0
 NoneIsUnlike = (s : State) (streams : ℕ → Stream) (reader : ℕ) (r : ReaderRow) (entry : TableRow) (row : Row) (found : Digest)
-    → AreKept s streams → 0 < r.next → reader_of s reader ≡ Some r → next_row s r ≡ Some entry
+    → ArePayloadsOwn s streams → 0 < r.next → reader_of s reader ≡ Some r → next_row s r ≡ Some entry
     → live_row_of s (next_piece r) ≡ Some row → IsUnlike row entry found → ⊥
 
 -- a reader that hit something and was given all that its table lists was given all that was put
@@ -116,7 +117,7 @@ pub record IsPutFor (s : State) (key : Key) (request : List Field) (put : ℕ) :
 
 -- a step that begins with a lookup hits such a put alone
 abbrev pub HitIsPut : Type 0
-HitIsPut = (p : Permit) (s : State) (streams : ℕ → Stream) (actor : ℕ) (key : Key) (request : List Field) (more : List Intent) (added : List Rec) (why : Option Reason) (put : ℕ) → AreKept s streams
+HitIsPut = (p : Permit) (s : State) (streams : ℕ → Stream) (actor : ℕ) (key : Key) (request : List Field) (more : List Intent) (added : List Rec) (why : Option Reason) (put : ℕ) → ArePayloadsOwn s streams
     → IsStep p s (Look actor key request ∷ more) added why → lookup_in added ≡ Some (read.Hit put) → IsPutFor s key request put
 
 -- what only reads
@@ -134,5 +135,5 @@ ReadsOwn = (p : Permit) (s : State) (streams : ℕ → Stream) (i : Intent) (add
 
 -- and but for the documents of fragments it stays so too
 abbrev pub ReadsKeep : Type 0
-ReadsKeep = (p : Permit) (s : State) (streams : ℕ → Stream) (i : Intent) (added : List Rec) (e : End) → is_reading i ≡ true → AreKept s streams
-    → Does p s i added e → AreKept (after_all s added) streams
+ReadsKeep = (p : Permit) (s : State) (streams : ℕ → Stream) (i : Intent) (added : List Rec) (e : End) → is_reading i ≡ true → ArePayloadsOwn s streams
+    → Does p s i added e → ArePayloadsOwn (after_all s added) streams

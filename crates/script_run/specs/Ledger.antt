@@ -2,7 +2,7 @@
 use Rattle.std.specs.Prelude.{ℕ, ◌≡◌, ◌+◌, ◌≤◌, true, false, List, [], ◌∷◌, ◌++◌, length}
 use Rattle.device_log.specs.Calls.{Call}
 use Rattle.device_log.specs.Faults.{is_untold}
-use Rattle.logged_disk.specs.Device.{State as Device, TellsAll, has_flip, has_cut}
+use Rattle.logged_disk.specs.Device.{DeviceState as Device, TellsAll, has_flip, has_cut}
 use Rattle.device_bay.specs.Calls.{BayCall, gifts_of, names_of, number_behind, returned_by}
 use Rattle.device_bay.specs.declared.bay.Bay.{Ghosts as BayGhosts}
 use Rattle.script_run.specs.Run.{Harm}

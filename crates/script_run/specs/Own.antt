@@ -13,24 +13,24 @@ use Rattle.cache_model.specs.State.{State, Row, PutRow, ReaderRow, Open, Closed,
 use Rattle.cache_model.specs.Pair.{Documents}
 use Rattle.cache_model.specs.Vectors.{IsVectorAs}
 use Rattle.cache_model.specs.Legal.{is_writing}
-use Rattle.script_run.specs.Run.{Run, Stream, writer_of}
+use Rattle.script_run.specs.Run.{Run, Stream, put_written_by}
 
 -- the fragment of this index, from 1, of a body that is cut into fragments of so many bytes
 abbrev pub piece_of : ℕ → List ℕ → ℕ → List ℕ
 piece_of fragment body index = take fragment (drop ((index - 1) * fragment) body)
 
 -- its row in a table: how many bytes it has, and their digest
-abbrev pub row_at : ℕ → List ℕ → ℕ → TableRow
-row_at fragment body index = made_row (length (piece_of fragment body index)) (digest_of (piece_of fragment body index)).0
+abbrev pub row_of_part : ℕ → List ℕ → ℕ → TableRow
+row_of_part fragment body index = made_row (length (piece_of fragment body index)) (digest_of (piece_of fragment body index)).0
 
 -- the rows of the first fragments of a body, so many from this index on
-abbrev pub rows_from : ℕ → List ℕ → ℕ → ℕ → List TableRow
-rows_from fragment body index zero = []
-rows_from fragment body index (suc count) = row_at fragment body index ∷ rows_from fragment body (index + 1) count
+abbrev pub rows_of_parts : ℕ → List ℕ → ℕ → ℕ → List TableRow
+rows_of_parts fragment body index zero = []
+rows_of_parts fragment body index (suc count) = row_of_part fragment body index ∷ rows_of_parts fragment body (index + 1) count
 
 -- what a put has cut are the first fragments of what its writer took, each of them some bytes
 pub record AreCuts (fragment : ℕ) (body : List ℕ) (cuts : List TableRow) : Type 0 where
-  pub rows : cuts ≡ rows_from fragment body 1 (length cuts)
+  pub rows : cuts ≡ rows_of_parts fragment body 1 (length cuts)
   pub within : total_length cuts ≤ length body
   pub of_bytes : (index : ℕ) → 0 < index → index ≤ length cuts → IsBytes (piece_of fragment body index)
   pub none_empty : (index : ℕ) → 0 < index → index ≤ length cuts → 0 < length (piece_of fragment body index)
@@ -56,14 +56,14 @@ pub record IsCutFragment (s : State) (streams : ℕ → Stream) (row : Row) : Ty
   pub w : PutRow
   pub found : put_of s row.id.put ≡ Some w
   pub cut : row.id.index ≤ length w.cuts
-  pub payload : row.payload ≡ Some (row_at s.geometry.fragment (streams row.id.put).bytes row.id.index)
+  pub payload : row.payload ≡ Some (row_of_part s.geometry.fragment (streams row.id.put).bytes row.id.index)
 
 -- and it stands as the document of that
 pub record IsOwnFragment (s : State) (streams : ℕ → Stream) (row : Row) : Type 0 where
   pub w : PutRow
   pub found : put_of s row.id.put ≡ Some w
   pub cut : row.id.index ≤ length w.cuts
-  pub payload : row.payload ≡ Some (row_at s.geometry.fragment (streams row.id.put).bytes row.id.index)
+  pub payload : row.payload ≡ Some (row_of_part s.geometry.fragment (streams row.id.put).bytes row.id.index)
   pub digest : row.digest ≡ digest_of_document (fragment_doc s row) (piece_of s.geometry.fragment (streams row.id.put).bytes row.id.index)
 
 -- a put is complete, or its vector was placed last
@@ -119,7 +119,7 @@ abbrev pub HasCutPayload : State → (ℕ → Stream) → Row → Type 0
 HasCutPayload s streams row = 0 < row.id.index → IsCutFragment s streams row
 
 -- the same, but for the documents of fragments: whatever a copy brings to a fragment's new place, it stays so
-pub record AreKept (s : State) (streams : ℕ → Stream) : Type 0 where
+pub record ArePayloadsOwn (s : State) (streams : ℕ → Stream) : Type 0 where
   pub puts : AreOwnPuts s streams
   pub payloads : AllByRecursion (HasCutPayload s streams) s.rows
   pub alternates : AllByRecursion (AreAlternates s) s.rows
@@ -127,7 +127,7 @@ pub record AreKept (s : State) (streams : ℕ → Stream) : Type 0 where
 
 -- each put that an actor writes is open
 abbrev pub AreWriting : Run → State → Type 0
-AreWriting run s = (name : List ℕ) (put : ℕ) → writer_of run name ≡ Some put → is_writing s put ≡ true
+AreWriting run s = (name : List ℕ) (put : ℕ) → put_written_by run name ≡ Some put → is_writing s put ≡ true
 
 -- ---- what is shown where SHA-256 fails
 

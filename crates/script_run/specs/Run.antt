@@ -1,7 +1,7 @@
 -- What stands between two lines of a script.
 use Rattle.std.specs.Prelude.{ℕ, ◌≡◌, ◌==◌, Bool, true, false, if◌then◌else◌, List, [], drop, Option, Some, None, option_and_then}
 use Rattle.device_log.specs.Calls.{Call}
-use Rattle.actor_table.specs.Table.{number_of}
+use Rattle.actor_table.specs.Table.{number_of_name}
 use Rattle.script_lang.specs.declared.step.Step.{Step}
 use Rattle.script_lang.specs.declared.step.Step.TheVariants as step
 use Rattle.fragment_table.specs.Table.{total_length}
@@ -87,7 +87,7 @@ actor_of _ = None
 
 -- what the actor of this name has; a name that is not known has the next number
 abbrev pub held_by : Run → List ℕ → Option Holding
-held_by run name = run.held (number_of run.actors name)
+held_by run name = run.held (number_of_name run.actors name)
 
 -- the put of a writer; none of a reader
 abbrev pub put_in : Holding → Option ℕ
@@ -100,8 +100,8 @@ reader_in (Writes put) = None
 reader_in (Reads reader) = Some reader
 
 -- the put that an actor writes; none where it reads or has nothing
-abbrev pub writer_of : Run → List ℕ → Option ℕ
-writer_of run name = option_and_then put_in (held_by run name)
+abbrev pub put_written_by : Run → List ℕ → Option ℕ
+put_written_by run name = option_and_then put_in (held_by run name)
 
 -- the reader with which an actor reads; none where it writes or has nothing
 abbrev pub reader_by : Run → List ℕ → Option ℕ

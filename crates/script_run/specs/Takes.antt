@@ -17,7 +17,7 @@ use Rattle.script_lang.specs.declared.line.LineAnswer.{LineAnswer}
 use Rattle.script_lang.specs.declared.line.LineAnswer.TheVariants as line
 use Rattle.script_lang.specs.Grammar.{reading_of}
 use Rattle.script_lang.specs.Texts.{answer_line}
-use Rattle.script_run.specs.Run.{Run, Stream, reader_by, with_value, writer_of}
+use Rattle.script_run.specs.Run.{Run, Stream, put_written_by, reader_by, with_value}
 use Rattle.script_run.specs.Asked.{asked}
 use Rattle.script_run.specs.Turn.{Turn, lookup_in, no_turn, told_in}
 use Rattle.script_run.specs.Answers.{step_answer}
@@ -115,7 +115,7 @@ streams_offered run body put =
 -- what was cut before it is the same in it
 abbrev pub streams_with : Run → State → Step → Streams
 streams_with run s (step.Put key body request response) = with_bytes run.streams s.next_put body
-streams_with run s (step.Feed actor body) = of_put run (writer_of run actor) (streams_offered run body)
+streams_with run s (step.Feed actor body) = of_put run (put_written_by run actor) (streams_offered run body)
 streams_with run s _ = run.streams
 
 -- some way into the turn of a step on a session two documents of one SHA-256 are shown for a piece that the step

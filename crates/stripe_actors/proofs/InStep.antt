@@ -12,14 +12,14 @@ use Rattle.fragment_table.specs.Table.{TableRow, made_row}
 use Rattle.open_directory.specs.declared.kept.Writer.{Writer}
 use Rattle.open_directory.specs.declared.kept.KeptPut.{KeptPut}
 use Rattle.open_directory.specs.declared.kept.Reader.{Reader}
-use Rattle.open_directory.specs.Directory.{Held, changed, is_number, is_open, kept_put, new_put, new_reader, one_fewer, one_more, opened, puts_without, reader_at, unless_done, with_cuts, with_followers, with_phase, with_reader, with_reader_room, with_room, without_done, without_reader, moved, ended as ended_in, with_cut as cut_in}
+use Rattle.open_directory.specs.Directory.{Held, changed, is_number, is_kept_open, kept_put, new_put, new_reader, one_fewer, with_follower, with_open_writer, puts_without, reader_at, unless_done, with_cuts, with_followers, with_phase, with_reader, with_reader_room, with_room, without_done, held_without_reader, moved, ended as ended_in, kept_with_cut as cut_in}
 use Rattle.cache_model.specs.declared.cause.Cause.{Cause}
 use Rattle.cache_model.specs.declared.answer.ReadAnswer.TheVariants as read
 use Rattle.cache_model.specs.declared.record.Rec.TheVariants as rec
 use Rattle.cache_model.specs.State.{PutRow, ReaderRow, State, Writing, Closed, GivenUp, after_all, change_put, nothing_yet, opened_put, put_of, reader_of, state_after, table_of_hit, with_writing, with_cut as cut_row}
 use Rattle.cache_model.specs.Verdict.{is_open as is_open_row}
 use Rattle.cache_model.specs.Legal.{format_records}
-use Rattle.stripe_actors.specs.Actors.{AreActors, FallBelow, IsKeptAs, IsPutOf, IsReaderOf, RiseWithin, Seen, phase_of, put_numbers, reader_numbers}
+use Rattle.stripe_actors.specs.Actors.{ActorsSeen, AreActors, IsKeptAs, IsPutOf, IsReaderOfRow, NumbersFallBelow, RiseWithin, phase_of_put, put_numbers, reader_numbers}
 use Rattle.open_directory.proofs.Rising.{found_inserted, found_removed}
 use Rattle.open_directory.proofs.Standing.{eq_number}
 use Rattle.stripe_actors.proofs.Numbered.{found_changed, found_unless_done, rise_changed, rises_within}
@@ -27,11 +27,11 @@ use Rattle.stripe_actors.proofs.Rows.{fall_from, fall_without, numbers-changed, 
 use Rattle.cache_model.proofs.ByNumber.{find-changed, find-without}
 use Rattle.stripe_actors.proofs.Kept.{kept_along, kept_anew, kept_either, kept_mapped, kept_or, kept_unless_done, reader_along, reader_either, reader_mapped}
 
-abbrev pub seen_of : Held → ℕ → ℕ → Seen
+abbrev pub seen_of : Held → ℕ → ℕ → ActorsSeen
 seen_of held next_put next_reader = record { held = held; next_put = next_put; next_reader = next_reader }
 
 -- only these four of a state's values speak of actors
-pub alike_in_step : (s t : State) (a : Seen) → t.puts ≡ s.puts → t.readers ≡ s.readers → t.next_put ≡ s.next_put → t.next_reader ≡ s.next_reader → AreActors s a → AreActors t a
+pub alike_in_step : (s t : State) (a : ActorsSeen) → t.puts ≡ s.puts → t.readers ≡ s.readers → t.next_put ≡ s.next_put → t.next_reader ≡ s.next_reader → AreActors s a → AreActors t a
 alike_in_step s t a puts readers next_put next_reader h = record {
   next_put = h.next_put ∙ sym next_put;
   next_reader = h.next_reader ∙ sym next_reader;
@@ -61,7 +61,7 @@ abbrev pub new_writer : ℕ → Key → List Field → List Field → Writer
 new_writer put key request response = record { put = put; key = key; request = request; response = response }
 
 pub opened_in_step : (s : State) (held new : Held) (put next_reader room : ℕ) (who : Actor) (key : Key) (request response : List Field) (pin : ℕ)
-    → new ≡ opened (new_writer put key request response) room held
+    → new ≡ with_open_writer (new_writer put key request response) room held
     → AreActors s (seen_of held put next_reader)
     → AreActors (state_after s (rec.WriteOpened who put key request response pin)) (seen_of new (put + 1) next_reader)
 opened_in_step s held new put next_reader room who key request response pin is h =
@@ -74,7 +74,7 @@ opened_in_step s held new put next_reader room who key request response pin is h
           (found_inserted q put (new_put room) held.puts)
           (kept_either (is_number put q) (Some row) (put_of s q) (Some (new_put room)) (kept_put q held.puts) same (h.puts q));
       readers = h.readers;
-      puts_fall = (omega arith, subst (λ (n : ℕ). FallBelow n (put_numbers s.puts)) (sym h.next_put) h.puts_fall);
+      puts_fall = (omega arith, subst (λ (n : ℕ). NumbersFallBelow n (put_numbers s.puts)) (sym h.next_put) h.puts_fall);
       readers_fall = h.readers_fall;
     })
   where
@@ -118,7 +118,7 @@ cut_in_step s held new next_put next_reader put index length room digest is h =
           (kept_either (is_number put q) (option_map (cut_row row) (put_of s q)) (put_of s q) (option_map longer (kept_put q held.puts)) (kept_put q held.puts)
           (kept_mapped (cut_row row) longer (λ p o. o) same (put_of s q) (kept_put q held.puts) (h.puts q)) (h.puts q));
       readers = h.readers;
-      puts_fall = subst (λ (ns : List ℕ). FallBelow s.next_put ns) (sym (numbers-changed (λ (p : PutRow). p.put) (cut_row row) (λ p. refl) put s.puts)) h.puts_fall;
+      puts_fall = subst (λ (ns : List ℕ). NumbersFallBelow s.next_put ns) (sym (numbers-changed (λ (p : PutRow). p.put) (cut_row row) (λ p. refl) put s.puts)) h.puts_fall;
       readers_fall = h.readers_fall;
     })
   where
@@ -133,7 +133,7 @@ cut_in_step s held new next_put next_reader put index length room digest is h =
 
 -- the put of a writer that ends
 ended_in_step : (s : State) (held new : Held) (next_put next_reader put : ℕ) (writing : Writing) → ((p : PutRow) → is_open_row (with_writing writing p) ≡ false)
-    → RiseWithin 1 next_put held.puts → new ≡ ended_in (phase_of writing) put held
+    → RiseWithin 1 next_put held.puts → new ≡ ended_in (phase_of_put writing) put held
     → AreActors s (seen_of held next_put next_reader) → AreActors (record s { puts = change_put put (with_writing writing) s.puts }) (seen_of new next_put next_reader)
 ended_in_step s held new next_put next_reader put writing ends rise is h =
     subst (λ (x : Held). AreActors (record s { puts = change_put put (with_writing writing) s.puts }) (seen_of x next_put next_reader)) (sym is) (record {
@@ -142,42 +142,43 @@ ended_in_step s held new next_put next_reader put writing ends rise is h =
       writers = ap (λ (ws : List Writer). ended_writers ws) h.writers ∙ sym (writers-ended writing ends put s.puts);
       puts = λ q. kept_along _ _ _ _
           (find-changed (λ (p : PutRow). p.put) (with_writing writing) (λ p. refl) put q s.puts ∙ ap (λ (b : Bool). cond b (option_map (with_writing writing) (put_of s q)) (put_of s q)) (eq_number put q))
-          (found_unless_done put q 1 next_put phased (rise_changed (with_phase (phase_of writing)) put 1 next_put held.puts rise) ∙ again q (is_number put q) refl)
-          (kept_either (is_number put q) (option_map (with_writing writing) (put_of s q)) (put_of s q) (unless_done (option_map (with_phase (phase_of writing)) (kept_put q held.puts))) (kept_put q held.puts)
-          (kept_unless_done (option_map (with_writing writing) (put_of s q)) (option_map (with_phase (phase_of writing)) (kept_put q held.puts))
-          (kept_mapped (with_writing writing) (with_phase (phase_of writing)) (λ p o. ends p) same (put_of s q) (kept_put q held.puts) (h.puts q)))
+          (found_unless_done put q 1 next_put phased (rise_changed (with_phase (phase_of_put writing)) put 1 next_put held.puts rise) ∙ again q (is_number put q) refl)
+          (kept_either (is_number put q) (option_map (with_writing writing) (put_of s q)) (put_of s q) (unless_done (option_map (with_phase (phase_of_put writing)) (kept_put q held.puts))) (kept_put q held.puts)
+          (kept_unless_done (option_map (with_writing writing) (put_of s q)) (option_map (with_phase (phase_of_put writing)) (kept_put q held.puts))
+          (kept_mapped (with_writing writing) (with_phase (phase_of_put writing)) (λ p o. ends p) same (put_of s q) (kept_put q held.puts) (h.puts q)))
           (h.puts q));
       readers = h.readers;
-      puts_fall = subst (λ (ns : List ℕ). FallBelow s.next_put ns) (sym (numbers-changed (λ (p : PutRow). p.put) (with_writing writing) (λ p. refl) put s.puts)) h.puts_fall;
+      puts_fall = subst (λ (ns : List ℕ). NumbersFallBelow s.next_put ns) (sym (numbers-changed (λ (p : PutRow). p.put) (with_writing writing) (λ p. refl) put s.puts)) h.puts_fall;
       readers_fall = h.readers_fall;
     })
   where
     phased : List (ℕ × KeptPut)
-    phased = changed (with_phase (phase_of writing)) put held.puts
+    phased = changed (with_phase (phase_of_put writing)) put held.puts
 
     ended_writers : List Writer → List Writer
-    ended_writers = λ ws. (ended_in (phase_of writing) put (record held { writers = ws })).writers
+    ended_writers = λ ws. (ended_in (phase_of_put writing) put (record held { writers = ws })).writers
 
-    same : (p : PutRow) (kept : KeptPut) → IsPutOf p kept → IsPutOf (with_writing writing p) (with_phase (phase_of writing) kept)
+    same : (p : PutRow) (kept : KeptPut) → IsPutOf p kept → IsPutOf (with_writing writing p) (with_phase (phase_of_put writing) kept)
     same p kept g = record { standing = refl; cuts = g.cuts }
 
     again : (q : ℕ) (b : Bool) → is_number put q ≡ b
-        → cond (is_number put q) (unless_done (kept_put q (changed (with_phase (phase_of writing)) put held.puts))) (kept_put q (changed (with_phase (phase_of writing)) put held.puts))
-        ≡ cond (is_number put q) (unless_done (option_map (with_phase (phase_of writing)) (kept_put q held.puts))) (kept_put q held.puts)
+        → cond (is_number put q) (unless_done (kept_put q (changed (with_phase (phase_of_put writing)) put held.puts))) (kept_put q (changed (with_phase (phase_of_put writing)) put held.puts))
+        ≡ cond (is_number put q) (unless_done (option_map (with_phase (phase_of_put writing)) (kept_put q held.puts)))
+        (kept_put q held.puts)
     again q true t =
-        ap (λ (o : Option KeptPut). cond (is_number put q) (unless_done o) o) (found_changed (with_phase (phase_of writing)) put q held.puts) ∙ rw t refl
+        ap (λ (o : Option KeptPut). cond (is_number put q) (unless_done o) o) (found_changed (with_phase (phase_of_put writing)) put q held.puts) ∙ rw t refl
     again q false t =
-        ap (λ (o : Option KeptPut). cond (is_number put q) (unless_done o) o) (found_changed (with_phase (phase_of writing)) put q held.puts) ∙ rw t refl
+        ap (λ (o : Option KeptPut). cond (is_number put q) (unless_done o) o) (found_changed (with_phase (phase_of_put writing)) put q held.puts) ∙ rw t refl
 
 pub closed_in_step : (s : State) (held new : Held) (next_put next_reader put : ℕ) (key : Key) (length : ℕ) (list : List Stored)
-    → RiseWithin 1 next_put held.puts → new ≡ ended_in (phase_of Closed) put held
+    → RiseWithin 1 next_put held.puts → new ≡ ended_in (phase_of_put Closed) put held
     → AreActors s (seen_of held next_put next_reader) → AreActors (state_after s (rec.Committed put key length list)) (seen_of new next_put next_reader)
 closed_in_step s held new next_put next_reader put key length list rise is h =
     alike_in_step (record s { puts = change_put put (with_writing Closed) s.puts }) (state_after s (rec.Committed put key length list)) (seen_of new next_put next_reader) refl refl refl refl
     (ended_in_step s held new next_put next_reader put Closed (λ p. refl) rise is h)
 
 pub aborted_in_step : (s : State) (held new : Held) (next_put next_reader put : ℕ) (key : Key)
-    → RiseWithin 1 next_put held.puts → new ≡ ended_in (phase_of GivenUp) put held
+    → RiseWithin 1 next_put held.puts → new ≡ ended_in (phase_of_put GivenUp) put held
     → AreActors s (seen_of held next_put next_reader) → AreActors (state_after s (rec.Aborted put key)) (seen_of new next_put next_reader)
 aborted_in_step s held new next_put next_reader put key rise is h =
     alike_in_step (record s { puts = change_put put (with_writing GivenUp) s.puts }) (state_after s (rec.Aborted put key)) (seen_of new next_put next_reader) refl refl refl refl
@@ -202,7 +203,7 @@ reader_room_in_step s held new next_put next_reader room is h =
       readers_fall = h.readers_fall;
     })
 
-reading_in_step : (s : State) (held new : Held) (next_put reader put room : ℕ) (row : ReaderRow) → row.reader ≡ reader → IsReaderOf row (new_reader put 1 held.puts)
+reading_in_step : (s : State) (held new : Held) (next_put reader put room : ℕ) (row : ReaderRow) → row.reader ≡ reader → IsReaderOfRow row (new_reader put 1 held.puts)
     → new ≡ with_reader_room room (with_reader reader put 1 held)
     → AreActors s (seen_of held next_put reader) → AreActors (record s { readers = row ∷ s.readers; next_reader = reader + 1 }) (seen_of new next_put (reader + 1))
 reading_in_step s held new next_put reader put room row numbered same is h =
@@ -210,13 +211,13 @@ reading_in_step s held new next_put reader put room row numbered same is h =
       next_put = h.next_put;
       next_reader = refl;
       writers = h.writers;
-      puts = λ q. by_open q (is_open put held.puts);
+      puts = λ q. by_open q (is_kept_open put held.puts);
       readers = λ q. reader_along _ _ _ _
           (ap (λ (i : ℕ). cond (i == q) (Some row) (reader_of s q)) numbered ∙ ap (λ (b : Bool). cond b (Some row) (reader_of s q)) (eq_number reader q))
           (found_inserted q reader (new_reader put 1 held.puts) held.readers)
           (reader_either (is_number reader q) (Some row) (reader_of s q) (Some (new_reader put 1 held.puts)) (reader_at q held) same (h.readers q));
       puts_fall = h.puts_fall;
-      readers_fall = (omega arith, subst (λ (n : ℕ). FallBelow n (reader_numbers s.readers)) (sym h.next_reader ∙ sym numbered) h.readers_fall);
+      readers_fall = (omega arith, subst (λ (n : ℕ). NumbersFallBelow n (reader_numbers s.readers)) (sym h.next_reader ∙ sym numbered) h.readers_fall);
     })
   where
     more : KeptPut → KeptPut
@@ -225,7 +226,7 @@ reading_in_step s held new next_put reader put room row numbered same is h =
     kept_same : (p : PutRow) (kept : KeptPut) → IsPutOf p kept → IsPutOf p (with_followers (kept.followers + 1) kept)
     kept_same p kept g = record { standing = g.standing; cuts = g.cuts }
 
-    by_open : (q : ℕ) (b : Bool) → IsKeptAs (put_of s q) (kept_put q (cond b (one_more put held.puts) held.puts))
+    by_open : (q : ℕ) (b : Bool) → IsKeptAs (put_of s q) (kept_put q (cond b (with_follower put held.puts) held.puts))
     by_open q true = kept_along _ _ _ _ refl (found_changed more put q held.puts)
         (kept_or (is_number put q) (put_of s q) (option_map more (kept_put q held.puts)) (kept_put q held.puts) (kept_anew more kept_same (put_of s q) (kept_put q held.puts) (h.puts q)) (h.puts q))
     by_open q false = h.puts q
@@ -237,7 +238,7 @@ hit_in_step s held new next_put reader put room who key request is h =
     reading_in_step s held new next_put reader put room (record { actor = who.0; reader = reader; key = key; put = put; table = Some (table_of_hit s key request); next = 1 })
     refl (record { put = refl; next = refl; counted = omega arith; follows = λ none. absurd (cc) }) is h
 
-pub follow_in_step : (s : State) (held new : Held) (next_put reader put room : ℕ) (who : Actor) (key : Key) (request : List Field) → is_open put held.puts ≡ true
+pub follow_in_step : (s : State) (held new : Held) (next_put reader put room : ℕ) (who : Actor) (key : Key) (request : List Field) → is_kept_open put held.puts ≡ true
     → new ≡ with_reader_room room (with_reader reader put 1 held)
     → AreActors s (seen_of held next_put reader) → AreActors (state_after s (rec.ReadOpened reader who key request (read.Follow put))) (seen_of new next_put (reader + 1))
 follow_in_step s held new next_put reader put room who key request open_now is h =
@@ -270,7 +271,7 @@ gave_in_step s held new next_put next_reader reader index length is h =
           (reader_either (is_number reader q) (option_map further (reader_of s q)) (reader_of s q) (option_map onward (reader_at q held)) (reader_at q held)
           (reader_mapped further onward same (reader_of s q) (reader_at q held) (h.readers q)) (h.readers q));
       puts_fall = h.puts_fall;
-      readers_fall = subst (λ (ns : List ℕ). FallBelow s.next_reader ns) (sym (numbers-changed (λ (r : ReaderRow). r.reader) further (λ r. refl) reader s.readers)) h.readers_fall;
+      readers_fall = subst (λ (ns : List ℕ). NumbersFallBelow s.next_reader ns) (sym (numbers-changed (λ (r : ReaderRow). r.reader) further (λ r. refl) reader s.readers)) h.readers_fall;
     })
   where
     further : ReaderRow → ReaderRow
@@ -279,11 +280,12 @@ gave_in_step s held new next_put next_reader reader index length is h =
     onward : Reader → Reader
     onward = λ r. record r { next = index + 1 }
 
-    same : (row : ReaderRow) (r : Reader) → IsReaderOf row r → IsReaderOf (record row { next = index + 1 }) (record r { next = index + 1 })
+    same : (row : ReaderRow) (r : Reader) → IsReaderOfRow row r
+        → IsReaderOfRow (record row { next = index + 1 }) (record r { next = index + 1 })
     same row r g = record { put = g.put; next = refl; counted = omega arith; follows = g.follows }
 
 pub left_in_step : (s : State) (held new : Held) (next_put next_reader reader room : ℕ) → RiseWithin 1 next_put held.puts → RiseWithin 1 next_reader held.readers
-    → new ≡ with_reader_room room (without_reader reader held)
+    → new ≡ with_reader_room room (held_without_reader reader held)
     → AreActors s (seen_of held next_put next_reader) → AreActors (state_after s (rec.ReadClosed reader)) (seen_of new next_put next_reader)
 left_in_step s held new next_put next_reader reader room puts_rise readers_rise is h =
     subst (λ (x : Held). AreActors (state_after s (rec.ReadClosed reader)) (seen_of x next_put next_reader)) (sym is) (record {

@@ -3,10 +3,10 @@ use Rattle.std.proofs.Common.{◌≡◌, true, false, cond, Option, Some, None, 
 use Rattle.std.specs.Prelude.{Bool, not, ◌==◌, ◌&&◌, option_map, unwrap_or}
 use Rattle.open_directory.specs.declared.kept.KeptPut.{KeptPut}
 use Rattle.open_directory.specs.declared.kept.Reader.{Reader}
-use Rattle.open_directory.specs.Directory.{is_done_put, is_open_put, is_writing, unless_done}
+use Rattle.open_directory.specs.Directory.{is_done_put, is_open_put, is_writing_phase, unless_done}
 use Rattle.cache_model.specs.State.{PutRow, ReaderRow, Open, Closed, GivenUp}
 use Rattle.cache_model.specs.Verdict.{is_open}
-use Rattle.stripe_actors.specs.Actors.{IsKeptAs, IsPutOf, IsReaderAs, IsReaderOf, phase_of}
+use Rattle.stripe_actors.specs.Actors.{IsKeptAs, IsPutOf, IsReaderAs, IsReaderOfRow, phase_of_put}
 
 -- ---- puts
 
@@ -23,14 +23,14 @@ pub kept_or : (b : Bool) (x : Option PutRow) (k l : Option KeptPut) → IsKeptAs
 kept_or true x k l h g = h
 kept_or false x k l h g = g
 
-pub writing_as : (p : PutRow) → is_writing (phase_of p.writing) ≡ is_open p
-writing_as p = elim p.writing as (λ w. is_writing (phase_of w) ≡ elim w [ Open ↦ true | Closed ↦ false | GivenUp ↦ false ]) [ Open ↦ refl | Closed ↦ refl | GivenUp ↦ refl ]
+pub writing_as : (p : PutRow) → is_writing_phase (phase_of_put p.writing) ≡ is_open p
+writing_as p = elim p.writing as (λ w. is_writing_phase (phase_of_put w) ≡ elim w [ Open ↦ true | Closed ↦ false | GivenUp ↦ false ]) [ Open ↦ refl | Closed ↦ refl | GivenUp ↦ refl ]
 
 pub open_as : (x : Option PutRow) (k : Option KeptPut) → IsKeptAs x k → is_open_put k ≡ unwrap_or (option_map is_open x) false
 open_as None None h = refl
 open_as None (Some kept) h = absurd h
 open_as (Some p) None h = sym h
-open_as (Some p) (Some kept) h = ap is_writing h.standing ∙ writing_as p
+open_as (Some p) (Some kept) h = ap is_writing_phase h.standing ∙ writing_as p
 
 -- a put that is changed alike on both sides
 pub kept_mapped : (g : PutRow → PutRow) (f : KeptPut → KeptPut) → ((p : PutRow) → is_open p ≡ false → is_open (g p) ≡ false) → ((p : PutRow) (kept : KeptPut) → IsPutOf p kept → IsPutOf (g p) (f kept))
@@ -59,7 +59,8 @@ kept_unless_done None (Some kept) h = absurd h
 kept_unless_done (Some p) (Some kept) h = by_done (is_done_put (Some kept)) refl
   where
     by_done : (b : Bool) → is_done_put (Some kept) ≡ b → IsKeptAs (Some p) (cond b None (Some kept))
-    by_done true d = sym (writing_as p) ∙ sym (ap is_writing h.standing) ∙ done_is_ended (is_writing kept.phase) (kept.followers == 0) d
+    by_done true d = sym (writing_as p) ∙ sym (ap is_writing_phase h.standing)
+        ∙ done_is_ended (is_writing_phase kept.phase) (kept.followers == 0) d
     by_done false d = h
 
 -- ---- readers
@@ -73,7 +74,7 @@ pub reader_either : (b : Bool) (x y : Option ReaderRow) (r q : Option Reader) �
 reader_either true x y r q h g = h
 reader_either false x y r q h g = g
 
-pub reader_mapped : (g : ReaderRow → ReaderRow) (f : Reader → Reader) → ((row : ReaderRow) (reader : Reader) → IsReaderOf row reader → IsReaderOf (g row) (f reader))
+pub reader_mapped : (g : ReaderRow → ReaderRow) (f : Reader → Reader) → ((row : ReaderRow) (reader : Reader) → IsReaderOfRow row reader → IsReaderOfRow (g row) (f reader))
     → (x : Option ReaderRow) (r : Option Reader) → IsReaderAs x r → IsReaderAs (option_map g x) (option_map f r)
 reader_mapped g f same None None h = tt
 reader_mapped g f same None (Some reader) h = absurd h

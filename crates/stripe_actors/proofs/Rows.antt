@@ -11,11 +11,11 @@ use Rattle.alternate_vector.specs.Field.{Field}
 use Rattle.alternate_vector.specs.Vary.{request_matches}
 use Rattle.fragment_table.specs.Table.{TableRow}
 use Rattle.open_directory.specs.declared.kept.Writer.{Writer}
-use Rattle.open_directory.specs.Directory.{followed, is_follow, writers_but}
+use Rattle.open_directory.specs.Directory.{is_follow, put_followed, writers_but}
 use Rattle.cache_model.specs.State.{PutRow, Writing, change_put, with_cut, with_writing}
 use Rattle.cache_model.specs.Verdict.{is_open, may_follow}
 use Rattle.cache_model.proofs.ByNumber.{change, has}
-use Rattle.stripe_actors.specs.Actors.{FallBelow, writer_of, writer_where_open, writers_in}
+use Rattle.stripe_actors.specs.Actors.{NumbersFallBelow, writer_of_row, writer_where_open, writers_in}
 
 -- ---- numbers
 
@@ -29,15 +29,15 @@ module _ {X : Type 0} (number : X → ℕ) where
       ]
 
 -- numbers that fall from lower down
-pub fall_from : (low high : ℕ) (ns : List ℕ) → low ≤ high → FallBelow low ns → FallBelow high ns
+pub fall_from : (low high : ℕ) (ns : List ℕ) → low ≤ high → NumbersFallBelow low ns → NumbersFallBelow high ns
 fall_from low high [] le h = let k : 1 ≤ low = h in omega arith
 fall_from low high (n ∷ ns) le h = let k : n < low = h.0 in (omega arith, h.1)
 
-pub fall_without : {X : Type 0} (number : X → ℕ) (p : X → Bool) (high : ℕ) (xs : List X) → FallBelow high (map number xs) → FallBelow high (map number (filter p xs))
+pub fall_without : {X : Type 0} (number : X → ℕ) (p : X → Bool) (high : ℕ) (xs : List X) → NumbersFallBelow high (map number xs) → NumbersFallBelow high (map number (filter p xs))
 fall_without number p high [] h = h
 fall_without number p high (x ∷ xs) h =
     let k : number x < high = h.0 in
-    elim (p x) as (λ b. FallBelow high (map number (cond b (x ∷ filter p xs) (filter p xs)))) [
+    elim (p x) as (λ b. NumbersFallBelow high (map number (cond b (x ∷ filter p xs) (filter p xs)))) [
       | true ↦ (h.0, fall_without number p (number x) xs h.1)
       | false ↦ fall_from (number x) high (map number (filter p xs)) (omega arith) (fall_without number p (number x) xs h.1)
     ]
@@ -71,7 +71,7 @@ writers-ended writing ends put (p ∷ ps) =
 length-one_more : (p : PutRow) (ps : List PutRow) → length (writers_in (p ∷ ps)) ≡ cond (is_open p) (1 + length (writers_in ps)) (length (writers_in ps))
 length-one_more p ps = length-append (writers_in ps) (writer_where_open p) ∙ by_test (is_open p)
   where
-    by_test : (b : Bool) → length (writers_in ps) + length (cond b (writer_of p ∷ []) []) ≡ cond b (1 + length (writers_in ps)) (length (writers_in ps))
+    by_test : (b : Bool) → length (writers_in ps) + length (cond b (writer_of_row p ∷ []) []) ≡ cond b (1 + length (writers_in ps)) (length (writers_in ps))
     by_test true = omega arith
     by_test false = omega arith
 
@@ -79,23 +79,23 @@ pub length-writers : (puts : List PutRow) → length (writers_in puts) ≡ count
 length-writers puts = is_count_by (λ ps. length (writers_in ps)) is_open refl length-one_more puts
 
 followed_one_more : (key : Key) (request : List Field) (p : PutRow) (ps : List PutRow)
-    → followed key request (writers_in ps) ≡ option_map (λ (p : PutRow). p.put) (find (may_follow key request) ps)
-    → followed key request (writers_in (p ∷ ps)) ≡ option_map (λ (p : PutRow). p.put) (find (may_follow key request) (p ∷ ps))
+    → put_followed key request (writers_in ps) ≡ option_map (λ (p : PutRow). p.put) (find (may_follow key request) ps)
+    → put_followed key request (writers_in (p ∷ ps)) ≡ option_map (λ (p : PutRow). p.put) (find (may_follow key request) (p ∷ ps))
 followed_one_more key request p ps rest =
     fold-append (λ (last : Option ℕ) (w : Writer). if is_follow key request w then Some w.put else last) None (writers_in ps) (writer_where_open p)
     ∙ by_open (is_open p)
   where
-    by_match : (b : Bool) → cond b (Some p.put) (followed key request (writers_in ps)) ≡ option_map (λ (p : PutRow). p.put) (cond b (Some p) (find (may_follow key request) ps))
+    by_match : (b : Bool) → cond b (Some p.put) (put_followed key request (writers_in ps)) ≡ option_map (λ (p : PutRow). p.put) (cond b (Some p) (find (may_follow key request) ps))
     by_match true = refl
     by_match false = rest
 
-    by_open : (b : Bool) → fold (λ (last : Option ℕ) (w : Writer). if is_follow key request w then Some w.put else last) (followed key request (writers_in ps)) (cond b (writer_of p ∷ []) [])
+    by_open : (b : Bool) → fold (λ (last : Option ℕ) (w : Writer). if is_follow key request w then Some w.put else last) (put_followed key request (writers_in ps)) (cond b (writer_of_row p ∷ []) [])
         ≡ option_map (λ (p : PutRow). p.put) (cond (b && (same_key p.key key && request_matches request p.request p.response)) (Some p) (find (may_follow key request) ps))
     by_open true = by_match (same_key p.key key && request_matches request p.request p.response)
     by_open false = rest
 
 -- the last writer that can be followed is that of the put that is found first
 pub followed-writers : (key : Key) (request : List Field) (puts : List PutRow)
-    → followed key request (writers_in puts) ≡ option_map (λ (p : PutRow). p.put) (find (may_follow key request) puts)
+    → put_followed key request (writers_in puts) ≡ option_map (λ (p : PutRow). p.put) (find (may_follow key request) puts)
 followed-writers key request [] = refl
 followed-writers key request (p ∷ ps) = followed_one_more key request p ps (followed-writers key request ps)

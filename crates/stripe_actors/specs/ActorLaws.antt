@@ -4,13 +4,13 @@ use Rattle.tape_base.specs.declared.keys.Key.{Key}
 use Rattle.alternate_vector.specs.Field.{Field}
 use Rattle.fragment_table.specs.Table.{total_length}
 use Rattle.open_directory.specs.declared.kept.PutState.{PutState}
-use Rattle.open_directory.specs.Directory.{IsHeld, cuts_of, followed, is_open, put_state, row_of, state_at, table_row}
+use Rattle.open_directory.specs.Directory.{IsHeldDirectory, is_kept_open, kept_cuts, put_followed, put_state, put_state_at, row_of_index, table_row}
 use Rattle.cache_model.specs.declared.record.Rec.{Rec}
 use Rattle.cache_model.specs.declared.record.Rec.TheVariants as rec
 use Rattle.cache_model.specs.State.{State, PutRow, ReaderRow, put_of, reader_of, state_after}
 use Rattle.cache_model.specs.Verdict.{followed as followed_row, next_row}
 use Rattle.cache_model.specs.Legal.{is_writing, open_writers}
-use Rattle.stripe_actors.specs.Actors.{AreActors, Seen, phase_of}
+use Rattle.stripe_actors.specs.Actors.{ActorsSeen, AreActors, phase_of_put}
 
 -- ---- states that the actors cannot tell apart
 
@@ -23,7 +23,7 @@ pub record IsAlikeForActors (s t : State) : Type 0 where
 
 -- actors that are in step with one are in step with the other
 abbrev pub AlikeStayInStep : Type 0
-AlikeStayInStep = (s t : State) (a : Seen) → IsAlikeForActors s t → AreActors s a → AreActors t a
+AlikeStayInStep = (s t : State) (a : ActorsSeen) → IsAlikeForActors s t → AreActors s a → AreActors t a
 
 -- a record that changes a put or a reader, or begins a session
 abbrev pub speaks_of_actors : Rec → Bool
@@ -52,17 +52,17 @@ speaks_of_actors (rec.Fault count) = false
 
 -- any other record leaves actors in step, as they are
 abbrev pub OthersStayInStep : Type 0
-OthersStayInStep = (s : State) (a : Seen) (r : Rec) → speaks_of_actors r ≡ false → AreActors s a → AreActors (state_after s r) a
+OthersStayInStep = (s : State) (a : ActorsSeen) (r : Rec) → speaks_of_actors r ≡ false → AreActors s a → AreActors (state_after s r) a
 
 -- ---- writers
 
 -- a put is open among the actors just where it is open by the records
 abbrev pub OpenIsWriting : Type 0
-OpenIsWriting = (s : State) (a : Seen) → AreActors s a → (put : ℕ) → is_open put a.held.puts ≡ is_writing s put
+OpenIsWriting = (s : State) (a : ActorsSeen) → AreActors s a → (put : ℕ) → is_kept_open put a.held.puts ≡ is_writing s put
 
 -- as many writers are open as the records have open puts
 abbrev pub WritersAreCounted : Type 0
-WritersAreCounted = (s : State) (a : Seen) → AreActors s a → length a.held.writers ≡ open_writers s
+WritersAreCounted = (s : State) (a : ActorsSeen) → AreActors s a → length a.held.writers ≡ open_writers s
 
 -- a put by its number, as a lookup that follows it is told
 abbrev pub number_in : PutRow → ℕ
@@ -70,45 +70,45 @@ number_in p = p.put
 
 -- a lookup can follow the same put by the writers as by the records, or by both none
 abbrev pub FollowedIsFound : Type 0
-FollowedIsFound = (s : State) (a : Seen) → AreActors s a → (key : Key) (request : List Field)
-    → followed key request a.held.writers ≡ option_map number_in (followed_row s key request)
+FollowedIsFound = (s : State) (a : ActorsSeen) → AreActors s a → (key : Key) (request : List Field)
+    → put_followed key request a.held.writers ≡ option_map number_in (followed_row s key request)
 
 -- ---- what is told of a put
 
 -- how a put stands, with its fragments counted and summed up
-abbrev pub state_in : PutRow → PutState
-state_in p = state_at (phase_of p.writing) (length p.cuts) (total_length p.cuts)
+abbrev pub put_state_in : PutRow → PutState
+put_state_in p = put_state_at (phase_of_put p.writing) (length p.cuts) (total_length p.cuts)
 
 -- how a put stands is at hand, and so are its fragments
-pub record IsTold (s : State) (a : Seen) (put : ℕ) : Type 0 where
+pub record PutIsTold (s : State) (a : ActorsSeen) (put : ℕ) : Type 0 where
   pub row : PutRow
   pub found : put_of s put ≡ Some row
-  pub state : put_state put a.held.puts ≡ Some (state_in row)
-  pub cuts : cuts_of put a.held.puts ≡ row.cuts
+  pub state : put_state put a.held.puts ≡ Some (put_state_in row)
+  pub cuts : kept_cuts put a.held.puts ≡ row.cuts
 
 -- so it is of each put that is kept
 abbrev pub KeptIsTold : Type 0
-KeptIsTold = (s : State) (a : Seen) → AreActors s a → (put : ℕ) → IsSome (put_state put a.held.puts) → IsTold s a put
+KeptIsTold = (s : State) (a : ActorsSeen) → AreActors s a → (put : ℕ) → IsSome (put_state put a.held.puts) → PutIsTold s a put
 
 -- so it is of each put that is open
 abbrev pub WritingIsTold : Type 0
-WritingIsTold = (s : State) (a : Seen) → AreActors s a → (put : ℕ) → is_writing s put ≡ true → IsTold s a put
+WritingIsTold = (s : State) (a : ActorsSeen) → AreActors s a → (put : ℕ) → is_writing s put ≡ true → PutIsTold s a put
 
 -- so it is of a put that a reader follows, also once it has ended
 abbrev pub FollowedIsTold : Type 0
-FollowedIsTold = (s : State) (a : Seen) → AreActors s a → IsHeld a.held → (reader : ℕ) (r : ReaderRow) → reader_of s reader ≡ Some r → r.table ≡ None → IsTold s a r.put
+FollowedIsTold = (s : State) (a : ActorsSeen) → AreActors s a → IsHeldDirectory a.held → (reader : ℕ) (r : ReaderRow) → reader_of s reader ≡ Some r → r.table ≡ None → PutIsTold s a r.put
 
 -- the fragment that a reader of a writer takes next
 abbrev pub NextIsTold : Type 0
-NextIsTold = (s : State) (a : Seen) → AreActors s a → IsHeld a.held → (reader : ℕ) (r : ReaderRow) → reader_of s reader ≡ Some r → r.table ≡ None
-    → row_of r.next (cuts_of r.put a.held.puts) ≡ option_map table_row (next_row s r)
+NextIsTold = (s : State) (a : ActorsSeen) → AreActors s a → IsHeldDirectory a.held → (reader : ℕ) (r : ReaderRow) → reader_of s reader ≡ Some r → r.table ≡ None
+    → row_of_index r.next (kept_cuts r.put a.held.puts) ≡ option_map table_row (next_row s r)
 
 -- ---- numbers
 
 -- a put of the records has a number from 1 on, below the next put's
 abbrev pub PutWasGiven : Type 0
-PutWasGiven = (s : State) (a : Seen) → AreActors s a → (put : ℕ) → IsSome (put_of s put) → (1 ≤ put) × (put < s.next_put)
+PutWasGiven = (s : State) (a : ActorsSeen) → AreActors s a → (put : ℕ) → IsSome (put_of s put) → (1 ≤ put) × (put < s.next_put)
 
 -- a reader of the records has a number from 1 on, below the next reader's
 abbrev pub ReaderWasGiven : Type 0
-ReaderWasGiven = (s : State) (a : Seen) → AreActors s a → (reader : ℕ) → IsSome (reader_of s reader) → (1 ≤ reader) × (reader < s.next_reader)
+ReaderWasGiven = (s : State) (a : ActorsSeen) → AreActors s a → (reader : ℕ) → IsSome (reader_of s reader) → (1 ≤ reader) × (reader < s.next_reader)

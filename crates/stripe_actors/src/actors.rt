@@ -2,10 +2,10 @@
 
 ghost use Rattle.std.specs.Prelude.{◌≡◌, ◌+◌, ◌<◌, ◌≤◌, ◌^◌, OnOk, OnErr, IfOk, IsOk, true, length};
 ghost use Rattle.fragment_table.specs.Table.{CanGrow};
-ghost use Rattle.open_directory.specs.Directory.{IsHeld, cuts_of, is_open, room_of};
+ghost use Rattle.open_directory.specs.Directory.{IsHeldDirectory, is_kept_open, kept_cuts, room_for_fragments};
 ghost use Rattle.cache_model.specs.declared.record.Rec.TheVariants as rec;
-ghost use Rattle.stripe_actors.specs.Calls.{AnswersPut, BeginInStep, Commits, CutsNext, GaveFragment, GivesUp, KeepUpWith, Misses, OpensPut, OpensReader, StayInStep, with_room_of, with_room_of_readers};
-ghost use Rattle.stripe_actors.specs.Actors.{IsNumbered, reader_room_of};
+ghost use Rattle.stripe_actors.specs.Calls.{AnswersPut, BeginInStep, Commits, CutsNext, GaveFragment, KeepUpWith, Misses, OpensPut, PutIsGivenUp, ReaderOpens, StayInStep, with_room_of, with_room_of_readers};
+ghost use Rattle.stripe_actors.specs.Actors.{HasGivenNumbers, reader_room_of};
 
 use crate::refusal::OpenPutRefusal;
 use alternate_vector::Fields;
@@ -24,13 +24,13 @@ pub struct Actors {
 }
 
 impl Model for Actors {
-    ghost use Rattle.stripe_actors.specs.Actors.{Seen, IsNumbered};
+    ghost use Rattle.stripe_actors.specs.Actors.{ActorsSeen, HasGivenNumbers};
 
-    ghost Value = { Seen };
+    ghost Value = { ActorsSeen };
 
     ghost view = { λ a. record { held = a.open; next_put = a.next_put; next_reader = a.next_reader } };
 
-    ghost invariant = { λ a. IsNumbered (record { held = a.open; next_put = a.next_put; next_reader = a.next_reader }) };
+    ghost invariant = { λ a. HasGivenNumbers (record { held = a.open; next_put = a.next_put; next_reader = a.next_reader }) };
 }
 
 impl Actors {
@@ -47,8 +47,8 @@ impl Actors {
 
     pub fn open_directory(&self) -> &OpenDirectory
         ensures same { result.now ≡ self.now.held }
-        ensures held { IsHeld self.now.held }
-        ensures numbered { IsNumbered self.now }
+        ensures held { IsHeldDirectory self.now.held }
+        ensures numbered { HasGivenNumbers self.now }
     {
         let _writers = self.open.writers();
         &self.open
@@ -107,11 +107,12 @@ impl Actors {
 
     /// Makes room so that the next fragment of a put takes no memory.
     pub fn reserve_cut(&mut self, put: u64) -> Result<(), AllocError>
-        requires { is_open put self.old.held.puts ≡ true }
-        ensures room { OnOk result (0 < room_of put self.new.held.puts) }
+        requires { is_kept_open put self.old.held.puts ≡ true }
+        ensures room { OnOk result (0 < room_for_fragments put self.new.held.puts) }
         ensures step { StayInStep self.old self.new }
-        ensures rest { self.new ≡ with_room_of put (room_of put self.new.held.puts) self.old }
-        ensures reserved { 0 < room_of put self.old.held.puts → IsOk result }
+        ensures rest { self.new
+            ≡ with_room_of put (room_for_fragments put self.new.held.puts) self.old }
+        ensures reserved { 0 < room_for_fragments put self.old.held.puts → IsOk result }
         ensures readers { reader_room_of self.old ≤ reader_room_of self.new }
     {
         match self.open.reserve_cut(put) {
@@ -123,10 +124,10 @@ impl Actors {
 
     /// Adds the next fragment of a put for which there is room.
     pub fn cut(&mut self, put: u64, length: u32, digest: Digest)
-        requires open { is_open put self.old.held.puts ≡ true }
+        requires open { is_kept_open put self.old.held.puts ≡ true }
         requires some { 0 < length }
-        requires few { CanGrow (cuts_of put self.old.held.puts) }
-        requires room { 0 < room_of put self.old.held.puts }
+        requires few { CanGrow (kept_cuts put self.old.held.puts) }
+        requires room { 0 < room_for_fragments put self.old.held.puts }
         ensures cuts { CutsNext put length digest self.old self.new }
         ensures readers { reader_room_of self.old ≤ reader_room_of self.new }
     {
@@ -136,7 +137,7 @@ impl Actors {
 
     /// Commits a put: what was cut is all of it.
     pub fn close(&mut self, put: u64)
-        requires { is_open put self.old.held.puts ≡ true }
+        requires { is_kept_open put self.old.held.puts ≡ true }
         ensures commits { Commits put self.old self.new }
         ensures readers { reader_room_of self.old ≤ reader_room_of self.new }
     {
@@ -145,8 +146,8 @@ impl Actors {
 
     /// Gives a put up.
     pub fn abort(&mut self, put: u64)
-        requires { is_open put self.old.held.puts ≡ true }
-        ensures ends { GivesUp put self.old self.new }
+        requires { is_kept_open put self.old.held.puts ≡ true }
+        ensures ends { PutIsGivenUp put self.old self.new }
         ensures readers { reader_room_of self.old ≤ reader_room_of self.new }
     {
         self.open.abort(put).unwrap();
@@ -166,7 +167,7 @@ impl Actors {
     /// Opens a reader at the first fragment of a put, which it follows where that is open.
     pub fn open_reader(&mut self, put: u64) -> Result<u64, AllocError>
         requires { self.old.next_reader + 1 < 2 ^ 64 }
-        ensures ok { IfOk result (OpensReader put self.old self.new) }
+        ensures ok { IfOk result (ReaderOpens put self.old self.new) }
         ensures err { OnErr result (self.new ≡ with_room_of_readers (reader_room_of self.new) self.old) }
         ensures stays { OnErr result (StayInStep self.old self.new) }
         ensures room { reader_room_of self.old ≤ reader_room_of self.new + 1 }

@@ -3,7 +3,7 @@ use Rattle.std.proofs.Common.{◌≡◌, ℕ, ◌==◌, true, false, Bool, List,
 use Rattle.std.specs.Prelude.{IfErr, Some, if◌then◌else◌, option_and_then}
 use Rattle.alternate_vector.specs.Alternates.{Stored, vector_size}
 use Rattle.fragment_table.specs.Table.{TableRow, total_length}
-use Rattle.logged_disk.specs.Device.{State as Device}
+use Rattle.logged_disk.specs.Device.{DeviceState as Device}
 use Rattle.cache_model.specs.declared.record.Rec.{Rec}
 use Rattle.cache_model.specs.State.{PutRow, Row, State, put_of}
 use Rattle.cache_model.specs.Kept.{Kept, state_of}
@@ -33,10 +33,10 @@ use Rattle.stripe_write.proofs.Spending.{nothing_more}
 use Rattle.cache_calls.specs.declared.calls.Receipt as receipt
 use Rattle.cache_calls.specs.declared.calls.Refusal as refused
 use Rattle.cache_calls.specs.declared.calls.Refusal.TheVariants as said
-use Rattle.cache_calls.specs.Adds.{Adds, IsOfPut}
+use Rattle.cache_calls.specs.Adds.{AddsOnly, IsOfPut}
 use Rattle.cache_calls.specs.Asked.{close_asks, ending_asks, progress_at, rest_asks, rest_rows, rows_at_close}
 use Rattle.cache_calls.specs.Standing.{IsToldClosed}
-use Rattle.cache_calls.specs.Writers.{Closes, IsComplete, NumberAtClose, SealsWhere, StopsAtLimit, WriterCloses, bytes_next, size_at_close}
+use Rattle.cache_calls.specs.Writers.{Closes, NumberAtClose, SealsWhere, StopsAtLimit, TellsComplete, WriterCloses, bytes_next, size_at_close}
 use Rattle.stripe_calls.specs.Answers.{answer_as, receipt_as}
 use Rattle.stripe_calls.specs.Seen.{at_by, written_as}
 use Rattle.stripe_calls.proofs.Serving.{all_left, one_stays, same_added, serves_by, shows_asked, spends_done, spends_fails}
@@ -44,33 +44,34 @@ use Rattle.stripe_calls.proofs.Words.{writer_as}
 
 -- ---- what is asked
 
-rest_rows_are : (bytes : List ℕ) → closing.rest_rows bytes ≡ rest_rows bytes
+rest_rows_are : (bytes : List ℕ) → closing.row_of_rest bytes ≡ rest_rows bytes
 rest_rows_are [] = refl
 rest_rows_are (byte ∷ bytes) = refl
 
-rest_asks_are : (w : Writer) (bytes : List ℕ) → closing.rest_intents w bytes ≡ rest_asks (written_as w) bytes
+rest_asks_are : (w : Writer) (bytes : List ℕ) → closing.asked_of_rest w bytes ≡ rest_asks (written_as w) bytes
 rest_asks_are w [] = refl
 rest_asks_are w (byte ∷ bytes) = refl
 
-pub rows_are : (w : Writer) → closing.rows_at_close w ≡ rows_at_close (written_as w)
+pub rows_are : (w : Writer) → closing.closing_rows w ≡ rows_at_close (written_as w)
 rows_are w = ap (λ rows. w.table.rows ++ rows) (rest_rows_are w.gathered.items)
 
-asks_are : (w : Writer) → closing.close_intents w ≡ ending_asks (written_as w)
+asks_are : (w : Writer) → closing.asked_of_closing w ≡ ending_asks (written_as w)
 asks_are w =
-    ap (λ is. Weigh w.put (length w.gathered.items) ∷ (is ++ Finish w.put (length (closing.rows_at_close w)) ∷ Commit w.put ∷ []))
+    ap (λ is. Weigh w.put (length w.gathered.items) ∷ (is ++ Finish w.put (length (closing.closing_rows w)) ∷ Commit w.put ∷ []))
     (rest_asks_are w w.gathered.items)
     ∙ ap (λ rows. Weigh w.put (length w.gathered.items) ∷ (rest_asks (written_as w) w.gathered.items ++ Finish w.put (length rows) ∷ Commit w.put ∷ []))
     (rows_are w)
 
 -- ---- the number at the end of the tape
 
-next_is : (t : State) (w : Writer) → closes.bytes_next t w ≡ bytes_next t (written_as w)
+next_is : (t : State) (w : Writer) → closes.bytes_placed_next t w ≡ bytes_next t (written_as w)
 next_is t w = ap (λ rows. if length (cuts_of t w.put) == length rows then vector_length t w.put else length w.gathered.items) (rows_are w)
 
 abbrev Numbered : State → Writer → Result receipt.Receipt refused.Refusal → Type 0
 Numbered t w result = IfErr result (StopsAtLimit t (bytes_next t (written_as w)))
 
-number_at : (t : State) (w : Writer) (result : Result Receipt Refusal) → IfErr result (numbers.StopsAtLimit t (closes.bytes_next t w))
+number_at : (t : State) (w : Writer) (result : Result Receipt Refusal)
+    → IfErr result (numbers.StopsExhausted t (closes.bytes_placed_next t w))
     → Numbered t w (answer_as receipt_as result)
 number_at t w (Ok given) h = tt
 number_at t w (Err (refusal.Exhausted number)) h = subst (λ n. StopsAtLimit t n (said.Exhausted number)) (next_is t w) h
@@ -97,13 +98,13 @@ module _ (packed : Bool) (k l : Kept) (d e : Device) (now : ℕ) (w : Writer) (a
       ServesFrom (Untold e IsVectorAs) now (at_by packed k d) (at_by packed l e) asked o IsToldAt (NumberAtClose (written_as w) (answer_as receipt_as result))
 
   -- what is asked of an open put comes there, in each step that covers the call; or a pair is shown
-  comes : (o : Progress) (result : Result Receipt Refusal) → writers.IsWriterOf (state_of k) w → is_writing (state_of k) w.put ≡ true
-      → ((p : Permit) (added : List Rec) → closes.Spent p (state_of k) w result added → Spends p (state_of k) (closing.close_intents w) added o)
+  comes : (o : Progress) (result : Result Receipt Refusal) → writers.IsStripeWriterOf (state_of k) w → is_writing (state_of k) w.put ≡ true
+      → ((p : Permit) (added : List Rec) → closes.Spent p (state_of k) w result added → Spends p (state_of k) (closing.asked_of_closing w) added o)
       → ClosesAsAsked packed now d.past e k l w result → Served (ending_asks (written_as w)) o result
   comes o result own writing law h =
       let row = open_put (put_of (state_of k) w.put) writing in
       subst (λ is. Served is o result) (asks_are w)
-      (serves_by accounted (closing.close_intents w) o IsToldAt accounted.added accounted.adds
+      (serves_by accounted (closing.asked_of_closing w) o IsToldAt accounted.added accounted.adds
       (λ p past packs moment step told. elim (h.does p packs moment step told) [
         | inl closed ↦ inl (
           law p accounted.added (subst (closes.Spent p (state_of k) w result) (same_added k l closed.added accounted.added closed.adds accounted.adds) closed.does),
@@ -122,17 +123,18 @@ module _ (packed : Bool) (k l : Kept) (d e : Device) (now : ℕ) (w : Writer) (a
   opened o result writing h = subst (λ is. Served is o result) (ap (λ b. if b then ending_asks (written_as w) else []) (sym writing)) h
 
   -- want of memory leaves all of it
-  wanting : (result : Result Receipt Refusal) → is_writing (state_of k) w.put ≡ true → Served (ending_asks (written_as w)) (Leaves (closing.close_intents w)) result
+  wanting : (result : Result Receipt Refusal) → is_writing (state_of k) w.put ≡ true → Served (ending_asks (written_as w)) (Leaves (closing.asked_of_closing w)) result
       → Served own_asks (Leaves own_asks) result
   wanting result writing h =
-      let first : closing.close_intents w ≡ own_asks = asks_are w ∙ ap (λ b. if b then ending_asks (written_as w) else []) (sym writing) in
-      subst (λ left. Served own_asks (Leaves left) result) first (opened (Leaves (closing.close_intents w)) result writing h)
+      let first : closing.asked_of_closing w ≡ own_asks = asks_are w
+      ∙ ap (λ b. if b then ending_asks (written_as w) else []) (sym writing) in
+      subst (λ left. Served own_asks (Leaves left) result) first (opened (Leaves (closing.asked_of_closing w)) result writing h)
 
-  pub close_serves : (result : Result Receipt Refusal) → writers.IsWriterOf (state_of k) w → is_writing (state_of k) w.put ≡ true
+  pub close_serves : (result : Result Receipt Refusal) → writers.IsStripeWriterOf (state_of k) w → is_writing (state_of k) w.put ≡ true
       → ClosesWhere (state_of k) (state_of l) w result → ClosesAsAsked packed now d.past e k l w result
       → Served own_asks (progress_at w.put own_asks (answer_as receipt_as result)) result
   close_serves (Ok given) own writing is h =
-      opened AllDone (Ok given) writing (comes AllDone (Ok given) own writing (λ p added. spends_done p (state_of k) (closing.close_intents w) added) h)
+      opened AllDone (Ok given) writing (comes AllDone (Ok given) own writing (λ p added. spends_done p (state_of k) (closing.asked_of_closing w) added) h)
   close_serves (Err (refusal.VectorTooLarge bytes)) own writing is h =
       opened (Stops (TooLarge w.put bytes)) (Err (refusal.VectorTooLarge bytes)) writing (comes (Stops (TooLarge w.put bytes)) (Err (refusal.VectorTooLarge bytes)) own writing (λ p added. spends_fails (TooLarge w.put bytes)) h)
   close_serves (Err (refusal.Lost index why)) own writing is h =
@@ -142,7 +144,7 @@ module _ (packed : Bool) (k l : Kept) (d e : Device) (now : ℕ) (w : Writer) (a
   close_serves (Err (refusal.Exhausted number)) own writing is h =
       opened (Stops Exhausted) (Err (refusal.Exhausted number)) writing (comes (Stops Exhausted) (Err (refusal.Exhausted number)) own writing (λ p added. spends_fails Exhausted) h)
   close_serves (Err (refusal.Memory error)) own writing is h =
-      wanting (Err (refusal.Memory error)) writing (comes (Leaves (closing.close_intents w)) (Err (refusal.Memory error)) own writing (λ p added. one_stays _) h)
+      wanting (Err (refusal.Memory error)) writing (comes (Leaves (closing.asked_of_closing w)) (Err (refusal.Memory error)) own writing (λ p added. one_stays _) h)
   close_serves (Err refusal.NoSuchWriter) own writing is h = let clash : true ≡ false = sym writing ∙ is in cc
   close_serves (Err _) own writing is h = absurd is
 
@@ -154,20 +156,20 @@ module _ (packed : Bool) (k l : Kept) (d e : Device) (now : ℕ) (w : Writer) (a
 pub nothing_closed : (k : Kept) (d : Device) → IsAccounted d.past d.past k k
 nothing_closed k d = accounted_none d.past d.past k k refl refl
 
-pub none_added : (put : ℕ) (a : At) → Adds (IsOfPut put) a a
+pub none_added : (put : ℕ) (a : At) → AddsOnly (IsOfPut put) a a
 none_added put a = record { added = []; adds = sym (nothing_more a.kept); own = tt }
 
 -- ---- what it gives
 
 module _ (packed : Bool) (k l : Kept) (d e : Device) (w : Writer) where
-  complete : (given : Receipt) → closes.IsComplete w given → IsComplete (written_as w) (receipt_as given)
+  complete : (given : Receipt) → closes.IsCompleteInStripe w given → TellsComplete (written_as w) (receipt_as given)
   complete given h = record {
     put = h.put;
     bytes = h.bytes ∙ ap total_length (rows_are w);
     fragments = h.fragments ∙ ap (λ rows. length rows) (rows_are w);
   }
 
-  size_is : closing.size_at_close w ≡ size_at_close (written_as w)
+  size_is : closing.closing_size w ≡ size_at_close (written_as w)
   size_is = ap (λ (rows : List TableRow). vector_size (alternate rows ∷ [])) (rows_are w)
     where
       alternate : List TableRow → Stored
@@ -193,7 +195,7 @@ module _ (packed : Bool) (k l : Kept) (d e : Device) (w : Writer) where
 
 -- ---- the writer
 
-seals_as : (old new : Writer) (result : Result Receipt Refusal) → closes.SealsWhere old new result
+seals_as : (old new : Writer) (result : Result Receipt Refusal) → closes.SealsInStripeWhere old new result
     → SealsWhere (written_as old) (written_as new) (answer_as receipt_as result)
 seals_as old new (Ok given) h = tt
 seals_as old new (Err (refusal.DeviceFault count)) h = h
@@ -206,7 +208,7 @@ seals_as old new (Err (refusal.Lost index why)) h = tt
 seals_as old new (Err refusal.Sealed) h = tt
 seals_as old new (Err refusal.NoSuchWriter) h = tt
 
-pub writer_closes : (t : State) (old new : Writer) (result : Result Receipt Refusal) → writers.IsWriterOf t new → closes.SealsWhere old new result
+pub writer_closes : (t : State) (old new : Writer) (result : Result Receipt Refusal) → writers.IsStripeWriterOf t new → closes.SealsInStripeWhere old new result
     → closes.IsRested old new → WriterCloses (written_as old) (answer_as receipt_as result) t (written_as new)
 writer_closes t old new result own seals rested = record {
   seals = seals_as old new result seals;
@@ -218,12 +220,13 @@ writer_closes t old new result own seals rested = record {
 }
 
 -- one that does not close is as it was
-pub writer_stays : (t : State) (w : Writer) → writers.IsWriterOf t w
+pub writer_stays : (t : State) (w : Writer) → writers.IsStripeWriterOf t w
     → WriterCloses (written_as w) (Err said.NoSuchWriter) t (written_as w)
 writer_stays t w own = record { seals = tt; rested = inl (record { put = refl; gathered = refl; cuts = refl }); writer = writer_as t w own }
 
 -- ---- what is told of the rest
 
 -- a caller tells it of the writer that it sees
-pub told_closed : (t : State) (w : Writer) (contents : Contents) → IsToldClosed t (written_as w) contents → closes.IsToldClosed t w contents
+pub told_closed : (t : State) (w : Writer) (contents : Contents) → IsToldClosed t (written_as w) contents
+    → closes.IsToldClosedInStripe t w contents
 told_closed t w contents h = record { rest = h.rest; vectors = h.vectors }

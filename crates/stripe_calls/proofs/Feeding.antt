@@ -2,7 +2,7 @@
 use Rattle.std.proofs.Common.{◌≡◌, ℕ, ◌+◌, ◌<◌, ◌==◌, ◌&&◌, arith, true, false, Bool, List, [], ◌∷◌, ◌++◌, refl, sym, ◌∙◌, ap, subst, Result, Ok, Err, inl, length}
 use Rattle.std.specs.Prelude.{IfErr, IfOk, MatchBool, OnErr, if◌then◌else◌, not, nat_lt}
 use Rattle.std.proofs.lemmas.Bool.{eq-eqb, eqb-true, ltb-false, ltb-true}
-use Rattle.logged_disk.specs.Device.{State as Device}
+use Rattle.logged_disk.specs.Device.{DeviceState as Device}
 use Rattle.tape_base.specs.Digest.{digest_of}
 use Rattle.cache_model.specs.declared.record.Rec.{Rec}
 use Rattle.cache_model.specs.declared.record.Rec.TheVariants as rec
@@ -21,14 +21,14 @@ use Rattle.stripe_core.specs.declared.refusal.Refusal.{Refusal}
 use Rattle.stripe_core.specs.declared.refusal.Refusal.TheVariants as refusal
 use Rattle.stripe_pieces.specs.declared.answer.Stop.{Stop}
 use Rattle.stripe_pieces.specs.declared.answer.Stop.TheVariants as stop
-use Rattle.stripe_pieces.specs.Covers.{Spends}
+use Rattle.stripe_pieces.specs.Covers.{SpendsFirst}
 use Rattle.stripe_pieces.specs.Faults.{IsAccounted}
 use Rattle.stripe_pieces.specs.Place.{IsCutAs, IsStoppedAs, cut_records, place_end}
 use Rattle.stripe_write.specs.declared.writer.Writer.{Writer}
 use Rattle.stripe_write.specs.Numbers as numbers
 use Rattle.stripe_write.specs.Writers as writers
 use Rattle.stripe_write.specs.Writes as writes
-use Rattle.stripe_write.specs.Writes.{CutsNext, IsTaking, SameWriter, WritesAsAsked, WritesWhere, cuts_fragment, gathered_with, next_id, next_payload, next_start, is_cut, taken_of}
+use Rattle.stripe_write.specs.Writes.{CutsNextAsAsked, IsTakingInStripe, SameWriter, WritesAsAsked, WritesWhere, cuts_fragment, gathered_behind, next_id, payload_cut_next, next_start, completes_fragment, taken_up_to_cut}
 use Rattle.stripe_write.proofs.Cutting.{next_no_vector}
 use Rattle.stripe_write.proofs.Spending.{nothing_more}
 use Rattle.cache_calls.specs.Adds.{AddsSoundly, IsOfPut}
@@ -68,25 +68,27 @@ module _ (s : State) (w : Writer) (bytes : List ℕ) where
   abbrev cut_asks : Bool → List ℕ → List Intent
   cut_asks b payload = if b then cuts_next (written_as w) payload ∷ [] else []
 
-  taking_asks : IsTaking s w → asks ≡ fed_asks s (written_as w) bytes
+  taking_asks : IsTakingInStripe s w → asks ≡ fed_asks s (written_as w) bytes
   taking_asks h =
       ap (λ b. if b && not w.sealed then fed_asks s (written_as w) bytes else []) h.0
       ∙ ap (λ b. if not b then fed_asks s (written_as w) bytes else []) h.1
 
-  taken_asks : IsTaking s w → (0 < length bytes → length w.table.rows < most_fragments)
-      → asks ≡ cut_asks (is_cut s.geometry w (taken_of s.geometry w bytes)) (next_payload s w bytes)
+  taken_asks : IsTakingInStripe s w → (0 < length bytes → length w.table.rows < most_fragments)
+      → asks ≡ cut_asks (completes_fragment s.geometry w (taken_up_to_cut s.geometry w bytes)) (payload_cut_next s w bytes)
   taken_asks h few =
       taking_asks h
-      ∙ ap (λ b. if b then Overflow w.put ∷ [] else cut_asks (is_cut s.geometry w (taken_of s.geometry w bytes)) (next_payload s w bytes))
+      ∙ ap (λ b. if b then Overflow w.put
+      ∷ [] else cut_asks (completes_fragment s.geometry w (taken_up_to_cut s.geometry w bytes)) (payload_cut_next s w bytes))
       (not_over (length bytes) (length w.table.rows) few)
 
-  cutting_asks : writes.IsCutting s w bytes → asks ≡ cuts_fragment w (next_payload s w bytes) ∷ []
-  cutting_asks h = taken_asks h.taking (λ some. h.few) ∙ ap (λ b. cut_asks b (next_payload s w bytes)) h.full
+  cutting_asks : writes.IsCuttingInStripe s w bytes → asks ≡ cuts_fragment w (payload_cut_next s w bytes) ∷ []
+  cutting_asks h = taken_asks h.taking (λ some. h.few) ∙ ap (λ b. cut_asks b (payload_cut_next s w bytes)) h.full
 
-  over_asks : IsTaking s w → 0 < length bytes → length w.table.rows ≡ most_fragments → asks ≡ Overflow w.put ∷ []
+  over_asks : IsTakingInStripe s w → 0 < length bytes → length w.table.rows ≡ most_fragments → asks ≡ Overflow w.put ∷ []
   over_asks h some whole =
       taking_asks h
-      ∙ ap (λ b. if b then Overflow w.put ∷ [] else cut_asks (is_cut s.geometry w (taken_of s.geometry w bytes)) (next_payload s w bytes))
+      ∙ ap (λ b. if b then Overflow w.put
+      ∷ [] else cut_asks (completes_fragment s.geometry w (taken_up_to_cut s.geometry w bytes)) (payload_cut_next s w bytes))
       (over (length bytes) (length w.table.rows) some whole)
 
 -- ---- what it serves
@@ -99,23 +101,24 @@ module _ (packed : Bool) (k l : Kept) (d e : Device) (now : ℕ) (w : Writer) (b
   own_asks = asks (state_of k) w bytes
 
   took : (n : ℕ) (added : List Rec) → l ≡ with_records k added → (b : Bool)
-      → MatchBool b ((placed : Placed) × CutsNext packed now (state_of k) d.past e w (gathered_with w bytes n) added (Ok placed)) (added ≡ [])
-      → Served (cut_asks (state_of k) w bytes b (gathered_with w bytes n)) AllDone
+      → MatchBool b ((placed : Placed) × CutsNextAsAsked packed now (state_of k) d.past e w (gathered_behind w bytes n) added (Ok placed)) (added ≡ [])
+      → Served (cut_asks (state_of k) w bytes b (gathered_behind w bytes n)) AllDone
   took n added adds true h =
-      serves_by accounted (cuts_fragment w (gathered_with w bytes n) ∷ []) AllDone IsToldAt added adds
+      serves_by accounted (cuts_fragment w (gathered_behind w bytes n) ∷ []) AllDone IsToldAt added adds
       (λ p past packs moment step told. inl (one_done (h.1.does p packs moment step), λ later. tt))
   took n added adds false h = all_left accounted [] IsToldAt (subst (λ recs. l ≡ with_records k recs) h adds ∙ nothing_more k) (λ later. tt)
 
   stopped : (why : Reason) (end : Result Placed Stop) (added : List Rec) → place_end end ≡ Fails why → l ≡ with_records k added
-      → writes.IsCutting (state_of k) w bytes → CutsNext packed now (state_of k) d.past e w (next_payload (state_of k) w bytes) added end
+      → writes.IsCuttingInStripe (state_of k) w bytes
+      → CutsNextAsAsked packed now (state_of k) d.past e w (payload_cut_next (state_of k) w bytes) added end
       → Served own_asks (Stops why)
   stopped why end added is adds cutting h =
-      let payload = next_payload (state_of k) w bytes in
+      let payload = payload_cut_next (state_of k) w bytes in
       subst (λ them. Served them (Stops why)) (sym (cutting_asks (state_of k) w bytes cutting))
       (serves_by accounted (cuts_fragment w payload ∷ []) (Stops why) IsToldAt added adds
       (λ p past packs moment step told. inl (
         one_fails why
-            (subst (Spends p (state_of k) (cuts_fragment w payload) added) is (h.does p packs moment step)),
+            (subst (SpendsFirst p (state_of k) (cuts_fragment w payload) added) is (h.does p packs moment step)),
         λ later. tt,
       )))
 
@@ -127,8 +130,8 @@ module _ (packed : Bool) (k l : Kept) (d e : Device) (now : ℕ) (w : Writer) (b
   write_serves (Ok n) is h =
       subst (λ them. Served them AllDone)
       (sym (taken_asks (state_of k) w bytes is.0 is.2
-      ∙ ap (λ m. cut_asks (state_of k) w bytes (is_cut (state_of k).geometry w m) (gathered_with w bytes m)) (sym is.1)))
-      (took n h.added h.adds (is_cut (state_of k).geometry w n) h.does)
+      ∙ ap (λ m. cut_asks (state_of k) w bytes (completes_fragment (state_of k).geometry w m) (gathered_behind w bytes m)) (sym is.1)))
+      (took n h.added h.adds (completes_fragment (state_of k).geometry w n) h.does)
   write_serves (Err (refusal.DeviceFault count)) is h = stopped (Faulted count) (Err (stop.DeviceFault count)) h.added refl h.adds is h.does
   write_serves (Err (refusal.Exhausted number)) is h = stopped Exhausted (Err (stop.Exhausted number)) h.added refl h.adds is h.does
   write_serves (Err refusal.TooManyFragments) is h =
@@ -177,24 +180,25 @@ module _ (packed : Bool) (k l : Kept) (d e : Device) (w : Writer) where
 
   module _ (now : ℕ) (bytes : List ℕ) where
     taken : (n : ℕ) (added : List Rec) → l ≡ with_records k added → (b : Bool)
-        → MatchBool b ((placed : Placed) × CutsNext packed now (state_of k) d.past e w (gathered_with w bytes n) added (Ok placed)) (added ≡ [])
-        → MatchBool b (CutsAs (at_by packed k d) (at_by packed l e) (written_as w) (gathered_with w bytes n)) (l ≡ k)
-    taken n added adds true h = cuts (gathered_with w bytes n) added h.0 adds h.1.shape
+        → MatchBool b ((placed : Placed) × CutsNextAsAsked packed now (state_of k) d.past e w (gathered_behind w bytes n) added (Ok placed)) (added ≡ [])
+        → MatchBool b (CutsAs (at_by packed k d) (at_by packed l e) (written_as w) (gathered_behind w bytes n)) (l ≡ k)
+    taken n added adds true h = cuts (gathered_behind w bytes n) added h.0 adds h.1.shape
     taken n added adds false h = as_it_was added adds h
 
-    cutting : writes.IsCutting (state_of k) w bytes → IsCutting (state_of k) (written_as w) bytes
+    cutting : writes.IsCuttingInStripe (state_of k) w bytes → IsCutting (state_of k) (written_as w) bytes
     cutting h = record { taking = h.taking; few = h.few; full = h.full }
 
     pub write_gives : (result : Result ℕ Refusal) → WritesWhere (state_of k) w bytes result
-        → IfErr result (numbers.StopsAtLimit (state_of l) (state_of k).geometry.fragment) → WritesAsAsked packed now k l d.past e w bytes result
+        → IfErr result (numbers.StopsExhausted (state_of l) (state_of k).geometry.fragment) → WritesAsAsked packed now k l d.past e w bytes result
         → Writes (at_by packed k d) (at_by packed l e) (written_as w) bytes (answer_as same_as result)
     write_gives (Ok n) is number h =
-        record { taking = is.0; count = is.1; few = is.2; cuts = taken n h.added h.adds (is_cut (state_of k).geometry w n) h.does }
+        record
+        { taking = is.0; count = is.1; few = is.2; cuts = taken n h.added h.adds (completes_fragment (state_of k).geometry w n) h.does }
     write_gives (Err (refusal.DeviceFault count)) is number h =
-        let payload = next_payload (state_of k) w bytes in
+        let payload = payload_cut_next (state_of k) w bytes in
         (cutting is, h.does.shape.why_is.0, h.does.shape.why_is.1, stops payload h.added (stop.DeviceFault count) h.adds h.does.shape)
     write_gives (Err (refusal.Exhausted n)) is number h =
-        let payload = next_payload (state_of k) w bytes in
+        let payload = payload_cut_next (state_of k) w bytes in
         (cutting is, number, stops payload h.added (stop.Exhausted n) h.adds h.does.shape)
     write_gives (Err refusal.TooManyFragments) is number h = (is.0, is.1, is.2, h.adds ∙ ap (with_records k) h.does.0)
     write_gives (Err refusal.NoSuchWriter) is number h = (is, as_it_was h.added h.adds h.does)
@@ -219,7 +223,7 @@ same_writer old new h =
     let sealed : new.sealed ≡ old.sealed = h.sealed in
     cc
 
-pub write_goes : (s t : State) (old new : Writer) (bytes : List ℕ) (result : Result ℕ Refusal) → writers.IsWriterOf t new
+pub write_goes : (s t : State) (old new : Writer) (bytes : List ℕ) (result : Result ℕ Refusal) → writers.IsStripeWriterOf t new
     → IfOk result (λ n. writes.GathersAsAsked s.geometry old bytes n new) → OnErr result (SameWriter old new)
     → WriterGoesOn (written_as old) bytes (answer_as same_as result) s t (written_as new)
 write_goes s t old new bytes (Ok n) own gathers same = record {
@@ -232,6 +236,6 @@ write_goes s t old new bytes (Err why) own gathers same = record { goes = same_w
 
 -- a caller tells it of the writer that it sees
 pub told_written : (s : State) (w : Writer) (bytes : List ℕ) (result : Result ℕ Refusal) (contents : Contents)
-    → IsToldWritten s (written_as w) bytes (answer_as same_as result) contents → writes.IsToldWritten s w bytes result contents
+    → IsToldWritten s (written_as w) bytes (answer_as same_as result) contents → writes.IsToldWrittenInStripe s w bytes result contents
 told_written s w bytes (Ok n) contents h = h
 told_written s w bytes (Err why) contents h = tt

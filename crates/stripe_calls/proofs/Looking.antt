@@ -4,7 +4,7 @@ use Rattle.std.specs.Prelude.{IfErr, IfOk, OnErr, OnOk, Option, Some, None, opti
 use Rattle.std.specs.declared.alloc.AllocError.{AllocError}
 use Rattle.tape_base.specs.declared.actors.Actor.{Actor}
 use Rattle.tape_base.specs.declared.keys.Key.{Key}
-use Rattle.logged_disk.specs.Device.{State as Device}
+use Rattle.logged_disk.specs.Device.{DeviceState as Device}
 use Rattle.fragment_table.specs.Table.{Table, total_length}
 use Rattle.alternate_vector.specs.Field.{Field}
 use Rattle.cache_model.specs.declared.answer.ReadAnswer.{ReadAnswer}
@@ -25,41 +25,41 @@ use Rattle.stripe_read.specs.declared.opening.Opened.{Opened}
 use Rattle.stripe_read.specs.declared.opening.Opened.TheVariants as opened
 use Rattle.stripe_read.specs.declared.reader.Reader.{Reader}
 use Rattle.stripe_read.specs.Lookups as lookups
-use Rattle.stripe_read.specs.Lookups.{IfReader, Opens, Tells, answer_in}
+use Rattle.stripe_read.specs.Lookups.{IfOpened, Opens, TellsOpened, answer_of_opened}
 use Rattle.stripe_read.specs.Readers as readers
 use Rattle.cache_model.specs.Vectors.{IsVectorAs}
 use Rattle.cache_calls.specs.Actors.{IsOpenReader, IsReaderOf}
 use Rattle.cache_calls.specs.Asked.{unless_wanting}
 use Rattle.cache_calls.specs.Readers as seam
 use Rattle.cache_calls.specs.Readers.{ClosesReader, HasItsTable, IsCountedMiss, OpensReader, TellsReader, open_adds, vector_trouble}
-use Rattle.stripe_calls.specs.Answers.{given_as, opened_as}
+use Rattle.stripe_calls.specs.Answers.{given_as, opened_in_calls}
 use Rattle.stripe_calls.specs.Seen.{at_by, reading_as}
 use Rattle.stripe_calls.proofs.Serving.{all_left, group_serves, serves_by, shows_asked}
 use Rattle.stripe_calls.proofs.Words.{are_seen, cause_same, counted_cause, reader_as, table_as}
 
 -- ---- the records of a lookup
 
-trouble_same : (o : Option Row) (answer : ReadAnswer) → lookups.trouble_with o answer ≡ vector_trouble o answer
+trouble_same : (o : Option Row) (answer : ReadAnswer) → lookups.lookup_trouble o answer ≡ vector_trouble o answer
 trouble_same None answer = refl
 trouble_same (Some row) (read.Hit put) = refl
 trouble_same (Some row) (read.Follow put) = refl
 trouble_same (Some row) (read.Miss why) = sym (cause_same row why)
 
-answer_same : (given : Opened) → answer_in given ≡ seam.answer_in (opened_as given)
+answer_same : (given : Opened) → answer_of_opened given ≡ seam.answer_in (opened_in_calls given)
 answer_same (opened.Hit reader put size) = refl
 answer_same (opened.Follow reader put) = refl
 answer_same (opened.Miss why) = refl
 
 adds_same : (s : State) (who : Actor) (key : Key) (request : List Field) (given : Opened)
-    → lookups.open_adds s who key request (answer_in given) ≡ open_adds s who key request (seam.answer_in (opened_as given))
+    → lookups.opening_adds s who key request (answer_of_opened given) ≡ open_adds s who key request (seam.answer_in (opened_in_calls given))
 adds_same s who key request given =
-    ap (λ recs. recs ++ rec.ReadOpened s.next_reader who key request (answer_in given) ∷ []) (trouble_same (live_vector_of s key) (answer_in given))
+    ap (λ recs. recs ++ rec.ReadOpened s.next_reader who key request (answer_of_opened given) ∷ []) (trouble_same (live_vector_of s key) (answer_of_opened given))
     ∙ ap (open_adds s who key request) (answer_same given)
 
 -- ---- what it tells
 
-if_reader : (P : Reader → Type 0) (Q : Reader → Type 0) → ((r : Reader) → P r → Q r) → (given : Opened) → IfReader P given
-    → seam.IfReader Q (opened_as given)
+if_reader : (P : Reader → Type 0) (Q : Reader → Type 0) → ((r : Reader) → P r → Q r) → (given : Opened) → IfOpened P given
+    → seam.IfReader Q (opened_in_calls given)
 if_reader P Q f (opened.Hit reader put size) h = f reader h
 if_reader P Q f (opened.Follow reader put) h = f reader h
 if_reader P Q f (opened.Miss why) h = tt
@@ -68,13 +68,13 @@ length_same : (table : Option Table) → option_map (λ (t : Table). total_lengt
 length_same None = refl
 length_same (Some table) = refl
 
-tells_as : (number : ℕ) (given : Opened) → Tells number given → TellsReader reading_as number (opened_as given)
+tells_as : (number : ℕ) (given : Opened) → TellsOpened number given → TellsReader reading_as number (opened_in_calls given)
 tells_as number (opened.Hit reader put size) h = (h.0, h.1, sym (length_same reader.table) ∙ h.2)
 tells_as number (opened.Follow reader put) h = h
 tells_as number (opened.Miss why) h = tt
 
-counted_as : (faults : ℕ) (s : State) (key : Key) (given : Opened) → lookups.IsCountedMiss faults s key (answer_in given)
-    → IsCountedMiss faults s key (seam.answer_in (opened_as given))
+counted_as : (faults : ℕ) (s : State) (key : Key) (given : Opened) → lookups.MissIsCounted faults s key (answer_of_opened given)
+    → IsCountedMiss faults s key (seam.answer_in (opened_in_calls given))
 counted_as faults s key (opened.Hit reader put size) h = tt
 counted_as faults s key (opened.Follow reader put) h = tt
 counted_as faults s key (opened.Miss why) h = elim h [ inl is ↦ inl is | inr counted ↦ inr (counted_cause faults why counted) ]
@@ -86,33 +86,33 @@ module _ (packed : Bool) (k l : Kept) (d e : Device) (who : Actor) (key : Key) (
   asked = Look who.0 key request ∷ []
 
   abbrev Added : Result Opened AllocError → Type 0
-  Added result = IfOk result (λ given. l ≡ with_records k (lookups.open_adds (state_of k) who key request (answer_in given)))
+  Added result = IfOk result (λ given. l ≡ with_records k (lookups.opening_adds (state_of k) who key request (answer_of_opened given)))
 
   abbrev Found : Result Opened AllocError → Type 0
   Found result = IfOk result (Opens (state_of k) (state_of l) d e who key request)
 
   pub look_serves : (now : ℕ) → IsAccounted d.past e.past k l → (result : Result Opened AllocError) → Added result → Found result → OnErr result (l ≡ k)
-      → ServesFrom (Untold e IsVectorAs) now (at_by packed k d) (at_by packed l e) asked (unless_wanting asked (given_as opened_as result)) IsToldAt
-      (HasItsTable reading_as (given_as opened_as result))
+      → ServesFrom (Untold e IsVectorAs) now (at_by packed k d) (at_by packed l e) asked (unless_wanting asked (given_as opened_in_calls result)) IsToldAt
+      (HasItsTable reading_as (given_as opened_in_calls result))
   look_serves now accounted (Ok given) adds h same =
-      let added : List Rec = lookups.open_adds (state_of k) who key request (answer_in given) in
+      let added : List Rec = lookups.opening_adds (state_of k) who key request (answer_of_opened given) in
       serves_by accounted asked AllDone IsToldAt added adds
       (λ p past packs moment step told. elim (h.does p step told.vectors) [
         | inl v ↦ inl (
           one_spends p (state_of k) (Look who.0 key request) added Done v.0,
-          λ later. if_reader (readers.IsReaderOf (state_of l)) (λ r. IsReaderOf (state_of l) (reading_as r)) (table_as (state_of l)) given v.1,
+          λ later. if_reader (readers.IsStripeReaderOf (state_of l)) (λ r. IsReaderOf (state_of l) (reading_as r)) (table_as (state_of l)) given v.1,
         )
         | inr pair ↦ inr (shows_asked [] added (λ row vector. vector) pair)
       ])
   look_serves now accounted (Err error) adds h same = all_left accounted asked IsToldAt same (λ later. tt)
 
-  pub look_gives : (result : Result Opened AllocError) → Added result → Found result → IfOk result (IfReader (readers.IsOpenReader (state_of l)))
-      → IfOk result (Tells (state_of k).next_reader) → OnErr result (l ≡ k)
-      → OpensReader reading_as (at_by packed k d) (at_by packed l e) who key request (given_as opened_as result)
+  pub look_gives : (result : Result Opened AllocError) → Added result → Found result → IfOk result (IfOpened (readers.IsOpenStripeReader (state_of l)))
+      → IfOk result (TellsOpened (state_of k).next_reader) → OnErr result (l ≡ k)
+      → OpensReader reading_as (at_by packed k d) (at_by packed l e) who key request (given_as opened_in_calls result)
   look_gives (Ok given) adds h reader tells same = record {
     adds = adds ∙ ap (with_records k) (adds_same (state_of k) who key request given);
     tells = tells_as (state_of k).next_reader given tells;
-    reader = if_reader (readers.IsOpenReader (state_of l)) (λ r. IsOpenReader (state_of l) (reading_as r)) (reader_as (state_of l)) given reader;
+    reader = if_reader (readers.IsOpenStripeReader (state_of l)) (λ r. IsOpenReader (state_of l) (reading_as r)) (reader_as (state_of l)) given reader;
     counted = counted_as e.faults (state_of k) key given h.counted;
     read = are_seen packed k l d e h.seen;
   }
@@ -125,7 +125,7 @@ module _ (packed : Bool) (k l : Kept) (d e : Device) (r : Reader) where
   Closed result = OnOk result (l ≡ with_records k (rec.ReadClosed r.reader ∷ []))
 
   pub close_reader_serves : (now : ℕ) → IsAccounted d.past e.past k l → (result : Result (Unit {0}) (AllocError × Reader)) → Closed result
-      → readers.ClosesAsAsked (state_of k) r → IfErr result (λ back. l ≡ k)
+      → readers.ReaderClosesAsAsked (state_of k) r → IfErr result (λ back. l ≡ k)
       → ServesTold now (at_by packed k d) (at_by packed l e) (StopReading r.reader ∷ []) (unless_wanting (StopReading r.reader ∷ []) result)
   close_reader_serves now accounted (Ok u) adds does same =
       group_serves accounted (StopReading r.reader) Done IsToldAt (rec.ReadClosed r.reader ∷ []) adds (λ p packs moment step. does p)

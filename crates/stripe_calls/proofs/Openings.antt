@@ -3,7 +3,7 @@ use Rattle.std.proofs.Common.{◌≡◌, ℕ, Bool, ◌+◌, ◌≤◌, false, L
 use Rattle.std.specs.Prelude.{IfOk, OnErr, OnOk}
 use Rattle.tape_base.specs.declared.actors.Actor.{Actor}
 use Rattle.tape_base.specs.declared.keys.Key.{Key}
-use Rattle.logged_disk.specs.Device.{State as Device}
+use Rattle.logged_disk.specs.Device.{DeviceState as Device}
 use Rattle.alternate_vector.specs.Field.{Field}
 use Rattle.cache_model.specs.declared.record.Rec.{Rec}
 use Rattle.cache_model.specs.declared.record.Rec.TheVariants as rec
@@ -16,13 +16,13 @@ use Rattle.call_laws.specs.Moments.{IsToldAt, permit_of}
 use Rattle.call_laws.specs.Serves.{ServesTold}
 use Rattle.stripe_core.specs.declared.refusal.Refusal.{Refusal}
 use Rattle.stripe_core.specs.declared.refusal.Refusal.TheVariants as refusal
-use Rattle.stripe_core.specs.Acts.{OpensAsAsked, opened_record}
+use Rattle.stripe_core.specs.Acts.{OpensAsAsked, write_opened_record}
 use Rattle.stripe_pieces.specs.Faults.{IsAccounted}
 use Rattle.stripe_write.specs.declared.writer.Writer.{Writer}
 use Rattle.stripe_write.specs.Writers as writers
-use Rattle.stripe_write.specs.Writes.{AbortsAsAsked, AbortsWhere, abort_adds, number_of}
+use Rattle.stripe_write.specs.Writes.{AbortsAsAsked, AbortsWhere, abort_adds, number_of_opened}
 use Rattle.stripe_write.proofs.Spending.{nothing_more}
-use Rattle.cache_calls.specs.Adds.{Adds, IsOfPut}
+use Rattle.cache_calls.specs.Adds.{AddsOnly, IsOfPut}
 use Rattle.cache_calls.specs.Asked.{given_up_at, progress_at}
 use Rattle.cache_calls.specs.Keeping.{unsynced_setting}
 use Rattle.cache_calls.specs.Writers.{GivesUp, HasNumber, OpensWriter}
@@ -44,10 +44,10 @@ module _ (packed : Bool) (k l : Kept) (d e : Device) (who : Actor) (key : Key) (
   asked = Write who.0 key request response pin ∷ []
 
   abbrev opened : Rec
-  opened = opened_record (state_of k) who key request response pin
+  opened = write_opened_record (state_of k) who key request response pin
 
   abbrev Opens : Result Writer Refusal → Type 0
-  Opens result = OpensAsAsked (state_of k) who key request response pin (number_of result)
+  Opens result = OpensAsAsked (state_of k) who key request response pin (number_of_opened result)
 
   module _ (now : ℕ) (accounted : IsAccounted d.past e.past k l) where
     pub open_serves : (result : Result Writer Refusal) → OnOk result (l ≡ with_records k (opened ∷ [])) → OnErr result (l ≡ k) → Opens result
@@ -61,11 +61,11 @@ module _ (packed : Bool) (k l : Kept) (d e : Device) (who : Actor) (key : Key) (
     open_serves (Err (refusal.Memory error)) adds same does = all_left accounted asked IsToldAt same (λ later. tt)
     open_serves (Err _) adds same does = absurd does
 
-  has_number : calls.HasNumber (state_of k) → HasNumber (state_of k)
+  has_number : calls.HasPutNumber (state_of k) → HasNumber (state_of k)
   has_number h = record { few = h.few; below = h.below }
 
   pub open_gives : (result : Result Writer Refusal) → OnOk result (l ≡ with_records k (opened ∷ [])) → OnErr result (l ≡ k) → Opens result
-      → IfOk result (writers.IsWriterOf (state_of l)) → IfOk result (λ w. w.gathered.items ≡ []) → IfOk result (λ w. w.sealed ≡ false) → e ≡ d
+      → IfOk result (writers.IsStripeWriterOf (state_of l)) → IfOk result (λ w. w.gathered.items ≡ []) → IfOk result (λ w. w.sealed ≡ false) → e ≡ d
       → OpensWriter written_as (at_by packed k d) (at_by packed l e) opened (answer_as same_as result)
   open_gives (Ok w) adds same does writer empty unsealed still = record {
     answers = record { adds = adds; put = does.0; empty = empty; unsealed = unsealed; writer = writer_as (state_of l) w writer };
@@ -79,7 +79,7 @@ module _ (packed : Bool) (k l : Kept) (d e : Device) (who : Actor) (key : Key) (
   open_gives (Err _) adds same does writer empty unsealed still = absurd does
 
   pub open_owns : (result : Result Writer Refusal) → OnOk result (l ≡ with_records k (opened ∷ [])) → OnErr result (l ≡ k)
-      → Adds (IsOfPut (state_of k).next_put) (at_by packed k d) (at_by packed l e)
+      → AddsOnly (IsOfPut (state_of k).next_put) (at_by packed k d) (at_by packed l e)
   open_owns (Ok w) adds same = record { added = opened ∷ []; adds = adds; own = (refl, tt) }
   open_owns (Err why) adds same = record { added = []; adds = adds_none k l same; own = tt }
 
@@ -112,6 +112,6 @@ module _ (packed : Bool) (k l : Kept) (d e : Device) (w : Writer) where
   abort_gives (Err _) adds is = absurd is
 
   pub abort_owns : (result : Result ℕ Refusal) → l ≡ with_records k (abort_adds w.key result) → AbortsWhere (state_of k) w.put result
-      → Adds (IsOfPut w.put) (at_by packed k d) (at_by packed l e)
+      → AddsOnly (IsOfPut w.put) (at_by packed k d) (at_by packed l e)
   abort_owns (Ok n) adds is = record { added = rec.Aborted w.put w.key ∷ []; adds = given_up n is.0 adds; own = (refl, tt) }
   abort_owns (Err why) adds is = record { added = []; adds = adds; own = tt }

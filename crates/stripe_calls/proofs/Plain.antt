@@ -4,7 +4,7 @@ use Rattle.std.specs.Prelude.{IfErr, IfOk, OnErr, OnOk}
 use Rattle.std.specs.declared.alloc.AllocError.{AllocError}
 use Rattle.tape_base.specs.declared.keys.Key.{Key}
 use Rattle.tape_base.specs.Geometry.{budget_of}
-use Rattle.logged_disk.specs.Device.{State as Device}
+use Rattle.logged_disk.specs.Device.{DeviceState as Device}
 use Rattle.cache_model.specs.declared.record.Rec.{Rec}
 use Rattle.cache_model.specs.Kept.{Kept, state_of, with_records}
 use Rattle.cache_model.specs.Legal.{IsQuiet}
@@ -21,7 +21,7 @@ use Rattle.stripe_pieces.specs.Faults.{IsAccounted}
 use Rattle.stripe_pieces.specs.Flush as flush
 use Rattle.stripe_pieces.specs.Flush.{AreOfFlush, FlushesAsAsked, StopsWith}
 use Rattle.stripe_pieces.specs.Still.{IsStill}
-use Rattle.stripe_core.specs.Stripe.{Answers, Wanting}
+use Rattle.stripe_core.specs.Stripe.{AnswersOrWants, Wanting}
 use Rattle.stripe_write.specs.declared.removal.Removal.{Removal}
 use Rattle.stripe_write.specs.declared.removal.Removal.TheVariants as removal
 use Rattle.stripe_write.specs.Removals.{RemovesAsIsAsked, RemovesWhere, removal_adds}
@@ -58,10 +58,10 @@ module _ (packed : Bool) (k l : Kept) (d e : Device) (key : Key) where
 
 module _ (packed : Bool) (k l : Kept) (d e : Device) (now : ℕ) where
   abbrev Does : Result Flushed Refusal → Type 0
-  Does result = Answers result (FlushesAsAsked now k l d.past e) (l ≡ k)
+  Does result = AnswersOrWants result (FlushesAsAsked now k l d.past e) (l ≡ k)
 
   abbrev Stops : Result Flushed Refusal → Type 0
-  Stops result = Answers result (λ r. IfErr r (StopsWith (state_of k) e.faults)) (Unit {0})
+  Stops result = AnswersOrWants result (λ r. IfErr r (StopsWith (state_of k) e.faults)) (Unit {0})
 
   pub flush_serves : IsAccounted d.past e.past k l → (result : Result Flushed Refusal) → Does result
       → ServesTold now (at_by packed k d) (at_by packed l e) (Flush ∷ []) (progress_at 0 (Flush ∷ []) (answer_as flushed_as result))
@@ -81,7 +81,7 @@ module _ (packed : Bool) (k l : Kept) (d e : Device) (now : ℕ) where
   flush_owns (Err (refusal.Memory error)) h = record { added = []; adds = adds_none k l h; own = tt; undamaged = λ told. tt }
   flush_owns (Err _) h = absurd h
 
-  answers : (result : Result Flushed Refusal) → Does result → IfOk result (flush.Tells (state_of k) (state_of l))
+  answers : (result : Result Flushed Refusal) → Does result → IfOk result (flush.TellsFlush (state_of k) (state_of l))
       → OnOk result ((state_of l).filled ≤ budget_of (state_of l).geometry) → Stops result → Wanting result (IsStill d e)
       → FlushesAs (at_by packed k d) (at_by packed l e) (answer_as flushed_as result)
   answers (Ok flushed) h tells room stops still =
@@ -91,7 +91,7 @@ module _ (packed : Bool) (k l : Kept) (d e : Device) (now : ℕ) where
   answers (Err (refusal.Memory error)) h tells room stops still = (h, is_idle still)
   answers (Err _) h tells room stops still = absurd h
 
-  pub flush_gives : (result : Result Flushed Refusal) → Does result → IfOk result (flush.Tells (state_of k) (state_of l))
+  pub flush_gives : (result : Result Flushed Refusal) → Does result → IfOk result (flush.TellsFlush (state_of k) (state_of l))
       → OnOk result ((state_of l).filled ≤ budget_of (state_of l).geometry) → Stops result → Wanting result (IsStill d e)
       → ((state_of k).filled ≡ 0 → IsStill d e) → (is_flush_exhausted (state_of k) ≡ true → IsStill d e)
       → Flushes (at_by packed k d) (at_by packed l e) (answer_as flushed_as result)

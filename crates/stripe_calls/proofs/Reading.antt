@@ -3,7 +3,7 @@ use Rattle.std.proofs.Common.{◌≡◌, ℕ, Bool, List, [], ◌∷◌, ◌++�
 use Rattle.std.specs.Prelude.{IfOk, OnErr, Option, Some, None, option_map}
 use Rattle.std.specs.declared.alloc.AllocError.{AllocError}
 use Rattle.fragment_table.specs.Table.{Table}
-use Rattle.logged_disk.specs.Device.{State as Device, TellsAll}
+use Rattle.logged_disk.specs.Device.{DeviceState as Device, TellsAll}
 use Rattle.cyclone.specs.Cyclone.{Seen}
 use Rattle.cache_model.specs.declared.record.Rec.{Rec}
 use Rattle.cache_model.specs.State.{Row, State}
@@ -27,7 +27,7 @@ use Rattle.stripe_read.specs.Nexts.{ReadsOn}
 use Rattle.stripe_read.specs.Readers as readers
 use Rattle.cache_calls.specs.Asked.{unless_wanting}
 use Rattle.cache_calls.specs.Keeping.{StaysUnharmed}
-use Rattle.cache_calls.specs.Readers.{IsCountedBreak, IsFragment, IsGiven, IsGivenAs, IsOtherNext, IsToldTo, ReaderGoesOn, ReadsNext, next_behind, next_trouble, noted, read_adds}
+use Rattle.cache_calls.specs.Readers.{IsCountedBreak, IsFragment, IsGivenAs, IsGivenInEachStep, IsOtherNext, IsToldTo, ReaderGoesOn, ReadsNext, next_behind, next_trouble, noted, read_adds}
 use Rattle.cache_calls.specs.Standing.{GivesPayload}
 use Rattle.stripe_calls.specs.Answers.{given_as, piece_as}
 use Rattle.stripe_calls.specs.Seen.{at_by, reading_as}
@@ -36,28 +36,29 @@ use Rattle.stripe_calls.proofs.Words.{are_seen, cause_same, counted_cause, reade
 
 -- ---- its records
 
-trouble_same : (o : Option Row) (given : NextPiece) → nexts.trouble_with o given ≡ next_trouble o (piece_as given)
+trouble_same : (o : Option Row) (given : NextPiece) → nexts.piece_trouble o given ≡ next_trouble o (piece_as given)
 trouble_same None given = refl
 trouble_same (Some row) (piece.Piece index size) = refl
 trouble_same (Some row) (piece.End size) = refl
 trouble_same (Some row) (piece.NotYet cut) = refl
 trouble_same (Some row) (piece.Broken why) = sym (cause_same row why)
 
-noted_same : (listed : ℕ) (given : NextPiece) → nexts.noted listed given ≡ noted listed (piece_as given)
+noted_same : (listed : ℕ) (given : NextPiece) → nexts.answer_noted listed given ≡ noted listed (piece_as given)
 noted_same listed (piece.Piece index size) = refl
 noted_same listed (piece.End size) = refl
 noted_same listed (piece.NotYet cut) = refl
 noted_same listed (piece.Broken why) = refl
 
-adds_same : (s : State) (r : Reader) (given : NextPiece) → nexts.read_adds s r given ≡ read_adds s (reading_as r) (piece_as given)
+adds_same : (s : State) (r : Reader) (given : NextPiece) → nexts.reading_adds s r given ≡ read_adds s (reading_as r) (piece_as given)
 adds_same s r given =
-    let listed : ℕ = nexts.listed_length s r in
-    ap (λ recs. recs ++ answer_record r.reader (nexts.noted listed given) ∷ []) (trouble_same (live_next s (readers.as_row r)) given)
-    ∙ ap (λ answer. next_trouble (live_next s (readers.as_row r)) (piece_as given) ++ answer_record r.reader answer ∷ []) (noted_same listed given)
+    let listed : ℕ = nexts.next_listed_length s r in
+    ap (λ recs. recs ++ answer_record r.reader (nexts.answer_noted listed given) ∷ [])
+    (trouble_same (live_next s (readers.row_of_reader r)) given)
+    ∙ ap (λ answer. next_trouble (live_next s (readers.row_of_reader r)) (piece_as given) ++ answer_record r.reader answer ∷ []) (noted_same listed given)
 
 -- ---- what it is given
 
-given_as_fragment : (p : Permit) (s : State) (r : Reader) (index size : ℕ) (into : List ℕ) → nexts.IsFragment p s r index size into
+given_as_fragment : (p : Permit) (s : State) (r : Reader) (index size : ℕ) (into : List ℕ) → nexts.IsNextPayload p s r index size into
     → IsFragment p s (reading_as r) index size into
 given_as_fragment p s r index size into h = record {
   entry = h.entry;
@@ -69,14 +70,14 @@ given_as_fragment p s r index size into h = record {
   listed = h.listed;
 }
 
-given_so : (p : Permit) (s : State) (r : Reader) (given : NextPiece) (into : List ℕ) → nexts.Gives p s r given into
+given_so : (p : Permit) (s : State) (r : Reader) (given : NextPiece) (into : List ℕ) → nexts.GivesFragment p s r given into
     → IsGivenAs p s (reading_as r) (piece_as given) into
 given_so p s r (piece.Piece index size) into h = given_as_fragment p s r index size into h
 given_so p s r (piece.End size) into h = tt
 given_so p s r (piece.NotYet cut) into h = tt
 given_so p s r (piece.Broken why) into h = tt
 
-counted_as : (faults : ℕ) (s : State) (r : Reader) (given : NextPiece) → nexts.IsCountedBreak faults s r given
+counted_as : (faults : ℕ) (s : State) (r : Reader) (given : NextPiece) → nexts.BreakIsCounted faults s r given
     → IsCountedBreak faults s (reading_as r) (piece_as given)
 counted_as faults s r (piece.Piece index size) h = tt
 counted_as faults s r (piece.End size) h = tt
@@ -84,7 +85,7 @@ counted_as faults s r (piece.NotYet cut) h = tt
 counted_as faults s r (piece.Broken why) h = elim h [ inl is ↦ inl is | inr counted ↦ inr (counted_cause faults why counted) ]
 
 -- the payload that is told of the fragment
-exact_as : (contents : Contents) (o : Option Row) (given : NextPiece) (into : List ℕ) → nexts.GivesPayload contents o given into
+exact_as : (contents : Contents) (o : Option Row) (given : NextPiece) (into : List ℕ) → nexts.GivesToldPayload contents o given into
     → GivesPayload contents o (Ok (piece_as given)) into
 exact_as contents None given into h = tt
 exact_as contents (Some row) (piece.Piece index size) into h = h
@@ -109,7 +110,7 @@ module _ (packed : Bool) (k l : Kept) (old new : Seen) (r : Reader) where
   asked = ReadOn r.reader ∷ []
 
   abbrev Added : Result NextPiece AllocError → Type 0
-  Added result = IfOk result (λ given. l ≡ with_records k (nexts.read_adds (state_of k) r given))
+  Added result = IfOk result (λ given. l ≡ with_records k (nexts.reading_adds (state_of k) r given))
 
   abbrev Read : Result NextPiece AllocError → List ℕ → Type 0
   Read result into = IfOk result (λ given. ReadsOn (state_of k) old new r given into)
@@ -119,12 +120,12 @@ module _ (packed : Bool) (k l : Kept) (old new : Seen) (r : Reader) where
       → ServesFrom (Untold e IsVectorAs) now (at_by packed k d) (at_by packed l e) asked (unless_wanting asked (given_as piece_as result))
       (IsToldTo (reading_as r)) NothingKnown
   next_serves now into accounted (Ok given) adds h same =
-      let added : List Rec = nexts.read_adds (state_of k) r given in
+      let added : List Rec = nexts.reading_adds (state_of k) r given in
       serves_by accounted asked AllDone (IsToldTo (reading_as r)) added adds
       (λ p past packs moment step told. inl (one_spends p (state_of k) (ReadOn r.reader) added Done (h.does p step (table_is (state_of k) r told.1)), λ later. tt))
   next_serves now into accounted (Err error) adds h same = all_left accounted asked (IsToldTo (reading_as r)) same (λ later. tt)
 
-  is_given : (given : NextPiece) (into : List ℕ) → ReadsOn (state_of k) old new r given into → IsGiven (at_by packed k d) (at_by packed l e) (reading_as r) (piece_as given) into
+  is_given : (given : NextPiece) (into : List ℕ) → ReadsOn (state_of k) old new r given into → IsGivenInEachStep (at_by packed k d) (at_by packed l e) (reading_as r) (piece_as given) into
   is_given given into h = λ now p earlier calls past step. given_so p (state_of k) r given into (h.gives p (covers_in d.past e.past past step))
 
   pub next_gives : (into : List ℕ) (result : Result NextPiece AllocError) → Added result → Read result into → OnErr result (l ≡ k)
@@ -138,27 +139,28 @@ module _ (packed : Bool) (k l : Kept) (old new : Seen) (r : Reader) where
   next_gives into (Err error) adds h same = same
 
   pub next_exact : (into : List ℕ) (result : Result NextPiece AllocError) → Read result into → TellsAll e → (contents : Contents)
-      → AreStanding contents (state_of k) old → GivesPayload contents (live_next (state_of k) (readers.as_row r)) (given_as piece_as result) into
+      → AreStanding contents (state_of k) old → GivesPayload contents (live_next (state_of k) (readers.row_of_reader r)) (given_as piece_as result) into
   next_exact into (Ok given) h tells contents stands = exact_as contents _ given into (h.contents tells contents stands)
   next_exact into (Err error) h tells contents stands = none_given contents _ error into
 
-  other_next : nexts.IsOtherNext (state_of k) r → IsOtherNext (state_of k) (reading_as r)
+  other_next : nexts.NextIsOther (state_of k) r → IsOtherNext (state_of k) (reading_as r)
   other_next h = record { entry = h.entry; row = h.row; found = h.found; cut = h.cut; live = h.live; unlike = h.unlike }
 
-  pub next_unharmed : IsBetween d e k l ⊎ nexts.IsOtherNext (state_of k) r
+  pub next_unharmed : IsBetween d e k l ⊎ nexts.NextIsOther (state_of k) r
       → StaysUnharmed (at_by packed k d) (at_by packed l e) ⊎ IsOtherNext (state_of k) (reading_as r)
   next_unharmed h = elim h [ inl between ↦ inl (stays_unharmed between) | inr other ↦ inr (other_next other) ]
 
 -- ---- the reader
 
-next_same : (index : ℕ) (given : NextPiece) → nexts.next_behind index given ≡ next_behind index (piece_as given)
+next_same : (index : ℕ) (given : NextPiece) → nexts.index_behind index given ≡ next_behind index (piece_as given)
 next_same index (piece.Piece given size) = refl
 next_same index (piece.End size) = refl
 next_same index (piece.NotYet cut) = refl
 next_same index (piece.Broken why) = refl
 
-pub next_goes : (s t : State) (old new : Reader) (result : Result NextPiece AllocError) → IfOk result (λ given. nexts.GoesOn old given new)
-    → OnErr result (new ≡ old) → readers.IsOpenReader t new → (readers.IsReaderOf s old → readers.IsReaderOf t new)
+pub next_goes : (s t : State) (old new : Reader) (result : Result NextPiece AllocError)
+    → IfOk result (λ given. nexts.IsBehindPiece old given new)
+    → OnErr result (new ≡ old) → readers.IsOpenStripeReader t new → (readers.IsStripeReaderOf s old → readers.IsStripeReaderOf t new)
     → ReaderGoesOn (reading_as old) (given_as piece_as result) s t (reading_as new)
 next_goes s t old new (Ok given) goes same own keeps = record {
   goes = record {

@@ -4,7 +4,7 @@ use Rattle.std.specs.Prelude.{Some, None}
 use Rattle.std.specs.List.{AllByRecursion}
 use Rattle.std.proofs.lemmas.List.{append_cancel_left}
 use Rattle.device_log.specs.Calls.{Call}
-use Rattle.logged_disk.specs.Device.{State as Device}
+use Rattle.logged_disk.specs.Device.{DeviceState as Device}
 use Rattle.cache_model.specs.declared.record.Rec.{Rec}
 use Rattle.tape_base.specs.declared.keys.Key.{Key}
 use Rattle.cache_model.specs.State.{Row, State}
@@ -87,15 +87,16 @@ pub spends_fails : {p : Permit} {s : State} {asked : List Intent} {added : List 
 spends_fails {p} {s} {asked} {added} why h = subst (λ is. MayGrow p s (to_do is) added (refused_work [] why)) (append-nil asked) (h [] None)
 
 -- of one ask
-pub one_done : {p : Permit} {s : State} {i : Intent} {added : List Rec} → covers.Spends p s i added Done → Spends p s (i ∷ []) added AllDone
+pub one_done : {p : Permit} {s : State} {i : Intent} {added : List Rec} → covers.SpendsFirst p s i added Done
+    → Spends p s (i ∷ []) added AllDone
 one_done h = h [] None
 
 pub one_fails : {p : Permit} {s : State} {i : Intent} {added : List Rec} (why : Reason)
-    → covers.Spends p s i added (Fails why) → Spends p s (i ∷ []) added (Stops why)
+    → covers.SpendsFirst p s i added (Fails why) → Spends p s (i ∷ []) added (Stops why)
 one_fails why h = h [] None
 
 pub one_stays : {p : Permit} {s : State} {i : Intent} {added : List Rec} (rest : List Intent)
-    → covers.Spends p s i added Stays → Spends p s (i ∷ rest) added (Leaves (i ∷ rest))
+    → covers.SpendsFirst p s i added Stays → Spends p s (i ∷ rest) added (Leaves (i ∷ rest))
 one_stays rest h = h rest None
 
 -- ---- a pair

@@ -4,7 +4,7 @@ use Rattle.std.specs.Prelude.{Option, Some, None, is_some, option_map}
 use Rattle.std.specs.List.{AllByRecursion}
 use Rattle.device_log.specs.Calls.{Call, Read}
 use Rattle.fragment_table.specs.Table.{Table}
-use Rattle.logged_disk.specs.Device.{State as Device}
+use Rattle.logged_disk.specs.Device.{DeviceState as Device}
 use Rattle.cache_model.specs.declared.cause.Cause.{Cause}
 use Rattle.cache_model.specs.declared.cause.Cause.TheVariants as cause
 use Rattle.cache_model.specs.declared.record.Rec.{Rec}
@@ -26,7 +26,7 @@ use Rattle.stripe_read.specs.declared.reader.Reader.{Reader}
 use Rattle.stripe_read.specs.Others as others
 use Rattle.stripe_read.specs.Readers as readers
 use Rattle.cache_calls.specs.Actors.{IsAllCut, IsAtHand, IsOpenReader, IsReaderOf, IsWriterOf}
-use Rattle.cache_calls.specs.Adds.{Adds, IsOfFlush, IsOfPut, IsOfReader}
+use Rattle.cache_calls.specs.Adds.{AddsOnly, IsOfFlush, IsOfPut, IsOfReader}
 use Rattle.cache_calls.specs.Keeping.{AreSeen, IsIdle, IsSeenOn, IsUnharmed, StaysUnharmed}
 use Rattle.cache_calls.specs.Readers.{IsCountedCause, cause_records}
 use Rattle.cache_calls.specs.Writers.{LiveBefore}
@@ -34,13 +34,13 @@ use Rattle.stripe_calls.specs.Seen.{at_by, reading_as, written_as}
 
 -- ---- writers
 
-cut_as : (w : Writer) → writers.IsAllCut w → IsAllCut (written_as w)
+cut_as : (w : Writer) → writers.IsAllCutInStripe w → IsAllCut (written_as w)
 cut_as w h = record { sealed = h.sealed; empty = h.empty }
 
-cut_is : (w : Writer) → IsAllCut (written_as w) → writers.IsAllCut w
+cut_is : (w : Writer) → IsAllCut (written_as w) → writers.IsAllCutInStripe w
 cut_is w h = record { sealed = h.sealed; empty = h.empty }
 
-pub writer_as : (s : State) (w : Writer) → writers.IsWriterOf s w → IsWriterOf s (written_as w)
+pub writer_as : (s : State) (w : Writer) → writers.IsStripeWriterOf s w → IsWriterOf s (written_as w)
 writer_as s w own = λ row found o.
     let h = own row found o in
     record {
@@ -54,7 +54,7 @@ writer_as s w own = λ row found o.
       more = h.more;
     }
 
-pub writer_is : (s : State) (w : Writer) → IsWriterOf s (written_as w) → writers.IsWriterOf s w
+pub writer_is : (s : State) (w : Writer) → IsWriterOf s (written_as w) → writers.IsStripeWriterOf s w
 writer_is s w own = λ row found o.
     let h : IsAtHand s.geometry row (written_as w) = own row found o in
     record {
@@ -74,7 +74,7 @@ there_is : (table : Option Table) → is_some (option_map (λ (t : Table). t.row
 there_is None = refl
 there_is (Some table) = refl
 
-pub reader_as : (s : State) (r : Reader) → readers.IsOpenReader s r → IsOpenReader s (reading_as r)
+pub reader_as : (s : State) (r : Reader) → readers.IsOpenStripeReader s r → IsOpenReader s (reading_as r)
 reader_as s r h = record {
   row = h.row;
   found = h.found;
@@ -85,7 +85,7 @@ reader_as s r h = record {
   first = h.first;
 }
 
-pub reader_is : (s : State) (r : Reader) → IsOpenReader s (reading_as r) → readers.IsOpenReader s r
+pub reader_is : (s : State) (r : Reader) → IsOpenReader s (reading_as r) → readers.IsOpenStripeReader s r
 reader_is s r h = record {
   row = h.row;
   found = h.found;
@@ -96,48 +96,48 @@ reader_is s r h = record {
   first = h.first;
 }
 
-pub table_as : (s : State) (r : Reader) → readers.IsReaderOf s r → IsReaderOf s (reading_as r)
+pub table_as : (s : State) (r : Reader) → readers.IsStripeReaderOf s r → IsReaderOf s (reading_as r)
 table_as s r h = record { actor = h.actor; found = h.found }
 
-pub table_is : (s : State) (r : Reader) → IsReaderOf s (reading_as r) → readers.IsReaderOf s r
+pub table_is : (s : State) (r : Reader) → IsReaderOf s (reading_as r) → readers.IsStripeReaderOf s r
 table_is s r h = record { actor = h.actor; found = h.found }
 
 -- ---- whose records there are
 
-put_record : (put : ℕ) (r : Rec) → puts.IsOfPut put r → IsOfPut put r
+put_record : (put : ℕ) (r : Rec) → puts.IsRecordOfPut put r → IsOfPut put r
 put_record put (rec.Formatted geometry) h = h
 put_record put _ h = h
 
-reader_record : (reader : ℕ) (r : Rec) → others.IsOfReader reader r → IsOfReader reader r
+reader_record : (reader : ℕ) (r : Rec) → others.IsRecordOfReader reader r → IsOfReader reader r
 reader_record reader (rec.Formatted geometry) h = h
 reader_record reader _ h = h
 
-flush_record : (r : Rec) → flush.IsOfFlush r → IsOfFlush r
+flush_record : (r : Rec) → flush.IsRecordOfFlush r → IsOfFlush r
 flush_record (rec.Formatted geometry) h = h
 flush_record _ h = h
 
-pub put_records : (put : ℕ) (recs : List Rec) → AllByRecursion (puts.IsOfPut put) recs → AllByRecursion (IsOfPut put) recs
-put_records put recs each = all_as (puts.IsOfPut put) (IsOfPut put) (put_record put) recs each
+pub put_records : (put : ℕ) (recs : List Rec) → AllByRecursion (puts.IsRecordOfPut put) recs → AllByRecursion (IsOfPut put) recs
+put_records put recs each = all_as (puts.IsRecordOfPut put) (IsOfPut put) (put_record put) recs each
 
 pub flush_records : (recs : List Rec) → flush.AreOfFlush recs → AllByRecursion IsOfFlush recs
-flush_records recs each = all_as flush.IsOfFlush IsOfFlush flush_record recs each
+flush_records recs each = all_as flush.IsRecordOfFlush IsOfFlush flush_record recs each
 
-pub put_adds : {packed : Bool} {k l : Kept} {d e : Device} (put : ℕ) → puts.AddsOfPut put k l → Adds (IsOfPut put) (at_by packed k d) (at_by packed l e)
+pub put_adds : {packed : Bool} {k l : Kept} {d e : Device} (put : ℕ) → puts.AddsOfPut put k l → AddsOnly (IsOfPut put) (at_by packed k d) (at_by packed l e)
 put_adds put h = record { added = h.added; adds = h.adds; own = put_records put h.added h.own }
 
-pub reader_adds : {packed : Bool} {k l : Kept} {d e : Device} (reader : ℕ) → others.AddsOfReader reader k l → Adds (IsOfReader reader) (at_by packed k d) (at_by packed l e)
+pub reader_adds : {packed : Bool} {k l : Kept} {d e : Device} (reader : ℕ) → others.AddsOfReader reader k l → AddsOnly (IsOfReader reader) (at_by packed k d) (at_by packed l e)
 reader_adds reader h = record {
   added = h.added;
   adds = h.adds;
-  own = all_as (others.IsOfReader reader) (IsOfReader reader) (reader_record reader) h.added h.own;
+  own = all_as (others.IsRecordOfReader reader) (IsOfReader reader) (reader_record reader) h.added h.own;
 }
 
 -- ---- the frame
 
-unharmed_as : {packed : Bool} {k : Kept} {d : Device} → unharmed.IsUnharmed d (state_of k) → IsUnharmed (at_by packed k d)
+unharmed_as : {packed : Bool} {k : Kept} {d : Device} → unharmed.StripeIsUnharmed d (state_of k) → IsUnharmed (at_by packed k d)
 unharmed_as h = record { unharmed = h.unharmed }
 
-unharmed_is : {packed : Bool} {k : Kept} {d : Device} → IsUnharmed (at_by packed k d) → unharmed.IsUnharmed d (state_of k)
+unharmed_is : {packed : Bool} {k : Kept} {d : Device} → IsUnharmed (at_by packed k d) → unharmed.StripeIsUnharmed d (state_of k)
 unharmed_is h = record { unharmed = h.unharmed }
 
 pub stays_unharmed : {packed : Bool} {k l : Kept} {d e : Device} → IsBetween d e k l → StaysUnharmed (at_by packed k d) (at_by packed l e)
@@ -148,24 +148,24 @@ is_idle h = record { past = h.past; faults = h.faults }
 
 -- ---- what is live, and what is seen
 
-pub live_before : (s t : State) → flush.LiveBefore s t → LiveBefore s t
+pub live_before : (s t : State) → flush.EachWasLive s t → LiveBefore s t
 live_before s t h = λ id row live.
     let was = h id row live in
     (was.0, was.1, record { id = was.2.id; blocks = was.2.blocks; payload = was.2.payload; pin = was.2.pin; alternates = was.2.alternates })
 
-seen_on : (device : Device) (call : Call) → covers.IsSeenOn device call → IsSeenOn device call
+seen_on : (device : Device) (call : Call) → covers.ReadIsSeen device call → IsSeenOn device call
 seen_on device (Read at bytes) h = h
 seen_on device _ h = tt
 
-pub are_seen : (packed : Bool) (k l : Kept) (d e : Device) → covers.AreSeen d e → AreSeen (at_by packed k d) (at_by packed l e)
-are_seen packed k l d e h = λ made past trusted. all_as (covers.IsSeenOn e) (IsSeenOn e) (seen_on e) made (h made past trusted)
+pub are_seen : (packed : Bool) (k l : Kept) (d e : Device) → covers.AllReadIsSeen d e → AreSeen (at_by packed k d) (at_by packed l e)
+are_seen packed k l d e h = λ made past trusted. all_as (covers.ReadIsSeen e) (IsSeenOn e) (seen_on e) made (h made past trusted)
 
 -- ---- causes
 
-pub cause_same : (row : Row) (why : Cause) → cause_records row why ≡ find.cause_records row why
+pub cause_same : (row : Row) (why : Cause) → cause_records row why ≡ find.records_of_trouble row why
 cause_same row (cause.DeviceFault count) = refl
 cause_same row _ = refl
 
-pub counted_cause : (faults : ℕ) (why : Cause) → counts.IsCountedCause faults why → IsCountedCause faults why
+pub counted_cause : (faults : ℕ) (why : Cause) → counts.CauseIsCounted faults why → IsCountedCause faults why
 counted_cause faults (cause.DeviceFault count) h = h
 counted_cause faults _ h = tt

@@ -57,10 +57,10 @@ abbrev pub removal_as : Removal → removal_type.Removal
 removal_as (own_removal.Removed put) = removal.Removed put
 removal_as (own_removal.Absent why) = removal.Absent why
 
-abbrev pub opened_as : Opened → opened_type.Opened Reader
-opened_as (own_opened.Hit reader put length) = opened.Hit reader put length
-opened_as (own_opened.Follow reader put) = opened.Follow reader put
-opened_as (own_opened.Miss why) = opened.Miss why
+abbrev pub opened_in_calls : Opened → opened_type.Opened Reader
+opened_in_calls (own_opened.Hit reader put length) = opened.Hit reader put length
+opened_in_calls (own_opened.Follow reader put) = opened.Follow reader put
+opened_in_calls (own_opened.Miss why) = opened.Miss why
 
 abbrev pub piece_as : NextPiece → piece_type.NextPiece
 piece_as (own_piece.Piece index length) = piece.Piece index length

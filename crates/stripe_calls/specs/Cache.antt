@@ -6,12 +6,12 @@ use Rattle.call_laws.specs.Contents.{Contents}
 use Rattle.call_laws.specs.Moments.{At}
 use Rattle.stripe_core.specs.Between.{IsResting, StandIn}
 use Rattle.stripe_calls.specs.declared.cache.StripeCache.{StripeCache}
-use Rattle.stripe_calls.specs.Seen.{at_in}
+use Rattle.stripe_calls.specs.Seen.{at_of_stripe}
 
 module _ {D R C : Type 0} {d : DiskGhosts D} {r : DirectoryGhosts R} {c : ChronicleGhosts C} where
   -- its records and its device
   abbrev pub at_of : StripeCache D R C d r c → At
-  at_of cache = at_in cache.stripe
+  at_of cache = at_of_stripe cache.stripe
 
   -- what holds of it between calls
   abbrev pub IsCache : StripeCache D R C d r c → Type 0

@@ -14,7 +14,7 @@ use Rattle.cache_calls.specs.Keeping.{FallBelow, IsAtRest, state_at}
 use Rattle.stripe_calls.specs.declared.cache.StripeCache.{StripeCache}
 use Rattle.stripe_calls.specs.Cache.{IsCache, StandsIn, at_of}
 
-falls : (high : ℕ) (numbers : List ℕ) → actors.FallBelow high numbers → FallBelow high numbers
+falls : (high : ℕ) (numbers : List ℕ) → actors.NumbersFallBelow high numbers → FallBelow high numbers
 falls high [] h = h
 falls high (n ∷ numbers) h = (h.0, falls n numbers h.1)
 

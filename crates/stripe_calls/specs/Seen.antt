@@ -1,6 +1,6 @@
 -- What a stripe, a writer and a reader are as those of a cache.
 use Rattle.std.specs.Prelude.{Bool}
-use Rattle.logged_disk.specs.Device.{State as Device}
+use Rattle.logged_disk.specs.Device.{DeviceState as Device}
 use Rattle.logged_disk.specs.declared.device.Disk.{Ghosts as DiskGhosts}
 use Rattle.dir_table.specs.declared.directory.Directory.{Ghosts as DirectoryGhosts}
 use Rattle.cache_chronicle.specs.declared.chronicle.Chronicle.{Ghosts as ChronicleGhosts}
@@ -9,7 +9,7 @@ use Rattle.stripe_core.specs.declared.stripe.Stripe.{Stripe}
 use Rattle.stripe_core.specs.Stripe.{kept_in, seen_in}
 use Rattle.stripe_write.specs.declared.writer.Writer.{Writer}
 use Rattle.stripe_read.specs.declared.reader.Reader.{Reader}
-use Rattle.stripe_read.specs.Readers.{rows_in}
+use Rattle.stripe_read.specs.Readers.{rows_hit}
 use Rattle.call_laws.specs.Moments.{At}
 use Rattle.cache_calls.specs.Actors.{ReaderSeen, WriterSeen}
 use Rattle.cache_calls.specs.Keeping.{unsynced_setting}
@@ -19,8 +19,8 @@ abbrev pub at_by : Bool → Kept → Device → At
 at_by packed kept device = record { kept = kept; device = device; setting = unsynced_setting packed }
 
 -- those of a stripe
-abbrev pub at_in : {D R C : Type 0} {d : DiskGhosts D} {r : DirectoryGhosts R} {c : ChronicleGhosts C} → Stripe D R C d r c → At
-at_in {r = r} t = at_by r.purges (kept_in t) (seen_in t).device
+abbrev pub at_of_stripe : {D R C : Type 0} {d : DiskGhosts D} {r : DirectoryGhosts R} {c : ChronicleGhosts C} → Stripe D R C d r c → At
+at_of_stripe {r = r} t = at_by r.purges (kept_in t) (seen_in t).device
 
 -- a writer
 abbrev pub written_as : Writer → WriterSeen
@@ -37,4 +37,4 @@ written_as w = record {
 
 -- a reader
 abbrev pub reading_as : Reader → ReaderSeen
-reading_as r = record { reader = r.reader; key = r.key; put = r.put; table = rows_in r; next = r.next }
+reading_as r = record { reader = r.reader; key = r.key; put = r.put; table = rows_hit r; next = r.next }

@@ -1,6 +1,6 @@
 // What a stripe answers, as a cache answers it.
 ghost use Rattle.std.specs.Prelude.{◌≡◌};
-ghost use Rattle.stripe_calls.specs.Answers.{answer_as, flushed_as, given_as, opened_as, piece_as, receipt_as, refusal_as, removal_as, same_as};
+ghost use Rattle.stripe_calls.specs.Answers.{answer_as, flushed_as, given_as, opened_in_calls, piece_as, receipt_as, refusal_as, removal_as, same_as};
 
 use cache_calls::{Flushed, NextPiece, Opened, Receipt, Refusal, Removal};
 use std::alloc::AllocError;
@@ -70,7 +70,7 @@ pub(crate) fn removed(said: Result<StripeRemoval, AllocError>) -> Result<Removal
 }
 
 pub(crate) fn opened(said: Result<StripeOpened, AllocError>) -> Result<Opened<Reader>, AllocError>
-    ensures { result ≡ given_as opened_as said }
+    ensures { result ≡ given_as opened_in_calls said }
 {
     match said {
         Ok(

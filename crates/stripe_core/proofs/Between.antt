@@ -2,7 +2,7 @@
 use Rattle.std.proofs.Common.{◌≡◌, ℕ, append-nil, append_assoc, false, List, [], ◌∷◌, ◌++◌, refl, sym, ◌∙◌, ap, subst}
 use Rattle.std.proofs.lemmas.List.{append_cancel_left}
 use Rattle.device_log.specs.Calls.{Call}
-use Rattle.logged_disk.specs.Device.{State as Device, IsAfter, TellsAll}
+use Rattle.logged_disk.specs.Device.{DeviceState as Device, IsAfter, TellsAll}
 use Rattle.logged_disk.proofs.GoingOn.{goes_further, stays_as, told_before}
 use Rattle.cache_model.specs.declared.answer.NextAnswer.{NextAnswer}
 use Rattle.cache_model.specs.declared.answer.NextAnswer.TheVariants as next
@@ -14,7 +14,7 @@ use Rattle.cache_model.specs.Legal.{answer_record}
 use Rattle.cache_model.specs.Kept.{Kept, state_of, with_records}
 use Rattle.cache_model.proofs.Steps.{after_all-append}
 use Rattle.cache_model.specs.Damage.{TellNoDamage, tells_damage, has_damage}
-use Rattle.stripe_core.specs.Unharmed.{IsUnharmed}
+use Rattle.stripe_core.specs.Unharmed.{StripeIsUnharmed}
 use Rattle.stripe_pieces.specs.Faults.{IsAccounted, HasEffects}
 use Rattle.stripe_pieces.specs.Covers.{calls_since}
 use Rattle.stripe_core.specs.Between.{IsBetween}
@@ -54,7 +54,7 @@ pub between-trans : (a b c : Device) (k l m : Kept) → IsBetween a b k l → Is
 between-trans a b c k l m first next = record {
   goes = goes_further a b c first.goes next.goes;
   accounted = accounted_then a.past b.past c.past k l m first.accounted next.accounted;
-  unharmed = λ (h : IsUnharmed a (state_of k)). next.unharmed (first.unharmed h);
+  unharmed = λ (h : StripeIsUnharmed a (state_of k)). next.unharmed (first.unharmed h);
 }
 
 -- ---- records that tell no damage
@@ -76,7 +76,7 @@ pub between-adds : (a b : Device) (old new : Kept) (recs : List Rec) → new ≡
 between-adds a b old new recs is goes faults none = record {
   goes = goes;
   accounted = record { added = recs; adds = is; faults = faults };
-  unharmed = λ (h : IsUnharmed a (state_of old)). record {
+  unharmed = λ (h : StripeIsUnharmed a (state_of old)). record {
     unharmed = λ told.
         let before : TellsAll a = told_before a b goes told in
         subst (λ s. has_damage s ≡ false) (sym (ap state_of is ∙ after_all-append old.base old.since recs)) (after_records (state_of old) recs (none told) (h.unharmed before));

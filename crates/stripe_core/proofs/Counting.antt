@@ -4,7 +4,7 @@ use Rattle.std.specs.Prelude.{◌==◌}
 use Rattle.std.proofs.lemmas.Bool.{and_parts, eqb-true}
 use Rattle.device_log.specs.Calls.{Asked, Call, Read, Wrote, Synced, RefusedCall, Told, PowerCut, Flipped}
 use Rattle.device_log.specs.Faults.{IsLog, are_counted, faults_of, next_count}
-use Rattle.logged_disk.specs.Device.{State as Device}
+use Rattle.logged_disk.specs.Device.{DeviceState as Device}
 use Rattle.cache_model.specs.declared.cause.Cause.{Cause}
 use Rattle.cache_model.specs.declared.cause.Cause.TheVariants as cause
 use Rattle.cache_model.specs.declared.record.Rec.{Rec}
@@ -12,7 +12,7 @@ use Rattle.cache_model.specs.State.{Row, State}
 use Rattle.cache_model.specs.Permit.{IsAmong}
 use Rattle.cache_model.specs.Given.{MayCount, Trouble}
 use Rattle.stripe_pieces.proofs.Covering.{own_permit}
-use Rattle.stripe_core.specs.Counts.{IsCounted, IsCountedCause}
+use Rattle.stripe_core.specs.Counts.{CauseIsCounted, IsCounted}
 use Rattle.stripe_core.specs.declared.refusal.Refusal.{Refusal}
 use Rattle.stripe_core.specs.declared.refusal.Refusal.TheVariants as refusal
 
@@ -74,12 +74,12 @@ own_counted now before d true_log s asked count m =
     omega (arith, low, true_log.counted)
 
 pub trouble_counted : (now : ℕ) (before : List Call) (d : Device) → IsTrueLog d → (s : State) (row : Row) (recs : List Rec) (why : Cause)
-    → Trouble (own_permit now before d.past) s row recs why → IsCountedCause d.faults why
+    → Trouble (own_permit now before d.past) s row recs why → CauseIsCounted d.faults why
 trouble_counted now before d true_log s row recs why (Trouble.faulted count written m) = own_counted now before d true_log s _ count m
 trouble_counted now before d true_log s row recs why (Trouble.damaged found found_so) = tt
 
 -- a device goes on to count up
-pub cause_later : (before after : ℕ) (why : Cause) → before ≤ after → IsCountedCause before why → IsCountedCause after why
+pub cause_later : (before after : ℕ) (why : Cause) → before ≤ after → CauseIsCounted before why → CauseIsCounted after why
 cause_later before after (cause.DeviceFault count) h c = omega (arith, h, c)
 cause_later before after _ h c = tt
 

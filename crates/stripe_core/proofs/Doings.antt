@@ -28,7 +28,7 @@ use Rattle.cache_model.proofs.Found.{cuts_found, number_of}
 use Rattle.call_laws.specs.Contents.{AnyContents, Contents}
 use Rattle.stripe_core.specs.declared.refusal.Refusal.{Refusal}
 use Rattle.stripe_core.specs.declared.refusal.Refusal.TheVariants as refusal
-use Rattle.stripe_core.specs.Acts.{EndsReadAsAsked, IsCommitting, IsGivingUp, IsRefusedPut, LooksAsAsked, MarksAsAsked, NotesAsAsked, OpensAsAsked, RefusesAsAsked, committed_record, opened_record}
+use Rattle.stripe_core.specs.Acts.{EndsReadAsAsked, IsCommitting, IsGivingUp, IsRefusedPut, LooksAsAsked, MarksAsAsked, NotesAsAsked, OpensAsAsked, RefusesAsAsked, committed_record, write_opened_record}
 use Rattle.stripe_pieces.specs.Covers.{Uses}
 use Rattle.stripe_pieces.specs.Held.{IsHeld}
 use Rattle.stripe_pieces.specs.Records.{IsAlike}
@@ -138,7 +138,7 @@ removes p s key put quiet live is =
     DoesRemove.removes row quiet found.1 (ap (λ (i : PieceId). rec.Removed i.put key ∷ []) (sym name))
 
 pub opens : (p : Permit) (s : State) (who : Actor) (key : Key) (request response : List Field) (pin : ℕ) → IsQuiet s → open_writers s < most_writers → s.next_put + 1 < limit
-    → AreFields request → AreFields response → pin < 2 ^ 64 → Does p s (Write who.0 key request response pin) (opened_record s who key request response pin ∷ []) Done
+    → AreFields request → AreFields response → pin < 2 ^ 64 → Does p s (Write who.0 key request response pin) (write_opened_record s who key request response pin ∷ []) Done
 opens p s who key request response pin quiet few below asked answered pin_fits = DoesWrite.opens (record {
   who = who;
   number = refl;

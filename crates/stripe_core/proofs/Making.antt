@@ -2,7 +2,7 @@
 use Rattle.std.proofs.Common.{◌≡◌, ℕ, List, false, Err}
 use Rattle.std.specs.Prelude.{IfErr}
 use Rattle.device_log.specs.Calls.{Call}
-use Rattle.logged_disk.specs.Device.{State as Device}
+use Rattle.logged_disk.specs.Device.{DeviceState as Device}
 use Rattle.cache_model.specs.State.{State}
 use Rattle.cache_model.specs.Kept.{Kept, state_of}
 use Rattle.cache_model.specs.Room.{has_room}
@@ -12,18 +12,19 @@ use Rattle.stripe_core.specs.declared.refusal.Refusal.TheVariants as refusal
 use Rattle.stripe_pieces.specs.declared.answer.Stop.TheVariants as stop
 use Rattle.stripe_pieces.specs.Flush.{FlushesAsAsked, StopsWith}
 use Rattle.stripe_pieces.specs.Place.{RoomsAsAsked}
-use Rattle.stripe_core.specs.Stripe.{Answers}
+use Rattle.stripe_core.specs.Stripe.{AnswersOrWants}
 use Rattle.stripe_pieces.proofs.Making.{stop_makes_none}
 
 pub refusal_makes_none : (now : ℕ) (old new : Kept) (before : List Call) (after : Device) (bytes : ℕ) → has_room (state_of old) bytes ≡ false → (why : Refusal) (same : Type 0)
-    → Answers {X = Flushed} (Err why) (FlushesAsAsked now old new before after) same → Answers {X = Unit {0}} (Err why) (RoomsAsAsked now old new before after bytes) same
+    → AnswersOrWants {X = Flushed} (Err why) (FlushesAsAsked now old new before after) same → AnswersOrWants {X = Unit {0}} (Err why) (RoomsAsAsked now old new before after bytes) same
 refusal_makes_none now old new before after bytes none (refusal.DeviceFault count) same h = stop_makes_none now old new before after bytes none (stop.DeviceFault count) h
 refusal_makes_none now old new before after bytes none (refusal.Exhausted number) same h = stop_makes_none now old new before after bytes none (stop.Exhausted number) h
 refusal_makes_none now old new before after bytes none _ same h = h
 
 -- why it stops says nothing of what it would have answered
-pub stops_alike : (s : State) (faults : ℕ) (why : Refusal) → Answers {X = Flushed} (Err why) (λ r. IfErr r (StopsWith s faults)) (Unit {0})
-    → Answers {X = Unit {0}} (Err why) (λ r. IfErr r (StopsWith s faults)) (Unit {0})
+pub stops_alike : (s : State) (faults : ℕ) (why : Refusal)
+    → AnswersOrWants {X = Flushed} (Err why) (λ r. IfErr r (StopsWith s faults)) (Unit {0})
+    → AnswersOrWants {X = Unit {0}} (Err why) (λ r. IfErr r (StopsWith s faults)) (Unit {0})
 stops_alike s faults (refusal.DeviceFault count) stops = stops
 stops_alike s faults (refusal.Exhausted number) stops = stops
 stops_alike s faults (refusal.Memory e) stops = stops

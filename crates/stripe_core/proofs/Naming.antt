@@ -27,15 +27,15 @@ use Rattle.cache_model.specs.Kept.{Kept, state_of, with_records}
 use Rattle.cache_model.specs.Legal.{answer_record}
 use Rattle.cache_model.proofs.Steps.{all_as}
 use Rattle.cache_model.proofs.Lists.{found_row}
-use Rattle.stripe_actors.specs.Actors.{AreActors, Seen as Actors}
+use Rattle.stripe_actors.specs.Actors.{ActorsSeen as Actors, AreActors}
 use Rattle.cache_model.proofs.ByNumber.{find-changed}
 use Rattle.stripe_actors.proofs.Telling.{was_given}
 use Rattle.stripe_pieces.specs.declared.answer.Found.{Found}
 use Rattle.stripe_pieces.specs.declared.answer.Found.TheVariants as found
-use Rattle.stripe_pieces.specs.Find.{cause_records, find_adds, found_records}
-use Rattle.stripe_pieces.specs.Flush.{AreOfFlush, IsOfFlush}
+use Rattle.stripe_pieces.specs.Find.{find_adds, found_records, records_of_trouble}
+use Rattle.stripe_pieces.specs.Flush.{AreOfFlush, IsRecordOfFlush}
 use Rattle.stripe_core.specs.Named.{IsNamed, IsOwn, IsOwnOf, IsPieceOf}
-use Rattle.stripe_pieces.specs.Place.{IsFragmentOf, IsNew, IsVectorFor}
+use Rattle.stripe_pieces.specs.Place.{IsFragmentOf, IsNewPiece, IsVectorFor}
 use Rattle.stripe_pieces.proofs.Flushes.{state_of-with_records}
 use Rattle.stripe_pieces.proofs.Going.{all_left}
 use Rattle.stripe_pieces.proofs.SamePuts.{SamePuts, same_puts}
@@ -271,13 +271,13 @@ small_size s bytes h = little (blocks_of bytes) s.geometry.agg bytes s.geometry.
 fewer_blocks : (bytes most : ℕ) → bytes ≤ most → blocks_of bytes ≤ blocks_of most
 fewer_blocks bytes most h = omega arith
 
-pub fragment_new : (s : State) (id : PieceId) (pin start : ℕ) (payload : List ℕ) → IsFragmentOf s id pin start payload → IsNamed s → IsNew s id payload
+pub fragment_new : (s : State) (id : PieceId) (pin start : ℕ) (payload : List ℕ) → IsFragmentOf s id pin start payload → IsNamed s → IsNewPiece s id payload
 fragment_new s id pin start payload f h =
     let few : blocks_of (length payload) ≤ blocks_of s.geometry.fragment = fewer_blocks (length payload) s.geometry.fragment f.next.small in
     let fits : blocks_of s.geometry.fragment ≤ s.geometry.agg / 2 = s.geometry.accepted.fragment_fits.1 in
     record { nowhere = fragment_nowhere s id pin start payload f h; small = omega (arith, few, fits) }
 
-pub vector_new : (s : State) (id : PieceId) (start : ℕ) (payload : List ℕ) → IsVectorFor s id start payload → is_vector id ≡ true → IsNamed s → IsNew s id payload
+pub vector_new : (s : State) (id : PieceId) (start : ℕ) (payload : List ℕ) → IsVectorFor s id start payload → is_vector id ≡ true → IsNamed s → IsNewPiece s id payload
 vector_new s id start payload v kind h = record { nowhere = vector_nowhere s id start payload v kind h; small = v.small }
 
 -- ---- a fragment that was cut and placed
@@ -295,7 +295,7 @@ found_changed put f puts w keeps found =
 
 -- ---- which records leave the names
 
-causes_leave : (row : Row) (why : Cause) → AllLeaveNames (cause_records row why)
+causes_leave : (row : Row) (why : Cause) → AllLeaveNames (records_of_trouble row why)
 causes_leave row (cause.DeviceFault count) = (refl, tt)
 causes_leave row (cause.Damaged place kept other) = (refl, tt)
 causes_leave row _ = tt
@@ -308,7 +308,7 @@ found_leave (Some row) (found.Missing why) = causes_leave row why
 pub find_leaves : (s : State) (id : PieceId) (answer : Found) → AllLeaveNames (find_adds s id answer)
 find_leaves s id answer = found_leave (live_row_of s id) answer
 
-of_flush : (r : Rec) → IsOfFlush r → leaves_names r ≡ true
+of_flush : (r : Rec) → IsRecordOfFlush r → leaves_names r ≡ true
 of_flush (rec.Began cursor floor) h = refl
 of_flush (rec.Moved piece from place digest) h = refl
 of_flush (rec.Unsaved piece place fault) h = refl

@@ -18,9 +18,9 @@ use Rattle.cache_model.proofs.Steps.{after_all-append}
 use Rattle.call_laws.specs.Contents.{IsToldAs, contents_of_vectors}
 use Rattle.stripe_pieces.specs.declared.answer.Found.{Found}
 use Rattle.stripe_pieces.specs.declared.answer.Found.TheVariants as found
-use Rattle.stripe_pieces.specs.Find.{cause_records, find_adds, found_records}
-use Rattle.stripe_pieces.specs.Flush.{AreOfFlush, IsOfFlush}
-use Rattle.stripe_pieces.specs.Place.{IsPlacedAs, cut_records}
+use Rattle.stripe_pieces.specs.Find.{find_adds, found_records, records_of_trouble}
+use Rattle.stripe_pieces.specs.Flush.{AreOfFlush, IsRecordOfFlush}
+use Rattle.stripe_pieces.specs.Place.{AreOfPlace, cut_records}
 use Rattle.stripe_pieces.proofs.Flushes.{state_of-with_records}
 
 -- ---- records that displace nothing
@@ -57,7 +57,7 @@ none_behind k new r is one none = none_with k new (r ∷ []) is (one, tt) none
 
 -- ---- which these are
 
-of_flush : (r : Rec) → IsOfFlush r → displaces r ≡ false
+of_flush : (r : Rec) → IsRecordOfFlush r → displaces r ≡ false
 of_flush (rec.Displaced piece segment live) h = absurd h
 of_flush _ h = refl
 
@@ -65,7 +65,7 @@ pub flush_displaces : (recs : List Rec) → AreOfFlush recs → DisplaceNone rec
 flush_displaces [] all = tt
 flush_displaces (r ∷ recs) all = (of_flush r all.0, flush_displaces recs all.1)
 
-cause_displaces : (row : Row) (why : Cause) → DisplaceNone (cause_records row why)
+cause_displaces : (row : Row) (why : Cause) → DisplaceNone (records_of_trouble row why)
 cause_displaces row (cause.DeviceFault count) = (refl, tt)
 cause_displaces row (cause.Damaged place kept other) = (refl, tt)
 cause_displaces row _ = tt
@@ -88,7 +88,7 @@ answer_displaces reader (next.Broke why) = refl
 
 -- its place is recorded last, and ends its insert
 pub none_placed : (packed : Bool) (s : State) (id : PieceId) (pin start : ℕ) (payload : List ℕ) (added : List Rec)
-    → IsPlacedAs packed s id pin start payload added → (after_all s added).displaced ≡ []
+    → AreOfPlace packed s id pin start payload added → (after_all s added).displaced ≡ []
 none_placed packed s id pin start payload added a =
     let cut = cut_records id payload in
     let place = placed_record s id pin start (length payload) payload ∷ [] in

@@ -1,6 +1,6 @@
 -- Memory that stays made for the next fragment.
 use Rattle.std.proofs.Common.{◌≡◌, ℕ, ◌<◌, Option, Some, None, Result, Ok, Err, OnOk, IfSome, subst, sym}
-use Rattle.stripe_actors.specs.Actors.{Seen as Actors}
+use Rattle.stripe_actors.specs.Actors.{ActorsSeen as Actors}
 use Rattle.stripe_core.specs.Stripe.{room_for}
 
 on_ok : {X E P : Type 0} (r : Result X E) → P → OnOk r P

@@ -23,7 +23,7 @@ use Rattle.cache_model.specs.Kept.{Kept, count_of, state_of, with_records}
 use Rattle.cache_model.specs.Room.{has_room, placed_record}
 use Rattle.cache_model.proofs.Steps.{after_all-append, all_append}
 use Rattle.stripe_actors.specs.Calls.{CutsNext}
-use Rattle.stripe_actors.specs.Actors.{AreActors, Seen as Actors}
+use Rattle.stripe_actors.specs.Actors.{ActorsSeen as Actors, AreActors}
 use Rattle.stripe_actors.specs.ActorLaws.{speaks_of_actors}
 use Rattle.stripe_actors.proofs.Telling.{others}
 use Rattle.stripe_pieces.specs.declared.ahead.Ahead.{Ahead}
@@ -37,11 +37,11 @@ use Rattle.stripe_pieces.specs.declared.answer.Stop.TheVariants as stop
 use Rattle.stripe_pieces.specs.Ahead.{IsMadeFor}
 use Rattle.stripe_pieces.specs.Covers.{Uses}
 use Rattle.stripe_pieces.specs.Displaced.{AreOfDisplacement}
-use Rattle.stripe_pieces.specs.Find.{cause_records, find_adds, found_records}
-use Rattle.stripe_pieces.specs.Flush.{AreOfFlush, IsOfFlush}
-use Rattle.stripe_pieces.specs.Place.{IsFragmentOf, IsPlacedAs, PlaceAdds}
+use Rattle.stripe_pieces.specs.Find.{find_adds, found_records, records_of_trouble}
+use Rattle.stripe_pieces.specs.Flush.{AreOfFlush, IsRecordOfFlush}
+use Rattle.stripe_pieces.specs.Place.{AreOfPlace, IsFragmentOf, PlaceAdds}
 use Rattle.stripe_pieces.specs.Units.{entries_of_unit, records_of_unit}
-use Rattle.stripe_core.specs.Stripe.{Answers, IsSpared, refusal_of}
+use Rattle.stripe_core.specs.Stripe.{AnswersOrWants, IsSpared, refusal_of}
 use Rattle.stripe_pieces.proofs.Flushes.{state_of-with_records}
 use Rattle.stripe_pieces.proofs.Displacing.{pushed_kinds}
 use Rattle.stripe_pieces.proofs.Groups.{cut_first, no_vector, none_cut}
@@ -93,7 +93,7 @@ actors_with k new a recs is all h =
 
 -- ---- which these are
 
-causes_are_others : (row : Row) (why : Rattle.cache_model.specs.declared.cause.Cause.Cause) → AllOthers (cause_records row why)
+causes_are_others : (row : Row) (why : Rattle.cache_model.specs.declared.cause.Cause.Cause) → AllOthers (records_of_trouble row why)
 causes_are_others row (cause.DeviceFault count) = (refl, tt)
 causes_are_others row (cause.Damaged place kept other) = (refl, tt)
 causes_are_others row _ = tt
@@ -106,7 +106,7 @@ found_are_others (Some row) (found.Missing why) = causes_are_others row why
 pub find_are_others : (s : State) (id : PieceId) (answer : Found) → AllOthers (find_adds s id answer)
 find_are_others s id answer = found_are_others (live_row_of s id) answer
 
-other : (r : Rec) → IsOfFlush r → speaks_of_actors r ≡ false
+other : (r : Rec) → IsRecordOfFlush r → speaks_of_actors r ≡ false
 other (rec.Began cursor floor) h = refl
 other (rec.Moved piece from place digest) h = refl
 other (rec.Unsaved piece place fault) h = refl
@@ -235,11 +235,11 @@ room_for_it s c bytes blocks room held b r none =
 
 -- ---- answers
 
-pub answers_stop : {X : Type 0} (why : Stop) (P : Result X Stop → Type 0) (wanting : Type 0) → P (Err why) → Answers {X = X} (Err (refusal_of why)) P wanting
+pub answers_stop : {X : Type 0} (why : Stop) (P : Result X Stop → Type 0) (wanting : Type 0) → P (Err why) → AnswersOrWants {X = X} (Err (refusal_of why)) P wanting
 answers_stop (stop.DeviceFault count) P wanting h = h
 answers_stop (stop.Exhausted number) P wanting h = h
 
-pub answers_map : {X : Type 0} (result : Result X Refusal) (P Q : Result X Stop → Type 0) (v w : Type 0) → ((r : Result X Stop) → P r → Q r) → (v → w) → Answers result P v → Answers result Q w
+pub answers_map : {X : Type 0} (result : Result X Refusal) (P Q : Result X Stop → Type 0) (v w : Type 0) → ((r : Result X Stop) → P r → Q r) → (v → w) → AnswersOrWants result P v → AnswersOrWants result Q w
 answers_map (Ok x) P Q v w f g h = f (Ok x) h
 answers_map (Err (refusal.DeviceFault count)) P Q v w f g h = f (Err (stop.DeviceFault count)) h
 answers_map (Err (refusal.Exhausted number)) P Q v w f g h = f (Err (stop.Exhausted number)) h
@@ -255,7 +255,7 @@ answers_map (Err refusal.NoSuchWriter) P Q v w f g h = absurd h
 
 -- behind the flush that it may need
 module _ (packed : Bool) (s : State) (id : PieceId) (pin start : ℕ) (payload : List ℕ) (room piece : List Rec) (kinds : AreOfFlush room) (kind : is_vector id ≡ false)
-    (are : IsPlacedAs packed (after_all s room) id pin start payload piece) where
+    (are : AreOfPlace packed (after_all s room) id pin start payload piece) where
   abbrev t : State
   t = after_all s room
 
@@ -287,7 +287,7 @@ module _ (packed : Bool) (s : State) (id : PieceId) (pin start : ℕ) (payload :
 
 -- of a vector
 placed_others : (packed : Bool) (s : State) (id : PieceId) (pin start : ℕ) (payload : List ℕ) (added : List Rec) → is_vector id ≡ true
-    → IsPlacedAs packed s id pin start payload added → AllOthers added
+    → AreOfPlace packed s id pin start payload added → AllOthers added
 placed_others packed s id pin start payload added kind a =
     subst AllOthers (sym (a.is ∙ none_cut s id pin start payload a.displaced kind))
     (all_append (λ r. speaks_of_actors r ≡ false) a.displaced _ (displaced_are_others a.displaced (pushed_kinds packed s id a.displaced a.pushed)) (refl, tt))
@@ -298,7 +298,7 @@ vector_others packed s id pin start payload (Ok placed) added kind a = placed_ot
 vector_others packed s id pin start payload (Err why) added kind a = subst AllOthers (sym a) tt
 
 pub vector_state : (packed : Bool) (s : State) (id : PieceId) (pin start : ℕ) (payload : List ℕ) (added : List Rec)
-    (a : IsPlacedAs packed s id pin start payload added) → is_vector id ≡ true → after_all s added ≡ state_after (after_all s a.displaced) (placed_record s id pin start (length payload) payload)
+    (a : AreOfPlace packed s id pin start payload added) → is_vector id ≡ true → after_all s added ≡ state_after (after_all s a.displaced) (placed_record s id pin start (length payload) payload)
 vector_state packed s id pin start payload added a kind =
     ap (after_all s) (a.is ∙ none_cut s id pin start payload a.displaced kind) ∙ after_all-append s a.displaced (placed_record s id pin start (length payload) payload ∷ [])
 

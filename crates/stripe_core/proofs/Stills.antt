@@ -1,12 +1,12 @@
 -- Devices that made no call meanwhile, or were asked for what is there.
 use Rattle.std.proofs.Common.{◌≡◌, refl, sym, ◌∙◌, subst, Result, Ok, Err}
-use Rattle.logged_disk.specs.Device.{State as Device}
+use Rattle.logged_disk.specs.Device.{DeviceState as Device}
 use Rattle.logged_disk.proofs.GoingOn.{goes_further, stays_put}
 use Rattle.stripe_core.specs.declared.refusal.Refusal.{Refusal}
 use Rattle.stripe_core.specs.declared.refusal.Refusal.TheVariants as refusal
 use Rattle.stripe_pieces.specs.declared.answer.Stop.{Stop}
 use Rattle.stripe_pieces.specs.Still.{IsStill, IsUnwritten}
-use Rattle.stripe_core.specs.Stripe.{Answers, Unstopped, Wanting}
+use Rattle.stripe_core.specs.Stripe.{AnswersOrWants, Unstopped, Wanting}
 
 still_put : (a : Device) → IsStill a a
 still_put a = record { goes = stays_put a; past = refl; seen = λ j. refl; faults = refl }
@@ -49,7 +49,7 @@ unstopped (Err refusal.NoSuchWriter) P h = h
 unstopped (Err (refusal.Memory e)) P h = h
 
 -- a call that only the tape and want of memory refuse
-pub wanting_unstopped : {X : Type 0} (r : Result X Refusal) (answers : Result X Stop → Type 0) (wanting P : Type 0) → Answers r answers wanting → Wanting r P → Unstopped r P
+pub wanting_unstopped : {X : Type 0} (r : Result X Refusal) (answers : Result X Stop → Type 0) (wanting P : Type 0) → AnswersOrWants r answers wanting → Wanting r P → Unstopped r P
 wanting_unstopped (Ok x) answers wanting P is h = tt
 wanting_unstopped (Err refusal.TooManyWriters) answers wanting P is h = absurd is
 wanting_unstopped (Err refusal.TooManyFragments) answers wanting P is h = absurd is

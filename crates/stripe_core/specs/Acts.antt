@@ -15,36 +15,36 @@ use Rattle.cache_model.specs.declared.cause.Cause.TheVariants as cause
 use Rattle.cache_model.specs.declared.record.Rec.{Rec}
 use Rattle.cache_model.specs.declared.record.Rec.TheVariants as rec
 use Rattle.cache_model.specs.State.{Open, PutRow, ReaderRow, Row, State, list_of_piece, live_row_of, put_of, reader_of, state_after, vector_piece, most_fragments}
-use Rattle.stripe_actors.specs.Actors.{AreActors, Seen}
+use Rattle.stripe_actors.specs.Actors.{ActorsSeen, AreActors}
 use Rattle.cache_model.specs.Verdict.{cuts_of, digest_in}
 use Rattle.cache_model.specs.Permit.{Commit, Done, Exhausted, Fails, GiveUp, Look, ManyWriters, Permit, ReadOn, Remove, StopReading, Write}
 use Rattle.cache_model.specs.Given.{IsRead}
 use Rattle.cache_model.specs.Room.{limit}
 use Rattle.cache_model.specs.Legal.{Does, IsLookup, IsQuiet, IsReading, IsUnlike, IsWriting, ReadTrouble, answer_record, is_writing, most_writers, open_writers}
-use Rattle.stripe_actors.specs.Calls.{HasNumber}
+use Rattle.stripe_actors.specs.Calls.{HasPutNumber}
 use Rattle.stripe_core.specs.declared.refusal.Refusal.{Refusal}
 use Rattle.stripe_core.specs.declared.refusal.Refusal.TheVariants as refusal
 
 -- ---- a writer opens
 
 -- the record of a writer that opens: it has the number of the next put
-abbrev pub opened_record : State → Actor → Key → List Field → List Field → ℕ → Rec
-opened_record s who key request response pin = rec.WriteOpened who s.next_put key request response pin
+abbrev pub write_opened_record : State → Actor → Key → List Field → List Field → ℕ → Rec
+write_opened_record s who key request response pin = rec.WriteOpened who s.next_put key request response pin
 
 -- it has the next number; or as many are open as may be, or else the numbers have an end
 abbrev pub OpensAsAsked : State → Actor → Key → List Field → List Field → ℕ → Result ℕ Refusal → Type 0
 OpensAsAsked s who key request response pin (Ok put) =
-    (put ≡ s.next_put) × ((p : Permit) → Does p s (Write who.0 key request response pin) (opened_record s who key request response pin ∷ []) Done)
+    (put ≡ s.next_put) × ((p : Permit) → Does p s (Write who.0 key request response pin) (write_opened_record s who key request response pin ∷ []) Done)
 OpensAsAsked s who key request response pin (Err refusal.TooManyWriters) =
     (most_writers ≤ open_writers s) × ((p : Permit) → Does p s (Write who.0 key request response pin) [] (Fails ManyWriters))
 OpensAsAsked s who key request response pin (Err (refusal.Exhausted number)) =
     (number ≡ s.next_put + 1) × ((p : Permit) → Does p s (Write who.0 key request response pin) [] (Fails Exhausted))
-OpensAsAsked s who key request response pin (Err (refusal.Memory e)) = HasNumber s
+OpensAsAsked s who key request response pin (Err (refusal.Memory e)) = HasPutNumber s
 OpensAsAsked s who key request response pin (Err _) = ⊥
 
 -- why no put can be opened; there is no other reason but want of memory
 abbrev pub IsRefusedPut : State → Option Refusal → Type 0
-IsRefusedPut s None = HasNumber s
+IsRefusedPut s None = HasPutNumber s
 IsRefusedPut s (Some refusal.TooManyWriters) = most_writers ≤ open_writers s
 IsRefusedPut s (Some (refusal.Exhausted number)) = (open_writers s < most_writers) × (limit ≤ s.next_put + 1) × (number ≡ s.next_put + 1)
 IsRefusedPut s (Some _) = ⊥
@@ -103,7 +103,7 @@ IsGivable (next.Waited cut) = Unit {0}
 IsGivable (next.Broke why) = Unit {0}
 
 -- actors that were in step with a state in which a followed writer is open are in step behind the answer
-abbrev pub AnswersLookup : ℕ → ReadAnswer → Seen → Seen → Type 0
+abbrev pub AnswersLookup : ℕ → ReadAnswer → ActorsSeen → ActorsSeen → Type 0
 AnswersLookup reader answer old new = (s : State) (who : Actor) (key : Key) (request : List Field) → IsFollowable s answer → AreActors s old
     → AreActors (state_after s (rec.ReadOpened reader who key request answer)) new
 

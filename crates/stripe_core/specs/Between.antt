@@ -1,6 +1,6 @@
 -- What every call of a stripe keeps: the stripe, how its device went on, and that what the device took and refused is told.
 use Rattle.std.specs.Prelude.{◌≤◌}
-use Rattle.logged_disk.specs.Device.{IsAfter, State as Device}
+use Rattle.logged_disk.specs.Device.{DeviceState as Device, IsAfter}
 use Rattle.logged_disk.specs.declared.device.Disk.{Ghosts as DiskGhosts}
 use Rattle.dir_table.specs.declared.directory.Directory.{Ghosts as DirectoryGhosts}
 use Rattle.cache_chronicle.specs.declared.chronicle.Chronicle.{Ghosts as ChronicleGhosts}
@@ -11,14 +11,14 @@ use Rattle.stripe_core.specs.declared.stripe.Stripe.{Stripe}
 use Rattle.stripe_pieces.specs.Faults.{IsAccounted}
 use Rattle.stripe_core.specs.Stripe.{IsStripe, kept_in, seen_in, state_in}
 use Rattle.stripe_pieces.specs.Standing.{AreStanding}
-use Rattle.stripe_core.specs.Unharmed.{IsUnharmed}
+use Rattle.stripe_core.specs.Unharmed.{StripeIsUnharmed}
 
 -- what a call keeps: the device goes on, what it took and refused is told, and where it tells its content no more pieces are told as
 -- damaged
 pub record IsBetween (old_device new_device : Device) (old new : Kept) : Type 0 where
   pub goes : IsAfter old_device new_device
   pub accounted : IsAccounted old_device.past new_device.past old new
-  pub unharmed : IsUnharmed old_device (state_of old) → IsUnharmed new_device (state_of new)
+  pub unharmed : StripeIsUnharmed old_device (state_of old) → StripeIsUnharmed new_device (state_of new)
 
 -- so it is of a stripe before a call and behind it
 module _ {D R C : Type 0} {d : DiskGhosts D} {r : DirectoryGhosts R} {c : ChronicleGhosts C} where

@@ -11,6 +11,6 @@ IsCounted faults (refusal.DeviceFault count) = count ≤ faults
 IsCounted faults _ = Unit {0}
 
 -- and so does a cause
-abbrev pub IsCountedCause : ℕ → Cause → Type 0
-IsCountedCause faults (cause.DeviceFault count) = count ≤ faults
-IsCountedCause faults _ = Unit {0}
+abbrev pub CauseIsCounted : ℕ → Cause → Type 0
+CauseIsCounted faults (cause.DeviceFault count) = count ≤ faults
+CauseIsCounted faults _ = Unit {0}

@@ -9,8 +9,8 @@ use Rattle.cyclone.specs.Cyclone.{Seen}
 use Rattle.cache_model.specs.State.{State}
 use Rattle.cache_model.specs.Kept.{Kept, count_of}
 use Rattle.cache_chronicle.specs.declared.chronicle.Chronicle.{Ghosts as ChronicleGhosts}
-use Rattle.open_directory.specs.Directory.{room_of}
-use Rattle.stripe_actors.specs.Actors.{AreActors, reader_room_of, Seen as Actors}
+use Rattle.open_directory.specs.Directory.{room_for_fragments}
+use Rattle.stripe_actors.specs.Actors.{AreActors, reader_room_of, ActorsSeen as Actors}
 use Rattle.stripe_core.specs.declared.refusal.Refusal.{Refusal}
 use Rattle.stripe_core.specs.declared.refusal.Refusal.TheVariants as refusal
 use Rattle.stripe_pieces.specs.declared.answer.Stop.{Stop}
@@ -22,12 +22,12 @@ use Rattle.stripe_pieces.specs.Ahead.{IsMadeFor}
 use Rattle.stripe_pieces.specs.Standing.{AreStanding}
 use Rattle.stripe_core.specs.Named.{IsNamed}
 use Rattle.stripe_pieces.specs.Units.{entries_of_unit, records_of_unit}
-use Rattle.stripe_pieces.specs.Pieces.{ArePieces, kept_of, seen_of, state_now}
+use Rattle.stripe_pieces.specs.Pieces.{ArePieces, kept_now, seen_now, state_now}
 
 module _ {D R C : Type 0} {d : DiskGhosts D} {r : DirectoryGhosts R} {c : ChronicleGhosts C} where
   -- the records of a stripe, as its chronicle keeps them
   abbrev pub kept_in : Stripe D R C d r c → Kept
-  kept_in t = kept_of t.pieces
+  kept_in t = kept_now t.pieces
 
   -- what these records stand for
   abbrev pub state_in : Stripe D R C d r c → State
@@ -35,7 +35,7 @@ module _ {D R C : Type 0} {d : DiskGhosts D} {r : DirectoryGhosts R} {c : Chroni
 
   -- the cyclone of a stripe, as contracts see it
   abbrev pub seen_in : Stripe D R C d r c → Seen
-  seen_in t = seen_of t.pieces
+  seen_in t = seen_now t.pieces
 
   -- where its memory comes from
   abbrev pub alloc_in : Stripe D R C d r c → Global
@@ -59,7 +59,7 @@ pub record IsSpared (units flushes room : ℕ) (c : Seen) : Type 0 where
 
 -- how many fragments of a put can be cut without more memory
 abbrev pub room_for : ℕ → Actors → ℕ
-room_for put a = room_of put a.held.puts
+room_for put a = room_for_fragments put a.held.puts
 
 -- a fragment can be cut without more memory; a vector is no fragment
 abbrev pub RowIsMade : PieceId → Actors → Type 0
@@ -85,12 +85,12 @@ pub record IsStripe {D R C : Type 0} {d : DiskGhosts D} {r : DirectoryGhosts R} 
 
 -- what a call answers that the tape may stop: what holds of the answer, and what holds where memory is
 -- wanting
-abbrev pub Answers : {X : Type 0} → Result X Refusal → (Result X Stop → Type 0) → Type 0 → Type 0
-Answers (Ok x) answers wanting = answers (Ok x)
-Answers (Err (refusal.DeviceFault count)) answers wanting = answers (Err (stop.DeviceFault count))
-Answers (Err (refusal.Exhausted number)) answers wanting = answers (Err (stop.Exhausted number))
-Answers (Err (refusal.Memory e)) answers wanting = wanting
-Answers (Err _) answers wanting = ⊥
+abbrev pub AnswersOrWants : {X : Type 0} → Result X Refusal → (Result X Stop → Type 0) → Type 0 → Type 0
+AnswersOrWants (Ok x) answers wanting = answers (Ok x)
+AnswersOrWants (Err (refusal.DeviceFault count)) answers wanting = answers (Err (stop.DeviceFault count))
+AnswersOrWants (Err (refusal.Exhausted number)) answers wanting = answers (Err (stop.Exhausted number))
+AnswersOrWants (Err (refusal.Memory e)) answers wanting = wanting
+AnswersOrWants (Err _) answers wanting = ⊥
 
 -- memory is not wanting
 abbrev pub HasMemory : {X : Type 0} → Result X Refusal → Type 0

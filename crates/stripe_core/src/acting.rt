@@ -6,8 +6,8 @@ ghost use Rattle.cache_model.specs.Legal.{IsQuiet, answer_record};
 ghost use Rattle.cache_model.specs.Verdict.{live_vector_of};
 ghost use Rattle.cache_model.specs.State.{State};
 ghost use Rattle.stripe_actors.specs.Actors.{AreActors, reader_room_of};
-ghost use Rattle.stripe_actors.specs.Calls.{HasNumber, KeepUpWith, StayInStep};
-ghost use Rattle.stripe_core.specs.Acts.{AnswersLookup, CommitsAsAsked, EndsReadAsAsked, GivesUpAsAsked, IsCommitting, IsFollowable, IsGivable, IsGivingUp, IsRefusedPut, LooksAsAsked, MarksAsAsked, NotesAsAsked, OpensAsAsked, RefusesAsAsked, RemovesAsAsked, committed_record, opened_record};
+ghost use Rattle.stripe_actors.specs.Calls.{HasPutNumber, KeepUpWith, StayInStep};
+ghost use Rattle.stripe_core.specs.Acts.{AnswersLookup, CommitsAsAsked, EndsReadAsAsked, GivesUpAsAsked, IsCommitting, IsFollowable, IsGivable, IsGivingUp, IsRefusedPut, LooksAsAsked, MarksAsAsked, NotesAsAsked, OpensAsAsked, RefusesAsAsked, RemovesAsAsked, committed_record, write_opened_record};
 
 use crate::Stripe;
 use crate::refusal::Refusal;
@@ -194,7 +194,7 @@ impl<D: Disk, R: Directory + Drop, C: Chronicle> Stripe<D, R, C> {
         ensures continues { Continues self.old self.new }
         ensures adds { OnOk result (kept_in self.new
             ≡ with_records (kept_in self.old)
-            (opened_record (state_in self.old) actor key request response pin ∷ [])) }
+            (write_opened_record (state_in self.old) actor key request response pin ∷ [])) }
         ensures err { OnErr result (kept_in self.new ≡ kept_in self.old) }
         ensures does { OpensAsAsked (state_in self.old) actor key request response pin result }
         ensures still { (seen_in self.new).device ≡ (seen_in self.old).device }
@@ -215,11 +215,11 @@ impl<D: Disk, R: Directory + Drop, C: Chronicle> Stripe<D, R, C> {
         pin: u64,
     ) -> Result<u64, Refusal>
         requires resting { IsResting self.old }
-        requires number { HasNumber (state_in self.old) }
+        requires number { HasPutNumber (state_in self.old) }
         ensures continues { Continues self.old self.new }
         ensures adds { OnOk result (kept_in self.new
             ≡ with_records (kept_in self.old)
-            (opened_record (state_in self.old) actor key request response pin ∷ [])) }
+            (write_opened_record (state_in self.old) actor key request response pin ∷ [])) }
         ensures err { OnErr result (kept_in self.new ≡ kept_in self.old) }
         ensures does { OpensAsAsked (state_in self.old) actor key request response pin result }
         ensures still { (seen_in self.new).device ≡ (seen_in self.old).device }

@@ -7,7 +7,7 @@ ghost use Rattle.cache_model.specs.Kept.{all_of, with_records};
 ghost use Rattle.cache_model.specs.Legal.{format_records};
 ghost use Rattle.cache_model.specs.Room.{has_room, is_flush_exhausted};
 ghost use Rattle.cache_model.specs.Verdict.{payload_of_piece};
-ghost use Rattle.stripe_pieces.specs.Flush.{FlushesAsAsked, StopsWith, Tells};
+ghost use Rattle.stripe_pieces.specs.Flush.{FlushesAsAsked, StopsWith, TellsFlush};
 ghost use Rattle.cache_model.specs.Legal.{is_writing};
 ghost use Rattle.stripe_actors.specs.Actors.{reader_room_of};
 ghost use Rattle.stripe_actors.specs.Calls.{with_room_of_readers};
@@ -40,7 +40,7 @@ pub struct Stripe<D: Disk, R: Directory + Drop, C: Chronicle> {
 impl<D: Disk, R: Directory + Drop, C: Chronicle> Stripe<D, R, C> {
     ghost use Rattle.stripe_pieces.specs.Pieces.{live_place_of};
     ghost use Rattle.stripe_pieces.specs.Still.{IsStill, IsUnwritten};
-    ghost use Rattle.stripe_core.specs.Stripe.{alloc_in, Answers, flushes_in, HasMemory, IsSpared, IsStripe, IsWanting, kept_in, room_for, RowIsMade, seen_in, state_in, units_in, Wanting};
+    ghost use Rattle.stripe_core.specs.Stripe.{alloc_in, AnswersOrWants, flushes_in, HasMemory, IsSpared, IsStripe, IsWanting, kept_in, room_for, RowIsMade, seen_in, state_in, units_in, Wanting};
     ghost use Rattle.stripe_core.specs.Between.{Continues, ContinuesWith, IsResting, StandIn};
 
     /// Begins a session on an empty content area. A refusal gives back the device and the chronicle.
@@ -172,14 +172,15 @@ impl<D: Disk, R: Directory + Drop, C: Chronicle> Stripe<D, R, C> {
     pub fn flush(&mut self, now: u64) -> Result<Flushed, Refusal>
         requires resting { IsResting self.old }
         ensures continues { Continues self.old self.new }
-        ensures does { Answers result (FlushesAsAsked now (kept_in self.old) (kept_in self.new)
+        ensures does { AnswersOrWants result
+            (FlushesAsAsked now (kept_in self.old) (kept_in self.new)
             (seen_in self.old).device.past (seen_in self.new).device) (kept_in self.new
             ≡ kept_in self.old) }
         ensures row { (put : ℕ) → room_for put self.new.actors ≡ room_for put self.old.actors }
-        ensures tells { IfOk result (Tells (state_in self.old) (state_in self.new)) }
+        ensures tells { IfOk result (TellsFlush (state_in self.old) (state_in self.new)) }
         ensures room { OnOk result ((state_in self.new).filled
             ≤ budget_of (state_in self.new).geometry) }
-        ensures stops { Answers result (λ r. IfErr r
+        ensures stops { AnswersOrWants result (λ r. IfErr r
             (StopsWith (state_in self.old) (seen_in self.new).device.faults)) (Unit {0}) }
         // Where nothing is written the device stays as it is, but for the memory of its calls.
         ensures still { (state_in self.old).filled ≡ 0
@@ -207,12 +208,12 @@ impl<D: Disk, R: Directory + Drop, C: Chronicle> Stripe<D, R, C> {
         requires resting { IsResting self.old }
         requires small { blocks_of bytes ≤ budget_of (state_in self.old).geometry }
         ensures continues { Continues self.old self.new }
-        ensures does { Answers result (RoomsAsAsked now (kept_in self.old) (kept_in self.new)
+        ensures does { AnswersOrWants result (RoomsAsAsked now (kept_in self.old) (kept_in self.new)
             (seen_in self.old).device.past (seen_in self.new).device bytes) (kept_in self.new
             ≡ kept_in self.old) }
         ensures room { OnOk result (has_room (state_in self.new) bytes ≡ true) }
         ensures full { OnErr result (has_room (state_in self.old) bytes ≡ false) }
-        ensures stops { Answers result (λ r. IfErr r
+        ensures stops { AnswersOrWants result (λ r. IfErr r
             (StopsWith (state_in self.old) (seen_in self.new).device.faults)) (Unit {0}) }
         ensures row { (put : ℕ) → room_for put self.new.actors ≡ room_for put self.old.actors }
         // With room the device is not asked.
@@ -303,7 +304,7 @@ impl<D: Disk, R: Directory + Drop, C: Chronicle> Stripe<D, R, C> {
             contents_of_vectors }
         ensures continues { ContinuesWith (λ contents. OnOk result (IsToldPlaced (seen_in self.new).device
             (state_in self.old) id start payload.now contents)) self.old self.new }
-        ensures does { Answers result (PlacesAsAsked R.purges now (kept_in self.old) (kept_in self.new)
+        ensures does { AnswersOrWants result (PlacesAsAsked R.purges now (kept_in self.old) (kept_in self.new)
             (seen_in self.old).device.past (seen_in self.new).device id pin start payload.now)
             (kept_in self.new ≡ kept_in self.old) }
         // Without a flush the device stays as it is, but for the memory of its calls.
@@ -339,7 +340,8 @@ impl<D: Disk, R: Directory + Drop, C: Chronicle> Stripe<D, R, C> {
         requires vector { IsVectorFor (state_in self.old) id start payload.now }
         ensures continues { ContinuesWith (λ contents. OnOk result (IsToldPlaced (seen_in self.new).device
             (state_in self.old) id start payload.now contents)) self.old self.new }
-        ensures does { Answers result (PlacesVector R.purges (kept_in self.old) (kept_in self.new)
+        ensures does { AnswersOrWants result
+            (PlacesVector R.purges (kept_in self.old) (kept_in self.new)
             (seen_in self.old).device.past
             (seen_in self.new).device.past id pin start payload.now) ⊥ }
         ensures still { (seen_in self.new).device ≡ (seen_in self.old).device }
@@ -365,7 +367,7 @@ impl<D: Disk, R: Directory + Drop, C: Chronicle> Stripe<D, R, C> {
         requires fragment { IsFragmentOf (state_in self.old) id pin start payload.now }
         ensures continues { ContinuesWith (λ contents. OnOk result (IsToldPlaced (seen_in self.new).device
             (state_in self.old) id start payload.now contents)) self.old self.new }
-        ensures does { Answers result (CutsAsAsked R.purges now (kept_in self.old) (kept_in self.new)
+        ensures does { AnswersOrWants result (CutsAsAsked R.purges now (kept_in self.old) (kept_in self.new)
             (seen_in self.old).device.past (seen_in self.new).device id pin start payload.now)
             (kept_in self.new ≡ kept_in self.old) }
         ensures still { has_room (state_in self.old) (length payload.now) ≡ true

@@ -13,10 +13,10 @@ use Rattle.open_directory.proofs.Followers.{is_number_self, same_number}
 use Rattle.open_directory.proofs.Rising.{absent_below}
 use Rattle.cache_model.specs.State.{State, ReaderRow, most_fragments, reader_of}
 use Rattle.cache_model.specs.Due.{is_awaited, is_due_to}
-use Rattle.stripe_actors.specs.Actors.{AreActors, FallBelow, IsNumbered, IsReaderAs, IsReaderOf, RiseWithin, Seen, reader_numbers}
+use Rattle.stripe_actors.specs.Actors.{ActorsSeen, AreActors, HasGivenNumbers, IsReaderAs, IsReaderOfRow, NumbersFallBelow, RiseWithin, reader_numbers}
 use Rattle.stripe_actors.proofs.Numbered.{rises_within}
 use Rattle.stripe_actors.proofs.Telling.{was_given}
-use Rattle.stripe_due.specs.Walk.{is_left, is_within}
+use Rattle.stripe_due.specs.Walk.{is_at_or_above, is_left_to_reader}
 
 -- a reader of the put takes a fragment next that is this one or stands before it
 abbrev awaits : ℕ → ℕ → Reader → Bool
@@ -27,7 +27,7 @@ row_awaits put index r = r.put == put && nat_le r.next index
 
 -- ---- the least of all
 
-within_lesser : (index n : ℕ) (least : Option ℕ) → is_within index (min_with n least) ≡ (nat_le n index || is_within index least)
+within_lesser : (index n : ℕ) (least : Option ℕ) → is_at_or_above index (min_with n least) ≡ (nat_le n index || is_at_or_above index least)
 within_lesser index n None = elim (nat_le n index) as (λ b. b ≡ (b || false)) [ true ↦ refl | false ↦ refl ]
 within_lesser index n (Some m) = grind (arith, nat_tests)
 
@@ -38,16 +38,16 @@ or_moved false true c = refl
 or_moved false false c = refl
 
 within_fold : (put index : ℕ) (rs : List Reader) (least : Option ℕ)
-    → is_within index (fold (λ least r. if r.put == put then min_with r.next least else least) least rs) ≡ (is_within index least || list_any (awaits put index) rs)
-within_fold put index [] least = elim (is_within index least) as (λ b. b ≡ (b || false)) [ true ↦ refl | false ↦ refl ]
+    → is_at_or_above index (fold (λ least r. if r.put == put then min_with r.next least else least) least rs) ≡ (is_at_or_above index least || list_any (awaits put index) rs)
+within_fold put index [] least = elim (is_at_or_above index least) as (λ b. b ≡ (b || false)) [ true ↦ refl | false ↦ refl ]
 within_fold put index (r ∷ rs) least = by_test (within_fold put index rs) (r.put == put)
   where
-    by_test : ((least : Option ℕ) → is_within index (fold (λ least r. if r.put == put then min_with r.next least else least) least rs) ≡ (is_within index least || list_any (awaits put index) rs))
-        → (b : Bool) → is_within index (fold (λ least r. if r.put == put then min_with r.next least else least) (cond b (min_with r.next least) least) rs)
-        ≡ (is_within index least || ((b && nat_le r.next index) || list_any (awaits put index) rs))
+    by_test : ((least : Option ℕ) → is_at_or_above index (fold (λ least r. if r.put == put then min_with r.next least else least) least rs) ≡ (is_at_or_above index least || list_any (awaits put index) rs))
+        → (b : Bool) → is_at_or_above index (fold (λ least r. if r.put == put then min_with r.next least else least) (cond b (min_with r.next least) least) rs)
+        ≡ (is_at_or_above index least || ((b && nat_le r.next index) || list_any (awaits put index) rs))
     by_test rest true =
         rest (min_with r.next least)
-        ∙ (ap (λ b. b || list_any (awaits put index) rs) (within_lesser index r.next least) ∙ or_moved (nat_le r.next index) (is_within index least) (list_any (awaits put index) rs))
+        ∙ (ap (λ b. b || list_any (awaits put index) rs) (within_lesser index r.next least) ∙ or_moved (nat_le r.next index) (is_at_or_above index least) (list_any (awaits put index) rs))
     by_test rest false = rest least
 
 -- ---- the readers of the table, and of the records
@@ -99,7 +99,7 @@ any_entry P n r (e ∷ es) h t = by_test (λ k. any_entry P n r es k t) (is_numb
     by_test rest true k = let same : e.1 ≡ r = cc in ap (λ (x : Reader). P x || list_any P (values_of es)) same ∙ ap (λ b. b || list_any P (values_of es)) t
     by_test rest false k = elim (P e.1) as (λ b. (b || list_any P (values_of es)) ≡ true) [ true ↦ refl | false ↦ rest k ]
 
-row_behind : (P : ReaderRow → Bool) (high : ℕ) (x : ReaderRow) (rows : List ReaderRow) → FallBelow high (reader_numbers (x ∷ rows)) → HasRow P rows → HasRow P (x ∷ rows)
+row_behind : (P : ReaderRow → Bool) (high : ℕ) (x : ReaderRow) (rows : List ReaderRow) → NumbersFallBelow high (reader_numbers (x ∷ rows)) → HasRow P rows → HasRow P (x ∷ rows)
 row_behind P high x rows h k = record { row = k.row; found = by_test (x.reader == k.row.reader) refl; holds = k.holds }
   where
     by_test : (b : Bool) → (x.reader == k.row.reader) ≡ b → cond b (Some x) (find (λ r. r.reader == k.row.reader) rows) ≡ Some k.row
@@ -114,7 +114,7 @@ row_behind P high x rows h k = record { row = k.row; found = by_test (x.reader =
 row_first : (P : ReaderRow → Bool) (x : ReaderRow) (rows : List ReaderRow) → P x ≡ true → HasRow P (x ∷ rows)
 row_first P x rows t = record { row = x; found = ap (λ b. cond b (Some x) (find (λ r. r.reader == x.reader) rows)) (eq-eqb x.reader x.reader refl); holds = t }
 
-row_of_any : (P : ReaderRow → Bool) (high : ℕ) (rows : List ReaderRow) → FallBelow high (reader_numbers rows) → list_any P rows ≡ true → HasRow P rows
+row_of_any : (P : ReaderRow → Bool) (high : ℕ) (rows : List ReaderRow) → NumbersFallBelow high (reader_numbers rows) → list_any P rows ≡ true → HasRow P rows
 row_of_any P high [] h some = cc
 row_of_any P high (x ∷ rows) h some = by_test (row_of_any P x.reader rows h.1) (P x) refl some
   where
@@ -132,7 +132,7 @@ any_row P n row (x ∷ rows) h t = by_test (λ k. any_row P n row rows k t) (x.r
 
 -- ---- one and the other
 
-same_answer : (put index : ℕ) (row : ReaderRow) (r : Reader) → IsReaderOf row r → awaits put index r ≡ row_awaits put index row
+same_answer : (put index : ℕ) (row : ReaderRow) (r : Reader) → IsReaderOfRow row r → awaits put index r ≡ row_awaits put index row
 same_answer put index row r h = ap (λ (p : ℕ). p == put && nat_le r.next index) h.put ∙ ap (λ (n : ℕ). row.put == put && nat_le n index) h.next
 
 to_row : (put index : ℕ) (n : ℕ) (r : Reader) (rows : List ReaderRow) (o : Option ReaderRow) → find (λ r. r.reader == n) rows ≡ o → IsReaderAs o (Some r) → awaits put index r ≡ true
@@ -150,7 +150,7 @@ both_or_none true b to from = sym (to refl)
 both_or_none false true to from = from refl
 both_or_none false false to from = refl
 
-same_readers : (put index : ℕ) (s : State) (a : Seen) → IsNumbered a → AreActors s a
+same_readers : (put index : ℕ) (s : State) (a : ActorsSeen) → HasGivenNumbers a → AreActors s a
     → list_any (awaits put index) (values_of a.held.readers) ≡ list_any (row_awaits put index) s.readers
 same_readers put index s a numbered h = both_or_none _ _ to from
   where
@@ -183,10 +183,10 @@ of_fragments id rows =
     ap (λ b. not (is_vector id) && b) (with_test (nat_le id.index most_fragments) (row_awaits id.put id.index) rows)
     ∙ with_test (not (is_vector id)) (λ (r : ReaderRow). nat_le id.index most_fragments && row_awaits id.put id.index r) rows
 
-pub awaited_is : (s : State) (a : Seen) (held : Held) (id : PieceId) → IsNumbered a → AreActors s a → held ≡ a.held
-    → is_left id (least_next id.put (values_of held.readers)) ≡ is_awaited s id
+pub awaited_is : (s : State) (a : ActorsSeen) (held : Held) (id : PieceId) → HasGivenNumbers a → AreActors s a → held ≡ a.held
+    → is_left_to_reader id (least_next id.put (values_of held.readers)) ≡ is_awaited s id
 awaited_is s a held id numbered h same =
-    ap (λ (seen : Held). is_left id (least_next id.put (values_of seen.readers))) same
+    ap (λ (seen : Held). is_left_to_reader id (least_next id.put (values_of seen.readers))) same
     ∙ (ap (λ b. not (is_vector id) && (nat_le id.index most_fragments && b))
     (within_fold id.put id.index (values_of a.held.readers) None ∙ same_readers id.put id.index s a numbered h)
     ∙ of_fragments id s.readers)

@@ -15,8 +15,8 @@ use Rattle.cache_model.proofs.Lists.{own_piece}
 use Rattle.cache_model.proofs.Walks.{due_are_found, walk_finds, walk_goes_on}
 use Rattle.cache_chronicle.specs.declared.pieces.KeptPiece.{KeptPiece}
 use Rattle.cache_chronicle.specs.LivePieces.{kept_if_at, kept_live_at, kept_piece, kept_still_at}
-use Rattle.stripe_due.specs.Finding.{candidate_of, candidates_of}
-use Rattle.stripe_due.specs.Walk.{candidates_from, pinned, row_at}
+use Rattle.stripe_due.specs.Finding.{candidate_of, due_candidates}
+use Rattle.stripe_due.specs.Walk.{candidates_from, live_row_at, pinned}
 
 -- behind the end there is nothing
 none_between : (low high : ℕ) → high ≤ low → (rows : List Row) → filter (λ row. nat_le low row.place && nat_lt row.place high) rows ≡ []
@@ -82,7 +82,7 @@ at_place s place None = refl
 at_place s place (Some id) = at_row s place id (live_row_of s id) refl
 
 -- the live piece that begins at a place, as it is asked for
-pub pinned_at : (s : State) (place : ℕ) → option_map (kept_pinned place) (kept_live_at s place) ≡ option_map pinned (row_at s place)
+pub pinned_at : (s : State) (place : ℕ) → option_map (kept_pinned place) (kept_live_at s place) ≡ option_map pinned (live_row_at s place)
 pinned_at s place = at_place s place (lookup (λ p. p == place) s.places)
 
 -- ---- one step
@@ -100,7 +100,7 @@ with_first s now items row rows false e = rw e refl
 
 -- where a piece begins
 passes_piece : (s : State) (now place next : ℕ) (items : List Candidate) (row : Row) (b : Bool) → IsSound s → floor_now s ≤ place → place < next
-    → row_at s place ≡ Some row → is_due s now row ≡ b
+    → live_row_at s place ≡ Some row → is_due s now row ≡ b
     → (if b then items ++ candidate_of row ∷ [] else items) ++ candidates_from s now (place + 1) next ≡ items ++ candidates_from s now place next
 passes_piece s now place next items row b sound live below here e =
     let found = found_from s place next (piece_at s place) row sound live below refl here in
@@ -109,7 +109,7 @@ passes_piece s now place next items row b sound live below here e =
 
 -- the same, for the piece as it was asked for
 pub passes_found : (s : State) (now place next : ℕ) (items : List Candidate) (piece : Candidate) (pin : ℕ) (due : Bool) (o : Option Row)
-    → IsSound s → floor_now s ≤ place → place < next → row_at s place ≡ o → Some (piece, pin) ≡ option_map pinned o → due ≡ (nat_lt now pin || is_awaited s piece.id)
+    → IsSound s → floor_now s ≤ place → place < next → live_row_at s place ≡ o → Some (piece, pin) ≡ option_map pinned o → due ≡ (nat_lt now pin || is_awaited s piece.id)
     → (if due then items ++ piece ∷ [] else items) ++ candidates_from s now (place + 1) next ≡ items ++ candidates_from s now place next
 passes_found s now place next items piece pin due None sound live below here f e = cc
 passes_found s now place next items piece pin due (Some row) sound live below here f e =
@@ -128,14 +128,14 @@ none_at s place None e h = refl
 none_at s place (Some id) e h = none_is (sym h ∙ (known_begins s place id e).live)
 
 -- where none begins
-pub passes_none : (s : State) (now place next : ℕ) → IsSound s → floor_now s ≤ place → None ≡ option_map pinned (row_at s place)
+pub passes_none : (s : State) (now place next : ℕ) → IsSound s → floor_now s ≤ place → None ≡ option_map pinned (live_row_at s place)
     → candidates_from s now (place + 1) next ≡ candidates_from s now place next
 passes_none s now place next sound live none =
-    ap (λ rows. map candidate_of (filter (is_due s now) rows)) (sym (walk_goes_on s place next sound live (none_at s place (piece_at s place) refl (no_row (row_at s place) none))))
+    ap (λ rows. map candidate_of (filter (is_due s now) rows)) (sym (walk_goes_on s place next sound live (none_at s place (piece_at s place) refl (no_row (live_row_at s place) none))))
 
 -- ---- the whole walk
 
-pub from_floor : (s : State) (now : ℕ) → candidates_from s now (floor_now s) (floor_next s) ≡ candidates_of s now
+pub from_floor : (s : State) (now : ℕ) → candidates_from s now (floor_now s) (floor_next s) ≡ due_candidates s now
 from_floor s now = ap (λ rows. map candidate_of rows) (sym (due_are_found s now))
 
 pub at_end : (s : State) (now low high : ℕ) (items : List Candidate) → high ≤ low → items ++ candidates_from s now low high ≡ items

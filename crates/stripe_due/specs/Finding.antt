@@ -10,8 +10,8 @@ abbrev pub candidate_of : Row → Candidate
 candidate_of row = record { id = row.id; place = row.place; blocks = row.blocks }
 
 -- what is due, in rising place
-abbrev pub candidates_of : State → ℕ → List Candidate
-candidates_of s now = map candidate_of (due_pieces s now)
+abbrev pub due_candidates : State → ℕ → List Candidate
+due_candidates s now = map candidate_of (due_pieces s now)
 
 -- how many pieces the next floor passes at most: it moves by less than two buffers, a block each
 abbrev pub most_passed : Geometry → ℕ

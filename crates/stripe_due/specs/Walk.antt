@@ -9,8 +9,8 @@ use Rattle.cache_model.specs.Due.{is_due, rows_from}
 use Rattle.stripe_due.specs.Finding.{candidate_of}
 
 -- the live piece that begins at a place
-abbrev pub row_at : State → ℕ → Option Row
-row_at s place = option_and_then (live_row_of s) (piece_at s place)
+abbrev pub live_row_at : State → ℕ → Option Row
+live_row_at s place = option_and_then (live_row_of s) (piece_at s place)
 
 -- a piece as the choice takes it, beside its pin
 abbrev pub pinned : Row → Candidate × ℕ
@@ -21,11 +21,11 @@ abbrev pub candidates_from : State → ℕ → ℕ → ℕ → List Candidate
 candidates_from s now low high = map candidate_of (filter (is_due s now) (rows_from s low high))
 
 -- a number that may be there is at most this one
-abbrev pub is_within : ℕ → Option ℕ → Bool
-is_within index None = false
-is_within index (Some next) = nat_le next index
+abbrev pub is_at_or_above : ℕ → Option ℕ → Bool
+is_at_or_above index None = false
+is_at_or_above index (Some next) = nat_le next index
 
 -- a fragment is left to the reader that takes the least index next; a vector to none, and no piece of an index above
 -- those of fragments
-abbrev pub is_left : PieceId → Option ℕ → Bool
-is_left id least = not (is_vector id) && (nat_le id.index most_fragments && is_within id.index least)
+abbrev pub is_left_to_reader : PieceId → Option ℕ → Bool
+is_left_to_reader id least = not (is_vector id) && (nat_le id.index most_fragments && is_at_or_above id.index least)

@@ -5,8 +5,8 @@ ghost use Rattle.cache_model.specs.Kept.{state_of};
 ghost use Rattle.cache_model.specs.State.{State, floor_next, floor_now};
 ghost use Rattle.cache_model.specs.Tape.{IsSound};
 ghost use Rattle.stripe_actors.specs.Actors.{AreActors};
-ghost use Rattle.stripe_due.specs.Finding.{candidates_of, most_passed};
-ghost use Rattle.stripe_due.specs.Walk.{candidates_from, is_left, pinned, row_at};
+ghost use Rattle.stripe_due.specs.Finding.{due_candidates, most_passed};
+ghost use Rattle.stripe_due.specs.Walk.{candidates_from, is_left_to_reader, live_row_at, pinned};
 
 use cache_chronicle::Chronicle;
 use evacuator::Candidate;
@@ -32,7 +32,7 @@ pub fn find_due<C: Chronicle>(
     requires floor { floor ≡ floor_now (state_of (C.kept chronicle.now)) }
     requires next { next ≡ floor_next (state_of (C.kept chronicle.now)) }
     requires room { most_passed (state_of (C.kept chronicle.now)).geometry ≤ vec_capacity into.old }
-    ensures due { into.new.items ≡ candidates_of (state_of (C.kept chronicle.now)) now }
+    ensures due { into.new.items ≡ due_candidates (state_of (C.kept chronicle.now)) now }
     ensures room { vec_capacity into.old ≤ vec_capacity into.new }
 {
     into.clear();
@@ -85,7 +85,7 @@ fn bring(piece: Candidate, due: bool, into: &mut Vec<Candidate>)
 
 // The live piece that begins at a place, and its pin.
 pub(crate) fn piece_at<C: Chronicle>(chronicle: &C, place: u64) -> Option<(Candidate, u64)>
-    ensures { result ≡ option_map pinned (row_at (state_of (C.kept chronicle.now)) place) }
+    ensures { result ≡ option_map pinned (live_row_at (state_of (C.kept chronicle.now)) place) }
 {
     let (id, piece) = chronicle.live_at(place)?;
     let candidate = Candidate {
@@ -113,7 +113,7 @@ pub(crate) fn is_awaited(actors: &Actors, id: PieceId) -> bool
 // The piece is a fragment, of an index that a put may have, and the least index that a reader takes
 // next does not stand behind it.
 fn is_left(id: PieceId, least: Option<u32>) -> bool
-    ensures { result ≡ is_left id least }
+    ensures { result ≡ is_left_to_reader id least }
 {
     match least {
         Some(next) => id.index != 0 && id.index <= MOST_FRAGMENTS && next <= id.index,

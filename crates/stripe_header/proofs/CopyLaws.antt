@@ -17,8 +17,8 @@ use Rattle.tape_base.specs.declared.geometries.Geometry.{Geometry}
 use Rattle.stripe_header.specs.declared.states.CopyState.{CopyState}
 use Rattle.stripe_header.specs.declared.states.CopyFault.{CopyFault}
 use Rattle.stripe_header.specs.declared.states.CopyFault.TheVariants as copy_faults
-use Rattle.stripe_header.specs.Spelling.{Numbers, numbers_of, mark_of, head_bytes, foot_bytes, covered_bytes, is_within, has_cursor, has_counts, has_floor, may_say, IsCopy}
-use Rattle.stripe_header.specs.Reading.{bytes_at, number_in, is_version, version_in, covered_of, footer_of, foot_serial, copy_told, has_magics, are_spelled, form_fault, digest_fault, geometry_fault, copy_fault, CopyAnswers}
+use Rattle.stripe_header.specs.Spelling.{Numbers, numbers_of, clean_mark, head_bytes, foot_bytes, covered_bytes, lies_within, has_cursor, has_counts, has_floor, may_say, IsCopy}
+use Rattle.stripe_header.specs.Reading.{block_bytes, block_number, is_version, version_in, covered_of, footer_of, foot_serial, copy_told, has_magics, are_spelled, form_fault, digest_fault, geometry_fault, copy_fault, CopyAnswers}
 
 -- ---- what passed, and what passes
 
@@ -44,8 +44,8 @@ equal a b h = (bytes_eq-Decides a b).1 h
 record Passes (g : Geometry) (body : List ℕ) : Type 0 where
   magics : has_magics body ≡ true
   version : is_version (version_in body) ≡ true
-  serials : number_in w64 56 body ≡ foot_serial body
-  digest : bytes_at 16 32 (footer_of body) ≡ sha256 (covered_of body)
+  serials : block_number w64 56 body ≡ foot_serial body
+  digest : block_bytes 16 32 (footer_of body) ≡ sha256 (covered_of body)
   spelled : are_spelled g body ≡ true
   says : may_say g (copy_told body) ≡ true
 
@@ -66,15 +66,15 @@ unfolding copy_fault form_fault digest_fault geometry_fault
 passes g gate body gated p =
     rw (eq-eqb _ _ gated, p.magics, p.version, eq-eqb _ _ p.serials, equal _ _ p.digest, p.spelled, p.says) refl
 
-front_of : (body : List ℕ) → bytes_at 0 512 body ≡ take 512 body
-unfolding bytes_at
+front_of : (body : List ℕ) → block_bytes 0 512 body ≡ take 512 body
+unfolding block_bytes
 front_of body = refl
 
 -- ---- what is written
 
 -- behind a header that is put over the first block stands the directory
-pub covered_behind : (head body : List ℕ) → length head ≡ 512 → 1024 ≤ length body → covered_of (head ++ drop 512 body) ≡ head ++ bytes_at 512 (length body - 1024) body
-unfolding bytes_at
+pub covered_behind : (head body : List ℕ) → length head ≡ 512 → 1024 ≤ length body → covered_of (head ++ drop 512 body) ≡ head ++ block_bytes 512 (length body - 1024) body
+unfolding block_bytes
 covered_behind head body wide long =
     let whole = head ++ drop 512 body in
     let directory = length body - 1024 in
@@ -96,22 +96,22 @@ versions : (v : ℕ) (marked : Bool) → is_version v ≡ true → (v ≡ 2) ⊎
 versions v marked h = versions_by (v == 1) (v == 2) v marked refl refl h
 
 pub accepted : (g : Geometry) (gate body : List ℕ) → 1024 ≤ length body → copy_fault g gate body ≡ None
-    → (slice_index gate 0 ≡ 1) × IsCopy body (version_in body) g (copy_told body) (bytes_at 512 (length body - 1024) body)
-unfolding bytes_at
+    → (slice_index gate 0 ≡ 1) × IsCopy body (version_in body) g (copy_told body) (block_bytes 512 (length body - 1024) body)
+unfolding block_bytes
 accepted g gate body long h =
     let both_parts = passed g gate body h in
     let p = both_parts.1 in
     let n = numbers_of g in
     let told = copy_told body in
-    let directory = bytes_at 512 (length body - 1024) body in
+    let directory = block_bytes 512 (length body - 1024) body in
     let both = and_parts _ _ p.spelled in
     let head : take 512 body ≡ head_bytes (version_in body) n told = sym (front_of body) ∙ same _ _ both.0 in
-    let foot : footer_of body ≡ foot_bytes (foot_serial body) (bytes_at 16 32 (footer_of body)) = same _ _ both.1 in
+    let foot : footer_of body ≡ foot_bytes (foot_serial body) (block_bytes 16 32 (footer_of body)) = same _ _ both.1 in
     let parted : length body - 512 ≡ 512 + (length body - 1024) = omega (arith, long) in
     let covered : covered_of body ≡ head_bytes (version_in body) n told ++ directory =
     ap (λ k. take k body) parted ∙ (take-add 512 (length body - 1024) body ∙ ap (λ l. l ++ directory) head) in
     let footed : footer_of body ≡ foot_bytes told.serial (sha256 (head_bytes (version_in body) n told ++ directory)) =
-    foot ∙ (ap (λ k. foot_bytes k (bytes_at 16 32 (footer_of body))) (sym p.serials) ∙ ap (foot_bytes told.serial) (p.digest ∙ ap sha256 covered)) in (
+    foot ∙ (ap (λ k. foot_bytes k (block_bytes 16 32 (footer_of body))) (sym p.serials) ∙ ap (foot_bytes told.serial) (p.digest ∙ ap sha256 covered)) in (
       both_parts.0,
       record {
         says = p.says;
@@ -121,10 +121,10 @@ accepted g gate body long h =
     )
 
 pub is_accepted : (g : Geometry) (gate body : List ℕ) (r : Result CopyState CopyFault) → 1024 ≤ length body → CopyAnswers r (copy_fault g gate body) (copy_told body)
-    → IfOk r (λ state. (slice_index gate 0 ≡ 1) × IsCopy body (version_in body) g state (bytes_at 512 (length body - 1024) body))
+    → IfOk r (λ state. (slice_index gate 0 ≡ 1) × IsCopy body (version_in body) g state (block_bytes 512 (length body - 1024) body))
 is_accepted g gate body (Ok state) long given =
     let law = accepted g gate body long given.0 in
-    (law.0, subst (λ (s : CopyState). IsCopy body (version_in body) g s (bytes_at 512 (length body - 1024) body)) (sym given.1) law.1)
+    (law.0, subst (λ (s : CopyState). IsCopy body (version_in body) g s (block_bytes 512 (length body - 1024) body)) (sym given.1) law.1)
 is_accepted g gate body (Err fault) long given = tt
 
 -- a gate that is not open is the first fault
@@ -145,31 +145,31 @@ length-sha256 m = refl
 
 -- the fields of a header
 record Heads (body : List ℕ) (version : ℕ) (s : CopyState) : Type 0 where
-  magic : bytes_at 0 8 body ≡ codes "TSCHEAD1"
-  version_is : bytes_at 8 4 body ≡ to_le_bytes w32 version
-  serial : bytes_at 56 8 body ≡ to_le_bytes w64 s.serial
-  cursor : bytes_at 64 8 body ≡ to_le_bytes w64 s.cursor
-  next_put : bytes_at 72 8 body ≡ to_le_bytes w64 s.next_put
-  clean : bytes_at 80 8 body ≡ to_le_bytes w64 (mark_of s.clean)
-  floor : bytes_at 88 8 body ≡ to_le_bytes w64 s.floor
+  magic : block_bytes 0 8 body ≡ codes "TSCHEAD1"
+  version_is : block_bytes 8 4 body ≡ to_le_bytes w32 version
+  serial : block_bytes 56 8 body ≡ to_le_bytes w64 s.serial
+  cursor : block_bytes 64 8 body ≡ to_le_bytes w64 s.cursor
+  next_put : block_bytes 72 8 body ≡ to_le_bytes w64 s.next_put
+  clean : block_bytes 80 8 body ≡ to_le_bytes w64 (clean_mark s.clean)
+  floor : block_bytes 88 8 body ≡ to_le_bytes w64 s.floor
 
 pub length-head : (version : ℕ) (n : Numbers) (s : CopyState) → length (head_bytes version n s) ≡ 512
 unfolding head_bytes
 length-head version n s = refl
 
 heads : (version : ℕ) (n : Numbers) (s : CopyState) (rest : List ℕ) → Heads (head_bytes version n s ++ rest) version s
-unfolding bytes_at head_bytes
+unfolding block_bytes head_bytes
 heads version n s rest =
     record { magic = refl; version_is = refl; serial = refl; cursor = refl; next_put = refl; clean = refl; floor = refl }
 
 -- the fields of a footer
 record Foots (footer : List ℕ) (serial : ℕ) (digest : List ℕ) : Type 0 where
-  magic : bytes_at 0 8 footer ≡ codes "TSCFOOT1"
-  serial_is : bytes_at 8 8 footer ≡ to_le_bytes w64 serial
-  digest_is : bytes_at 16 32 footer ≡ digest
+  magic : block_bytes 0 8 footer ≡ codes "TSCFOOT1"
+  serial_is : block_bytes 8 8 footer ≡ to_le_bytes w64 serial
+  digest_is : block_bytes 16 32 footer ≡ digest
 
 foots : (serial : ℕ) (digest : List ℕ) → length digest ≡ 32 → Foots (foot_bytes serial digest) serial digest
-unfolding bytes_at foot_bytes
+unfolding block_bytes foot_bytes
 foots serial digest wide = record { magic = refl; serial_is = refl; digest_is = take_at digest (replicate 464 0) 32 wide }
 
 length-foot : (serial : ℕ) (digest : List ℕ) → length digest ≡ 32 → length (foot_bytes serial digest) ≡ 512
@@ -182,19 +182,19 @@ length-foot serial digest wide =
     let sum : length ((early ++ digest) ++ zeros) ≡ 512 = omega (arith, length-append (early ++ digest) zeros, length-append early digest, before, behind, wide) in
     sum
 
-pub number_64_is : (at n : ℕ) (bytes : List ℕ) → n < 2 ^ 64 → bytes_at at 8 bytes ≡ to_le_bytes w64 n → number_in w64 at bytes ≡ n
-unfolding number_in
+pub number_64_is : (at n : ℕ) (bytes : List ℕ) → n < 2 ^ 64 → block_bytes at 8 bytes ≡ to_le_bytes w64 n → block_number w64 at bytes ≡ n
+unfolding block_number
 number_64_is at n bytes fits h = ap (from_le_bytes w64) h ∙ from_le_bytes-to_le_bytes_8 n fits
 
-pub number_32_is : (at n : ℕ) (bytes : List ℕ) → n < 2 ^ 32 → bytes_at at 4 bytes ≡ to_le_bytes w32 n → number_in w32 at bytes ≡ n
-unfolding number_in
+pub number_32_is : (at n : ℕ) (bytes : List ℕ) → n < 2 ^ 32 → block_bytes at 4 bytes ≡ to_le_bytes w32 n → block_number w32 at bytes ≡ n
+unfolding block_number
 number_32_is at n bytes fits h = ap (from_le_bytes w32) h ∙ from_le_bytes-to_le_bytes_4 n fits
 
 pub not_false : (b : Bool) → not b ≡ true → b ≡ false
 not_false true h = absurd cc
 not_false false h = refl
 
-within : (least most n : ℕ) → is_within least most n ≡ true → (least ≤ n) × (n ≤ most)
+within : (least most n : ℕ) → lies_within least most n ≡ true → (least ≤ n) × (n ≤ most)
 within least most n h =
     let both = and_parts (not (nat_lt n least)) (not (nat_lt most n)) h in
     (ltb-false _ _ (not_false _ both.0), ltb-false _ _ (not_false _ both.1))
@@ -207,7 +207,7 @@ record Fits (s : CopyState) : Type 0 where
   floor : s.floor < 2 ^ 64
   unmarked : s.clean ≡ false → s.floor ≡ 0
 
-floor_fits : (clean : Bool) (least most floor : ℕ) → cond clean (is_within least most floor) (floor == 0) ≡ true → most < 2 ^ 64 → (floor < 2 ^ 64) × (clean ≡ false → floor ≡ 0)
+floor_fits : (clean : Bool) (least most floor : ℕ) → cond clean (lies_within least most floor) (floor == 0) ≡ true → most < 2 ^ 64 → (floor < 2 ^ 64) × (clean ≡ false → floor ≡ 0)
 floor_fits true least most floor h small = (omega (arith, (within least most floor h).1, small), λ e. absurd cc)
 floor_fits false least most floor h small =
     let none = eqb-true floor 0 h in
@@ -220,8 +220,8 @@ fits : (g : Geometry) (s : CopyState) → may_say g s ≡ true → Fits s
 fits g s h =
     let a = and_parts (has_cursor g s && has_counts s) (has_floor g s) h in
     let b = and_parts (has_cursor g s) (has_counts s) a.0 in
-    let c = and_parts (is_within g.content (2 ^ 62 - 1) s.cursor) (not (nat_lt g.content (slot_of g s.cursor + g.agg))) b.0 in
-    let d = and_parts (is_within 1 (2 ^ 62 - 1) s.serial) (is_within 1 (2 ^ 62 - 1) s.next_put) b.1 in
+    let c = and_parts (lies_within g.content (2 ^ 62 - 1) s.cursor) (not (nat_lt g.content (slot_of g s.cursor + g.agg))) b.0 in
+    let d = and_parts (lies_within 1 (2 ^ 62 - 1) s.serial) (lies_within 1 (2 ^ 62 - 1) s.next_put) b.1 in
     let cursor = within g.content (2 ^ 62 - 1) s.cursor c.0 in
     let serial = within 1 (2 ^ 62 - 1) s.serial d.0 in
     let next_put = within 1 (2 ^ 62 - 1) s.next_put d.1 in
@@ -229,11 +229,11 @@ fits g s h =
     let floor = floor_fits s.clean (s.cursor + g.agg - g.content) (reach_of g s.cursor - g.content) s.floor a.1 most in
     record { serial = omega (arith, serial.1); cursor = omega (arith, cursor.1); next_put = omega (arith, next_put.1); floor = floor.0; unmarked = floor.1 }
 
-mark_fits : (clean : Bool) → mark_of clean < 2 ^ 64
+mark_fits : (clean : Bool) → clean_mark clean < 2 ^ 64
 mark_fits true = omega arith
 mark_fits false = omega arith
 
-mark_again : (clean : Bool) → (mark_of clean == 1) ≡ clean
+mark_again : (clean : Bool) → (clean_mark clean == 1) ≡ clean
 mark_again true = refl
 mark_again false = refl
 
@@ -243,7 +243,7 @@ version_again body version s few h = number_32_is 8 version body (omega (arith, 
 told_again : (body : List ℕ) (version : ℕ) (s : CopyState) → (version ≡ 2) ⊎ ((version ≡ 1) × (s.clean ≡ false)) → Fits s → Heads body version s → copy_told body ≡ s
 told_again body version s (inl two) f h =
     let v : version_in body ≡ 2 = version_again body version s (omega (arith, two)) h ∙ two in
-    let mark = number_64_is 80 (mark_of s.clean) body (mark_fits s.clean) h.clean in
+    let mark = number_64_is 80 (clean_mark s.clean) body (mark_fits s.clean) h.clean in
     let kept = number_64_is 88 s.floor body f.floor h.floor in
     let serial = number_64_is 56 s.serial body f.serial h.serial in
     let cursor = number_64_is 64 s.cursor body f.cursor h.cursor in
@@ -285,10 +285,10 @@ again g gate body version s directory gated c =
     let v = version_again body version s few.0 h in
     let serial = number_64_is 56 s.serial body small.serial h.serial in
     let footed = number_64_is 8 s.serial (footer_of body) small.serial f.serial_is in
-    let has_head : bytes_at 0 512 body ≡ head_bytes (version_in body) n (copy_told body) =
+    let has_head : block_bytes 0 512 body ≡ head_bytes (version_in body) n (copy_told body) =
     front_of body ∙ (ap (take 512) parts ∙ (take_at head (directory ++ foot) 512 (length-head version n s)
     ∙ (ap (λ k. head_bytes k n s) (sym v) ∙ ap (head_bytes (version_in body) n) (sym told)))) in
-    let has_foot : footer_of body ≡ foot_bytes (foot_serial body) (bytes_at 16 32 (footer_of body)) =
+    let has_foot : footer_of body ≡ foot_bytes (foot_serial body) (block_bytes 16 32 (footer_of body)) =
     footer ∙ (ap (λ k. foot_bytes k (sha256 front)) (sym footed) ∙ ap (foot_bytes (foot_serial body)) (sym f.digest_is)) in
     let p : Passes g body = record {
       magics = rw (equal _ _ h.magic, equal _ _ f.magic) refl;

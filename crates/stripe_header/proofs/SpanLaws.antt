@@ -10,7 +10,7 @@ use Rattle.sha2.specs.Sha256.{sha256}
 use Rattle.stripe_header.specs.declared.states.Span.{Span}
 use Rattle.stripe_header.specs.declared.states.SpanFault.{SpanFault}
 use Rattle.stripe_header.specs.Spelling.{Numbers, numbers_of, spelled_alternates, span_fields, span_bytes}
-use Rattle.stripe_header.specs.Reading.{bytes_at, is_version, version_in, span_numbers, span_blocks, are_accepted, is_laid, seal_fault, span_fault, SpanAnswers}
+use Rattle.stripe_header.specs.Reading.{block_bytes, is_version, version_in, span_numbers, span_blocks, are_accepted, is_laid, seal_fault, span_fault, SpanAnswers}
 use Rattle.stripe_header.specs.Accepted.{IsSpan, FitsFields}
 use Rattle.stripe_header.specs.Layout.{stripe_blocks}
 use Rattle.stripe_header.specs.declared.area.Area.{Area}
@@ -59,30 +59,30 @@ is_accepted bytes (Err fault) given = tt
 
 -- the fields of a span
 record Fields (bytes : List ℕ) (version : ℕ) (n : Numbers) (blocks : ℕ) : Type 0 where
-  magic : bytes_at 0 8 bytes ≡ codes "TSCSPAN1"
-  version_is : bytes_at 8 4 bytes ≡ to_le_bytes w32 version
-  segments : bytes_at 12 4 bytes ≡ to_le_bytes w32 n.segments
-  buckets : bytes_at 16 4 bytes ≡ to_le_bytes w32 n.buckets
-  agg : bytes_at 20 4 bytes ≡ to_le_bytes w32 n.agg
-  fragment : bytes_at 24 4 bytes ≡ to_le_bytes w32 n.fragment
-  alternates : bytes_at 28 4 bytes ≡ to_le_bytes w32 (spelled_alternates version n)
-  content : bytes_at 32 8 bytes ≡ to_le_bytes w64 n.content
-  reach : bytes_at 40 8 bytes ≡ to_le_bytes w64 n.reach
-  generation : bytes_at 48 8 bytes ≡ to_le_bytes w64 n.generation
-  blocks_are : bytes_at 64 8 bytes ≡ to_le_bytes w64 blocks
-  all : bytes_at 0 72 bytes ≡ span_fields version n blocks
+  magic : block_bytes 0 8 bytes ≡ codes "TSCSPAN1"
+  version_is : block_bytes 8 4 bytes ≡ to_le_bytes w32 version
+  segments : block_bytes 12 4 bytes ≡ to_le_bytes w32 n.segments
+  buckets : block_bytes 16 4 bytes ≡ to_le_bytes w32 n.buckets
+  agg : block_bytes 20 4 bytes ≡ to_le_bytes w32 n.agg
+  fragment : block_bytes 24 4 bytes ≡ to_le_bytes w32 n.fragment
+  alternates : block_bytes 28 4 bytes ≡ to_le_bytes w32 (spelled_alternates version n)
+  content : block_bytes 32 8 bytes ≡ to_le_bytes w64 n.content
+  reach : block_bytes 40 8 bytes ≡ to_le_bytes w64 n.reach
+  generation : block_bytes 48 8 bytes ≡ to_le_bytes w64 n.generation
+  blocks_are : block_bytes 64 8 bytes ≡ to_le_bytes w64 blocks
+  all : block_bytes 0 72 bytes ≡ span_fields version n blocks
 
 fields : (version : ℕ) (n : Numbers) (blocks : ℕ) (rest : List ℕ) → Fields (span_fields version n blocks ++ rest) version n blocks
-unfolding bytes_at span_fields
+unfolding block_bytes span_fields
 fields version n blocks rest =
     record { magic = refl; version_is = refl; segments = refl; buckets = refl; agg = refl; fragment = refl; alternates = refl; content = refl; reach = refl; generation = refl; blocks_are = refl; all = refl }
 
-digest_there : (version : ℕ) (n : Numbers) (blocks : ℕ) (digest rest : List ℕ) → length digest ≡ 32 → bytes_at 72 32 (span_fields version n blocks ++ (digest ++ rest)) ≡ digest
-unfolding bytes_at span_fields
+digest_there : (version : ℕ) (n : Numbers) (blocks : ℕ) (digest rest : List ℕ) → length digest ≡ 32 → block_bytes 72 32 (span_fields version n blocks ++ (digest ++ rest)) ≡ digest
+unfolding block_bytes span_fields
 digest_there version n blocks digest rest wide = take_at digest rest 32 wide
 
 told_alternates : (bytes : List ℕ) (version : ℕ) (n : Numbers) → (version ≡ 2) ⊎ ((version ≡ 1) × (n.alternates ≡ 5)) → version_in bytes ≡ version → n.alternates < 2 ^ 32
-    → bytes_at 28 4 bytes ≡ to_le_bytes w32 (spelled_alternates version n) → (span_numbers bytes).alternates ≡ n.alternates
+    → block_bytes 28 4 bytes ≡ to_le_bytes w32 (spelled_alternates version n) → (span_numbers bytes).alternates ≡ n.alternates
 told_alternates bytes version n (inl two) v fits h =
     let spelled : spelled_alternates version n ≡ n.alternates = ap (λ k. spelled_alternates k n) two in
     let told = number_32_is 28 n.alternates bytes fits (h ∙ ap (to_le_bytes w32) spelled) in
@@ -105,7 +105,7 @@ few_versions : (version : ℕ) (n : Numbers) → (version ≡ 2) ⊎ ((version �
 few_versions version n (inl two) = (omega (arith, two), ap is_version two)
 few_versions version n (inr one) = (omega (arith, one.0), ap is_version one.0)
 
-seals : (bytes : List ℕ) → bytes_at 0 8 bytes ≡ codes "TSCSPAN1" → is_version (version_in bytes) ≡ true → bytes_at 72 32 bytes ≡ sha256 (bytes_at 0 72 bytes) → seal_fault bytes ≡ None
+seals : (bytes : List ℕ) → block_bytes 0 8 bytes ≡ codes "TSCSPAN1" → is_version (version_in bytes) ≡ true → block_bytes 72 32 bytes ≡ sha256 (block_bytes 0 72 bytes) → seal_fault bytes ≡ None
 unfolding seal_fault
 seals bytes magic version digest = rw (equal _ _ magic, version, equal _ _ digest) refl
 
@@ -129,8 +129,8 @@ again bytes version n blocks f s =
     let v : version_in bytes ≡ version = number_32_is 8 version bytes (omega (arith, few.0)) h.version_is in
     let numbers = numbers_again bytes version n blocks s.of_version v f h in
     let blocks_are : span_blocks bytes ≡ blocks = number_64_is 64 blocks bytes f.count h.blocks_are in
-    let kept : bytes_at 72 32 bytes ≡ sha256 (bytes_at 0 72 bytes) =
-    ap (bytes_at 72 32) parts ∙ (digest_there version n blocks digest (replicate 408 0) (length-sha256 front) ∙ ap sha256 (sym h.all)) in
+    let kept : block_bytes 72 32 bytes ≡ sha256 (block_bytes 0 72 bytes) =
+    ap (block_bytes 72 32) parts ∙ (digest_there version n blocks digest (replicate 408 0) (length-sha256 front) ∙ ap sha256 (sym h.all)) in
     let spelled : bytes ≡ span_bytes (version_in bytes) (span_numbers bytes) (span_blocks bytes) =
     s.spelled ∙ (ap (λ k. span_bytes k n blocks) (sym v) ∙ (ap (λ m. span_bytes (version_in bytes) m blocks) (sym numbers)
     ∙ ap (span_bytes (version_in bytes) (span_numbers bytes)) (sym blocks_are))) in

@@ -5,7 +5,7 @@ use Rattle.tape_base.specs.declared.geometries.Geometry.{Geometry}
 use Rattle.stripe_header.specs.declared.states.CopyState.{CopyState}
 use Rattle.stripe_header.specs.declared.states.CopyFault.TheVariants as copy_faults
 use Rattle.stripe_header.specs.Spelling.{Numbers, span_bytes, IsCopy}
-use Rattle.stripe_header.specs.Reading.{are_accepted, bytes_at, version_in, copy_told, copy_fault}
+use Rattle.stripe_header.specs.Reading.{are_accepted, block_bytes, version_in, copy_told, copy_fault}
 
 -- the numbers have fields that can spell them
 pub record FitsFields (n : Numbers) (blocks : ℕ) : Type 0 where
@@ -39,7 +39,7 @@ abbrev pub AcceptedAreCopies : Type 0
 AcceptedAreCopies = (g : Geometry) (gate body : List ℕ)
     → 1024 ≤ length body → copy_fault g gate body ≡ None
     → (slice_index gate 0 ≡ 1)
-    × IsCopy body (version_in body) g (copy_told body) (bytes_at 512 (length body - 1024) body)
+    × IsCopy body (version_in body) g (copy_told body) (block_bytes 512 (length body - 1024) body)
 
 -- behind a gate that is not open nothing is
 abbrev pub ShutIsRefused : Type 0

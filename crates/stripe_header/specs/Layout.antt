@@ -29,8 +29,8 @@ abbrev pub content_of : Area → ℕ
 content_of a = 7 + 2 * a.directory
 
 -- the block of a place of the tape
-abbrev pub block_of : Area → ℕ → ℕ
-block_of a place = content_of a + slot_of a.geometry place
+abbrev pub block_of_place : Area → ℕ → ℕ
+block_of_place a place = content_of a + slot_of a.geometry place
 
 -- the blocks behind the span's header
 abbrev pub stripe_blocks : Area → ℕ

@@ -46,13 +46,13 @@ abbrev pub spelled_alternates : ℕ → Numbers → ℕ
 spelled_alternates version n = if version == 1 then 0 else n.alternates
 
 -- bytes 0 to 11: what the block is
-abbrev pub begun : List ℕ → ℕ → List ℕ
-begun magic version = magic ++ to_le_bytes w32 version
+abbrev pub magic_bytes : List ℕ → ℕ → List ℕ
+magic_bytes magic version = magic ++ to_le_bytes w32 version
 
 -- bytes 0 to 71 of a span: the stripe begins at block 1, and has so many blocks
 unfoldable pub span_fields : ℕ → Numbers → ℕ → List ℕ
 span_fields version n blocks =
-    then_extents (then_sizes (begun (codes "TSCSPAN1") version) n) n (spelled_alternates version n)
+    then_extents (then_sizes (magic_bytes (codes "TSCSPAN1") version) n) n (spelled_alternates version n)
     ++ to_le_bytes w64 1 ++ to_le_bytes w64 blocks
 
 -- the block of a span, with the digest of its fields
@@ -60,19 +60,19 @@ abbrev pub span_bytes : ℕ → Numbers → ℕ → List ℕ
 span_bytes version n blocks = span_fields version n blocks ++ sha256 (span_fields version n blocks) ++ replicate 408 0
 
 -- the mark of a clean copy as a number
-abbrev pub mark_of : Bool → ℕ
-mark_of clean = if clean then 1 else 0
+abbrev pub clean_mark : Bool → ℕ
+clean_mark clean = if clean then 1 else 0
 
 -- bytes 56 to 95 of a copy
 abbrev pub then_state : List ℕ → CopyState → List ℕ
 then_state front s =
     front ++ to_le_bytes w64 s.serial ++ to_le_bytes w64 s.cursor ++ to_le_bytes w64 s.next_put
-    ++ to_le_bytes w64 (mark_of s.clean) ++ to_le_bytes w64 s.floor
+    ++ to_le_bytes w64 (clean_mark s.clean) ++ to_le_bytes w64 s.floor
 
 -- the header of a copy's body: a block
 unfoldable pub head_bytes : ℕ → Numbers → CopyState → List ℕ
 head_bytes version n s =
-    then_state (then_extents (then_sizes (begun (codes "TSCHEAD1") version) n) n 0) s ++ replicate 416 0
+    then_state (then_extents (then_sizes (magic_bytes (codes "TSCHEAD1") version) n) n 0) s ++ replicate 416 0
 
 -- the footer of a copy's body, a block, with the digest of all before it
 unfoldable pub foot_bytes : ℕ → List ℕ → List ℕ
@@ -88,21 +88,21 @@ copy_bytes version n s directory =
     covered_bytes version n s directory ++ foot_bytes s.serial (sha256 (covered_bytes version n s directory))
 
 -- at least so much and at most so much
-abbrev pub is_within : ℕ → ℕ → ℕ → Bool
-is_within least most n = not (nat_lt n least) && not (nat_lt most n)
+abbrev pub lies_within : ℕ → ℕ → ℕ → Bool
+lies_within least most n = not (nat_lt n least) && not (nat_lt most n)
 
 -- the cursor lies on the tape, and a buffer fits behind it in its lap
 abbrev pub has_cursor : Geometry → CopyState → Bool
-has_cursor g s = is_within g.content (2 ^ 62 - 1) s.cursor && not (nat_lt g.content (slot_of g s.cursor + g.agg))
+has_cursor g s = lies_within g.content (2 ^ 62 - 1) s.cursor && not (nat_lt g.content (slot_of g s.cursor + g.agg))
 
 -- serials and puts are counted from 1
 abbrev pub has_counts : CopyState → Bool
-has_counts s = is_within 1 (2 ^ 62 - 1) s.serial && is_within 1 (2 ^ 62 - 1) s.next_put
+has_counts s = lies_within 1 (2 ^ 62 - 1) s.serial && lies_within 1 (2 ^ 62 - 1) s.next_put
 
 -- a clean copy tells its floor, which is at least that of an open buffer and at most what the reach leaves
 abbrev pub has_floor : Geometry → CopyState → Bool
 has_floor g s =
-    if s.clean then is_within (s.cursor + g.agg - g.content) (reach_of g s.cursor - g.content) s.floor
+    if s.clean then lies_within (s.cursor + g.agg - g.content) (reach_of g s.cursor - g.content) s.floor
     else s.floor == 0
 
 -- a copy of a stripe of this geometry may say this

@@ -45,7 +45,7 @@ pub struct Area {
 }
 
 impl Area {
-    ghost use Rattle.stripe_header.specs.Layout.{body_of, body_blocks, content_of, block_of, stripe_blocks, device_blocks};
+    ghost use Rattle.stripe_header.specs.Layout.{body_of, body_blocks, content_of, block_of_place, stripe_blocks, device_blocks};
 
     /// The first block of a copy's body.
     pub fn body(&self, side: Side) -> u64
@@ -75,7 +75,7 @@ impl Area {
 
     /// The block of a place of the endless tape.
     pub fn block_of(&self, place: u64) -> u64
-        ensures value { result ≡ block_of self.now place }
+        ensures value { result ≡ block_of_place self.now place }
         ensures within { result < device_blocks self.now }
     {
         self.content() + slot(&self.geometry, place)

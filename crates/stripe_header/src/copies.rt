@@ -4,8 +4,8 @@ ghost use Rattle.std.specs.List.{slice_index};
 ghost use Rattle.stripe_header.specs.declared.states.CopyState.{CopyState};
 ghost use Rattle.std.specs.Str.{bytes_eq};
 ghost use Rattle.sha2.specs.Sha256.{sha256};
-ghost use Rattle.stripe_header.specs.Spelling.{numbers_of, has_cursor, has_counts, has_floor, may_say, mark_of, then_state, head_bytes, foot_bytes, copy_bytes, IsCopy};
-ghost use Rattle.stripe_header.specs.Reading.{bytes_at, version_in, covered_of, footer_of, foot_serial, copy_told, has_magics, form_fault, digest_fault, geometry_fault, copy_fault, CopyAnswers};
+ghost use Rattle.stripe_header.specs.Spelling.{numbers_of, has_cursor, has_counts, has_floor, may_say, clean_mark, then_state, head_bytes, foot_bytes, copy_bytes, IsCopy};
+ghost use Rattle.stripe_header.specs.Reading.{block_bytes, version_in, covered_of, footer_of, foot_serial, copy_told, has_magics, form_fault, digest_fault, geometry_fault, copy_fault, CopyAnswers};
 
 use crate::fields::{array, field, number_32, number_64, put, put_extents, put_sizes, put_zeros};
 use crate::states::{CopyFault, CopyState};
@@ -23,7 +23,7 @@ const BLOCK: usize = 512;
 const LIMIT: u64 = 1 << 62;
 
 fn mark_of(clean: bool) -> u64
-    ensures { result ≡ mark_of clean }
+    ensures { result ≡ clean_mark clean }
 {
     if clean { 1 } else { 0 }
 }
@@ -94,7 +94,7 @@ fn put_end(body: &mut [u8], serial: u64)
 pub fn write_body(g: &Geometry, state: &CopyState, body: &mut [u8])
     requires room { 1024 ≤ length body.old }
     ensures bytes { body.new ≡ copy_bytes 2 (numbers_of g.now) state.now
-        (bytes_at 512 (length body.old - 1024) body.old) }
+        (block_bytes 512 (length body.old - 1024) body.old) }
     ensures len { length body.new ≡ length body.old }
 {
     put_front(body, g, state);
@@ -173,7 +173,7 @@ fn copy_told(body: &[u8]) -> CopyState
 
 fn has_head(body: &[u8], g: &Geometry, told: &CopyState) -> bool
     requires { 1024 ≤ length body.now }
-    ensures { result ≡ bytes_eq (bytes_at 0 512 body.now)
+    ensures { result ≡ bytes_eq (block_bytes 0 512 body.now)
         (head_bytes (version_in body.now) (numbers_of g.now) told.now) }
 {
     let mut spelled = [0; BLOCK];
@@ -184,7 +184,7 @@ fn has_head(body: &[u8], g: &Geometry, told: &CopyState) -> bool
 fn has_foot(body: &[u8]) -> bool
     requires { 1024 ≤ length body.now }
     ensures { result ≡ bytes_eq (footer_of body.now)
-        (foot_bytes (foot_serial body.now) (bytes_at 16 32 (footer_of body.now))) }
+        (foot_bytes (foot_serial body.now) (block_bytes 16 32 (footer_of body.now))) }
 {
     let footer = footer(body);
     let mut spelled = [0; BLOCK];
@@ -264,7 +264,7 @@ pub fn read_copy(g: &Geometry, gate: &[u8; 512], body: &[u8]) -> Result<CopyStat
     // What is accepted is spelled so.
     ensures found { IfOk result (λ state. (slice_index gate.now 0 ≡ 1)
         × IsCopy body.now (version_in body.now) g.now state
-        (bytes_at 512 (length body.now - 1024) body.now)) }
+        (block_bytes 512 (length body.now - 1024) body.now)) }
     // What is spelled so is accepted behind an open gate.
     ensures only { (version : ℕ) (state : CopyState) (directory : List ℕ)
         → slice_index gate.now 0 ≡ 1 → IsCopy body.now version g.now state directory

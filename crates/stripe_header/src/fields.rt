@@ -2,14 +2,14 @@
 ghost use Rattle.std.specs.Prelude.{◌≡◌, ◌≤◌, ◌+◌, ◌-◌, ◌++◌, length, take, replicate};
 ghost use Rattle.std.specs.Int.{to_le_bytes, w32, w64};
 ghost use Rattle.stripe_header.specs.Spelling.{then_sizes, then_extents, numbers_of};
-ghost use Rattle.stripe_header.specs.Reading.{bytes_at, number_in};
+ghost use Rattle.stripe_header.specs.Reading.{block_bytes, block_number};
 
 use tape_base::Geometry;
 
-#[tactic(auto, unfolding(crate::specs::Reading::bytes_at))]
+#[tactic(auto, unfolding(crate::specs::Reading::block_bytes))]
 pub fn field(bytes: &[u8], at: usize, count: usize) -> &[u8]
     requires { at + count ≤ length bytes.now }
-    ensures field { result.now ≡ bytes_at at count bytes.now }
+    ensures field { result.now ≡ block_bytes at count bytes.now }
     ensures len { length result.now ≡ count }
 {
     let (_, behind) = bytes.split_at(at);
@@ -19,25 +19,25 @@ pub fn field(bytes: &[u8], at: usize, count: usize) -> &[u8]
 
 pub fn array<const N: usize>(bytes: &[u8], at: usize) -> [u8; N]
     requires { at + N ≤ length bytes.now }
-    ensures { result ≡ bytes_at at N bytes.now }
+    ensures { result ≡ block_bytes at N bytes.now }
 {
     let mut array = [0; N];
     array.copy_from_slice(field(bytes, at, N));
     array
 }
 
-#[tactic(auto, unfolding(crate::specs::Reading::number_in))]
+#[tactic(auto, unfolding(crate::specs::Reading::block_number))]
 pub fn number_32(bytes: &[u8], at: usize) -> u32
     requires { at + 4 ≤ length bytes.now }
-    ensures { result ≡ number_in w32 at bytes.now }
+    ensures { result ≡ block_number w32 at bytes.now }
 {
     u32::from_le_bytes(array(bytes, at))
 }
 
-#[tactic(auto, unfolding(crate::specs::Reading::number_in))]
+#[tactic(auto, unfolding(crate::specs::Reading::block_number))]
 pub fn number_64(bytes: &[u8], at: usize) -> u64
     requires { at + 8 ≤ length bytes.now }
-    ensures { result ≡ number_in w64 at bytes.now }
+    ensures { result ≡ block_number w64 at bytes.now }
 {
     u64::from_le_bytes(array(bytes, at))
 }

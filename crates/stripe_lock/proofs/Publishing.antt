@@ -10,7 +10,7 @@ use Rattle.stripe_lock.specs.declared.view.Sight.{Sight}
 use Rattle.stripe_lock.specs.declared.view.View.{View}
 use Rattle.stripe_lock.specs.History.{places_of, with_places, OwnsNumber, AreBelow}
 use Rattle.stripe_lock.specs.Rule.{holding, weight, tickets, LockCourse, Knows}
-use Rattle.stripe_lock.specs.Steps.{with_sight, whole_sight, noted_turn, raised}
+use Rattle.stripe_lock.specs.Steps.{with_sight, whole_sight, noted_turn, raised_floor}
 use Rattle.stripe_lock.proofs.Totals.{in_range, total_set}
 use Rattle.stripe_lock.proofs.Histories.{places-other, below-snoc, prefix_same, prefix_more, owns_moved, owns_noted, owns_owner, has_noted, length-noted}
 use Rattle.stripe_lock.proofs.Keeping.{each_after, number_after, ticket_after, one_called, seen_after, Rule, still_seen, out_with}
@@ -83,7 +83,7 @@ module _ {T R : Type 0} (k : Ghosts T R) (seats : ℕ) (start : List R) where
 
   -- the floor behind the whole history is published
   pub raises : (slots id n : ℕ) (me : Me T (View R)) → me.0.stage ≡ holding → me.0.sight.floor ≤ n → n ≡ k.floor_of me.0.sight.chronicle me.0.sight.seen
-      → Allows (Rule k seats start) slots id me 3 (λ m. max m n) (raised (step slots 3 n 0 none) me)
+      → Allows (Rule k seats start) slots id me 3 (λ m. max m n) (raised_floor (step slots 3 n 0 none) me)
   raises slots id n me st up is s r deep at _ = let v = me.0 in let c = r.c in let w : View R = with_sight (whole_sight v.sight.chronicle v.sight.seen n) v in let known = r.each_view id v at in
       let parts = known.parts in let all = known.holds st in let log_is : v.sight.seen ≡ c.log = ap (λ (g : Sight R). g.seen) all in let top : v.sight.floor ≡ c.top = ap (λ (g : Sight R). g.floor) all in
       let c' : LockCourse R = record c { told = c.log; top = n } in

@@ -12,7 +12,7 @@ use Rattle.stripe_lock.specs.declared.view.StripeTurn.{StripeTurn}
 use Rattle.stripe_lock.specs.declared.view.View.{View}
 use Rattle.stripe_lock.specs.History.{HasJust}
 use Rattle.stripe_lock.specs.Rule.{outside, waiting, called, holding, weight, tickets, NoneHolds, LockCourse, Knows, IsHome, IsPlaced}
-use Rattle.stripe_lock.specs.Steps.{at_stage, with_sight, whole_sight, drew, looked, took, gave, ended_turn}
+use Rattle.stripe_lock.specs.Steps.{at_stage, with_sight, whole_sight, drew, looked, took, gave_back, ended_turn}
 use Rattle.stripe_lock.proofs.Totals.{put, put_here, put_else, in_range, total_set}
 use Rattle.stripe_lock.proofs.Histories.{prefix_same, owns_just, owns_moved}
 use Rattle.stripe_lock.proofs.Keeping.{W, counts_on, each_after, one_view, number_after, ticket_after, one_called, seen_after, Rule, still_seen, its_turn, placed_after, same_word, moves}
@@ -137,7 +137,7 @@ module _ {T R : Type 0} (k : Ghosts T R) (seats : ℕ) (start : List R) where
 
   -- the holder gives back a state that is as its view says, the floor of which was published
   pub gives_it : (slots id : ℕ) (me : Me T (View R)) (x : T) → slots ≡ 1 → me.0.stage ≡ holding → me.1 ≡ (0, x) ∷ [] → k.chronicle x ≡ me.0.sight.chronicle → k.turns x ≡ me.0.sight.seen → me.0.sight.told ≡ me.0.sight.seen → k.is_sound x
-      → Allows (Rule k seats start) slots id me 1 (λ n. n) (gave (step slots 1 0 0 none) me)
+      → Allows (Rule k seats start) slots id me 1 (λ n. n) (gave_back (step slots 1 0 0 none) me)
   gives_it slots id me x one st held same_chronicle same_turns told sound s r deep at _ = let v = me.0 in let c = r.c in let w : View R = at_stage called v in let known = r.each_view id v at in let parts = known.parts in
       let all = known.holds st in let log_is : v.sight.seen ≡ c.log = ap (λ g. g.seen) all in let told_is : v.sight.told ≡ c.told = ap (λ g. g.told) all in (
         w,

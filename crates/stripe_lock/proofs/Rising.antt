@@ -8,14 +8,14 @@ use Rattle.atomic_table.proofs.Lists.{set_here, set_else}
 use Rattle.stripe_lock.specs.declared.kept.KeptState.{Ghosts}
 use Rattle.stripe_lock.specs.declared.view.View.{View}
 use Rattle.stripe_lock.specs.Rule.{floor_word}
-use Rattle.stripe_lock.specs.Steps.{Holder, drew, looked, took, gave, ended_turn, noted_turn, raised, saw, lowered, settled}
-use Rattle.stripe_lock.specs.Course.{Plays, by_draw, by_look, by_take, by_note, by_raise, by_give, by_end, by_see, by_low, by_settle, by_cut, by_join, GoesOn, StepKeepsFloor, FloorNeverFalls}
+use Rattle.stripe_lock.specs.Steps.{Holder, drew, looked, took, gave_back, ended_turn, noted_turn, raised_floor, saw, lowered, settled}
+use Rattle.stripe_lock.specs.Course.{PassMakes, by_draw, by_look, by_take, by_note, by_raise, by_give, by_end, by_see, by_low, by_settle, by_cut, by_join, LockGoesOn, StepKeepsFloor, FloorNeverFalls}
 use Rattle.stripe_lock.proofs.Totals.{in_range}
 use Rattle.stripe_lock.proofs.Keeping.{one_view, Rule}
 
 module _ {T R : Type 0} (k : Ghosts T R) (seats : ℕ) (start : List R) where
   -- the pass that had seen the floor has seen as much behind the step, and none has seen more than is published
-  not_lower : (then : Step T → Holder T R → ℕ → Holder T R → Type 0) (s t : State T (View R)) → Rule k seats start s → Rule k seats start t → (p : Plays then s t) → p.me.0.peak ≤ p.view.peak
+  not_lower : (then : Step T → Holder T R → ℕ → Holder T R → Type 0) (s t : State T (View R)) → Rule k seats start s → Rule k seats start t → (p : PassMakes then s t) → p.me.0.peak ≤ p.view.peak
       → slice_index s.words floor_word ≤ slice_index t.words floor_word
   not_lower then s t r q p up = let h = r.top_seen in let is = h.3 in let before = r.words.floor in let behind = q.words.floor in dite (ℕ_discrete h.0 p.pass)
       (λ e. let same : p.me.0.peak ≡ h.1.peak = ap (λ (u : View R). u.peak) (one_view s.views p.pass h.0 p.me.0 h.1 p.at h.2 e) in
@@ -31,8 +31,8 @@ module _ {T R : Type 0} (k : Ghosts T R) (seats : ℕ) (start : List R) where
       (λ e. let now = ap peak_of (p.told.0 e) in omega arith) (λ ne. let now = ap peak_of (p.told.1 ne) in omega arith))
   step_keeps_floor s t r q (by_take p) = not_lower (took k) s t r q p (let e = ap (λ (u : View R). u.peak) p.told.2 in omega arith)
   step_keeps_floor s t r q (by_note p) = not_lower (noted_turn k) s t r q p (let e = p.told.1 in omega arith)
-  step_keeps_floor s t r q (by_raise p) = not_lower raised s t r q p (let e = ap peak_of p.told in omega arith)
-  step_keeps_floor s t r q (by_give p) = not_lower gave s t r q p (let e = ap peak_of p.told in omega arith)
+  step_keeps_floor s t r q (by_raise p) = not_lower raised_floor s t r q p (let e = ap peak_of p.told in omega arith)
+  step_keeps_floor s t r q (by_give p) = not_lower gave_back s t r q p (let e = ap peak_of p.told in omega arith)
   step_keeps_floor s t r q (by_end p) = not_lower ended_turn s t r q p (let e = ap peak_of p.told in omega arith)
   step_keeps_floor s t r q (by_see p) = not_lower saw s t r q p (let e = ap peak_of p.told.1 in omega arith)
   step_keeps_floor s t r q (by_low p) = not_lower (lowered k) s t r q p (let e = ap peak_of p.told.1 in omega arith)
@@ -40,7 +40,7 @@ module _ {T R : Type 0} (k : Ghosts T R) (seats : ℕ) (start : List R) where
   step_keeps_floor s t r q (by_cut p) = let same = ap (λ (z : State T (View R)). slice_index z.words floor_word) p.after in omega arith
   step_keeps_floor s t r q (by_join p) = let same = ap (λ (z : State T (View R)). slice_index z.words floor_word) p.after in omega arith
 
-  holds_first : (s : State T (View R)) (ts : List (State T (View R))) → GoesOn k (Rule k seats start) s ts → Rule k seats start s
+  holds_first : (s : State T (View R)) (ts : List (State T (View R))) → LockGoesOn k (Rule k seats start) s ts → Rule k seats start s
   holds_first s [] h = h
   holds_first s (t ∷ ts) h = h.0
 

@@ -11,7 +11,7 @@ use Rattle.stripe_lock.specs.declared.view.View.{View}
 use Rattle.stripe_lock.specs.History.{HasJust, with_places, longer, first_number, first_places}
 use Rattle.stripe_lock.specs.Rule.{floor_word, outside, called, holding, weight}
 use Rattle.stripe_lock.specs.Steps.{at_stage, with_sight, whole_sight, joined_view, took, settled}
-use Rattle.stripe_lock.specs.Passes.{pass_of, Rests, IsResting}
+use Rattle.stripe_lock.specs.Passes.{pass_of, PassRests, IsPassResting}
 use Rattle.stripe_lock.specs.Turns.{Turned, Joins}
 use Rattle.stripe_lock.specs.Working.{published, InHand, Works}
 use Rattle.stripe_lock.proofs.Histories.{just_both, some_more, length-noted, just_noted, first_number-noted, first_places-noted}
@@ -52,8 +52,8 @@ module _ {T R : Type 0} (k : Ghosts T R) where
     }
 
     pub joined_rests : (views : List (View R)) → views ≡ m.0 ∷ [] → v.stage ≡ outside → 0 < weight v → HasJust m.0.sight.seen m.0.owned → settled k (step slots floor_word 0 0 none) (joined_view v w, carried) n m
-        → IsResting views
-    joined_rests views one idle some_weight known h = subst IsResting (sym one) record {
+        → IsPassResting views
+    joined_rests views one idle some_weight known h = subst IsPassResting (sym one) record {
       one = refl;
       idle = ap (λ (z : Me T (View R)). z.0.stage) h.1 ∙ idle;
       some_weight = subst (λ (z : Me T (View R)). 0 < weight z.0) (sym h.1) (some_more v.owned w.owned some_weight);
@@ -90,7 +90,7 @@ module _ {T R : Type 0} (k : Ghosts T R) where
           floor = low ∙ (d.floor_is ∙ (λ i. k.floor_of (kept i) (sym told i)));
         }
 
-    pub rests : (w : View R) → InHand k v m x → w ≡ at_stage outside (published (k.turns y) floor m.0) → number ≡ first_number v.owned → 0 < weight v → Rests number (weight v % 4294967296) (w ∷ [])
+    pub rests : (w : View R) → InHand k v m x → w ≡ at_stage outside (published (k.turns y) floor m.0) → number ≡ first_number v.owned → 0 < weight v → PassRests number (weight v % 4294967296) (w ∷ [])
     rests w h now own some_weight = let owned : w.owned ≡ with_places (k.turns y) v.owned = ap (λ (z : View R). z.owned) now ∙ ap (λ (z : View R). with_places (k.turns y) z.owned) h.view in
         let seen : w.sight.seen ≡ k.turns y = ap (λ (z : View R). z.sight.seen) now in
         let heavy : length v.owned ≡ length w.owned = sym (length-noted (k.turns y) v.owned) ∙ ap length (sym owned) in record {

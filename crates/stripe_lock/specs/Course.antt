@@ -6,11 +6,11 @@ use Rattle.atomic_table.specs.Table.{State, Step, Act, carried_after, stepped}
 use Rattle.stripe_lock.specs.declared.kept.KeptState.{Ghosts}
 use Rattle.stripe_lock.specs.declared.view.View.{View}
 use Rattle.stripe_lock.specs.Rule.{floor_word}
-use Rattle.stripe_lock.specs.Steps.{Holder, left_view, right_view, joined_view, spent, drew, looked, took, gave, ended_turn, noted_turn, raised, saw, lowered, settled}
+use Rattle.stripe_lock.specs.Steps.{Holder, left_view, right_view, joined_view, spent, drew, looked, took, gave_back, ended_turn, noted_turn, raised_floor, saw, lowered, settled}
 
 module _ {T R : Type 0} where
   -- a pass makes an atomic step of this kind on one word, which may become any number
-  pub record Plays (then : Step T → Holder T R → ℕ → Holder T R → Type 0) (s t : State T (View R)) : Type 0 where
+  pub record PassMakes (then : Step T → Holder T R → ℕ → Holder T R → Type 0) (s t : State T (View R)) : Type 0 where
     pub pass : ℕ
     pub me : Holder T R
     pub st : Step T
@@ -35,7 +35,7 @@ module _ {T R : Type 0} where
     pub after : t ≡ record { words = s.words; homes = s.homes; views = slice_set s.views pass (left_view view) ++ right_view view ∷ [] }
 
   -- a pass takes in another
-  pub record TakesIn (s t : State T (View R)) : Type 0 where
+  pub record PassTakesIn (s t : State T (View R)) : Type 0 where
     pub pass : ℕ
     pub view : View R
     pub other : ℕ
@@ -47,24 +47,24 @@ module _ {T R : Type 0} where
   module _ (k : Ghosts T R) where
     -- one step of a lock, of any kind that `src/steps.rt` has
     pub data LockStep (s t : State T (View R)) : Type 0 where
-      by_draw : Plays drew s t → LockStep s t
-      by_look : Plays looked s t → LockStep s t
-      by_take : Plays (took k) s t → LockStep s t
-      by_note : Plays (noted_turn k) s t → LockStep s t
-      by_raise : Plays raised s t → LockStep s t
-      by_give : Plays gave s t → LockStep s t
-      by_end : Plays ended_turn s t → LockStep s t
-      by_see : Plays saw s t → LockStep s t
-      by_low : Plays (lowered k) s t → LockStep s t
-      by_settle : Plays (settled k) s t → LockStep s t
+      by_draw : PassMakes drew s t → LockStep s t
+      by_look : PassMakes looked s t → LockStep s t
+      by_take : PassMakes (took k) s t → LockStep s t
+      by_note : PassMakes (noted_turn k) s t → LockStep s t
+      by_raise : PassMakes raised_floor s t → LockStep s t
+      by_give : PassMakes gave_back s t → LockStep s t
+      by_end : PassMakes ended_turn s t → LockStep s t
+      by_see : PassMakes saw s t → LockStep s t
+      by_low : PassMakes (lowered k) s t → LockStep s t
+      by_settle : PassMakes (settled k) s t → LockStep s t
       by_cut : Cuts s t → LockStep s t
-      by_join : TakesIn s t → LockStep s t
+      by_join : PassTakesIn s t → LockStep s t
 
     module _ (holds : State T (View R) → Type 0) where
       -- by a table's rule these states come one after another behind s, each by one step
-      abbrev pub GoesOn : State T (View R) → List (State T (View R)) → Type 0
-      GoesOn s [] = holds s
-      GoesOn s (t ∷ ts) = holds s × LockStep s t × GoesOn t ts
+      abbrev pub LockGoesOn : State T (View R) → List (State T (View R)) → Type 0
+      LockGoesOn s [] = holds s
+      LockGoesOn s (t ∷ ts) = holds s × LockStep s t × LockGoesOn t ts
 
       -- over one step of a lock the word `floor` does not fall
       abbrev pub StepKeepsFloor : Type 0
@@ -72,4 +72,4 @@ module _ {T R : Type 0} where
 
       -- nor does it over any number of steps
       abbrev pub FloorNeverFalls : Type 0
-      FloorNeverFalls = (s : State T (View R)) (ts : List (State T (View R))) → GoesOn s ts → slice_index s.words floor_word ≤ slice_index (last_state s ts).words floor_word
+      FloorNeverFalls = (s : State T (View R)) (ts : List (State T (View R))) → LockGoesOn s ts → slice_index s.words floor_word ≤ slice_index (last_state s ts).words floor_word

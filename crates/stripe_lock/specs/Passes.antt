@@ -37,14 +37,14 @@ module _ {R : Type 0} where
   view_of (v ∷ vs) = v
 
   -- a pass that waits for nothing, and was not joined into another. It has seen all turns of its numbers
-  pub record IsResting (views : List (View R)) : Type 0 where
+  pub record IsPassResting (views : List (View R)) : Type 0 where
     pub one : views ≡ view_of views ∷ []
     pub idle : (view_of views).stage ≡ outside
     pub some_weight : 0 < length (view_of views).owned
     pub known : HasJust (view_of views).sight.seen (view_of views).owned
 
   -- a pass between two calls, which has this number and weight at run time
-  pub record Rests (number weight : ℕ) (views : List (View R)) : Type 0 where
+  pub record PassRests (number weight : ℕ) (views : List (View R)) : Type 0 where
     pub one : views ≡ view_of views ∷ []
     pub idle : (view_of views).stage ≡ outside
     pub number_is : number ≡ first_number (view_of views).owned

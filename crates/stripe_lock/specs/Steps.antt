@@ -61,16 +61,16 @@ module _ {T R : Type 0} where
   looked st m n m' = (n ≡ m.0.ticket % 18446744073709551616 → m' ≡ (at_stage called m.0, m.1)) × (n ≢ m.0.ticket % 18446744073709551616 → m' ≡ m)
 
   -- the state is given back
-  abbrev pub gave : Step T → Holder T R → ℕ → Holder T R → Type 0
-  gave st m n m' = m' ≡ (at_stage called m.0, [])
+  abbrev pub gave_back : Step T → Holder T R → ℕ → Holder T R → Type 0
+  gave_back st m n m' = m' ≡ (at_stage called m.0, [])
 
   -- the ticket is gone
   abbrev pub ended_turn : Step T → Holder T R → ℕ → Holder T R → Type 0
   ended_turn st m n m' = m' ≡ (at_stage outside m.0, m.1)
 
   -- the floor behind all turns that are seen was published
-  abbrev pub raised : Step T → Holder T R → ℕ → Holder T R → Type 0
-  raised st m n m' = m' ≡ (with_sight (whole_sight m.0.sight.chronicle m.0.sight.seen st.first) m.0, m.1)
+  abbrev pub raised_floor : Step T → Holder T R → ℕ → Holder T R → Type 0
+  raised_floor st m n m' = m' ≡ (with_sight (whole_sight m.0.sight.chronicle m.0.sight.seen st.first) m.0, m.1)
 
   -- the history so far is seen, which is as long as the count, and begins with all that was told
   abbrev pub saw : Step T → Holder T R → ℕ → Holder T R → Type 0

@@ -58,7 +58,7 @@ module _ {T R : Type 0} (k : Ghosts T R) where
     pub floor_is : floor ≡ k.floor_of m.0.sight.chronicle (k.turns x)
 
   -- the state in hand is sound, its history is seen, and the floor behind it was published
-  pub record MayLeave (m : Me T (View R)) : Type 0 where
+  pub record MayHandBack (m : Me T (View R)) : Type 0 where
     pub x : T
     pub carried : m.1 ≡ (0, x) ∷ []
     pub stage : m.0.stage ≡ holding

@@ -2,9 +2,9 @@
 ghost use Rattle.std.specs.Prelude.{◌≡◌, ◌%◌, ◌<◌, ◌≤◌, ◌∷◌, [], List, length, MatchResult, IfOk, IfErr, vec_len, vec_capacity};
 ghost use Rattle.stripe_lock.specs.Rule.{outside, waiting, called, weight};
 ghost use Rattle.stripe_lock.specs.Steps.{at_stage, opener};
-ghost use Rattle.stripe_lock.specs.Passes.{pass_of, view_of, dealt, Rests, IsResting};
+ghost use Rattle.stripe_lock.specs.Passes.{pass_of, view_of, dealt, PassRests, IsPassResting};
 ghost use Rattle.stripe_lock.specs.Turns.{Turned, LookedIn, SeesCount, SeesFloor, Joins, LockEnds};
-ghost use Rattle.stripe_lock.specs.Working.{InHand, KeepsTurns, Works, MayPublish, MayLeave, published};
+ghost use Rattle.stripe_lock.specs.Working.{InHand, KeepsTurns, Works, MayPublish, MayHandBack, published};
 
 use crate::kept::{Job, KeptState};
 use crate::pass::Pass;
@@ -198,7 +198,7 @@ impl<T: KeptState> Gate<T> {
     // Gives the state back and calls the next ticket.
     fn leave(&self, seat: &mut Seat<T, View<T::Record>>)
         requires table { seat.old.table_id ≡ self.now.table.shared.table_id }
-        requires hand { MayLeave T.KeptState seat.old.me }
+        requires hand { MayHandBack T.KeptState seat.old.me }
         ensures seat { (seat.new.table_id ≡ seat.old.table_id) × (seat.new.id ≡ seat.old.id) }
         ensures idle { seat.new.me ≡ (at_stage outside seat.old.me.0, []) }
     {
@@ -219,8 +219,9 @@ impl<T: KeptState> Gate<T> {
         number: u32,
     ) -> (Badge<View<T::Record>>, Result<(J::Answer, u64), AllocError>)
         requires table { badge.table_id ≡ self.now.table.shared.table_id }
-        requires rests { Rests number (weight (view_of badge.views) % 4294967296) badge.views }
-        ensures rests { Rests number (weight (view_of badge.views) % 4294967296) result.0.views }
+        requires rests { PassRests number (weight (view_of badge.views) % 4294967296) badge.views }
+        ensures rests { PassRests number (weight (view_of badge.views) % 4294967296)
+            result.0.views }
         ensures done { IfOk result.1 (λ r. Turned T.KeptState (J.number job.old)
             (J.fits job.old job.new) (pass_of badge.table_id (view_of badge.views))
             (pass_of result.0.table_id (view_of result.0.views)) r.0 r.1) }
@@ -252,8 +253,8 @@ impl<T: KeptState> Gate<T> {
     /// Looks at the count.
     pub fn look(&self, badge: Badge<View<T::Record>>) -> (Badge<View<T::Record>>, u64)
         requires table { badge.table_id ≡ self.now.table.shared.table_id }
-        requires rests { IsResting badge.views }
-        ensures rests { IsResting result.0.views }
+        requires rests { IsPassResting badge.views }
+        ensures rests { IsPassResting result.0.views }
         ensures same { (view_of result.0.views).owned ≡ (view_of badge.views).owned }
         ensures sees { SeesCount (pass_of badge.table_id (view_of badge.views))
             (pass_of result.0.table_id (view_of result.0.views)) result.1 }
@@ -266,8 +267,8 @@ impl<T: KeptState> Gate<T> {
     /// Looks at the floor.
     pub fn look_down(&self, badge: Badge<View<T::Record>>) -> (Badge<View<T::Record>>, u64)
         requires table { badge.table_id ≡ self.now.table.shared.table_id }
-        requires rests { IsResting badge.views }
-        ensures rests { IsResting result.0.views }
+        requires rests { IsPassResting badge.views }
+        ensures rests { IsPassResting result.0.views }
         ensures same { (view_of result.0.views).owned ≡ (view_of badge.views).owned }
         ensures sees { SeesFloor T.KeptState (pass_of badge.table_id (view_of badge.views))
             (pass_of result.0.table_id (view_of result.0.views)) result.1 }
@@ -285,10 +286,10 @@ impl<T: KeptState> Gate<T> {
     ) -> Badge<View<T::Record>>
         requires table { (badge.table_id ≡ self.now.table.shared.table_id)
             × (other.table_id ≡ self.now.table.shared.table_id) }
-        requires rests { IsResting badge.views }
-        requires other { IsResting other.views }
+        requires rests { IsPassResting badge.views }
+        requires other { IsPassResting other.views }
         ensures table { result.table_id ≡ badge.table_id }
-        ensures rests { IsResting result.views }
+        ensures rests { IsPassResting result.views }
         ensures joins { Joins T.KeptState (pass_of badge.table_id (view_of badge.views))
             (pass_of other.table_id (view_of other.views))
             (pass_of result.table_id (view_of result.views)) }
@@ -304,7 +305,7 @@ impl<T: KeptState> Gate<T> {
     /// Takes the table apart, where the pass has all numbers.
     pub fn open(self, badge: Badge<View<T::Record>>) -> T
         requires table { badge.table_id ≡ self.table.shared.table_id }
-        requires rests { IsResting badge.views }
+        requires rests { IsPassResting badge.views }
         requires all { weight (view_of badge.views) % 4294967296 ≡ self.seats }
         ensures ends { LockEnds T.KeptState (pass_of badge.table_id (view_of badge.views)) result }
         ensures weight { weight (view_of badge.views) ≡ self.seats }

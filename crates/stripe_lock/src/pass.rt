@@ -13,11 +13,11 @@ pub struct Pass<R> {
 }
 
 impl<R> Model for Pass<R> {
-    ghost use Rattle.stripe_lock.specs.Passes.{PassState, pass_of, view_of, Rests};
+    ghost use Rattle.stripe_lock.specs.Passes.{PassState, pass_of, view_of, PassRests};
 
     ghost Value = { PassState R };
 
     ghost view = { λ p. pass_of p.badge.table_id (view_of p.badge.views) };
 
-    ghost invariant = { λ p. Rests p.number p.weight p.badge.views };
+    ghost invariant = { λ p. PassRests p.number p.weight p.badge.views };
 }

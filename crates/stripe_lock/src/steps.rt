@@ -1,5 +1,5 @@
 //! The rule of the table, and the steps of a pass.
-ghost use Rattle.stripe_lock.specs.Steps.{drew, looked, took, gave, ended_turn, noted_turn, raised, saw, lowered, settled, left_view, right_view, joined_view, spent};
+ghost use Rattle.stripe_lock.specs.Steps.{drew, looked, took, gave_back, ended_turn, noted_turn, raised_floor, saw, lowered, settled, left_view, right_view, joined_view, spent};
 
 use crate::kept::KeptState;
 use crate::view::View;
@@ -73,14 +73,14 @@ impl<T: KeptState> Play<T, View<T::Record>> for Note {
 pub struct Raise;
 
 impl<T: KeptState> Play<T, View<T::Record>> for Raise {
-    ghost then = { raised };
+    ghost then = { raised_floor };
 }
 
 /// Loads `serving`, and gives the state back.
 pub struct Give;
 
 impl<T: KeptState> Play<T, View<T::Record>> for Give {
-    ghost then = { gave };
+    ghost then = { gave_back };
 }
 
 /// Adds one to `serving`: the next ticket is called.

@@ -4,13 +4,13 @@ use Rattle.std.specs.Prelude.{map, nat_le}
 use Rattle.std.specs.List.{AllByRecursion}
 use Rattle.tape_base.specs.Place.{floor_of, slot_of}
 use Rattle.device_log.specs.Image.{span}
-use Rattle.logged_disk.specs.Device.{State as Device, TellsAll, seen as content_of}
+use Rattle.logged_disk.specs.Device.{DeviceState as Device, TellsAll, seen as content_of}
 use Rattle.doc_header.specs.Reading.{document_digest}
 use Rattle.dir_table.specs.declared.rows.DirRow.{DirRow}
 use Rattle.dir_table.specs.declared.window.Window.{Window}
-use Rattle.dir_table.specs.Wrap.{rows_from}
+use Rattle.dir_table.specs.Wrap.{rows_at_or_above}
 use Rattle.agg_buffer.specs.Buffer.{Buffer, bytes_at, filled_of}
-use Rattle.cyclone.specs.Cyclone.{Seen, IsTurning, BeginsNext, cursor_next as cursor_behind}
+use Rattle.cyclone.specs.Cyclone.{Seen, IsTurning, BeginsNext, next_buffer_cursor as cursor_behind}
 use Rattle.cache_model.specs.declared.record.Rec.TheVariants as rec
 use Rattle.cache_model.specs.State.{State, Row, cursor_next, floor_next, floor_now, place_now, state_after}
 use Rattle.cache_model.specs.Tape.{AreRising}
@@ -18,7 +18,7 @@ use Rattle.cache_model.proofs.Laps.{next_above}
 use Rattle.cache_model.proofs.Sound.{later_began}
 use Rattle.stripe_pieces.specs.Records.{IsWrittenOut}
 use Rattle.stripe_pieces.proofs.Intact.{written_intact}
-use Rattle.stripe_pieces.specs.Held.{IsBuffered, IsBufferedWhereNew, IsHeld, IsIntactWhereWritten, entry_of, times}
+use Rattle.stripe_pieces.specs.Held.{IsBuffered, IsBufferedWhereNew, IsHeld, IsIntactWhereWritten, entry_of_piece, times}
 use Rattle.stripe_pieces.proofs.Entries.{kept, times-filter, times-permutation}
 use Rattle.stripe_pieces.proofs.Counts.{is_between, later_between}
 use Rattle.stripe_pieces.proofs.Holding.{AreCounted, counted, end_is, entered, floor_is, next_is, none_behind, unbounded}
@@ -88,11 +88,11 @@ module _ (s : State) (c new : Seen) (held : IsHeld s c) (out : IsWrittenOut c) (
   low_is = omega (arith, ap (λ g. floor_of g (cursor_behind c)) held.geometry ∙ ap (floor_of s.geometry) cursor_is)
 
   entries_are : (x : DirRow) → times x new.rows ≡ kept (nat_le low x.place) (times x c.rows)
-  entries_are x = times-permutation x (rows_from low c.rows) new.rows begins.rows ∙ times-filter (nat_le low) x c.rows
+  entries_are x = times-permutation x (rows_at_or_above low c.rows) new.rows begins.rows ∙ times-filter (nat_le low) x c.rows
 
-  count_at : (x : DirRow) → kept (is_between new.window.floor new.window.end x.place) (times x new.rows) ≡ kept (nat_le (floor_now after) x.place) (times x (map (entry_of s.geometry) s.rows))
+  count_at : (x : DirRow) → kept (is_between new.window.floor new.window.end x.place) (times x new.rows) ≡ kept (nat_le (floor_now after) x.place) (times x (map (entry_of_piece s.geometry) s.rows))
   count_at x =
-      let pieces : ℕ = times x (map (entry_of s.geometry) s.rows) in
+      let pieces : ℕ = times x (map (entry_of_piece s.geometry) s.rows) in
       let start : c.window.floor ≡ floor_now s = floor_is s c held in
       let old : kept (is_between c.window.floor c.window.end x.place) (times x c.rows) ≡ kept (nat_le c.window.floor x.place) pieces =
       (counted s c held.entered).each x ∙ ap (λ f. kept (nat_le f x.place) pieces) (sym start) in

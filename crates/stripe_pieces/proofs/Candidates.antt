@@ -16,7 +16,7 @@ use Rattle.cyclone.specs.Cyclone.{Seen}
 use Rattle.cache_model.specs.State.{State, Row, is_live, live_row_of, only_live, row_in}
 use Rattle.cache_model.specs.Verdict.{if_at, if_still_at}
 use Rattle.cache_model.proofs.Lists.{own_piece}
-use Rattle.stripe_pieces.specs.Held.{IsHeld, entry_of, rows_in_range, same_entry, times}
+use Rattle.stripe_pieces.specs.Held.{IsHeld, entry_of_piece, rows_in_range, same_entry, times}
 use Rattle.stripe_pieces.specs.Pieces.{live_place_of}
 use Rattle.stripe_pieces.specs.This.{is_this}
 use Rattle.tape_base.proofs.NameLaws.{same_piece-same}
@@ -70,20 +70,22 @@ more_than true n h = omega arith
 more_than false n h = h
 
 counts_by : (s : State) (g : Geometry) (id : PieceId) (first row : Row) (rows : List Row) (b c : Bool) → same_piece first.id id ≡ b → is_live s first ≡ c → is_live s row ≡ true
-    → (row_in rows id ≡ Some row → 0 < times (entry_of g row) (map (entry_of g) (filter (is_live s) rows)))
+    → (row_in rows id ≡ Some row → 0 < times (entry_of_piece g row) (map (entry_of_piece g) (filter (is_live s) rows)))
     → (if b then Some first else row_in rows id) ≡ Some row
-    → 0 < times (entry_of g row) (map (entry_of g) (cond c (first ∷ filter (is_live s) rows) (filter (is_live s) rows)))
+    → 0 < times (entry_of_piece g row) (map (entry_of_piece g) (cond c (first ∷ filter (is_live s) rows) (filter (is_live s) rows)))
 counts_by s g id first row rows true true e f live rest h =
     let same : first ≡ row = cc in
-    rw (ap (λ (r : Row). same_entry (entry_of g r) (entry_of g row)) same ∙ same_entry-same (entry_of g row)) (omega arith)
+    rw (ap (λ (r : Row). same_entry (entry_of_piece g r) (entry_of_piece g row)) same ∙ same_entry-same (entry_of_piece g row))
+    (omega arith)
 counts_by s g id first row rows true false e f live rest h =
     let same : first ≡ row = cc in
     let q : true ≡ false = sym live ∙ (ap (is_live s) (sym same) ∙ f) in cc
-counts_by s g id first row rows false true e f live rest h = more_than (same_entry (entry_of g first) (entry_of g row)) _ (rest h)
+counts_by s g id first row rows false true e f live rest h =
+    more_than (same_entry (entry_of_piece g first) (entry_of_piece g row)) _ (rest h)
 counts_by s g id first row rows false false e f live rest h = rest h
 
 pub counts : (s : State) (g : Geometry) (id : PieceId) (row : Row) (rows : List Row) → is_live s row ≡ true → row_in rows id ≡ Some row
-    → 0 < times (entry_of g row) (map (entry_of g) (filter (is_live s) rows))
+    → 0 < times (entry_of_piece g row) (map (entry_of_piece g) (filter (is_live s) rows))
 counts s g id row [] live h = cc
 counts s g id row (first ∷ rows) live h = counts_by s g id first row rows (same_piece first.id id) (is_live s first) refl refl live (counts s g id row rows live) h
 
@@ -100,7 +102,7 @@ pub live_is_candidate : (s : State) (c : Seen) (id : PieceId) (row : Row) → Is
     → Contains (candidates_of c.window (key_of_piece id) c.rows) row.place
 live_is_candidate s c id row held live =
     let found : (row_in s.rows id ≡ Some row) × (is_live s row ≡ true) = live_is s (row_in s.rows id) row live in
-    let e : DirRow = entry_of s.geometry row in
+    let e : DirRow = entry_of_piece s.geometry row in
     let some : 0 < times e (rows_in_range c) = subst (λ n. 0 < n) (sym (held.entered e)) (counts s s.geometry id row s.rows found.1 found.0) in
     let geometry : c.window.geometry ≡ s.geometry = held.turning.geometry ∙ held.geometry in
     let spot : spot_of_key c.window.geometry (key_of_piece id) ≡ spot_of_key s.geometry (key_of_piece row.id) =

@@ -14,7 +14,7 @@ use Rattle.cache_model.specs.Room.{MayDisplace, displaced_record, is_full_for}
 use Rattle.cache_model.specs.Given.{effects_told}
 use Rattle.cache_model.specs.Damage.{TellNoDamage}
 use Rattle.cache_model.proofs.Lists.{row_in-moved}
-use Rattle.stripe_pieces.specs.Displaced.{AreOfDisplacement, IsOfDisplacement, IsPushedOut}
+use Rattle.stripe_pieces.specs.Displaced.{AreOfDisplacement, IsOfDisplacement, PushesOut}
 use Rattle.stripe_pieces.proofs.SamePuts.{SamePuts}
 
 -- a step of a directory that displaces, or that does not
@@ -26,13 +26,13 @@ mapped segment live [] = tt
 mapped segment live (row ∷ rows) = (tt, mapped segment live rows)
 
 -- all that is pushed out is told as displaced
-pub pushed_kinds : (packed : Bool) (s : State) (id : PieceId) (displaced : List Rec) → IsPushedOut packed s id displaced → AreOfDisplacement displaced
+pub pushed_kinds : (packed : Bool) (s : State) (id : PieceId) (displaced : List Rec) → PushesOut packed s id displaced → AreOfDisplacement displaced
 pushed_kinds packed s id displaced pushed =
     let m : MayDisplace (step_of packed) s id displaced = pushed (step_of packed) refl in
     subst AreOfDisplacement (sym m.is) (mapped _ _ m.purged)
 
 -- a directory that displaces nothing pushes nothing out
-pub pushes_nothing : (s : State) (id : PieceId) → IsPushedOut false s id []
+pub pushes_nothing : (s : State) (id : PieceId) → PushesOut false s id []
 pushes_nothing s id = λ p plain. record {
   purged = [];
   full = λ h. let f : false ≡ true = ap (λ b. b && is_full_for s id) (sym plain) ∙ h in cc;

@@ -5,11 +5,11 @@ use Rattle.std.specs.List.{AllByRecursion}
 use Rattle.std.proofs.lemmas.Bool.{and_parts, leb-true, ltb-true}
 use Rattle.std.proofs.lemmas.Bool.Decides.{nat_tests}
 use Rattle.std.proofs.lemmas.List.{length-map}
-use Rattle.logged_disk.specs.Device.{State as Device}
+use Rattle.logged_disk.specs.Device.{DeviceState as Device}
 use Rattle.tape_base.specs.declared.geometries.Geometry.{Geometry}
 use Rattle.tape_base.specs.Place.{floor_of, lap_end_of, next_cursor_of}
 use Rattle.evacuator.specs.declared.choosing.Candidate.{Candidate}
-use Rattle.evacuator.specs.Choice.{AreRising as AreInOrder}
+use Rattle.evacuator.specs.Choice.{CandidatesRise as AreInOrder}
 use Rattle.cache_model.specs.State.{State, Row, floor_next, floor_now, is_live, live_rows, place_now}
 use Rattle.cache_model.specs.Given.{IsWritten}
 use Rattle.cache_model.specs.Tape.{AreRising, IsSound}
@@ -19,7 +19,7 @@ use Rattle.cache_model.proofs.Rows.{part-filter, rising-part}
 use Rattle.cache_model.proofs.SoundFlush.{among_part, due_part}
 use Rattle.cache_model.proofs.Walks.{all_among}
 use Rattle.cache_model.proofs.Written.{due_are_written, passes}
-use Rattle.stripe_due.specs.Finding.{candidate_of, candidates_of, most_passed}
+use Rattle.stripe_due.specs.Finding.{candidate_of, due_candidates, most_passed}
 use Rattle.stripe_pieces.specs.declared.ahead.Ahead.{Ahead}
 use Rattle.stripe_pieces.specs.Ahead.{LooksAhead}
 use Rattle.stripe_pieces.specs.Looks.{AreOfRows, Looked, MayBeCopied}
@@ -30,7 +30,7 @@ each_may : (s : State) (rows : List Row) → AllByRecursion (IsFound s) rows →
 each_may s [] live written = tt
 each_may s (row ∷ rows) live written = (record { live = live.0; written = written.0 }, each_may s rows live.1 written.1)
 
-pub due_rows : (s : State) (now : ℕ) (candidates : List Candidate) → IsSound s → candidates ≡ candidates_of s now → AreOfRows s candidates (due_pieces s now)
+pub due_rows : (s : State) (now : ℕ) (candidates : List Candidate) → IsSound s → candidates ≡ due_candidates s now → AreOfRows s candidates (due_pieces s now)
 due_rows s now candidates sound are = record { each = each_may s (due_pieces s now) (due_are_live s now sound) (due_are_written s now sound); are = are }
 
 -- ---- in rising place
@@ -43,7 +43,7 @@ in_order low (row ∷ next ∷ rows) high r = (let behind : row.place + 1 ≤ ne
 due_rising : (s : State) (now : ℕ) → IsSound s → AreRising s.geometry.content (due_pieces s now) (place_now s)
 due_rising s now sound = rising-part s.geometry.content (place_now s) (due_part s now) sound.rising
 
-pub due_in_order : (s : State) (now : ℕ) (candidates : List Candidate) → IsSound s → candidates ≡ candidates_of s now → AreInOrder candidates
+pub due_in_order : (s : State) (now : ℕ) (candidates : List Candidate) → IsSound s → candidates ≡ due_candidates s now → AreInOrder candidates
 due_in_order s now candidates sound are = subst AreInOrder (sym are) (in_order s.geometry.content (due_pieces s now) (place_now s) (due_rising s now sound))
 
 -- ---- and few
@@ -83,7 +83,7 @@ due_within s now = all_among (BeginsWithin (floor_now s) (floor_next s)) (due_pi
 floor_moves : (g : Geometry) (cursor filled : ℕ) → filled ≤ g.agg → cursor + g.agg ≤ lap_end_of g cursor → floor_of g (next_cursor_of g cursor filled) ≤ floor_of g cursor + 2 * g.agg
 floor_moves g cursor filled few fits = grind (arith, nat_tests)
 
-pub due_are_few : (s : State) (now : ℕ) (candidates : List Candidate) → IsSound s → candidates ≡ candidates_of s now → length candidates ≤ most_passed s.geometry
+pub due_are_few : (s : State) (now : ℕ) (candidates : List Candidate) → IsSound s → candidates ≡ due_candidates s now → length candidates ≤ most_passed s.geometry
 due_are_few s now candidates sound are =
     let count : length (due_pieces s now) + floor_now s ≤ max (floor_now s) (floor_next s) =
     few_within (floor_now s) (floor_next s) s.geometry.content (due_pieces s now) (place_now s) (due_rising s now sound) (due_within s now) in
@@ -94,7 +94,7 @@ due_are_few s now candidates sound are =
 
 -- ---- so it is looked at
 
-pub looks_by : (now : ℕ) (s : State) (before after : Device) (end : ℕ) (a : Ahead) → IsSound s → a.due.items ≡ candidates_of s now
+pub looks_by : (now : ℕ) (s : State) (before after : Device) (end : ℕ) (a : Ahead) → IsSound s → a.due.items ≡ due_candidates s now
     → Looked s before after (due_pieces s now) end a → LooksAhead now s before after a
 looks_by now s before after end a sound due h = record {
   outcomes = h.outcomes;

@@ -12,7 +12,7 @@ use Rattle.tape_base.proofs.NameLaws.{same_piece-same, same_piece-true}
 use Rattle.dir_table.specs.declared.rows.DirRow.{DirRow}
 use Rattle.cache_model.specs.State.{Row, row_in, without}
 use Rattle.cache_model.specs.Tape.{AreApart, NotAmong}
-use Rattle.stripe_pieces.specs.Held.{entry_of, same_entry, times}
+use Rattle.stripe_pieces.specs.Held.{entry_of_piece, same_entry, times}
 
 -- how much a row counts
 abbrev pub one_if : DirRow → DirRow → ℕ
@@ -78,23 +78,23 @@ module _ (q : ℕ → Bool) (x : DirRow) where
   times-filter (row ∷ rows) = by_same row rows (filter (λ r. q r.place) rows) (same_entry row x) (q row.place) refl refl (times-filter rows)
 
   -- the same of entries
-  entry_by : (g : Geometry) (row : Row) (rows left : List Row) (b c : Bool) → same_entry (entry_of g row) x ≡ b → q row.place ≡ c
-      → times x (map (entry_of g) left) ≡ kept (q x.place) (times x (map (entry_of g) rows))
-      → times x (map (entry_of g) (cond c (row ∷ left) left)) ≡ kept (q x.place) (one_more b (times x (map (entry_of g) rows)))
+  entry_by : (g : Geometry) (row : Row) (rows left : List Row) (b c : Bool) → same_entry (entry_of_piece g row) x ≡ b → q row.place ≡ c
+      → times x (map (entry_of_piece g) left) ≡ kept (q x.place) (times x (map (entry_of_piece g) rows))
+      → times x (map (entry_of_piece g) (cond c (row ∷ left) left)) ≡ kept (q x.place) (one_more b (times x (map (entry_of_piece g) rows)))
   entry_by g row rows left true c e f h =
-      let same : q x.place ≡ c = ap (λ (r : DirRow). q r.place) (sym (same_entry-true (entry_of g row) x e)) ∙ f in
+      let same : q x.place ≡ c = ap (λ (r : DirRow). q r.place) (sym (same_entry-true (entry_of_piece g row) x e)) ∙ f in
       by_test c same
     where
-      by_test : (d : Bool) → q x.place ≡ d → times x (map (entry_of g) (cond d (row ∷ left) left)) ≡ kept (q x.place) (times x (map (entry_of g) rows) + 1)
-      by_test true k = rw (e, k) (ap (λ n. n + 1) (h ∙ ap (λ d. kept d (times x (map (entry_of g) rows))) k))
-      by_test false k = rw k (h ∙ ap (λ d. kept d (times x (map (entry_of g) rows))) k)
+      by_test : (d : Bool) → q x.place ≡ d → times x (map (entry_of_piece g) (cond d (row ∷ left) left)) ≡ kept (q x.place) (times x (map (entry_of_piece g) rows) + 1)
+      by_test true k = rw (e, k) (ap (λ n. n + 1) (h ∙ ap (λ d. kept d (times x (map (entry_of_piece g) rows))) k))
+      by_test false k = rw k (h ∙ ap (λ d. kept d (times x (map (entry_of_piece g) rows))) k)
   entry_by g row rows left false true e f h = rw e h
   entry_by g row rows left false false e f h = h
 
-  pub times-entries : (g : Geometry) (rows : List Row) → times x (map (entry_of g) (filter (λ (r : Row). q r.place) rows)) ≡ kept (q x.place) (times x (map (entry_of g) rows))
+  pub times-entries : (g : Geometry) (rows : List Row) → times x (map (entry_of_piece g) (filter (λ (r : Row). q r.place) rows)) ≡ kept (q x.place) (times x (map (entry_of_piece g) rows))
   times-entries g [] = sym (kept_zero (q x.place))
   times-entries g (row ∷ rows) =
-      entry_by g row rows (filter (λ (r : Row). q r.place) rows) (same_entry (entry_of g row) x) (q row.place) refl refl (times-entries g rows)
+      entry_by g row rows (filter (λ (r : Row). q r.place) rows) (same_entry (entry_of_piece g row) x) (q row.place) refl refl (times-entries g rows)
 
 -- ---- rows below a place
 
@@ -112,25 +112,27 @@ times-below high x (row ∷ rows) all above =
 -- ---- a piece is taken out
 
 not_there_by : (g : Geometry) (id : PieceId) (row : Row) (rows : List Row) (b : Bool) → same_piece row.id id ≡ b → same_piece id row.id ≡ false
-    → map (entry_of g) (without id rows) ≡ map (entry_of g) rows → map (entry_of g) (cond (not b) (row ∷ without id rows) (without id rows)) ≡ entry_of g row ∷ map (entry_of g) rows
-not_there_by g id row rows false e n rest = ap (λ xs. entry_of g row ∷ xs) rest
+    → map (entry_of_piece g) (without id rows) ≡ map (entry_of_piece g) rows → map (entry_of_piece g) (cond (not b) (row ∷ without id rows) (without id rows)) ≡ entry_of_piece g row ∷ map (entry_of_piece g) rows
+not_there_by g id row rows false e n rest = ap (λ xs. entry_of_piece g row ∷ xs) rest
 not_there_by g id row rows true e n rest =
     let f : true ≡ false = sym (ap (λ i. same_piece i row.id) (sym (same_piece-true row.id id e)) ∙ same_piece-same row.id) ∙ n in cc
 
-not_there : (g : Geometry) (id : PieceId) (rows : List Row) → NotAmong id rows → map (entry_of g) (without id rows) ≡ map (entry_of g) rows
+not_there : (g : Geometry) (id : PieceId) (rows : List Row) → NotAmong id rows
+    → map (entry_of_piece g) (without id rows) ≡ map (entry_of_piece g) rows
 not_there g id [] h = refl
 not_there g id (row ∷ rows) h = not_there_by g id row rows (same_piece row.id id) refl h.0 (not_there g id rows h.1)
 
 gone_by : (g : Geometry) (id : PieceId) (x : DirRow) (first row : Row) (rows : List Row) (b : Bool) → same_piece first.id id ≡ b → NotAmong first.id rows
-    → (row_in rows id ≡ Some row → times x (map (entry_of g) rows) ≡ one_more (same_entry (entry_of g row) x) (times x (map (entry_of g) (without id rows))))
+    → (row_in rows id ≡ Some row → times x (map (entry_of_piece g) rows) ≡ one_more (same_entry (entry_of_piece g row) x) (times x (map (entry_of_piece g) (without id rows))))
     → (if b then Some first else row_in rows id) ≡ Some row
-    → times x (map (entry_of g) (first ∷ rows)) ≡ one_more (same_entry (entry_of g row) x) (times x (map (entry_of g) (cond (not b) (first ∷ without id rows) (without id rows))))
+    → times x (map (entry_of_piece g) (first ∷ rows)) ≡ one_more (same_entry (entry_of_piece g row) x) (times x (map (entry_of_piece g) (cond (not b) (first ∷ without id rows) (without id rows))))
 gone_by g id x first row rows true e apart rest h =
     let it : first ≡ row = cc in
     let none : NotAmong id rows = subst (λ i. NotAmong i rows) (same_piece-true first.id id e) apart in
-    ap (λ (r : Row). one_more (same_entry (entry_of g r) x) (times x (map (entry_of g) rows))) it
-    ∙ ap (λ xs. one_more (same_entry (entry_of g row) x) (times x xs)) (sym (not_there g id rows none))
-gone_by g id x first row rows false e apart rest h = both (same_entry (entry_of g first) x) (same_entry (entry_of g row) x) _ _ (rest h)
+    ap (λ (r : Row). one_more (same_entry (entry_of_piece g r) x) (times x (map (entry_of_piece g) rows))) it
+    ∙ ap (λ xs. one_more (same_entry (entry_of_piece g row) x) (times x xs)) (sym (not_there g id rows none))
+gone_by g id x first row rows false e apart rest h =
+    both (same_entry (entry_of_piece g first) x) (same_entry (entry_of_piece g row) x) _ _ (rest h)
   where
     both : (b c : Bool) (n m : ℕ) → n ≡ one_more c m → one_more b n ≡ one_more c (one_more b m)
     both true true n m k = ap (λ i. i + 1) k
@@ -140,6 +142,7 @@ gone_by g id x first row rows false e apart rest h = both (same_entry (entry_of 
 
 -- a piece that stands among rows that differ stood there once
 pub times-without : (g : Geometry) (id : PieceId) (x : DirRow) (row : Row) (rows : List Row) → AreApart rows → row_in rows id ≡ Some row
-    → times x (map (entry_of g) rows) ≡ one_more (same_entry (entry_of g row) x) (times x (map (entry_of g) (without id rows)))
+    → times x (map (entry_of_piece g) rows)
+    ≡ one_more (same_entry (entry_of_piece g row) x) (times x (map (entry_of_piece g) (without id rows)))
 times-without g id x row [] apart h = cc
 times-without g id x row (first ∷ rows) apart h = gone_by g id x first row rows (same_piece first.id id) refl apart.0 (times-without g id x row rows apart.1) h

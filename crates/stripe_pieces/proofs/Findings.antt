@@ -11,10 +11,10 @@ use Rattle.tape_base.specs.declared.pieces.PieceId.{PieceId}
 use Rattle.tape_base.specs.declared.digests.Digest.{Digest}
 use Rattle.tape_base.specs.Place.{slot_of}
 use Rattle.device_log.specs.Image.{span}
-use Rattle.logged_disk.specs.Device.{State as Device, IsTrusted, TellsAll, seen as content_of}
+use Rattle.logged_disk.specs.Device.{DeviceState as Device, IsTrusted, TellsAll, seen as content_of}
 use Rattle.logged_disk.proofs.GoingOn.{told_before}
 use Rattle.doc_header.specs.Reading.{document_digest}
-use Rattle.cyclone.specs.Cyclone.{Reads, Seen}
+use Rattle.cyclone.specs.Cyclone.{ReadsBlocks, Seen}
 use Rattle.cyclone.proofs.Calls.{reads_go_on, reads_same}
 use Rattle.cache_model.specs.declared.cause.Cause.{Cause}
 use Rattle.cache_model.specs.declared.cause.Cause.TheVariants as cause
@@ -27,11 +27,11 @@ use Rattle.stripe_pieces.specs.declared.answer.Found.{Found}
 use Rattle.stripe_pieces.specs.declared.answer.Found.TheVariants as found
 use Rattle.stripe_pieces.specs.Held.{IsBufferedWhereNew, IsHeld, IsIntactWhereWritten}
 use Rattle.cache_model.specs.Damage.{TellNoDamage}
-use Rattle.stripe_pieces.specs.Covers.{AreSeen, Covers, IsSeenOn}
+use Rattle.stripe_pieces.specs.Covers.{AllReadIsSeen, Covers, ReadIsSeen}
 use Rattle.stripe_pieces.specs.Faults.{HasEffects}
 use Rattle.call_laws.specs.Contents.{Contents}
 use Rattle.stripe_pieces.specs.Standing.{AreStanding}
-use Rattle.stripe_pieces.specs.Find.{Finds, HasPayload, IsFoundAs, IsJudged, IsRecorded, TellsCount, cause_records, find_adds, found_records, judged_records}
+use Rattle.stripe_pieces.specs.Find.{Finds, HasPayload, IsFoundAs, IsJudged, IsRecorded, TellsCount, find_adds, found_records, judged_records, records_of_trouble}
 use Rattle.stripe_pieces.proofs.Effects.{effects_none}
 use Rattle.stripe_pieces.proofs.Covering.{block_is, made_is}
 use Rattle.stripe_pieces.proofs.Candidates.{live_is}
@@ -54,7 +54,7 @@ judged_adds s id place blocks kept bytes (found.Missing why) into r j =
 
 -- the piece's bytes are those of a call of the step
 pub given_read : (p : Permit) (t : State) (c new : Seen) (row : Row) (bytes : List ℕ) → c.geometry ≡ t.geometry → row.place < c.buffer.cursor → row.place < t.cursor
-    → Reads c new row.place row.blocks (Ok tt) bytes → Covers p c.device.past new.device.past → IsGiven p t row bytes
+    → ReadsBlocks c new row.place row.blocks (Ok tt) bytes → Covers p c.device.past new.device.past → IsGiven p t row bytes
 given_read p t c new row bytes same from below read covers = record {
   written = below;
   given = subst (λ at. IsAmong (Read at bytes) p.events) (block_is p t c.geometry row.place same covers.content)
@@ -63,10 +63,10 @@ given_read p t c new row bytes same from below read covers = record {
   of_bytes = read.of_bytes;
 }
 
-pub effects_read : (c new : Seen) (place blocks : ℕ) (bytes : List ℕ) → place < c.buffer.cursor → Reads c new place blocks (Ok tt) bytes → HasEffects c.device.past new.device.past []
+pub effects_read : (c new : Seen) (place blocks : ℕ) (bytes : List ℕ) → place < c.buffer.cursor → ReadsBlocks c new place blocks (Ok tt) bytes → HasEffects c.device.past new.device.past []
 effects_read c new place blocks bytes from read = record { made = Read (slot_of c.geometry place) bytes ∷ []; past = (read.logs from).past; are = refl }
 
-pub effects_failed : (c new : Seen) (place blocks : ℕ) (bytes : List ℕ) (e : Failed) (count : ℕ) → place < c.buffer.cursor → Reads c new place blocks (Err e) bytes → count ≡ new.device.faults
+pub effects_failed : (c new : Seen) (place blocks : ℕ) (bytes : List ℕ) (e : Failed) (count : ℕ) → place < c.buffer.cursor → ReadsBlocks c new place blocks (Err e) bytes → count ≡ new.device.faults
     → HasEffects c.device.past new.device.past (Denied count ∷ [])
 effects_failed c new place blocks bytes e count from read is = record {
   made = RefusedCall (ToRead (slot_of c.geometry place) (length bytes / 512)) new.device.faults ∷ [];
@@ -79,7 +79,7 @@ lower_rose a b n h r = omega arith
 
 -- the count is that of a call of the step that was refused
 pub counts_read : (p : Permit) (t : State) (c new : Seen) (row : Row) (bytes : List ℕ) (e : Failed) (count : ℕ) → c.geometry ≡ t.geometry → row.place < c.buffer.cursor
-    → Reads c new row.place row.blocks (Err e) bytes → count ≡ new.device.faults → t.fault ≤ c.device.faults → Covers p c.device.past new.device.past → CountsRead p t row count
+    → ReadsBlocks c new row.place row.blocks (Err e) bytes → count ≡ new.device.faults → t.fault ≤ c.device.faults → Covers p c.device.past new.device.past → CountsRead p t row count
 counts_read p t c new row bytes e count same from read is low covers =
     let few : length bytes / 512 ≡ row.blocks = (let whole : length bytes ≡ 512 * row.blocks = read.length in omega (arith, whole)) in
     let rose : Rose c.device.faults new.device.faults = read.cause.failed in
@@ -93,13 +93,13 @@ counts_read p t c new row bytes e count same from read is low covers =
     }
 
 -- where no call was made, nothing was read
-none_seen : (old new : Device) → new.past ≡ old.past → AreSeen old new
-none_seen old new same = λ made past trusted. subst (AllByRecursion (IsSeenOn new)) (sym (made_is old.past new.past made [] same past)) tt
+none_seen : (old new : Device) → new.past ≡ old.past → AllReadIsSeen old new
+none_seen old new same = λ made past trusted. subst (AllByRecursion (ReadIsSeen new)) (sym (made_is old.past new.past made [] same past)) tt
 
 -- ---- bytes that were read
 
 module _ (s : State) (c new : Seen) (id : PieceId) (row : Row) (bytes into : List ℕ) (held : IsHeld s c) (live : live_row_of s id ≡ Some row)
-    (read : Reads c new row.place row.blocks (Ok tt) bytes) where
+    (read : ReadsBlocks c new row.place row.blocks (Ok tt) bytes) where
   whole : length bytes ≡ 512 * row.blocks
   whole = read.length
 
@@ -124,9 +124,9 @@ module _ (s : State) (c new : Seen) (id : PieceId) (row : Row) (bytes into : Lis
       ∙ (span_same (content_of c.device) (content_of new.device) (slot_of c.geometry row.place) row.blocks (λ j low high. sym (reads_same c new row.place row.blocks (Ok tt) bytes read j))
       ∙ ap (span (content_of new.device) (slot_of c.geometry row.place)) count)
 
-  all_shown : row.place < s.cursor → AreSeen c.device new.device
+  all_shown : row.place < s.cursor → AllReadIsSeen c.device new.device
   all_shown below = λ made past trusted.
-      subst (AllByRecursion (IsSeenOn new.device)) (sym (made_is c.device.past new.device.past made (given ∷ []) (read.logs (from_device below)).past past)) (shown below trusted, tt)
+      subst (AllByRecursion (ReadIsSeen new.device)) (sym (made_is c.device.past new.device.past made (given ∷ []) (read.logs (from_device below)).past past)) (shown below trusted, tt)
 
   -- bytes from the device
   told_by : (p : Permit) (answer : Found) → row.place < s.cursor → Covers p c.device.past new.device.past → IsJudged row.place row.digest bytes answer into → IsFoundAs p s id (Some row) answer into
@@ -140,7 +140,7 @@ module _ (s : State) (c new : Seen) (id : PieceId) (row : Row) (bytes into : Lis
     payload = j.2;
   }
   told_by p (found.Missing why) below covers j =
-      subst (λ (y : Cause). Trouble p s row (cause_records row y) y) (sym j.0)
+      subst (λ (y : Cause). Trouble p s row (records_of_trouble row y) y) (sym j.0)
       (Trouble.damaged (document_digest bytes) (record {
         bytes = bytes;
         given = given_read p s c new row bytes held.geometry (from_device below) below read covers;
@@ -208,10 +208,10 @@ either_side : (a b : ℕ) → ((a ≤ b) ⊎ (b < a))
 either_side a b = grind arith
 
 pub finds_read : (s : State) (c new : Seen) (id : PieceId) (place blocks : ℕ) (kept : Digest) (bytes into : List ℕ) (answer : Found) → IsHeld s c
-    → IsRecorded s id place blocks kept → Reads c new place blocks (Ok tt) bytes → IsJudged place kept bytes answer into → Finds s c new id answer into
+    → IsRecorded s id place blocks kept → ReadsBlocks c new place blocks (Ok tt) bytes → IsJudged place kept bytes answer into → Finds s c new id answer into
 finds_read s c new id place blocks kept bytes into answer held r read j =
-    let here : Reads c new r.row.place r.row.blocks (Ok tt) bytes =
-    subst (λ n. Reads c new r.row.place n (Ok tt) bytes) (sym r.blocks_is) (subst (λ p. Reads c new p blocks (Ok tt) bytes) (sym r.place_is) read) in
+    let here : ReadsBlocks c new r.row.place r.row.blocks (Ok tt) bytes =
+    subst (λ n. ReadsBlocks c new r.row.place n (Ok tt) bytes) (sym r.blocks_is) (subst (λ p. ReadsBlocks c new p blocks (Ok tt) bytes) (sym r.place_is) read) in
     let judged : IsJudged r.row.place r.row.digest bytes answer into =
     subst (λ d. IsJudged r.row.place d bytes answer into) (sym r.digest_is) (subst (λ p. IsJudged p kept bytes answer into) (sym r.place_is) j) in
     finds_by s c new id r.row bytes into held r.live here answer (either_side s.cursor r.row.place) judged
@@ -220,7 +220,7 @@ finds_read s c new id place blocks kept bytes into answer held r read j =
 pub finds_in : (s : State) (c mid new : Seen) (id : PieceId) (answer : Found) (into : List ℕ) → new.device ≡ mid.device → Finds s c mid id answer into
     → Finds s c new id answer into
 finds_in s c mid new id answer into same f = record {
-  seen = subst (AreSeen c.device) (sym same) f.seen;
+  seen = subst (AllReadIsSeen c.device) (sym same) f.seen;
   faults = subst (λ (d : Device). HasEffects c.device.past d.past (effects_told (find_adds s id answer))) (sym same) f.faults;
   counted = subst (λ (d : Device). TellsCount (live_row_of s id) d.faults answer) (sym same) f.counted;
   contents = λ told. f.contents (subst TellsAll same told);
@@ -228,10 +228,10 @@ finds_in s c mid new id answer into same f = record {
 }
 
 pub finds_no_damage : (s : State) (c new : Seen) (id : PieceId) (place blocks : ℕ) (kept : Digest) (bytes into : List ℕ) (answer : Found) → IsHeld s c
-    → IsRecorded s id place blocks kept → Reads c new place blocks (Ok tt) bytes → IsJudged place kept bytes answer into → TellsAll new.device → TellNoDamage (find_adds s id answer)
+    → IsRecorded s id place blocks kept → ReadsBlocks c new place blocks (Ok tt) bytes → IsJudged place kept bytes answer into → TellsAll new.device → TellNoDamage (find_adds s id answer)
 finds_no_damage s c new id place blocks kept bytes into answer held r read j told =
-    let here : Reads c new r.row.place r.row.blocks (Ok tt) bytes =
-    subst (λ n. Reads c new r.row.place n (Ok tt) bytes) (sym r.blocks_is) (subst (λ p. Reads c new p blocks (Ok tt) bytes) (sym r.place_is) read) in
+    let here : ReadsBlocks c new r.row.place r.row.blocks (Ok tt) bytes =
+    subst (λ n. ReadsBlocks c new r.row.place n (Ok tt) bytes) (sym r.blocks_is) (subst (λ p. ReadsBlocks c new p blocks (Ok tt) bytes) (sym r.place_is) read) in
     let judged : IsJudged r.row.place r.row.digest bytes answer into =
     subst (λ d. IsJudged r.row.place d bytes answer into) (sym r.digest_is) (subst (λ p. IsJudged p kept bytes answer into) (sym r.place_is) j) in
     no_damage_by s c new id r.row bytes into held r.live here answer (either_side s.cursor r.row.place) judged told
@@ -251,14 +251,14 @@ written_by s c place e held ok (inl above) = let clash : IsOk (failed e) = ok (o
 written_by s c place e held ok (inr below) = below
 
 module _ (s : State) (c new : Seen) (id : PieceId) (row : Row) (count : ℕ) (bytes into : List ℕ) (e : Failed) (held : IsHeld s c) (live : live_row_of s id ≡ Some row)
-    (read : Reads c new row.place row.blocks (Err e) bytes) (below : row.place < s.cursor) (is : count ≡ new.device.faults) where
+    (read : ReadsBlocks c new row.place row.blocks (Err e) bytes) (below : row.place < s.cursor) (is : count ≡ new.device.faults) where
   beneath : row.place < c.buffer.cursor
   beneath = omega (arith, below, held.cursor)
 
   fault_by : Finds s c new id (found.Missing (cause.DeviceFault count)) into
   fault_by = record {
     seen = λ made past trusted.
-        subst (AllByRecursion (IsSeenOn new.device)) (sym (made_is c.device.past new.device.past made
+        subst (AllByRecursion (ReadIsSeen new.device)) (sym (made_is c.device.past new.device.past made
         (RefusedCall (ToRead (slot_of c.geometry row.place) (length bytes / 512)) new.device.faults ∷ []) (read.logs beneath).0 past)) (tt, tt);
     faults = subst (HasEffects c.device.past new.device.past) (sym (ap (λ o. effects_told (found_records o (found.Missing (cause.DeviceFault count)))) live))
         (effects_failed c new row.place row.blocks bytes e count beneath read is);
@@ -270,10 +270,10 @@ module _ (s : State) (c new : Seen) (id : PieceId) (row : Row) (count : ℕ) (by
   }
 
 pub finds_fault : (s : State) (c new : Seen) (id : PieceId) (place blocks count : ℕ) (kept : Digest) (bytes into : List ℕ) (e : Failed) → IsHeld s c
-    → IsRecorded s id place blocks kept → Reads c new place blocks (Err e) bytes → (c.buffer.cursor ≤ place → IsOk (failed e)) → count ≡ new.device.faults
+    → IsRecorded s id place blocks kept → ReadsBlocks c new place blocks (Err e) bytes → (c.buffer.cursor ≤ place → IsOk (failed e)) → count ≡ new.device.faults
     → Finds s c new id (found.Missing (cause.DeviceFault count)) into
 finds_fault s c new id place blocks count kept bytes into e held r read ok is =
     let below : place < s.cursor = written_by s c place e held ok (either_side s.cursor place) in
-    let here : Reads c new r.row.place r.row.blocks (Err e) bytes =
-    subst (λ n. Reads c new r.row.place n (Err e) bytes) (sym r.blocks_is) (subst (λ p. Reads c new p blocks (Err e) bytes) (sym r.place_is) read) in
+    let here : ReadsBlocks c new r.row.place r.row.blocks (Err e) bytes =
+    subst (λ n. ReadsBlocks c new r.row.place n (Err e) bytes) (sym r.blocks_is) (subst (λ p. ReadsBlocks c new p blocks (Err e) bytes) (sym r.place_is) read) in
     fault_by s c new id r.row count bytes into e held r.live here (subst (λ n. n < s.cursor) (sym r.place_is) below) is

@@ -4,7 +4,7 @@ use Rattle.std.proofs.lemmas.Bool.{le-leb, lt-leb}
 use Rattle.edge_io.specs.declared.source.Failed.{Failed}
 use Rattle.stripe_pieces.specs.Records.{SparesPieces}
 use Rattle.agg_buffer.specs.Buffer.{next_place_of}
-use Rattle.cyclone.specs.Cyclone.{Seen, IsTurning, Reads, SameTape, WritesBuffer}
+use Rattle.cyclone.specs.Cyclone.{Seen, IsTurning, ReadsBlocks, SameTape, WritesBuffer}
 use Rattle.cyclone.proofs.Calls.{reads_ask, reads_go_on, reads_same, write_goes_on, write_leaves}
 use Rattle.logged_disk.proofs.GoingOn.{asked_further, asked_nothing, goes_further, stays_put}
 use Rattle.cache_model.specs.declared.record.Rec.{Rec}
@@ -65,12 +65,12 @@ pub write_spares : (c new : Seen) (result : Result (Unit {0}) Failed) → Writes
 write_spares c new result wrote = record { later = wrote.cause.later; goes = write_goes_on c new result wrote; others = write_leaves c new result wrote }
 
 -- so does a read
-pub read_spares : (c new : Seen) (place blocks : ℕ) (result : Result (Unit {0}) Failed) (bytes : List ℕ) → Reads c new place blocks result bytes → SparesPieces c new.device
+pub read_spares : (c new : Seen) (place blocks : ℕ) (result : Result (Unit {0}) Failed) (bytes : List ℕ) → ReadsBlocks c new place blocks result bytes → SparesPieces c new.device
 read_spares c new place blocks result bytes read =
     shows_same c new.device read.cause.later (reads_go_on c new place blocks result bytes read) (reads_same c new place blocks result bytes read)
 
 -- what a read uses up, and what is done behind it
-pub read_uses : (records room left : ℕ) (c mid new : Seen) (place blocks : ℕ) (result : Result (Unit {0}) Failed) (bytes : List ℕ) → SameTape c mid → Reads c mid place blocks result bytes
+pub read_uses : (records room left : ℕ) (c mid new : Seen) (place blocks : ℕ) (result : Result (Unit {0}) Failed) (bytes : List ℕ) → SameTape c mid → ReadsBlocks c mid place blocks result bytes
     → Uses records 0 0 0 room left mid new → Uses records 0 0 0 room left c new
 read_uses records room left c mid new place blocks result bytes tape read uses =
     let spare : mid.spare ≡ c.spare = ap (λ (y : Seen). y.spare) tape in

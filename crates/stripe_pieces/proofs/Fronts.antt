@@ -2,7 +2,7 @@
 use Rattle.std.proofs.Common.{◌≡◌, ℕ, ◌+◌, ◌-◌, ◌≤◌, List, [], ◌∷◌, ◌++◌, length, take, drop, refl, sym, ◌∙◌, ap, arith, zero, suc}
 use Rattle.std.specs.List.{copy_within}
 use Rattle.std.proofs.lemmas.List.{drop-take, length-drop, take-append-le, take-take, length-take-le}
-use Rattle.doc_header.specs.Reading.{field_at, length_of, payload_of}
+use Rattle.doc_header.specs.Reading.{length_of, payload_of, slice_at}
 
 -- the front of a front, by its length
 front_of_front : (xs : List ℕ) (n m : ℕ) → take (length (take n (take m xs))) xs ≡ take n (take m xs)
@@ -19,7 +19,7 @@ front_fits (x ∷ xs) (suc n) (suc m) = let less : length (take n (take m xs)) �
 
 -- the payload is a front of what stands behind the header
 payload_is : (bytes : List ℕ) (size : ℕ) → 128 ≤ size → payload_of (take size bytes) ≡ take (length_of (take size bytes)) (take (size - 128) (drop 128 bytes))
-unfolding field_at
+unfolding slice_at
 payload_is bytes size h =
     let split : size ≡ 128 + (size - 128) = omega arith in
     ap (λ ys. take (length_of (take size bytes)) ys) (ap (λ k. drop 128 (take k bytes)) split ∙ drop-take 128 (size - 128) bytes)

@@ -7,7 +7,7 @@ use Rattle.tape_base.specs.declared.pieces.PieceId.{PieceId}
 use Rattle.tape_base.specs.Piece.{key_of_piece, same_piece}
 use Rattle.std.specs.Prelude.{Result, Ok, Err, OnOk, OnErr}
 use Rattle.device_log.specs.Image.{Image, SameBut}
-use Rattle.logged_disk.specs.Device.{State as Device, Affords, IsAfter, Keeps, TellsAll, SeenStays, seen as content_of}
+use Rattle.logged_disk.specs.Device.{DeviceState as Device, Affords, IsAfter, Keeps, TellsAll, SeenStays, seen as content_of}
 use Rattle.logged_disk.proofs.GoingOn.{goes_by_none, same_past, told_before}
 use Rattle.tape_base.specs.Place.{slot_of}
 use Rattle.dir_table.specs.declared.rows.DirRow.{DirRow}
@@ -17,7 +17,7 @@ use Rattle.cyclone.specs.Cyclone.{Seen, IsTurning, SameButRoom, SameButRows, Sam
 use Rattle.cache_model.specs.State.{State, Row, floor_now, is_live, live_row_of, only_live, place_now, row_in, without}
 use Rattle.cache_model.specs.Tape.{AreApart, AreRising}
 use Rattle.cache_model.proofs.Lists.{own_piece}
-use Rattle.stripe_pieces.specs.Held.{IsBufferedWhereNew, IsHeld, IsInLap, IsIntactWhereWritten, entry_of, rows_in_range, same_entry, times}
+use Rattle.stripe_pieces.specs.Held.{IsBufferedWhereNew, IsHeld, IsInLap, IsIntactWhereWritten, entry_of_piece, rows_in_range, same_entry, times}
 use Rattle.stripe_pieces.specs.Records.{IsAlike, IsWithout, SparesPieces}
 use Rattle.stripe_pieces.specs.Still.{IsStill}
 use Rattle.stripe_pieces.proofs.Intact.{each_same_intact, each_stays_intact}
@@ -75,30 +75,30 @@ module _ (s t : State) (c new : Seen) (id : PieceId) (row : Row) (held : IsHeld 
   found : (row_in s.rows id ≡ Some row) × (floor_now s ≤ row.place)
   found = stood s (row_in s.rows id) row live
 
-  entry_is : row_of_piece c id row.place ≡ entry_of s.geometry row
+  entry_is : row_of_piece c id row.place ≡ entry_of_piece s.geometry row
   entry_is = ap (λ g. row_of_key g (key_of_piece id) row.place) held.geometry ∙ ap (λ i. row_of_key s.geometry (key_of_piece i) row.place) (sym (own_piece id s.rows row found.0))
 
-  entries_are : (x : DirRow) → times x c.rows ≡ one_more (same_entry (entry_of s.geometry row) x) (times x new.rows)
+  entries_are : (x : DirRow) → times x c.rows ≡ one_more (same_entry (entry_of_piece s.geometry row) x) (times x new.rows)
   entries_are x = sym (times-permutation x c.rows (row_of_piece c id row.place ∷ new.rows) took) ∙ ap (λ e. times x (e ∷ new.rows)) entry_is
 
   same_window : new.window ≡ c.window
   same_window = ap (λ (y : Seen). y.window) rest.same
 
-  in_range : (x : DirRow) → same_entry (entry_of s.geometry row) x ≡ true → (c.window.floor ≤ x.place) × (x.place < c.window.end)
+  in_range : (x : DirRow) → same_entry (entry_of_piece s.geometry row) x ≡ true → (c.window.floor ≤ x.place) × (x.place < c.window.end)
   in_range x e =
-      let at : row.place ≡ x.place = ap (λ (r : DirRow). r.place) (same_entry-true (entry_of s.geometry row) x e) in
+      let at : row.place ≡ x.place = ap (λ (r : DirRow). r.place) (same_entry-true (entry_of_piece s.geometry row) x e) in
       let high : row.place < place_now s = below id s.geometry.content (place_now s) s.rows row held.sound.rising found.0 in
       (omega (arith, at, found.1, floor_is s c held), omega (arith, at, high, end_is s c held))
 
-  count_at : (x : DirRow) → kept (is_between new.window.floor new.window.end x.place) (times x new.rows) ≡ kept (nat_le (floor_now t) x.place) (times x (map (entry_of t.geometry) t.rows))
+  count_at : (x : DirRow) → kept (is_between new.window.floor new.window.end x.place) (times x new.rows) ≡ kept (nat_le (floor_now t) x.place) (times x (map (entry_of_piece t.geometry) t.rows))
   count_at x =
       let start : c.window.floor ≡ floor_now s = floor_is s c held in
-      let it : Bool = same_entry (entry_of s.geometry row) x in
-      let left : ℕ = times x (map (entry_of s.geometry) (without id s.rows)) in
-      let pieces : times x (map (entry_of s.geometry) s.rows) ≡ one_more it left = times-without s.geometry id x row s.rows held.sound.apart found.0 in
+      let it : Bool = same_entry (entry_of_piece s.geometry row) x in
+      let left : ℕ = times x (map (entry_of_piece s.geometry) (without id s.rows)) in
+      let pieces : times x (map (entry_of_piece s.geometry) s.rows) ≡ one_more it left = times-without s.geometry id x row s.rows held.sound.apart found.0 in
       let old : kept (is_between c.window.floor c.window.end x.place) (one_more it (times x new.rows)) ≡ kept (nat_le c.window.floor x.place) (one_more it left) =
       ap (kept (is_between c.window.floor c.window.end x.place)) (sym (entries_are x))
-      ∙ ((counted s c held.entered).each x ∙ (ap (λ f. kept (nat_le f x.place) (times x (map (entry_of s.geometry) s.rows))) (sym start) ∙ ap (kept (nat_le c.window.floor x.place)) pieces)) in
+      ∙ ((counted s c held.entered).each x ∙ (ap (λ f. kept (nat_le f x.place) (times x (map (entry_of_piece s.geometry) s.rows))) (sym start) ∙ ap (kept (nat_le c.window.floor x.place)) pieces)) in
       rw (same_window, gone.geometry, gone.cursor, gone.least, gone.rows, sym start) (fewer_between c.window.floor c.window.end x.place (times x new.rows) left it (in_range x) old)
 
   taken_is_held_here : IsHeld t new
@@ -133,16 +133,16 @@ unseen_by true true n h = let f : true ≡ false = h refl in cc
 
 -- the pieces that may be read are the same
 pub same_live : (s : State) (id : PieceId) (x : DirRow) (o : Option Row) → row_in s.rows id ≡ o → AreApart s.rows → option_and_then (only_live s) o ≡ None
-    → kept (nat_le (floor_now s) x.place) (times x (map (entry_of s.geometry) (without id s.rows))) ≡ kept (nat_le (floor_now s) x.place) (times x (map (entry_of s.geometry) s.rows))
-same_live s id x None e apart h = ap (λ rs. kept (nat_le (floor_now s) x.place) (times x (map (entry_of s.geometry) rs))) (without-none id s.rows e)
+    → kept (nat_le (floor_now s) x.place) (times x (map (entry_of_piece s.geometry) (without id s.rows))) ≡ kept (nat_le (floor_now s) x.place) (times x (map (entry_of_piece s.geometry) s.rows))
+same_live s id x None e apart h = ap (λ rs. kept (nat_le (floor_now s) x.place) (times x (map (entry_of_piece s.geometry) rs))) (without-none id s.rows e)
 same_live s id x (Some row) e apart h =
     let low : row.place < floor_now s = not_stood s row (is_live s row) refl h in
-    let pieces : times x (map (entry_of s.geometry) s.rows) ≡ one_more (same_entry (entry_of s.geometry row) x) (times x (map (entry_of s.geometry) (without id s.rows))) =
+    let pieces : times x (map (entry_of_piece s.geometry) s.rows) ≡ one_more (same_entry (entry_of_piece s.geometry row) x) (times x (map (entry_of_piece s.geometry) (without id s.rows))) =
     times-without s.geometry id x row s.rows apart e in
-    let under : same_entry (entry_of s.geometry row) x ≡ true → nat_le (floor_now s) x.place ≡ false =
-    λ f. let at : row.place ≡ x.place = ap (λ (r : DirRow). r.place) (same_entry-true (entry_of s.geometry row) x f) in lt-leb (floor_now s) x.place (omega (arith, at, low)) in
+    let under : same_entry (entry_of_piece s.geometry row) x ≡ true → nat_le (floor_now s) x.place ≡ false =
+    λ f. let at : row.place ≡ x.place = ap (λ (r : DirRow). r.place) (same_entry-true (entry_of_piece s.geometry row) x f) in lt-leb (floor_now s) x.place (omega (arith, at, low)) in
     sym (ap (kept (nat_le (floor_now s) x.place)) pieces
-    ∙ unseen_by (nat_le (floor_now s) x.place) (same_entry (entry_of s.geometry row) x) (times x (map (entry_of s.geometry) (without id s.rows))) under)
+    ∙ unseen_by (nat_le (floor_now s) x.place) (same_entry (entry_of_piece s.geometry row) x) (times x (map (entry_of_piece s.geometry) (without id s.rows))) under)
 
 pub passed_is_held : (s t : State) (c : Seen) (id : PieceId) → IsHeld s c → live_row_of s id ≡ None → IsWithout s t id → IsHeld t c
 passed_is_held s t c id held none gone = record {

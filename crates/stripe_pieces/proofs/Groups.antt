@@ -11,7 +11,7 @@ use Rattle.tape_base.specs.Geometry.{budget_of}
 use Rattle.tape_base.specs.Piece.{is_vector, same_piece}
 use Rattle.fragment_table.specs.Table.{total_length}
 use Rattle.device_log.specs.Calls.{Call}
-use Rattle.logged_disk.specs.Device.{State as Device, TellsAll}
+use Rattle.logged_disk.specs.Device.{DeviceState as Device, TellsAll}
 use Rattle.cache_model.specs.declared.record.Rec.{Rec}
 use Rattle.cache_model.specs.declared.record.Rec.TheVariants as rec
 use Rattle.cache_model.specs.Verdict.{cuts_of}
@@ -27,10 +27,10 @@ use Rattle.cache_model.proofs.Steps.{all_append}
 use Rattle.stripe_pieces.specs.declared.answer.Placed.{Placed}
 use Rattle.stripe_pieces.specs.declared.answer.Stop.{Stop}
 use Rattle.stripe_pieces.specs.declared.answer.Stop.TheVariants as stop
-use Rattle.stripe_pieces.specs.Covers.{Covers, Spends}
+use Rattle.stripe_pieces.specs.Covers.{Covers, SpendsFirst}
 use Rattle.cache_model.specs.Damage.{TellNoDamage, tells_damage}
-use Rattle.stripe_pieces.specs.Flush.{AreOfFlush, IsOfFlush, LiveBefore, StopsWith, stop_end}
-use Rattle.stripe_pieces.specs.Place.{CutsAsAsked, IsFragmentAs, IsFragmentOf, IsNew, IsStoppedAs, IsVectorOf, IsPlacedAs, PlaceAdds, PlacesAt, PlacesIn, ReachesLimit, RoomIsMade, RoomsAsAsked, StopsBehind, cut_records, place_end}
+use Rattle.stripe_pieces.specs.Flush.{AreOfFlush, EachWasLive, IsRecordOfFlush, StopsWith, stop_end}
+use Rattle.stripe_pieces.specs.Place.{CutsAsAsked, IsCutOrStoppedAs, IsFragmentOf, IsNewPiece, IsStoppedAs, IsVectorOf, AreOfPlace, PlaceAdds, PlacesAt, PlacesIn, IsExhaustedAt, RoomIsMade, RoomsAsAsked, FragmentStopsBehind, cut_records, place_end}
 use Rattle.stripe_pieces.proofs.Flushes.{state_of-with_records, with_records-append}
 use Rattle.cache_model.specs.Given.{effects_told}
 use Rattle.stripe_pieces.specs.Faults.{HasEffects}
@@ -41,12 +41,12 @@ use Rattle.stripe_pieces.proofs.SamePuts.{SamePuts, same_puts}
 
 -- ---- groups one behind the other
 
-pub one_group : (p : Permit) (s : State) (i : Intent) (added : List Rec) (e : End) → Does p s i added e → Spends p s i added e
+pub one_group : (p : Permit) (s : State) (i : Intent) (added : List Rec) (e : End) → Does p s i added e → SpendsFirst p s i added e
 one_group p s i added e d = λ rest why.
     subst (λ xs. MayGrow p s (record { intents = i ∷ rest; refused = why }) xs (work_after i rest why e)) (append-nil added)
     (MayGrow.more {s = s} {w = record { intents = i ∷ rest; refused = why }} added (work_after i rest why e) (e, d, refl) MayGrow.nothing)
 
-pub two_groups : (p : Permit) (s : State) (i : Intent) (a b : List Rec) (e : End) → Does p s i a Stays → Does p (after_all s a) i b e → Spends p s i (a ++ b) e
+pub two_groups : (p : Permit) (s : State) (i : Intent) (a b : List Rec) (e : End) → Does p s i a Stays → Does p (after_all s a) i b e → SpendsFirst p s i (a ++ b) e
 two_groups p s i a b e first second = λ rest why.
     MayGrow.more {s = s} {w = record { intents = i ∷ rest; refused = why }} a (record { intents = i ∷ rest; refused = why }) (Stays, first, refl)
     (one_group p (after_all s a) i b e second rest why)
@@ -115,7 +115,7 @@ none_copied : (b : Bool) (f : Row → Row) (o : Option Row) → o ≡ None → (
 none_copied true f o h = ap (option_map f) h
 none_copied false f o h = h
 
-nowhere_after : (s : State) (r : Rec) (id : PieceId) → IsOfFlush r → row_of s id ≡ None → row_of (state_after s r) id ≡ None
+nowhere_after : (s : State) (r : Rec) (id : PieceId) → IsRecordOfFlush r → row_of s id ≡ None → row_of (state_after s r) id ≡ None
 nowhere_after s (rec.Began cursor floor) id h none = none
 nowhere_after s (rec.Moved piece from place digest) id h none =
     row_in-copied piece id s.rows place digest ∙ none_copied (same_piece piece id) (moved_row place digest) (row_of s id) none
@@ -160,7 +160,7 @@ cut_tells id payload = by (is_vector id)
 quiet_adds : (first quiet : List Rec) → effects_told quiet ≡ [] → effects_told (first ++ quiet) ≡ effects_told first
 quiet_adds first quiet none = told_append first quiet ∙ (ap (λ counts. effects_told first ++ counts) none ∙ append-nil (effects_told first))
 
-no_damage_placed : (packed : Bool) (s : State) (id : PieceId) (pin start : ℕ) (payload : List ℕ) (added : List Rec) → IsPlacedAs packed s id pin start payload added
+no_damage_placed : (packed : Bool) (s : State) (id : PieceId) (pin start : ℕ) (payload : List ℕ) (added : List Rec) → AreOfPlace packed s id pin start payload added
     → TellNoDamage added
 no_damage_placed packed s id pin start payload added a =
     let gone = displaced_unharmed a.displaced (pushed_kinds packed s id a.displaced a.pushed) in
@@ -173,7 +173,7 @@ pub no_damage_adds : (packed : Bool) (s : State) (id : PieceId) (pin start : ℕ
 no_damage_adds packed s id pin start payload (Ok placed) added a = no_damage_placed packed s id pin start payload added a
 no_damage_adds packed s id pin start payload (Err why) added a = subst TellNoDamage (sym a) tt
 
-placed_quiet : (packed : Bool) (s : State) (id : PieceId) (pin start : ℕ) (payload : List ℕ) (added : List Rec) → IsPlacedAs packed s id pin start payload added
+placed_quiet : (packed : Bool) (s : State) (id : PieceId) (pin start : ℕ) (payload : List ℕ) (added : List Rec) → AreOfPlace packed s id pin start payload added
     → effects_told added ≡ []
 placed_quiet packed s id pin start payload added a =
     let gone = displaced_quiet a.displaced (pushed_kinds packed s id a.displaced a.pushed) in
@@ -195,9 +195,9 @@ module _ (now : ℕ) (old mid : Kept) (before : List Call) (device : Device) (id
   mid_is : state_of mid ≡ t
   mid_is = ap state_of r.adds ∙ state_of-with_records old r.added
 
-  pub mid_new : IsNew s id payload → IsNew (state_of mid) id payload
+  pub mid_new : IsNewPiece s id payload → IsNewPiece (state_of mid) id payload
   mid_new n =
-      subst (λ x. IsNew x id payload) (sym mid_is)
+      subst (λ x. IsNewPiece x id payload) (sym mid_is)
       (record { nowhere = still_nowhere s r.added id r.kinds n.nowhere; small = rw (same_puts s r.added r.kinds).geometry n.small })
 
   -- a flush made the room, or it was there
@@ -209,11 +209,11 @@ module _ (now : ℕ) (old mid : Kept) (before : List Call) (device : Device) (id
   by_room : (p : Permit) (packed : Bool) (result : Result Placed Stop) (added : List Rec) → p.packed ≡ packed → p.syncs ≡ false → RoomIsMade p s (length payload) r.added (Ok u)
       → IsFragmentOf s id pin start payload → blocks_of (length payload) ≤ budget_of s.geometry → has_room t (length payload) ≡ true
       → PlaceAdds packed t id pin start payload result added → PlacesAt t payload result → (b : Bool) → has_room s (length payload) ≡ b
-      → Spends p s (Fragment id.put id.index payload) (r.added ++ added) (place_end result)
+      → SpendsFirst p s (Fragment id.put id.index payload) (r.added ++ added) (place_end result)
   by_room p packed result added packs off made f small room a at true h =
       let none : r.added ≡ [] = none_added h in
       let same : t ≡ s = ap (after_all s) none in
-      subst (λ xs. Spends p s (Fragment id.put id.index payload) (xs ++ added) (place_end result)) (sym none)
+      subst (λ xs. SpendsFirst p s (Fragment id.put id.index payload) (xs ++ added) (place_end result)) (sym none)
       (one_group p s _ _ _ (fragment_group p packed s id pin start payload result added packs off f small h
       (subst (λ x. PlaceAdds packed x id pin start payload result added) same a) (subst (λ x. PlacesAt x payload result) same at)))
   by_room p packed result added packs off made f small room a at false h =
@@ -223,13 +223,13 @@ module _ (now : ℕ) (old mid : Kept) (before : List Call) (device : Device) (id
       (fragment_group p packed t id pin start payload result added packs off (later_fragment s t id pin start payload same f) (rw same.geometry small) room a at)
 
   shape_by : (packed : Bool) (faults : ℕ) (result : Result Placed Stop) (added : List Rec) → has_room t (length payload) ≡ true → PlaceAdds packed t id pin start payload result added
-      → PlacesAt t payload result → IsFragmentAs packed s faults id pin start payload (r.added ++ added) result
+      → PlacesAt t payload result → IsCutOrStoppedAs packed s faults id pin start payload (r.added ++ added) result
   shape_by packed faults (Ok placed) added room a at = record {
     room = r.added;
     piece = added;
     kinds = r.kinds;
     none = none_added;
-    live = subst (LiveBefore s) mid_is r.live;
+    live = subst (EachWasLive s) mid_is r.live;
     are = a;
     is = refl;
     place = at.0;
@@ -238,7 +238,7 @@ module _ (now : ℕ) (old mid : Kept) (before : List Call) (device : Device) (id
   shape_by packed faults (Err (stop.Exhausted number)) added room a at =
       subst (λ xs. IsStoppedAs s faults payload xs (stop.Exhausted number)) (sym (ap (λ xs. r.added ++ xs) a ∙ append-nil r.added)) (record {
         kinds = r.kinds;
-        live = subst (LiveBefore s) mid_is r.live;
+        live = subst (EachWasLive s) mid_is r.live;
         why_is = (at.0 ∙ sym (ap (λ b. if b then place_now t + blocks_of (length payload) else copies_end t) room), at.1);
       })
   shape_by packed faults (Err (stop.DeviceFault count)) added room a at = absurd at
@@ -280,10 +280,10 @@ none_by : (p : Permit) (s : State) (bytes : ℕ) (added : List Rec) (why : Stop)
 none_by p s bytes added (stop.DeviceFault count) off m = tt
 none_by p s bytes added (stop.Exhausted number) off m = made_exhausted p s bytes added off m
 
-stopped_by : (s : State) (faults bytes : ℕ) (added : List Rec) (why : Stop) → has_room s bytes ≡ false → StopsWith s faults why → MakesNone added why → StopsBehind s (after_all s added) faults bytes why
+stopped_by : (s : State) (faults bytes : ℕ) (added : List Rec) (why : Stop) → has_room s bytes ≡ false → StopsWith s faults why → MakesNone added why → FragmentStopsBehind s (after_all s added) faults bytes why
 stopped_by s faults bytes added (stop.DeviceFault count) full stops none = (stops, full)
 stopped_by s faults bytes added (stop.Exhausted number) full stops none =
-    subst (λ t. ReachesLimit t bytes number) (sym (ap (after_all s) none))
+    subst (λ t. IsExhaustedAt t bytes number) (sym (ap (after_all s) none))
     (stops.0 ∙ sym (ap (λ b. if b then place_now s + blocks_of bytes else copies_end s) full), stops.1)
 
 pub cuts_stop : (packed : Bool) (now : ℕ) (old new : Kept) (before : List Call) (after : Device) (id : PieceId) (pin start : ℕ) (payload : List ℕ) (why : Stop)
@@ -299,7 +299,7 @@ cuts_stop packed now old new before after id pin start payload why f full stops 
       adds = r.adds;
       shape = record {
         kinds = r.kinds;
-        live = subst (LiveBefore s) state r.live;
+        live = subst (EachWasLive s) state r.live;
         why_is = stopped_by s after.faults (length payload) r.added why full stops (none_by own s (length payload) r.added why refl (r.does own refl (own_covers now before after.past)));
       };
       unharmed = r.unharmed;

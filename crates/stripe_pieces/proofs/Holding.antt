@@ -8,10 +8,10 @@ use Rattle.tape_base.specs.Place.{floor_of, next_cursor_of}
 use Rattle.dir_table.specs.declared.rows.DirRow.{DirRow}
 use Rattle.dir_table.specs.Window.{is_in_range}
 use Rattle.agg_buffer.specs.Buffer.{filled_of, next_place_of}
-use Rattle.cyclone.specs.Cyclone.{Seen, IsTurning, cursor_next as cursor_behind}
+use Rattle.cyclone.specs.Cyclone.{Seen, IsTurning, next_buffer_cursor as cursor_behind}
 use Rattle.cache_model.specs.Room.{copies_end}
 use Rattle.cache_model.specs.State.{State, cursor_next, floor_now, live_rows, place_now}
-use Rattle.stripe_pieces.specs.Held.{IsHeld, SameRows, entry_of, rows_in_range, times}
+use Rattle.stripe_pieces.specs.Held.{IsHeld, SameRows, entry_of_piece, rows_in_range, times}
 use Rattle.stripe_pieces.proofs.Entries.{kept, times-below, times-entries, times-filter}
 use Rattle.stripe_pieces.proofs.Counts.{is_between}
 
@@ -20,23 +20,23 @@ abbrev entries_at : Seen → DirRow → ℕ
 entries_at c x = times x c.rows
 
 abbrev pieces_at : State → DirRow → ℕ
-pieces_at s x = times x (map (entry_of s.geometry) s.rows)
+pieces_at s x = times x (map (entry_of_piece s.geometry) s.rows)
 
 -- in range in the directory, and live by the records
 in_range_count : (c : Seen) (x : DirRow) → times x (rows_in_range c) ≡ kept (is_between c.window.floor c.window.end x.place) (entries_at c x)
 in_range_count c x = times-filter (is_in_range c.window) x c.rows
 
-live_count : (s : State) (g : Geometry) (x : DirRow) → times x (map (entry_of g) (live_rows s)) ≡ kept (nat_le (floor_now s) x.place) (times x (map (entry_of g) s.rows))
+live_count : (s : State) (g : Geometry) (x : DirRow) → times x (map (entry_of_piece g) (live_rows s)) ≡ kept (nat_le (floor_now s) x.place) (times x (map (entry_of_piece g) s.rows))
 live_count s g x = times-entries (nat_le (floor_now s)) x g s.rows
 
 -- what it is to be entered, by counts
 pub record AreCounted (s : State) (c : Seen) : Type 0 where
   pub each : (x : DirRow) → kept (is_between c.window.floor c.window.end x.place) (entries_at c x) ≡ kept (nat_le (floor_now s) x.place) (pieces_at s x)
 
-pub counted : (s : State) (c : Seen) → SameRows (rows_in_range c) (map (entry_of s.geometry) (live_rows s)) → AreCounted s c
+pub counted : (s : State) (c : Seen) → SameRows (rows_in_range c) (map (entry_of_piece s.geometry) (live_rows s)) → AreCounted s c
 counted s c h = record { each = λ x. sym (in_range_count c x) ∙ (h x ∙ live_count s s.geometry x) }
 
-pub entered : (s : State) (c : Seen) → AreCounted s c → SameRows (rows_in_range c) (map (entry_of s.geometry) (live_rows s))
+pub entered : (s : State) (c : Seen) → AreCounted s c → SameRows (rows_in_range c) (map (entry_of_piece s.geometry) (live_rows s))
 entered s c h = λ x. in_range_count c x ∙ (h.each x ∙ sym (live_count s s.geometry x))
 
 -- where no opening bounds the floor it is that of a buffer

@@ -9,13 +9,13 @@ use Rattle.tape_base.specs.Piece.{key_of_piece}
 use Rattle.tape_base.specs.Place.{lap_end_of}
 use Rattle.dir_table.specs.declared.rows.DirRow.{DirRow}
 use Rattle.dir_table.specs.Rows.{has_row, row_of_key, same_row}
-use Rattle.cyclone.specs.Cyclone.{IsStored, Seen, row_of_piece}
+use Rattle.cyclone.specs.Cyclone.{BlocksStand, Seen, row_of_piece}
 use Rattle.cache_model.specs.State.{State, Row, live_row_of, place_now, row_in}
 use Rattle.cache_model.specs.Tape.{AreRising}
 use Rattle.cache_model.proofs.Lists.{found_row, own_piece}
 use Rattle.cache_chronicle.specs.declared.pieces.KeptPiece.{KeptPiece}
 use Rattle.cache_chronicle.specs.LivePieces.{kept_piece}
-use Rattle.stripe_pieces.specs.Held.{IsHeld, IsInLap, entry_of, rows_in_range, same_entry, times}
+use Rattle.stripe_pieces.specs.Held.{IsHeld, IsInLap, entry_of_piece, rows_in_range, same_entry, times}
 use Rattle.stripe_pieces.specs.Pieces.{live_place_of}
 use Rattle.stripe_pieces.proofs.Candidates.{counts, live_is}
 use Rattle.stripe_pieces.proofs.Entries.{same_entry-true}
@@ -49,7 +49,7 @@ pub live_in_lap : (s : State) (c : Seen) (id : PieceId) (row : Row) → IsHeld s
 live_in_lap s c id row held live = found_row (IsInLap s.geometry) id s.rows row held.laps (live_is s (row_in s.rows id) row live).0
 
 -- so it can be read
-pub live_is_stored : (s : State) (c : Seen) (id : PieceId) (row : Row) → IsHeld s c → live_row_of s id ≡ Some row → IsStored c row.place row.blocks
+pub live_is_stored : (s : State) (c : Seen) (id : PieceId) (row : Row) → IsHeld s c → live_row_of s id ≡ Some row → BlocksStand c row.place row.blocks
 live_is_stored s c id row held live =
     let lap : IsInLap s.geometry row = live_in_lap s c id row held live in
     let ends : row.place + row.blocks ≤ place_now s = (live_within s c id row held live).1 in
@@ -86,7 +86,7 @@ counted_has q e (row ∷ rows) h = has_by q e row rows (q row) (same_entry row e
 pub live_has_row : (s : State) (c : Seen) (id : PieceId) (row : Row) → IsHeld s c → live_row_of s id ≡ Some row → has_row (row_of_piece c id row.place) c.rows ≡ true
 live_has_row s c id row held live =
     let found = live_is s (row_in s.rows id) row live in
-    let e : DirRow = entry_of s.geometry row in
+    let e : DirRow = entry_of_piece s.geometry row in
     let some : 0 < times e (rows_in_range c) = subst (λ n. 0 < n) (sym (held.entered e)) (counts s s.geometry id row s.rows found.1 found.0) in
     let entry_is : row_of_piece c id row.place ≡ e =
     ap (λ g. row_of_key g (key_of_piece id) row.place) held.geometry ∙ ap (λ i. row_of_key s.geometry (key_of_piece i) row.place) (sym (own_piece id s.rows row found.0)) in

@@ -11,7 +11,7 @@ use Rattle.agg_buffer.specs.Buffer.{Buffer, filled_of}
 use Rattle.tape_base.specs.Place.{slot_of}
 use Rattle.cyclone.specs.Cyclone.{SameTape, Seen, WritesBuffer}
 use Rattle.tape_base.specs.Geometry.{budget_of}
-use Rattle.logged_disk.specs.Device.{State as Device, IsAfter, IsAsked, TellsAll, seen as content_of}
+use Rattle.logged_disk.specs.Device.{DeviceState as Device, IsAfter, IsAsked, TellsAll, seen as content_of}
 use Rattle.logged_disk.proofs.GoingOn.{goes_further, told_before}
 use Rattle.cyclone.proofs.Calls.{write_goes_on}
 use Rattle.cache_model.specs.declared.record.Rec.{Rec}
@@ -41,7 +41,7 @@ use Rattle.stripe_pieces.specs.declared.ahead.Ahead.{Ahead}
 use Rattle.stripe_pieces.specs.declared.answer.Flushed.{Flushed}
 use Rattle.stripe_pieces.specs.declared.answer.Stop.TheVariants as stop
 use Rattle.stripe_pieces.specs.Ahead.{LooksAhead}
-use Rattle.stripe_pieces.specs.Copying.{AreCopyable, AreTellable, AreToldCopied, begun_behind, copied_of, copies_among, done_records, told_of}
+use Rattle.stripe_pieces.specs.Copying.{AreCopyable, AreTellable, AreToldCopied, begun_behind, copied_of, copies_among, done_records, told_of_pieces}
 use Rattle.stripe_pieces.specs.Covers.{Covers, Uses}
 use Rattle.stripe_pieces.specs.Faults.{HasEffects, effects_among, effects_of}
 use Rattle.stripe_pieces.specs.Held.{IsBufferedWhereNew, IsHeld}
@@ -53,7 +53,7 @@ use Rattle.stripe_pieces.proofs.Covering.{block_is, covers_first, own_covers, ow
 use Rattle.stripe_pieces.proofs.Findings.{lower_rose}
 use Rattle.stripe_pieces.proofs.OneMore.{counted_later}
 use Rattle.cache_model.specs.Damage.{TellNoDamage, tells_damage}
-use Rattle.stripe_pieces.specs.Flush.{FlushesAsAsked, LiveBefore}
+use Rattle.stripe_pieces.specs.Flush.{EachWasLive, FlushesAsAsked}
 use Rattle.stripe_pieces.proofs.Flushes.{state_of-with_records}
 use Rattle.stripe_pieces.proofs.LiveBehind.{flush_before, flush_kinds, stopped_before, stopped_kinds}
 use Rattle.stripe_pieces.proofs.Readied.{IsPassed, are_copyable, copied_is, copies_within, few_copies}
@@ -121,11 +121,11 @@ module _ (now : ℕ) (s : State) (before mid : Device) (a : Ahead) (sound : IsSo
       subst (λ cs. AreTellable done s faults cs a.fates.items) (sym looks.due)
       (are_tellable done s faults all (counted_later mid.faults faults looks.outcomes few looks.counted) apart (due_are_live s now sound))
 
-  told_front : told_of true a.due.items a.fates.items ≡ front_of due_rows looks.outcomes
-  told_front = ap (λ cs. told_of true cs a.fates.items) looks.due ∙ told_is all
+  told_front : told_of_pieces true a.due.items a.fates.items ≡ front_of due_rows looks.outcomes
+  told_front = ap (λ cs. told_of_pieces true cs a.fates.items) looks.due ∙ told_is all
 
-  stopped_front : told_of false a.due.items a.fates.items ≡ stopped_front_of due_rows looks.outcomes
-  stopped_front = ap (λ cs. told_of false cs a.fates.items) looks.due ∙ stopped_is all
+  stopped_front : told_of_pieces false a.due.items a.fates.items ≡ stopped_front_of due_rows looks.outcomes
+  stopped_front = ap (λ cs. told_of_pieces false cs a.fates.items) looks.due ∙ stopped_is all
 
   abbrev mid_state : State
   mid_state = after_all s (front_of due_rows looks.outcomes)
@@ -153,7 +153,7 @@ module _ (now : ℕ) (s : State) (before mid : Device) (a : Ahead) (sound : IsSo
       all_lesser s mid_state (began_record s ∷ []) (parts.1.0, tt) (all_lesser s s (front_of due_rows looks.outcomes) parts.0 (lesser_self s sound))
 
   pub copyable : (packed : Bool) → (packed ≡ true → AllFit s) → length a.bytes.items ≡ 512 * budget_of s.geometry
-      → AreCopyable packed (begun_behind s (told_of true a.due.items a.fates.items)) 0 a.due.items a.fates.items a.bytes.items
+      → AreCopyable packed (begun_behind s (told_of_pieces true a.due.items a.fates.items)) 0 a.due.items a.fates.items a.bytes.items
   copyable packed fit sized =
       subst (λ told. AreCopyable packed (begun_behind s told) 0 a.due.items a.fates.items a.bytes.items) (sym told_front)
       (subst (λ cs. AreCopyable packed begun 0 cs a.fates.items a.bytes.items) (sym looks.due)
@@ -162,7 +162,7 @@ module _ (now : ℕ) (s : State) (before mid : Device) (a : Ahead) (sound : IsSo
 
   -- what is copied is what is told of the pieces, where they stand on a device that tells its content
   pub told_copied : (contents : Contents) → TellsAll mid → AllByRecursion (StandsOnDevice contents s (content_of before)) s.rows
-      → AreToldCopied contents (begun_behind s (told_of true a.due.items a.fates.items)) 0 a.due.items a.fates.items a.bytes.items
+      → AreToldCopied contents (begun_behind s (told_of_pieces true a.due.items a.fates.items)) 0 a.due.items a.fates.items a.bytes.items
   told_copied contents tells stands =
       subst (λ told. AreToldCopied contents (begun_behind s told) 0 a.due.items a.fates.items a.bytes.items) (sym told_front)
       (subst (λ cs. AreToldCopied contents begun 0 cs a.fates.items a.bytes.items) (sym looks.due)
@@ -177,7 +177,7 @@ module _ (now : ℕ) (s : State) (before mid : Device) (a : Ahead) (sound : IsSo
 
   -- ---- how many records and copies they are
 
-  pub few_records : (done : Bool) → length (told_of done a.due.items a.fates.items) + copies_among a.fates.items ≤ 2 * most_passed s.geometry
+  pub few_records : (done : Bool) → length (told_of_pieces done a.due.items a.fates.items) + copies_among a.fates.items ≤ 2 * most_passed s.geometry
   few_records done =
       let counts = few_told done s mid.faults a.due.items a.fates.items (tellable done mid.faults (omega arith)) in
       omega (arith, counts, looks.few)
@@ -307,7 +307,7 @@ flush_asked now old new before mid after a flushed sound able looks taken is =
       added = added;
       adds = adds;
       kinds = flush_kinds s (due_pieces s now) looks.outcomes;
-      live = subst (LiveBefore s) (sym (ap state_of adds ∙ state_of-with_records old added)) (flush_before s now looks.outcomes sound (later_began s sound).floor);
+      live = subst (EachWasLive s) (sym (ap state_of adds ∙ state_of-with_records old added)) (flush_before s now looks.outcomes sound (later_began s sound).floor);
       unharmed = λ told. flush_unharmed s (due_pieces s now) looks.outcomes (looks.unharmed (told_before mid after taken.goes told));
       faults = subst (HasEffects before.past after.past) (sym (flush_counts now s before mid a sound looks))
           (effects_then before.past mid.past after.past (effects_among looks.outcomes) (Took ∷ []) looks.faults one);
@@ -347,7 +347,7 @@ counts_write p s t before mid after made left same past low rose covers =
 
 pub stop_asked : (now : ℕ) (old new : Kept) (before mid after : Device) (a : Ahead) → IsSound (state_of old) → CanFlush (state_of old) → (state_of old).fault ≤ before.faults → before.faults ≤ mid.faults
     → LooksAhead now (state_of old) before mid a → IsLeft (state_of old) mid after → Rose mid.faults after.faults
-    → new ≡ with_records old (told_of false a.due.items a.fates.items ++ rec.Fault after.faults ∷ [])
+    → new ≡ with_records old (told_of_pieces false a.due.items a.fates.items ++ rec.Fault after.faults ∷ [])
     → FlushesAsAsked now old new before.past after (Err (stop.DeviceFault after.faults))
 stop_asked now old new before mid after a sound able low first looks left rose is =
     let s : State = state_of old in
@@ -364,7 +364,7 @@ stop_asked now old new before mid after a sound able low first looks left rose i
       added = added;
       adds = adds;
       kinds = stopped_kinds (due_pieces s now) looks.outcomes count;
-      live = subst (LiveBefore s) (sym (ap state_of adds ∙ state_of-with_records old added)) (stopped_before s (due_pieces s now) looks.outcomes count);
+      live = subst (EachWasLive s) (sym (ap state_of adds ∙ state_of-with_records old added)) (stopped_before s (due_pieces s now) looks.outcomes count);
       unharmed = λ told. stopped_unharmed (due_pieces s now) looks.outcomes count (looks.unharmed (told_before mid after left.goes told));
       faults = subst (HasEffects before.past after.past) (sym (stopped_counts now s before mid a sound looks count))
           (effects_then before.past mid.past after.past (effects_among looks.outcomes) (Denied count ∷ []) looks.faults one);

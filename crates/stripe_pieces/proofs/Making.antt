@@ -6,7 +6,7 @@ use Rattle.tape_base.specs.declared.geometries.Geometry.{Geometry}
 use Rattle.tape_base.specs.Blocks.{blocks_of}
 use Rattle.tape_base.specs.Geometry.{budget_of}
 use Rattle.device_log.specs.Calls.{Call}
-use Rattle.logged_disk.specs.Device.{State as Device}
+use Rattle.logged_disk.specs.Device.{DeviceState as Device}
 use Rattle.cache_model.specs.declared.record.Rec.{Rec}
 use Rattle.cache_model.specs.State.{State}
 use Rattle.cache_model.specs.Kept.{Kept, state_of, with_records}
@@ -16,13 +16,13 @@ use Rattle.cache_model.specs.Legal.{DoesFlush, MakesRoom}
 use Rattle.stripe_pieces.specs.declared.answer.Flushed.{Flushed}
 use Rattle.stripe_pieces.specs.declared.answer.Stop.{Stop}
 use Rattle.stripe_pieces.specs.declared.answer.Stop.TheVariants as stop
-use Rattle.stripe_pieces.specs.Flush.{FlushesAsAsked, LiveBefore, stop_end}
+use Rattle.stripe_pieces.specs.Flush.{EachWasLive, FlushesAsAsked, stop_end}
 use Rattle.stripe_pieces.specs.Place.{RoomsAsAsked}
 use Rattle.stripe_pieces.proofs.Effects.{effects_none}
 
 -- ---- none is needed
 
-live_still : (s : State) → LiveBefore s s
+live_still : (s : State) → EachWasLive s s
 live_still s = λ id row h. (row, h, record { id = refl; blocks = refl; payload = refl; pin = refl; alternates = refl })
 
 none_added : (k : Kept) → k ≡ with_records k []

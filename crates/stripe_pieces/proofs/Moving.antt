@@ -15,7 +15,7 @@ use Rattle.dir_table.specs.declared.window.Window.{Window}
 use Rattle.dir_table.specs.Displacement.{Displacement, Displaces, IsPurge, NoneGoes, is_full}
 use Rattle.dir_table.specs.Rows.{has_row, row_of_key}
 use Rattle.agg_buffer.specs.Buffer.{Buffer, blocks_in, bytes_at, filled_of, next_place_of}
-use Rattle.logged_disk.specs.Device.{State as Device, TellsAll, seen as content_of}
+use Rattle.logged_disk.specs.Device.{DeviceState as Device, TellsAll, seen as content_of}
 use Rattle.cyclone.specs.Cyclone.{IsMoved, IsTurning, Seen, row_of_piece}
 use Rattle.alternate_vector.proofs.Loops.{each_push}
 use Rattle.cache_model.specs.State.{Row, State, floor_now, moved_row, only_live, place_now, row_in, state_after, without}
@@ -24,7 +24,7 @@ use Rattle.cache_model.specs.Outcomes.{Copy}
 use Rattle.cache_model.proofs.Copies.{all_copied, copied_by}
 use Rattle.cache_model.proofs.Laps.{lap-is}
 use Rattle.cache_model.proofs.Lists.{found_row, own_piece}
-use Rattle.stripe_pieces.specs.Held.{IsBufferedWhereNew, IsHeld, IsInLap, IsIntactWhereWritten, entry_of, same_entry, times}
+use Rattle.stripe_pieces.specs.Held.{IsBufferedWhereNew, IsHeld, IsInLap, IsIntactWhereWritten, entry_of_piece, same_entry, times}
 use Rattle.stripe_pieces.specs.Records.{IsMovable, moved_to_here}
 use Rattle.stripe_pieces.proofs.Intact.{each_same_intact}
 use Rattle.stripe_pieces.proofs.Entries.{kept, one_more, same_entry-true, times-permutation}
@@ -89,7 +89,7 @@ module _ (packed : Bool) (s : State) (c new : Seen) (id : PieceId) (row : Row) (
   after = copied_by s id (place_now s) digest (Some row)
 
   abbrev entry : DirRow
-  entry = entry_of s.geometry copy
+  entry = entry_of_piece s.geometry copy
 
   -- a piece that stands is not empty
   some : 0 < row.blocks
@@ -151,7 +151,7 @@ module _ (packed : Bool) (s : State) (c new : Seen) (id : PieceId) (row : Row) (
       ∙ ap (one_more (same_entry entry x)) (nothing_goes x moved.gone moved.rows.left moved.left nothing moved.rows.parted))
 
   -- what was in range is what it was, as the old entry was not
-  count_left : (x : DirRow) → kept (is_between c.window.floor c.window.end x.place) (times x moved.left) ≡ kept (nat_le c.window.floor x.place) (times x (map (entry_of s.geometry) others))
+  count_left : (x : DirRow) → kept (is_between c.window.floor c.window.end x.place) (times x moved.left) ≡ kept (nat_le c.window.floor x.place) (times x (map (entry_of_piece s.geometry) others))
   count_left x =
       let start : c.window.floor ≡ floor_now s = floor_is s c held in
       let out : same_entry old_entry x ≡ true → is_between c.window.floor c.window.end x.place ≡ false = λ e.
@@ -160,16 +160,16 @@ module _ (packed : Bool) (s : State) (c new : Seen) (id : PieceId) (row : Row) (
       seen_by (is_between c.window.floor c.window.end x.place) (has_row old_entry c.rows) (same_entry old_entry x) (times x c.rows) (times x moved.left) (taken x) out
       ∙ ((counted s c held.entered).each x
       ∙ (sym (same_live s id x (Some row) movable.found held.sound.apart (not_live s row movable.passed))
-      ∙ ap (λ f. kept (nat_le f x.place) (times x (map (entry_of s.geometry) others))) (sym start)))
+      ∙ ap (λ f. kept (nat_le f x.place) (times x (map (entry_of_piece s.geometry) others))) (sym start)))
 
   -- and none stands behind the end
   none_left : (x : DirRow) → c.window.end ≤ x.place → times x moved.left ≡ 0
   none_left x high =
       none_by (has_row old_entry c.rows && same_entry old_entry x) (times x c.rows) (times x moved.left) (taken x) (none_behind c x held.turning high)
 
-  count_at : (x : DirRow) → kept (is_between new.window.floor new.window.end x.place) (times x new.rows) ≡ kept (nat_le (floor_now s) x.place) (times x (map (entry_of s.geometry) after.rows))
+  count_at : (x : DirRow) → kept (is_between new.window.floor new.window.end x.place) (times x new.rows) ≡ kept (nat_le (floor_now s) x.place) (times x (map (entry_of_piece s.geometry) after.rows))
   count_at x =
-      let pieces : ℕ = times x (map (entry_of s.geometry) others) in
+      let pieces : ℕ = times x (map (entry_of_piece s.geometry) others) in
       let it : Bool = same_entry entry x in
       let start : c.window.floor ≡ floor_now s = floor_is s c held in
       let at : it ≡ true → x.place ≡ c.window.end = λ e. ap (λ (r : DirRow). r.place) (sym (same_entry-true entry x e)) ∙ sym (end_is s c held) in

@@ -8,7 +8,7 @@ use Rattle.std.proofs.lemmas.Slice.{between-put_mid, take-put_mid_below}
 use Rattle.std.proofs.lemmas.List.{length-drop, length-take-le, with_items_is}
 use Rattle.std.specs.Vec.{with_items}
 use borrow.Rule.Slice.PartMut.{mid_of, put_mid, same_len_mid}
-use Rattle.logged_disk.specs.Device.{State as Device}
+use Rattle.logged_disk.specs.Device.{DeviceState as Device}
 use Rattle.tape_base.specs.Geometry.{budget_of}
 use Rattle.evacuator.specs.declared.choosing.Candidate.{Candidate}
 use Rattle.evacuator.specs.Choice.{blocks_of_all}
@@ -20,7 +20,7 @@ use Rattle.stripe_pieces.specs.declared.ahead.Fate.{Fate}
 use Rattle.stripe_pieces.specs.declared.ahead.Fate.TheVariants as fate
 use Rattle.stripe_pieces.specs.Ahead.{StandsAt}
 use Rattle.stripe_pieces.proofs.Effects.{effects_none}
-use Rattle.stripe_pieces.specs.Looks.{Comes, HasRow, HasRows, IsCopyOf, LooksOn, MayBeCopied, blocks_kept}
+use Rattle.stripe_pieces.specs.Looks.{Comes, HasCandidateRows, HasRow, IsCopiedFrom, LooksOn, MayBeCopied, blocks_kept}
 
 -- ---- the piece at an index
 
@@ -32,7 +32,7 @@ candidate_by s [] i d all at = cc
 candidate_by s (row ∷ rows) zero d all at = record { row = row; may = all.0; is = cc }
 candidate_by s (row ∷ rows) (suc i) d all at = candidate_by s rows i d all.1 at
 
-pub row_of_candidate : (s : State) (candidates : List Candidate) (i : ℕ) (d : Candidate) → HasRows s candidates → slice_get candidates i ≡ Some d → HasRow s d
+pub row_of_candidate : (s : State) (candidates : List Candidate) (i : ℕ) (d : Candidate) → HasCandidateRows s candidates → slice_get candidates i ≡ Some d → HasRow s d
 row_of_candidate s candidates i d has at = candidate_by s has.rows i d has.of.each (ap (λ (ds : List Candidate). slice_get ds i) (sym has.of.are) ∙ at)
 
 blocks_at : (candidates : List Candidate) (i : ℕ) (d : Candidate) → slice_get candidates i ≡ Some d → slice_index (blocks_of_all candidates) i ≡ d.blocks
@@ -88,7 +88,7 @@ notes_none s device row at old new few over notes same = record {
   is = λ p t covers beside. omega arith;
 }
 
-stands_by : (at : ℕ) (row : Row) (o : Outcome) (memory bytes : List ℕ) → IsCopyOf bytes o → take (512 * row.blocks) (drop (512 * at) memory) ≡ bytes → StandsAt at row o memory
+stands_by : (at : ℕ) (row : Row) (o : Outcome) (memory bytes : List ℕ) → IsCopiedFrom bytes o → take (512 * row.blocks) (drop (512 * at) memory) ≡ bytes → StandsAt at row o memory
 stands_by at row NoRoom memory bytes copy here = tt
 stands_by at row (Copied read) memory bytes copy here = here ∙ sym copy
 stands_by at row (Spoiled found) memory bytes copy here = tt

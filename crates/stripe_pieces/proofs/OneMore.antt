@@ -2,7 +2,7 @@
 use Rattle.std.proofs.Common.{◌≡◌, ℕ, ◌+◌, ◌-◌, ◌*◌, ◌≤◌, List, [], ◌∷◌, ◌++◌, refl, sym, ◌∙◌, ap, subst, arith, false, take, append_assoc}
 use Rattle.std.proofs.lemmas.List.{append-nil}
 use Rattle.std.specs.List.{AllByRecursion}
-use Rattle.logged_disk.specs.Device.{State as Device, IsAsked, SeenStays, seen as content_of}
+use Rattle.logged_disk.specs.Device.{DeviceState as Device, IsAsked, SeenStays, seen as content_of}
 use Rattle.logged_disk.proofs.GoingOn.{goes_further, stays_put, told_before}
 use Rattle.tape_base.specs.declared.geometries.Geometry.{Geometry}
 use Rattle.tape_base.specs.Geometry.{budget_of}
@@ -19,7 +19,7 @@ use Rattle.cache_model.proofs.Sound.{buffer_left}
 use Rattle.cache_model.proofs.SoundFlush.{aside_of}
 use Rattle.stripe_pieces.specs.declared.ahead.Ahead.{Ahead}
 use Rattle.stripe_pieces.specs.declared.ahead.Fate.{Fate}
-use Rattle.stripe_pieces.specs.Ahead.{AreFates, IsFate, StandFrom, StandsAt, taken_by, taken_by_all}
+use Rattle.stripe_pieces.specs.Ahead.{AreFates, IsFate, StandFrom, StandsAt, blocks_taken_by, taken_by_all}
 use Rattle.stripe_pieces.specs.Looks.{Looked, LooksOn}
 use Rattle.stripe_pieces.specs.Standing.{AreAsSeen, IsAsSeen}
 use Rattle.stripe_pieces.specs.Faults.{CountsUpTo, HasEffects, effects_among, effects_of}
@@ -63,7 +63,7 @@ front_more (r ∷ rows) [] row o h = absurd h
 front_more (r ∷ rows) (x ∷ outcomes) row o h = ap (λ recs. records_of r x ++ recs) (front_more rows outcomes row o h) ∙ sym (append_assoc (records_of r x) (front_of rows outcomes) (records_of row o))
 
 taken_more : (rows : List Row) (outcomes : List Outcome) (row : Row) (o : Outcome) → ArePaired rows outcomes
-    → taken_by_all (rows ++ row ∷ []) (outcomes ++ o ∷ []) ≡ taken_by_all rows outcomes + taken_by row o
+    → taken_by_all (rows ++ row ∷ []) (outcomes ++ o ∷ []) ≡ taken_by_all rows outcomes + blocks_taken_by row o
 taken_more [] [] row o h = omega arith
 taken_more [] (x ∷ outcomes) row o h = absurd h
 taken_more (r ∷ rows) [] row o h = absurd h
@@ -87,7 +87,7 @@ seen_more g c (r ∷ rows) (x ∷ outcomes) row o p h k = (h.0, seen_more g c ro
 
 -- ---- the memory
 
-still_stands : (at end : ℕ) (row : Row) (o : Outcome) (old new : List ℕ) → at + taken_by row o ≤ end → take (512 * end) new ≡ take (512 * end) old → StandsAt at row o old → StandsAt at row o new
+still_stands : (at end : ℕ) (row : Row) (o : Outcome) (old new : List ℕ) → at + blocks_taken_by row o ≤ end → take (512 * end) new ≡ take (512 * end) old → StandsAt at row o old → StandsAt at row o new
 still_stands at end row NoRoom old new within same h = tt
 still_stands at end row (Copied bytes) old new within same h = part_in_front (512 * end) (512 * at) (512 * row.blocks) new old (omega arith) same ∙ h
 still_stands at end row (Spoiled found) old new within same h = tt
@@ -100,12 +100,12 @@ stand_more at end [] (x ∷ outcomes) row o old new p is same h k = absurd p
 stand_more at end (r ∷ rows) [] row o old new p is same h k = absurd p
 stand_more at end (r ∷ rows) (x ∷ outcomes) row o old new p is same h k = (
   still_stands at end r x old new (omega (arith, is)) same h.0,
-  stand_more (at + taken_by r x) end rows outcomes row o old new p (omega (arith, is)) same h.1 k,
+  stand_more (at + blocks_taken_by r x) end rows outcomes row o old new p (omega (arith, is)) same h.1 k,
 )
 
 -- ---- the outcomes
 
-left_is : (left : ℕ) (row : Row) (o : Outcome) → left_behind left row o ≡ left - taken_by row o
+left_is : (left : ℕ) (row : Row) (o : Outcome) → left_behind left row o ≡ left - blocks_taken_by row o
 left_is left row NoRoom = omega arith
 left_is left row (Copied bytes) = refl
 left_is left row (Spoiled found) = refl
@@ -117,11 +117,11 @@ outcomes_more p s left [] [] row o h k = (subst (λ n. IsOutcome p s n row o) (l
 outcomes_more p s left [] (x ∷ outcomes) row o h k = absurd h
 outcomes_more p s left (r ∷ rows) [] row o h k = absurd h
 outcomes_more p s left (r ∷ rows) (x ∷ outcomes) row o h k =
-    let behind : left - (taken_by r x + taken_by_all rows outcomes) ≡ left_behind left r x - taken_by_all rows outcomes = omega (arith, left_is left r x) in (
+    let behind : left - (blocks_taken_by r x + taken_by_all rows outcomes) ≡ left_behind left r x - taken_by_all rows outcomes = omega (arith, left_is left r x) in (
       h.0,
       outcomes_more p (after_all s (records_of r x)) (left_behind left r x) rows outcomes row o h.1
           (subst (λ n. IsOutcome p (after_all (after_all s (records_of r x)) (front_of rows outcomes)) n row o) behind
-          (subst (λ t. IsOutcome p t (left - (taken_by r x + taken_by_all rows outcomes)) row o) (after_all-append s (records_of r x) (front_of rows outcomes)) k)),
+          (subst (λ t. IsOutcome p t (left - (blocks_taken_by r x + taken_by_all rows outcomes)) row o) (after_all-append s (records_of r x) (front_of rows outcomes)) k)),
     )
 
 -- the records of a piece tell no later fault

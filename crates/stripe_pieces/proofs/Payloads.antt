@@ -13,10 +13,10 @@ use Rattle.logged_disk.proofs.GoingOn.{told_before}
 use Rattle.doc_header.specs.declared.documents.Doc.{Doc}
 use Rattle.doc_header.specs.Document.{header_bytes}
 use Rattle.doc_header.specs.Moving.{BeginsWith}
-use Rattle.doc_header.specs.Reading.{field_at, length_of, payload_of}
+use Rattle.doc_header.specs.Reading.{length_of, payload_of, slice_at}
 use Rattle.doc_header.proofs.ReadingLaws.{apart}
 use Rattle.doc_header.proofs.Stands.{number_32_again}
-use Rattle.cyclone.specs.Cyclone.{Reads, Seen}
+use Rattle.cyclone.specs.Cyclone.{ReadsBlocks, Seen}
 use Rattle.cyclone.proofs.Calls.{reads_go_on}
 use Rattle.cache_model.specs.State.{Row, State, floor_now, live_row_of, row_in}
 use Rattle.cache_model.proofs.Lists.{found_row}
@@ -35,7 +35,7 @@ payload_told bytes doc payload few begins =
     sym (take-append-drop (length payload + 128) bytes) ∙ ap (λ l. l ++ rest) begins in
     let a = apart bytes doc payload rest parts in
     let size : length_of bytes ≡ length payload = number_32_again 12 (length payload) bytes few a.fields.1.1.0 in
-    ap (λ n. field_at 128 n bytes) size ∙ a.payload_is
+    ap (λ n. slice_at 128 n bytes) size ∙ a.payload_is
 
 -- what is told of the piece is the payload of its bytes
 pub has_payload : (contents : Contents) (g : Geometry) (row : Row) (bytes into : List ℕ) (size : ℕ) → HasContent contents g row bytes
@@ -48,7 +48,7 @@ has_payload contents g row bytes into size stands size_is front =
 
 -- a live piece that was read, from the buffer or from a device that tells its content, is what is told of it
 pub content_by : (s : State) (c new : Seen) (id : PieceId) (row : Row) (bytes : List ℕ) → IsHeld s c → live_row_of s id ≡ Some row
-    → Reads c new row.place row.blocks (Ok tt) bytes → ((s.cursor ≤ row.place) ⊎ (row.place < s.cursor)) → TellsAll new.device
+    → ReadsBlocks c new row.place row.blocks (Ok tt) bytes → ((s.cursor ≤ row.place) ⊎ (row.place < s.cursor)) → TellsAll new.device
     → (contents : Contents) → AreStanding contents s c → HasContent contents s.geometry row bytes
 content_by s c new id row bytes held live read (inl above) told contents stands =
     let before : TellsAll c.device = told_before c.device new.device (reads_go_on c new row.place row.blocks (Ok tt) bytes read) told in

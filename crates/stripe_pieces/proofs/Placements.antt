@@ -15,8 +15,8 @@ use Rattle.doc_header.specs.Reading.{document_digest}
 use Rattle.dir_table.specs.declared.rows.DirRow.{DirRow}
 use Rattle.dir_table.specs.declared.window.Window.{Window}
 use Rattle.dir_table.specs.Rows.{row_of_key}
-use Rattle.agg_buffer.specs.Buffer.{Buffer, Adds, blocks_in, bytes_at, filled_of, next_place_of}
-use Rattle.logged_disk.specs.Device.{State as Device, TellsAll, seen as content_of}
+use Rattle.agg_buffer.specs.Buffer.{Buffer, AddsPiece, blocks_in, bytes_at, filled_of, next_place_of}
+use Rattle.logged_disk.specs.Device.{DeviceState as Device, TellsAll, seen as content_of}
 use Rattle.cyclone.specs.Cyclone.{Seen, IsTurning}
 use Rattle.alternate_vector.proofs.Loops.{each_push}
 use Rattle.cache_model.specs.declared.record.Rec.TheVariants as rec
@@ -25,7 +25,7 @@ use Rattle.cache_model.specs.Tape.{IsSound}
 use Rattle.cache_model.proofs.Laps.{lap-is}
 use Rattle.cache_model.proofs.Sound.{later_placed}
 use Rattle.stripe_pieces.specs.Records.{IsPlaceable}
-use Rattle.stripe_pieces.specs.Held.{IsBuffered, IsBufferedWhereNew, IsHeld, IsInLap, IsIntactWhereWritten, entry_of, same_entry, times}
+use Rattle.stripe_pieces.specs.Held.{IsBuffered, IsBufferedWhereNew, IsHeld, IsInLap, IsIntactWhereWritten, entry_of_piece, same_entry, times}
 use Rattle.stripe_pieces.proofs.Intact.{each_same_intact}
 use Rattle.stripe_pieces.proofs.Entries.{kept, one_more, times-append, times-permutation, same_entry-true}
 use Rattle.stripe_pieces.proofs.Counts.{is_between, more_between}
@@ -44,18 +44,18 @@ without-none id (row ∷ rows) h = left_by id row rows (same_piece row.id id) re
 
 -- ---- counts
 
-entries_append : (g : Geometry) (rows : List Row) (row : Row) → map (entry_of g) (rows ++ row ∷ []) ≡ map (entry_of g) rows ++ entry_of g row ∷ []
+entries_append : (g : Geometry) (rows : List Row) (row : Row) → map (entry_of_piece g) (rows ++ row ∷ []) ≡ map (entry_of_piece g) rows ++ entry_of_piece g row ∷ []
 entries_append g [] row = refl
-entries_append g (first ∷ rows) row = ap (λ xs. entry_of g first ∷ xs) (entries_append g rows row)
+entries_append g (first ∷ rows) row = ap (λ xs. entry_of_piece g first ∷ xs) (entries_append g rows row)
 
 one_at_end : (b : Bool) (n : ℕ) → n + one_more b 0 ≡ one_more b n
 one_at_end true n = refl
 one_at_end false n = omega arith
 
-pub count_behind : (g : Geometry) (rows : List Row) (row : Row) (x : DirRow) → times x (map (entry_of g) (rows ++ row ∷ [])) ≡ one_more (same_entry (entry_of g row) x) (times x (map (entry_of g) rows))
+pub count_behind : (g : Geometry) (rows : List Row) (row : Row) (x : DirRow) → times x (map (entry_of_piece g) (rows ++ row ∷ [])) ≡ one_more (same_entry (entry_of_piece g row) x) (times x (map (entry_of_piece g) rows))
 count_behind g rows row x =
     ap (times x) (entries_append g rows row)
-    ∙ (times-append x (map (entry_of g) rows) (entry_of g row ∷ []) ∙ one_at_end (same_entry (entry_of g row) x) (times x (map (entry_of g) rows)))
+    ∙ (times-append x (map (entry_of_piece g) rows) (entry_of_piece g row ∷ []) ∙ one_at_end (same_entry (entry_of_piece g row) x) (times x (map (entry_of_piece g) rows)))
 
 pub kept_more : (a b : Bool) (n : ℕ) → (b ≡ true → a ≡ true) → kept a (one_more b n) ≡ one_more b (kept a n)
 kept_more true b n h = refl
@@ -64,7 +64,7 @@ kept_more false true n h = let f : false ≡ true = h refl in cc
 
 -- ---- what is buffered
 
-pub still_buffered : (b after : Buffer) (piece : List ℕ) (rows : List Row) → Adds b after piece → after.cursor ≡ b.cursor → AllByRecursion (IsBufferedWhereNew b) rows → AllByRecursion (IsBufferedWhereNew after) rows
+pub still_buffered : (b after : Buffer) (piece : List ℕ) (rows : List Row) → AddsPiece b after piece → after.cursor ≡ b.cursor → AllByRecursion (IsBufferedWhereNew b) rows → AllByRecursion (IsBufferedWhereNew after) rows
 still_buffered b after piece [] adds same all = tt
 still_buffered b after piece (row ∷ rows) adds same all = (one, still_buffered b after piece rows adds same all.1)
   where
@@ -89,7 +89,7 @@ nothing_goes x gone left rows none parted =
 -- a document is in the buffer, and its piece in the directory, from which no row goes
 pub record IsAdded (c new : Seen) (doc : Doc) (payload : List ℕ) : Type 0 where
   pub geometry : new.geometry ≡ c.geometry
-  pub buffer : Adds c.buffer new.buffer (document_bytes doc payload)
+  pub buffer : AddsPiece c.buffer new.buffer (document_bytes doc payload)
   pub rows : IsPermutation (row_of_key c.geometry (key_of_piece doc.id) doc.place ∷ c.rows) new.rows
   pub window : new.window ≡ record c.window { end = next_place_of new.buffer }
   pub device : new.device ≡ c.device
@@ -106,7 +106,7 @@ module _ (s : State) (c new : Seen) (doc : Doc) (payload : List ℕ) (digest : D
   after = state_after s (rec.Placed doc.id (place_now s) size digest pin)
 
   abbrev entry : DirRow
-  entry = entry_of s.geometry row
+  entry = entry_of_piece s.geometry row
 
   rows_are : after.rows ≡ s.rows ++ row ∷ []
   rows_are = ap (λ xs. xs ++ row ∷ []) (without-none doc.id s.rows placed.new)
@@ -136,9 +136,9 @@ module _ (s : State) (c new : Seen) (doc : Doc) (payload : List ℕ) (digest : D
   low_end : c.window.floor ≤ c.window.end
   low_end = omega (arith, held.turning.floor, held.turning.end)
 
-  count_at : (x : DirRow) → kept (is_between new.window.floor new.window.end x.place) (times x new.rows) ≡ kept (nat_le (floor_now s) x.place) (times x (map (entry_of s.geometry) after.rows))
+  count_at : (x : DirRow) → kept (is_between new.window.floor new.window.end x.place) (times x new.rows) ≡ kept (nat_le (floor_now s) x.place) (times x (map (entry_of_piece s.geometry) after.rows))
   count_at x =
-      let pieces : ℕ = times x (map (entry_of s.geometry) s.rows) in
+      let pieces : ℕ = times x (map (entry_of_piece s.geometry) s.rows) in
       let it : Bool = same_entry entry x in
       let start : c.window.floor ≡ floor_now s = floor_is s c held in
       let old : kept (is_between c.window.floor c.window.end x.place) (times x c.rows) ≡ kept (nat_le c.window.floor x.place) pieces =

@@ -37,8 +37,8 @@ use Rattle.cache_model.proofs.SoundFlush.{among_part}
 use Rattle.cache_model.proofs.Steps.{all_as, all_parts}
 use Rattle.cache_model.proofs.Walks.{live_found}
 use Rattle.cache_model.proofs.Written.{passes}
-use Rattle.stripe_pieces.specs.Displaced.{IsPushedOut, displaced_from, displaced_of, displaced_piece, last_at}
-use Rattle.stripe_pieces.specs.Held.{IsHeld, entry_of, rows_in_range, same_entry, times}
+use Rattle.stripe_pieces.specs.Displaced.{PushesOut, displaced_from, displaced_of, displaced_piece, last_at}
+use Rattle.stripe_pieces.specs.Held.{IsHeld, entry_of_piece, rows_in_range, same_entry, times}
 use Rattle.stripe_pieces.specs.Records.{HasSlots, IsHeldBehind, IsPlaceable, PlacedIsHeld, placed_behind}
 use Rattle.stripe_pieces.proofs.Candidates.{first_or_later, same_entry-same}
 use Rattle.stripe_pieces.proofs.Counts.{is_between}
@@ -52,16 +52,16 @@ use Rattle.stripe_pieces.proofs.Slotted.{full_is, live_are, slot_made}
 
 -- the entry is that of one of these rows
 abbrev HasEntry : Geometry → List Row → DirRow → Type 0
-HasEntry g rows x = (row : Row) × IsAmong row rows × (entry_of g row ≡ x)
+HasEntry g rows x = (row : Row) × IsAmong row rows × (entry_of_piece g row ≡ x)
 
-entry_by : (g : Geometry) (x : DirRow) (first : Row) (rows : List Row) (b : Bool) → same_entry (entry_of g first) x ≡ b
-    → (0 < times x (map (entry_of g) rows) → HasEntry g rows x) → 0 < one_more b (times x (map (entry_of g) rows)) → HasEntry g (first ∷ rows) x
-entry_by g x first rows true e rest h = (first, inl refl, same_entry-true (entry_of g first) x e)
+entry_by : (g : Geometry) (x : DirRow) (first : Row) (rows : List Row) (b : Bool) → same_entry (entry_of_piece g first) x ≡ b
+    → (0 < times x (map (entry_of_piece g) rows) → HasEntry g rows x) → 0 < one_more b (times x (map (entry_of_piece g) rows)) → HasEntry g (first ∷ rows) x
+entry_by g x first rows true e rest h = (first, inl refl, same_entry-true (entry_of_piece g first) x e)
 entry_by g x first rows false e rest h = let found : HasEntry g rows x = rest h in (found.0, inr found.1, found.2)
 
-entry_among : (g : Geometry) (x : DirRow) (rows : List Row) → 0 < times x (map (entry_of g) rows) → HasEntry g rows x
+entry_among : (g : Geometry) (x : DirRow) (rows : List Row) → 0 < times x (map (entry_of_piece g) rows) → HasEntry g rows x
 entry_among g x [] h = absurd (omega (arith, h))
-entry_among g x (first ∷ rows) h = entry_by g x first rows (same_entry (entry_of g first) x) refl (entry_among g x rows) h
+entry_among g x (first ∷ rows) h = entry_by g x first rows (same_entry (entry_of_piece g first) x) refl (entry_among g x rows) h
 
 -- ---- a cyclone with fewer rows
 
@@ -191,7 +191,7 @@ full_behind s id segment live (row ∷ purged) =
 pub record HasGone (s : State) (c : Seen) (d : Displacement) (gone left : List DirRow) : Type 0 where
   pub purged : List Row
   pub held : IsHeld (after_all s (map (displaced_record d.segment d.live) purged)) (with_rows c left)
-  pub entries : map (entry_of s.geometry) purged ≡ gone
+  pub entries : map (entry_of_piece s.geometry) purged ≡ gone
   pub told : displaced_from (last_at s) d (map (λ (r : DirRow). r.place) gone) ≡ map (displaced_record d.segment d.live) purged
   pub among : AllByRecursion (λ row. IsAmong row (live_rows s)) purged
   pub apart : AllPairs (λ (a b : Row). a.id ≢ b.id) purged
@@ -262,7 +262,7 @@ contained test row (first ∷ rows) h m =
 
 -- live pieces whose entries are of a segment are pieces of that
 all_contained : (s : State) (segment : ℕ) (rows : List Row) → AllByRecursion (λ row. IsAmong row (live_rows s)) rows
-    → AllByRecursion (λ (r : DirRow). r.segment ≡ segment) (map (entry_of s.geometry) rows) → AllByRecursion (Contains (rows_of_segment s segment)) rows
+    → AllByRecursion (λ (r : DirRow). r.segment ≡ segment) (map (entry_of_piece s.geometry) rows) → AllByRecursion (Contains (rows_of_segment s segment)) rows
 all_contained s segment [] among own = tt
 all_contained s segment (row ∷ rows) among own = (
   contained (λ (r : Row). segment_of_piece s r.id == segment) row (live_rows s) (eq-eqb (segment_of_piece s row.id) segment own.0) among.0,
@@ -342,14 +342,14 @@ module _ (purges : Bool) (s : State) (c new : Seen) (doc : Doc) (payload : List 
       → ArePurged s (bucket_of_piece s doc.id) (rows_of_segment s (segment_of_piece s doc.id)) has_gone.purged
   are_purged purge packed =
       let own : AllByRecursion (λ (r : DirRow). r.segment ≡ entry.segment) put.gone = recursion_from_All (λ (r : DirRow). r.segment ≡ entry.segment) put.gone purge.own in
-      let own_there : AllByRecursion (λ (r : DirRow). r.segment ≡ entry.segment) (map (entry_of s.geometry) has_gone.purged) =
+      let own_there : AllByRecursion (λ (r : DirRow). r.segment ≡ entry.segment) (map (entry_of_piece s.geometry) has_gone.purged) =
       subst (AllByRecursion (λ (r : DirRow). r.segment ≡ entry.segment)) (sym has_gone.entries) own in
       let each : AllByRecursion (Contains (rows_of_segment s entry.segment)) has_gone.purged = all_contained s entry.segment has_gone.purged has_gone.among own_there in
       record {
         each = All-from_recursion (Contains (rows_of_segment s (segment_of_piece s doc.id))) has_gone.purged
             (subst (λ n. AllByRecursion (Contains (rows_of_segment s n)) has_gone.purged) same_segment each);
         apart = has_gone.apart;
-        tenth = sym (length-map has_gone.purged (entry_of s.geometry))
+        tenth = sym (length-map has_gone.purged (entry_of_piece s.geometry))
             ∙ (ap (λ (rows : List DirRow). length rows) has_gone.entries ∙ (purge.count ∙ ap purge_of (held.turning.geometry ∙ held.geometry)));
         slot = sym (full_behind s doc.id d.segment d.live has_gone.purged)
             ∙ slot_made mid (with_rows c put.rows.left) new doc.id doc.place has_gone.held (ap (λ (w : Window). w.geometry) put.window) (slots packed) put.rows.entered;
@@ -358,7 +358,7 @@ module _ (purges : Bool) (s : State) (c new : Seen) (doc : Doc) (payload : List 
   displaces_is : (p : Permit) → p.packed ≡ purges → displaces p s doc.id ≡ full
   displaces_is p packed = ap (λ b. b && is_full_for s doc.id) packed ∙ ap (λ b. purges && b) (sym (full_is s c doc.id doc.place held))
 
-  pushed_by : (b : Bool) → full ≡ b → Goes b → IsPushedOut purges s doc.id (displaced_of s d)
+  pushed_by : (b : Bool) → full ≡ b → Goes b → PushesOut purges s doc.id (displaced_of s d)
   pushed_by true e purge = λ p packed. record {
     purged = has_gone.purged;
     full = λ h. are_purged purge (and_parts purges (is_full c.window entry c.rows) e).0;

@@ -12,7 +12,7 @@ use Rattle.doc_header.specs.declared.documents.Doc.{Doc}
 use Rattle.doc_header.specs.Document.{digest_of_document, document_bytes}
 use Rattle.doc_header.specs.Reading.{document_digest}
 use Rattle.agg_buffer.specs.Buffer.{blocks_in}
-use Rattle.logged_disk.specs.Device.{State as Device, IsAfter, Keeps}
+use Rattle.logged_disk.specs.Device.{DeviceState as Device, IsAfter, Keeps}
 use Rattle.logged_disk.proofs.GoingOn.{asked_nothing, stays_put}
 use Rattle.dir_table.specs.declared.rows.DirRow.{DirRow}
 use Rattle.dir_table.specs.Displacement.{Displacement, IsPurge, NoneGoes, is_full, purge_of}
@@ -26,9 +26,9 @@ use Rattle.cache_model.specs.Room.{doc_at, has_room}
 use Rattle.cache_model.proofs.Sound.{later_leaves}
 use Rattle.call_laws.specs.Contents.{Contents}
 use Rattle.stripe_pieces.specs.Covers.{Uses}
-use Rattle.stripe_pieces.specs.Displaced.{IsPushedOut, displaced_of}
+use Rattle.stripe_pieces.specs.Displaced.{PushesOut, displaced_of}
 use Rattle.stripe_pieces.specs.Held.{IsHeld}
-use Rattle.stripe_pieces.specs.Place.{IsNew, PutsIn, cut_record_of}
+use Rattle.stripe_pieces.specs.Place.{IsNewPiece, PutsIn, cut_record_of}
 use Rattle.stripe_pieces.specs.Records.{HasSlots, IsHeldBehind, IsPlaceable, placed_behind}
 use Rattle.stripe_pieces.specs.Standing.{AreStanding, IsToldPlaced}
 use Rattle.stripe_pieces.proofs.Flushes.{with_records-append}
@@ -59,7 +59,7 @@ cut_is_placeable false s doc payload cut digest put index length h =
 
 -- and what its entry displaces is what it would have displaced before
 pushed_before : (vector packed : Bool) (s : State) (put index length : ℕ) (digest : Digest) (id : PieceId) (displaced : List Rec)
-    → IsPushedOut packed (after_all s (cut_where vector put index length digest)) id displaced → IsPushedOut packed s id displaced
+    → PushesOut packed (after_all s (cut_where vector put index length digest)) id displaced → PushesOut packed s id displaced
 pushed_before true packed s put index length digest id displaced h = h
 pushed_before false packed s put index length digest id displaced h = λ p same.
     let m = h p same in
@@ -117,7 +117,7 @@ pub record IsToldOf (k cut_of displaced_in new : Kept) (seen : Seen) (doc : Doc)
   pub placed_is : new ≡ with_records displaced_in (rec.Placed doc.id doc.place blocks digest doc.pin ∷ [])
 
 module _ (purges : Bool) (k cut_of displaced_in last : Kept) (c new : Seen) (doc : Doc) (payload : List ℕ) (cut digest : Digest) (held : IsHeld (state_of k) c)
-    (fresh : IsNew (state_of k) doc.id payload) (at : doc ≡ doc_at (state_of k) doc.id doc.pin doc.start) (room : has_room (state_of k) (length payload) ≡ true)
+    (fresh : IsNewPiece (state_of k) doc.id payload) (at : doc ≡ doc_at (state_of k) doc.id doc.pin doc.start) (room : has_room (state_of k) (length payload) ≡ true)
     (put : IsPutAs purges c new doc payload cut digest) (told : IsToldOf k cut_of displaced_in last new doc payload cut digest) where
   abbrev s : State
   s = state_of k
@@ -197,7 +197,7 @@ module _ (purges : Bool) (k cut_of displaced_in last : Kept) (c new : Seen) (doc
         ∙ with_records-append k (cut_record_of doc.id (length payload) cut) (displaced ++ placed_at doc.place ∷ []))));
     are = record {
       displaced = displaced;
-      pushed = subst (IsPushedOut purges s doc.id) (sym (ap (λ t. displaced_of t new.displaced) mid_is))
+      pushed = subst (PushesOut purges s doc.id) (sym (ap (λ t. displaced_of t new.displaced) mid_is))
           (pushed_before vector purges s doc.id.put doc.id.index (length payload) cut doc.id (displaced_of mid new.displaced) behind.pushed);
       is = let document : digest ≡ digest_of_document (doc_at s doc.id doc.pin doc.start) payload = put.document ∙ ap (λ (d : Doc). digest_of_document d payload) at in
           λ i. cut_record_of doc.id (length payload) (put.payload_is i)

@@ -7,7 +7,7 @@ use Rattle.device_log.specs.Image.{span}
 use Rattle.logged_disk.specs.Device.{seen as content_of}
 use Rattle.doc_header.specs.Reading.{document_digest}
 use Rattle.evacuator.specs.declared.choosing.Candidate.{Candidate}
-use Rattle.cyclone.specs.Cyclone.{IsStored, Reads, Seen}
+use Rattle.cyclone.specs.Cyclone.{BlocksStand, ReadsBlocks, Seen}
 use Rattle.cache_model.specs.State.{State, Row}
 use Rattle.cache_model.specs.Permit.{Permit}
 use Rattle.cache_model.specs.Given.{IsGiven}
@@ -25,10 +25,10 @@ use Rattle.stripe_pieces.proofs.Lives.{live_is_stored, live_within}
 
 -- what is read is that of the candidate
 pub reads_row : (c new : Seen) (d : Candidate) (row : Row) (r : Result (Unit {0}) Failed) (bytes : List ℕ) → d ≡ candidate_of row → length bytes ≡ 512 * d.blocks
-    → Reads c new d.place d.blocks r (take (512 * d.blocks) bytes) → Reads c new row.place row.blocks r bytes
+    → ReadsBlocks c new d.place d.blocks r (take (512 * d.blocks) bytes) → ReadsBlocks c new row.place row.blocks r bytes
 reads_row c new d row r bytes is sized reads =
-    subst (λ (x : Candidate). Reads c new x.place x.blocks r bytes) is
-    (subst (Reads c new d.place d.blocks r) (take_all (512 * d.blocks) bytes (omega (arith, sized))) reads)
+    subst (λ (x : Candidate). ReadsBlocks c new x.place x.blocks r bytes) is
+    (subst (ReadsBlocks c new d.place d.blocks r) (take_all (512 * d.blocks) bytes (omega (arith, sized))) reads)
 
 module _ (s : State) (c new : Seen) (row : Row) (bytes : List ℕ) (held : IsHeld s c) (may : MayBeCopied s row) where
   beneath : row.place < c.buffer.cursor
@@ -37,10 +37,10 @@ module _ (s : State) (c new : Seen) (row : Row) (bytes : List ℕ) (held : IsHel
   below : (t : State) → IsBeside s c.device t → row.place < t.cursor
   below t beside = let low : row.place < s.cursor = may.written in let same : t.cursor ≡ s.cursor = beside.cursor in omega arith
 
-  given_then : (p : Permit) (t : State) → Reads c new row.place row.blocks (Ok tt) bytes → Covers p c.device.past new.device.past → IsBeside s c.device t → IsGiven p t row bytes
+  given_then : (p : Permit) (t : State) → ReadsBlocks c new row.place row.blocks (Ok tt) bytes → Covers p c.device.past new.device.past → IsBeside s c.device t → IsGiven p t row bytes
   given_then p t read covers beside = given_read p t c new row bytes (held.geometry ∙ sym beside.geometry) beneath (below t beside) read covers
 
-  pub comes_of : (f : Fate) → Reads c new row.place row.blocks (Ok tt) bytes → IsJudgedAs row bytes f → Comes s c.device new.device row f bytes
+  pub comes_of : (f : Fate) → ReadsBlocks c new row.place row.blocks (Ok tt) bytes → IsJudgedAs row bytes f → Comes s c.device new.device row f bytes
   comes_of (fate.Copied pinned) read j = record {
     outcome = Copied bytes;
     fate = j.1;
@@ -67,7 +67,7 @@ module _ (s : State) (c new : Seen) (row : Row) (bytes : List ℕ) (held : IsHel
   comes_of (fate.Refused count) read j = absurd j
 
   -- the device refused
-  pub comes_refused : (count : ℕ) (e : Failed) → Reads c new row.place row.blocks (Err e) bytes → count ≡ new.device.faults
+  pub comes_refused : (count : ℕ) (e : Failed) → ReadsBlocks c new row.place row.blocks (Err e) bytes → count ≡ new.device.faults
       → Comes s c.device new.device row (fate.Refused count) bytes
   comes_refused count e read is = record {
     outcome = Refused count;
@@ -90,5 +90,5 @@ module _ (s : State) (c new : Seen) (row : Row) (bytes : List ℕ) (held : IsHel
 pub has_blocks : (s : State) (c : Seen) (d : Candidate) (row : Row) → IsHeld s c → MayBeCopied s row → d ≡ candidate_of row → 0 < d.blocks
 has_blocks s c d row held may is = subst (λ (x : Candidate). 0 < x.blocks) (sym is) (live_within s c row.id row held may.live).0
 
-pub is_stored : (s : State) (c : Seen) (d : Candidate) (row : Row) → IsHeld s c → MayBeCopied s row → d ≡ candidate_of row → IsStored c d.place d.blocks
-is_stored s c d row held may is = subst (λ (x : Candidate). IsStored c x.place x.blocks) (sym is) (live_is_stored s c row.id row held may.live)
+pub is_stored : (s : State) (c : Seen) (d : Candidate) (row : Row) → IsHeld s c → MayBeCopied s row → d ≡ candidate_of row → BlocksStand c d.place d.blocks
+is_stored s c d row held may is = subst (λ (x : Candidate). BlocksStand c x.place x.blocks) (sym is) (live_is_stored s c row.id row held may.live)

@@ -30,7 +30,7 @@ use Rattle.cache_model.proofs.Rows.{each_part, part-filter}
 use Rattle.cache_model.proofs.SoundFlush.{among_part}
 use Rattle.cache_model.proofs.Walks.{all_among, among_found}
 use Rattle.cache_model.proofs.Written.{passes}
-use Rattle.stripe_pieces.specs.Held.{IsHeld, SameRows, entry_of, times}
+use Rattle.stripe_pieces.specs.Held.{IsHeld, SameRows, entry_of_piece, times}
 use Rattle.stripe_pieces.proofs.Entries.{kept}
 use Rattle.stripe_pieces.proofs.Holding.{floor_is}
 use Rattle.stripe_pieces.proofs.Permuted.{permuted_passed, same_rows_permute, times_passed}
@@ -38,21 +38,21 @@ use Rattle.stripe_pieces.proofs.Permuted.{permuted_passed, same_rows_permute, ti
 -- ---- the live pieces of a segment are its rows in range
 
 passed_entries : (g : Geometry) (test : DirRow → Bool) (rows : List Row)
-    → filter test (map (entry_of g) rows) ≡ map (entry_of g) (filter (λ (r : Row). test (entry_of g r)) rows)
+    → filter test (map (entry_of_piece g) rows) ≡ map (entry_of_piece g) (filter (λ (r : Row). test (entry_of_piece g r)) rows)
 passed_entries g test [] = refl
-passed_entries g test (row ∷ rows) = by (test (entry_of g row)) (passed_entries g test rows)
+passed_entries g test (row ∷ rows) = by (test (entry_of_piece g row)) (passed_entries g test rows)
   where
     left : List Row
-    left = filter (λ (r : Row). test (entry_of g r)) rows
+    left = filter (λ (r : Row). test (entry_of_piece g r)) rows
 
-    by : (b : Bool) → filter test (map (entry_of g) rows) ≡ map (entry_of g) left
-        → cond b (entry_of g row ∷ filter test (map (entry_of g) rows)) (filter test (map (entry_of g) rows)) ≡ map (entry_of g) (cond b (row ∷ left) left)
-    by true h = ap (λ xs. entry_of g row ∷ xs) h
+    by : (b : Bool) → filter test (map (entry_of_piece g) rows) ≡ map (entry_of_piece g) left
+        → cond b (entry_of_piece g row ∷ filter test (map (entry_of_piece g) rows)) (filter test (map (entry_of_piece g) rows)) ≡ map (entry_of_piece g) (cond b (row ∷ left) left)
+    by true h = ap (λ xs. entry_of_piece g row ∷ xs) h
     by false h = h
 
-any_entry : (g : Geometry) (test : DirRow → Bool) (rows : List Row) → list_any test (map (entry_of g) rows) ≡ list_any (λ (r : Row). test (entry_of g r)) rows
+any_entry : (g : Geometry) (test : DirRow → Bool) (rows : List Row) → list_any test (map (entry_of_piece g) rows) ≡ list_any (λ (r : Row). test (entry_of_piece g r)) rows
 any_entry g test [] = refl
-any_entry g test (row ∷ rows) = ap (λ b. test (entry_of g row) || b) (any_entry g test rows)
+any_entry g test (row ∷ rows) = ap (λ b. test (entry_of_piece g row) || b) (any_entry g test rows)
 
 kept_both : (a b : Bool) (n : ℕ) → kept (a && b) n ≡ kept a (kept b n)
 kept_both true b n = refl
@@ -69,31 +69,34 @@ module _ (s : State) (c : Seen) (segment : ℕ) (h : IsHeld s c) where
   abbrev pieces : List Row
   pieces = rows_of_segment s segment
 
-  live_rows_are : SameRows (directory.live_rows c.window segment c.rows) (map (entry_of s.geometry) pieces)
+  live_rows_are : SameRows (directory.segment_rows_in_range c.window segment c.rows) (map (entry_of_piece s.geometry) pieces)
   live_rows_are = λ x.
       let in_range : Bool = is_in_range c.window x.place in
       times_passed (λ r. r.segment == segment && is_in_range c.window r.place) x c.rows
       ∙ (kept_both (of_segment segment x) in_range (times x c.rows)
       ∙ (ap (kept (of_segment segment x)) (sym (times_passed (λ r. is_in_range c.window r.place) x c.rows) ∙ h.entered x)
-      ∙ (sym (times_passed (of_segment segment) x (map (entry_of s.geometry) (live_rows s)))
+      ∙ (sym (times_passed (of_segment segment) x (map (entry_of_piece s.geometry) (live_rows s)))
       ∙ ap (times x) (passed_entries s.geometry (of_segment segment) (live_rows s)))))
 
-  live_permute : IsPermutation (directory.live_rows c.window segment c.rows) (map (entry_of s.geometry) (rows_of_segment s segment))
-  live_permute = same_rows_permute (directory.live_rows c.window segment c.rows) (map (entry_of s.geometry) pieces) live_rows_are
+  live_permute : IsPermutation (directory.segment_rows_in_range c.window segment c.rows)
+      (map (entry_of_piece s.geometry) (rows_of_segment s segment))
+  live_permute =
+      same_rows_permute (directory.segment_rows_in_range c.window segment c.rows) (map (entry_of_piece s.geometry) pieces) live_rows_are
 
   -- as many
-  pub live_are : length (directory.live_rows c.window segment c.rows) ≡ length (rows_of_segment s segment)
+  pub live_are : length (directory.segment_rows_in_range c.window segment c.rows) ≡ length (rows_of_segment s segment)
   live_are =
-      sym (length_permutation (directory.live_rows c.window segment c.rows) (map (entry_of s.geometry) pieces) live_permute)
-      ∙ length-map pieces (entry_of s.geometry)
+      sym (length_permutation (directory.segment_rows_in_range c.window segment c.rows) (map (entry_of_piece s.geometry) pieces)
+      live_permute)
+      ∙ length-map pieces (entry_of_piece s.geometry)
 
   -- the same buckets are used
   used_are : (bucket : ℕ) → directory.is_used c.window segment c.rows bucket ≡ is_bucket_used s (rows_of_segment s segment) bucket
   used_are bucket =
-      list_any-IsPermutation (λ (r : DirRow). r.bucket == bucket) (directory.live_rows c.window segment c.rows) (map (entry_of s.geometry) pieces) live_permute
+      list_any-IsPermutation (λ (r : DirRow). r.bucket == bucket) (directory.segment_rows_in_range c.window segment c.rows) (map (entry_of_piece s.geometry) pieces) live_permute
       ∙ any_entry s.geometry (λ (r : DirRow). r.bucket == bucket) pieces
 
-  buckets_are : directory.used_buckets c.window segment c.rows ≡ used_buckets s (rows_of_segment s segment)
+  buckets_are : directory.buckets_in_range c.window segment c.rows ≡ used_buckets s (rows_of_segment s segment)
   buckets_are = λ i. count_by (fun_ext used_are i) (range_with_len 0 (geometry_is s c h i).buckets)
 
 -- a piece finds its segment full in the directory where the records say so
@@ -106,36 +109,36 @@ full_is s c id place h =
 
 -- ---- rows that take a slot each
 
-full_same : (w : Window) (row : DirRow) (a b : List DirRow) → IsPermutation (directory.live_rows w row.segment a) (directory.live_rows w row.segment b)
+full_same : (w : Window) (row : DirRow) (a b : List DirRow) → IsPermutation (directory.segment_rows_in_range w row.segment a) (directory.segment_rows_in_range w row.segment b)
     → directory.is_full w row a ≡ directory.is_full w row b
 full_same w row a b p =
     let segment : ℕ = row.segment in
     let used : (bucket : ℕ) → directory.is_used w segment a bucket ≡ directory.is_used w segment b bucket =
-    λ bucket. list_any-IsPermutation (λ (r : DirRow). r.bucket == bucket) (directory.live_rows w segment a) (directory.live_rows w segment b) p in
-    let count : length (directory.live_rows w segment a) ≡ length (directory.live_rows w segment b) =
-    sym (length_permutation (directory.live_rows w segment a) (directory.live_rows w segment b) p) in
+    λ bucket. list_any-IsPermutation (λ (r : DirRow). r.bucket == bucket) (directory.segment_rows_in_range w segment a) (directory.segment_rows_in_range w segment b) p in
+    let count : length (directory.segment_rows_in_range w segment a) ≡ length (directory.segment_rows_in_range w segment b) =
+    sym (length_permutation (directory.segment_rows_in_range w segment a) (directory.segment_rows_in_range w segment b) p) in
     λ i. used row.bucket i && count i == 3 * w.geometry.buckets + count_by (fun_ext used i) (range_with_len 0 w.geometry.buckets)
 
 -- a row that is out of range takes none
 out_of_range : (w : Window) (segment : ℕ) (row : DirRow) (rows : List DirRow) → is_in_range w row.place ≡ false
-    → directory.live_rows w segment (row ∷ rows) ≡ directory.live_rows w segment rows
+    → directory.segment_rows_in_range w segment (row ∷ rows) ≡ directory.segment_rows_in_range w segment rows
 out_of_range w segment row rows out = by (row.segment == segment) (is_in_range w row.place) out
   where
     rest : List DirRow
-    rest = directory.live_rows w segment rows
+    rest = directory.segment_rows_in_range w segment rows
 
     by : (a b : Bool) → b ≡ false → cond (a && b) (row ∷ rest) rest ≡ rest
     by true b e = rw e refl
     by false b e = refl
 
 left_live : (w : Window) (segment : ℕ) (row : DirRow) (rows left : List DirRow) (found : Bool) → is_in_range w row.place ≡ false
-    → MatchBool found (IsPermutation rows (row ∷ left)) (left ≡ rows) → IsPermutation (directory.live_rows w segment left) (directory.live_rows w segment rows)
+    → MatchBool found (IsPermutation rows (row ∷ left)) (left ≡ rows) → IsPermutation (directory.segment_rows_in_range w segment left) (directory.segment_rows_in_range w segment rows)
 left_live w segment row rows left true out p =
-    IsPermutation-sym (directory.live_rows w segment rows) (directory.live_rows w segment left)
-    (subst (IsPermutation (directory.live_rows w segment rows)) (out_of_range w segment row left out)
+    IsPermutation-sym (directory.segment_rows_in_range w segment rows) (directory.segment_rows_in_range w segment left)
+    (subst (IsPermutation (directory.segment_rows_in_range w segment rows)) (out_of_range w segment row left out)
     (permuted_passed (λ r. r.segment == segment && is_in_range w r.place) rows (row ∷ left) p))
 left_live w segment row rows left false out same =
-    subst (λ rs. IsPermutation (directory.live_rows w segment left) (directory.live_rows w segment rs)) same (IsPermutation-refl (directory.live_rows w segment left))
+    subst (λ rs. IsPermutation (directory.segment_rows_in_range w segment left) (directory.segment_rows_in_range w segment rs)) same (IsPermutation-refl (directory.segment_rows_in_range w segment left))
 
 -- ---- a piece that is not live
 
@@ -266,14 +269,14 @@ module _ (w : Window) (segment : ℕ) (rows : List DirRow) where
       ∙ sym (length-filter (has_bucket all) (range_with_len 0 w.geometry.buckets))
 
   -- what is out of range takes no slot from what is in range
-  live_room : length (directory.live_rows w segment rows) + directory.buckets_in_use w.geometry segment rows
-      ≤ length (directory.segment_rows segment rows) + directory.used_buckets w segment rows
+  live_room : length (directory.segment_rows_in_range w segment rows) + directory.buckets_in_use w.geometry segment rows
+      ≤ length (directory.segment_rows segment rows) + directory.buckets_in_range w segment rows
   live_room =
-      let live : directory.live_rows w segment rows ≡ filter (λ r. is_in_range w r.place) all = both_tests (of_segment segment) (λ r. is_in_range w r.place) rows in
+      let live : directory.segment_rows_in_range w segment rows ≡ filter (λ r. is_in_range w r.place) all = both_tests (of_segment segment) (λ r. is_in_range w r.place) rows in
       let room = passed_room (λ r. is_in_range w r.place) w.geometry.buckets all in
-      let count : length (directory.live_rows w segment rows) ≡ length (filter (λ r. is_in_range w r.place) all) = ap (λ (rs : List DirRow). length rs) live in
-      let used : directory.used_buckets w segment rows ≡ in_use w.geometry.buckets (filter (λ r. is_in_range w r.place) all) =
-      sym (length-filter (has_bucket (directory.live_rows w segment rows)) (range_with_len 0 w.geometry.buckets)) ∙ ap (in_use w.geometry.buckets) live in
+      let count : length (directory.segment_rows_in_range w segment rows) ≡ length (filter (λ r. is_in_range w r.place) all) = ap (λ (rs : List DirRow). length rs) live in
+      let used : directory.buckets_in_range w segment rows ≡ in_use w.geometry.buckets (filter (λ r. is_in_range w r.place) all) =
+      sym (length-filter (has_bucket (directory.segment_rows_in_range w segment rows)) (range_with_len 0 w.geometry.buckets)) ∙ ap (in_use w.geometry.buckets) live in
       omega (arith, in_use_is, room, count, used)
 
 -- each segment has slots for its live pieces
@@ -328,13 +331,14 @@ module _ (w : Window) (row : DirRow) (rows after : List DirRow) (entered : IsPer
   not_full : directory.AreFew w.geometry after → directory.is_full w row rows ≡ false
   not_full few = false_from_ne_true (directory.is_full w row rows) (λ full.
       let parts = and_parts (directory.is_used w row.segment rows row.bucket)
-      (length (directory.live_rows w row.segment rows) == 3 * w.geometry.buckets + directory.used_buckets w row.segment rows) full in
+      (length (directory.segment_rows_in_range w row.segment rows) == 3 * w.geometry.buckets
+      + directory.buckets_in_range w row.segment rows) full in
       let all = few row.segment in
       let room = live_room w row.segment rows in
       let before = in_use_is w row.segment rows in
       let behind = in_use_is w row.segment after in
       let more = none_more parts.0 in
-      let count = eqb-true (length (directory.live_rows w row.segment rows)) (3 * w.geometry.buckets + directory.used_buckets w row.segment rows) parts.1 in
+      let count = eqb-true (length (directory.segment_rows_in_range w row.segment rows)) (3 * w.geometry.buckets + directory.buckets_in_range w row.segment rows) parts.1 in
       omega (arith, all, room, before, behind, more, one_longer, count))
 
 -- what was entered had a slot

@@ -7,7 +7,7 @@ use Rattle.tape_base.specs.declared.pieces.PieceId.{PieceId}
 use Rattle.tape_base.specs.declared.digests.Digest.{Digest}
 use Rattle.tape_base.specs.Place.{slot_of}
 use Rattle.device_log.specs.Image.{Image, SameBut}
-use Rattle.logged_disk.specs.Device.{State as Device, TellsAll, seen as content_of}
+use Rattle.logged_disk.specs.Device.{DeviceState as Device, TellsAll, seen as content_of}
 use Rattle.logged_disk.proofs.GoingOn.{told_before}
 use Rattle.agg_buffer.specs.Buffer.{Buffer, bytes_at}
 use Rattle.cyclone.specs.Cyclone.{BeginsNext, SameButRoom, SameButRows, Seen}

@@ -12,7 +12,7 @@ use Rattle.tape_base.specs.Piece.{is_vector}
 use Rattle.alternate_vector.specs.Spelling.{IsSpelling, vector_bytes}
 use Rattle.alternate_vector.proofs.Loops.{each_push}
 use Rattle.device_log.specs.Image.{Image}
-use Rattle.logged_disk.specs.Device.{State as Device, TellsAll, seen as content_of}
+use Rattle.logged_disk.specs.Device.{DeviceState as Device, TellsAll, seen as content_of}
 use Rattle.doc_header.specs.declared.documents.Doc.{Doc}
 use Rattle.doc_header.specs.Document.{digest_of_document, document_bytes, header_bytes, padding_of}
 use Rattle.doc_header.specs.Moving.{BeginsWith, moved_to}
@@ -21,7 +21,7 @@ use Rattle.doc_header.proofs.MovingLaws.{moved_is_recorded_lem, moved_is_spelled
 use Rattle.doc_header.proofs.ReadingLaws.{length-header}
 use Rattle.evacuator.specs.declared.choosing.Candidate.{Candidate}
 use Rattle.dir_table.specs.Displacement.{Displacement}
-use Rattle.agg_buffer.specs.Buffer.{Adds, Buffer, blocks_in, bytes_at, next_place_of}
+use Rattle.agg_buffer.specs.Buffer.{AddsPiece, Buffer, blocks_in, bytes_at, next_place_of}
 use Rattle.cyclone.specs.Cyclone.{IsMoved, IsPut, IsTurning, Seen}
 use Rattle.cache_model.specs.declared.record.Rec.{Rec}
 use Rattle.cache_model.specs.declared.record.Rec.TheVariants as rec
@@ -92,7 +92,7 @@ displaced_tape s (r ∷ recs) kinds =
 
 -- those of the buffer stand in it behind one more piece
 still_in_buffer : (contents : Contents) (g : Geometry) (b after : Buffer) (piece : List ℕ) (rows : List Row)
-    → Adds b after piece → after.cursor ≡ b.cursor → AllByRecursion (IsBufferedWhereNew b) rows
+    → AddsPiece b after piece → after.cursor ≡ b.cursor → AllByRecursion (IsBufferedWhereNew b) rows
     → AllByRecursion (StandsInBuffer contents g b) rows → AllByRecursion (StandsInBuffer contents g after) rows
 still_in_buffer contents g b after piece [] adds same buffered all = tt
 still_in_buffer contents g b after piece (row ∷ rows) adds same buffered all =

@@ -1,7 +1,7 @@
 -- A fresh cyclone holds what a format begins with.
 use Rattle.std.proofs.Common.{[], ap, arith, false, refl}
 use Rattle.tape_base.specs.declared.geometries.Geometry.{Geometry}
-use Rattle.logged_disk.specs.Device.{State as Device}
+use Rattle.logged_disk.specs.Device.{DeviceState as Device}
 use Rattle.agg_buffer.specs.Buffer.{Buffer, filled_of}
 use Rattle.dir_table.specs.declared.rows.DirRow.{DirRow}
 use Rattle.dir_table.specs.Window.{is_in_range}

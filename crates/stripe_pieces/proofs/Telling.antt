@@ -12,7 +12,7 @@ use Rattle.call_laws.specs.Contents.{Contents}
 use Rattle.stripe_pieces.specs.declared.ahead.Fate.{Fate}
 use Rattle.stripe_pieces.specs.Held.{IsHeld}
 use Rattle.stripe_pieces.specs.Standing.{AreStanding}
-use Rattle.stripe_pieces.specs.Copying.{AreTellable, told_by, told_of}
+use Rattle.stripe_pieces.specs.Copying.{AreTellable, told_of_piece, told_of_pieces}
 use Rattle.stripe_pieces.proofs.Flushes.{state_of-with_records}
 use Rattle.stripe_pieces.proofs.Going.{alike_is_held}
 
@@ -40,17 +40,17 @@ told_as_many : (done : Bool) (s : State) (faults : ℕ) (cs : List Candidate) (f
 told_as_many done s faults [] [] h = refl
 told_as_many done s faults [] (f ∷ fs) h = absurd h
 told_as_many done s faults (c ∷ cs) [] h = absurd h
-told_as_many done s faults (c ∷ cs) (f ∷ fs) h = ap suc (told_as_many done (after_all s (told_by done c f)) faults cs fs h.1)
+told_as_many done s faults (c ∷ cs) (f ∷ fs) h = ap suc (told_as_many done (after_all s (told_of_piece done c f)) faults cs fs h.1)
 
 -- so many pieces were told of: what that added, and that the others can be told of
 pub record HasTold (k new : Kept) (c seen : Seen) (room left : ℕ) (done : Bool) (cs : List Candidate) (fs : List Fate) (i : ℕ) : Type 0 where
   pub held : IsHeld (state_of new) seen
   pub many : length cs ≡ length fs
   pub rest : AreTellable done (state_of new) c.device.faults (drop i cs) (drop i fs)
-  pub adds : with_records new (told_of done (drop i cs) (drop i fs)) ≡ with_records k (told_of done cs fs)
+  pub adds : with_records new (told_of_pieces done (drop i cs) (drop i fs)) ≡ with_records k (told_of_pieces done cs fs)
   pub same : SameButRows c seen
   pub contents : (contents : Contents) → AreStanding contents (state_of k) c → AreStanding contents (state_of new) seen
-  pub spends : room + length (told_of done (drop i cs) (drop i fs)) ≤ left + length (told_of done cs fs)
+  pub spends : room + length (told_of_pieces done (drop i cs) (drop i fs)) ≤ left + length (told_of_pieces done cs fs)
 
 pub nothing_told : (k : Kept) (c : Seen) (room : ℕ) (done : Bool) (cs : List Candidate) (fs : List Fate) → IsHeld (state_of k) c → AreTellable done (state_of k) c.device.faults cs fs
     → HasTold k k c c room room done cs fs 0

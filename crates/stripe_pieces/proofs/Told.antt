@@ -20,7 +20,7 @@ use Rattle.stripe_pieces.specs.declared.ahead.Fate.{Fate}
 use Rattle.stripe_pieces.specs.declared.ahead.Fate.TheVariants as fate
 use Rattle.stripe_pieces.specs.Ahead.{AreFates, IsFate}
 use Rattle.stripe_pieces.specs.Faults.{CountsUpTo}
-use Rattle.stripe_pieces.specs.Copying.{AreTellable, IsTellable, copies_among, copies_by, told_by, told_of}
+use Rattle.stripe_pieces.specs.Copying.{AreTellable, IsTellable, copies_among, copies_by, told_of_piece, told_of_pieces}
 
 -- ---- what came of each piece, and what was kept of that
 
@@ -63,34 +63,34 @@ all_came [] [] (f ∷ fates) h = absurd h
 
 -- ---- the records are those of a front
 
-one_told : (row : Row) {o : Outcome} {f : Fate} → Came row o f → told_by true (candidate_of row) f ≡ records_of row o
+one_told : (row : Row) {o : Outcome} {f : Fate} → Came row o f → told_of_piece true (candidate_of row) f ≡ records_of row o
 one_told row no_room = refl
 one_told row (copied bytes pinned) = refl
 one_told row (spoiled found kept other same found_is) =
     ap (λ k. rec.Damaged row.id row.place k other ∷ []) same ∙ ap (λ k. rec.Damaged row.id row.place row.digest k ∷ []) found_is
 one_told row (refused count n is) = ap (λ k. rec.Fault k ∷ rec.Unsaved row.id row.place true ∷ []) is
 
-one_stopped : (row : Row) {o : Outcome} {f : Fate} → Came row o f → told_by false (candidate_of row) f ≡ stopped_records_of row o
+one_stopped : (row : Row) {o : Outcome} {f : Fate} → Came row o f → told_of_piece false (candidate_of row) f ≡ stopped_records_of row o
 one_stopped row no_room = refl
 one_stopped row (copied bytes pinned) = refl
 one_stopped row (spoiled found kept other same found_is) =
     ap (λ k. rec.Damaged row.id row.place k other ∷ []) same ∙ ap (λ k. rec.Damaged row.id row.place row.digest k ∷ []) found_is
 one_stopped row (refused count n is) = ap (λ k. rec.Fault k ∷ []) is
 
-pub told_is : {rows : List Row} {outcomes : List Outcome} {fates : List Fate} → AllCame rows outcomes fates → told_of true (map candidate_of rows) fates ≡ front_of rows outcomes
+pub told_is : {rows : List Row} {outcomes : List Outcome} {fates : List Fate} → AllCame rows outcomes fates → told_of_pieces true (map candidate_of rows) fates ≡ front_of rows outcomes
 told_is none = refl
 told_is (more {o = o} {rows = rows} {fates = fates} row one rest) =
-    ap (λ recs. recs ++ told_of true (map candidate_of rows) fates) (one_told row one) ∙ ap (λ recs. records_of row o ++ recs) (told_is rest)
+    ap (λ recs. recs ++ told_of_pieces true (map candidate_of rows) fates) (one_told row one) ∙ ap (λ recs. records_of row o ++ recs) (told_is rest)
 
-pub stopped_is : {rows : List Row} {outcomes : List Outcome} {fates : List Fate} → AllCame rows outcomes fates → told_of false (map candidate_of rows) fates ≡ stopped_front_of rows outcomes
+pub stopped_is : {rows : List Row} {outcomes : List Outcome} {fates : List Fate} → AllCame rows outcomes fates → told_of_pieces false (map candidate_of rows) fates ≡ stopped_front_of rows outcomes
 stopped_is none = refl
 stopped_is (more {o = o} {rows = rows} {fates = fates} row one rest) =
-    ap (λ recs. recs ++ told_of false (map candidate_of rows) fates) (one_stopped row one) ∙ ap (λ recs. stopped_records_of row o ++ recs) (stopped_is rest)
+    ap (λ recs. recs ++ told_of_pieces false (map candidate_of rows) fates) (one_stopped row one) ∙ ap (λ recs. stopped_records_of row o ++ recs) (stopped_is rest)
 
 -- ---- they can be told
 
 -- what is told of a piece leaves the others live
-told_keeps : (done : Bool) (t : State) (c : Candidate) (f : Fate) (x : PieceId) → same_piece c.id x ≡ false → live_row_of (after_all t (told_by done c f)) x ≡ live_row_of t x
+told_keeps : (done : Bool) (t : State) (c : Candidate) (f : Fate) (x : PieceId) → same_piece c.id x ≡ false → live_row_of (after_all t (told_of_piece done c f)) x ≡ live_row_of t x
 told_keeps true t c fate.NoRoom x h = refl
 told_keeps false t c fate.NoRoom x h = refl
 told_keeps done t c (fate.Copied pinned) x h = refl
@@ -99,7 +99,7 @@ told_keeps done t c (fate.Spoiled kept found) x h =
 told_keeps true t c (fate.Refused count) x h = refl
 told_keeps false t c (fate.Refused count) x h = refl
 
-still_live : (done : Bool) (t : State) (c : Candidate) (f : Fate) (rows : List Row) → NotAmong c.id rows → AllByRecursion (IsFound t) rows → AllByRecursion (IsFound (after_all t (told_by done c f))) rows
+still_live : (done : Bool) (t : State) (c : Candidate) (f : Fate) (rows : List Row) → NotAmong c.id rows → AllByRecursion (IsFound t) rows → AllByRecursion (IsFound (after_all t (told_of_piece done c f))) rows
 still_live done t c f [] n h = tt
 still_live done t c f (row ∷ rows) n h = (told_keeps done t c f row.id n.0 ∙ h.0, still_live done t c f rows n.1 h.1)
 
@@ -114,12 +114,12 @@ pub are_tellable : (done : Bool) (t : State) (faults : ℕ) {rows : List Row} {o
 are_tellable done t faults none h apart live = tt
 are_tellable done t faults (more {o = o} {f = f} {rows = rows} row one rest) h apart live = (
   one_tellable t faults row one h.0 live.0,
-  are_tellable done (after_all t (told_by done (candidate_of row) f)) faults rest h.1 apart.1 (still_live done t (candidate_of row) f rows apart.0 live.1),
+  are_tellable done (after_all t (told_of_piece done (candidate_of row) f)) faults rest h.1 apart.1 (still_live done t (candidate_of row) f rows apart.0 live.1),
 )
 
 -- ---- how many they are
 
-one_count : (done : Bool) (c : Candidate) (f : Fate) → length (told_by done c f) + copies_by f ≤ 2
+one_count : (done : Bool) (c : Candidate) (f : Fate) → length (told_of_piece done c f) + copies_by f ≤ 2
 one_count true c fate.NoRoom = omega arith
 one_count false c fate.NoRoom = omega arith
 one_count done c (fate.Copied pinned) = omega arith
@@ -129,17 +129,17 @@ one_count false c (fate.Refused count) = omega arith
 
 -- of each piece two at most, and of one that is copied its copy
 pub few_told : (done : Bool) (s : State) (faults : ℕ) (cs : List Candidate) (fs : List Fate) → AreTellable done s faults cs fs
-    → length (told_of done cs fs) + copies_among fs ≤ 2 * length cs
+    → length (told_of_pieces done cs fs) + copies_among fs ≤ 2 * length cs
 few_told done s faults [] [] h = omega arith
 few_told done s faults [] (f ∷ fs) h = absurd h
 few_told done s faults (c ∷ cs) [] h = absurd h
 few_told done s faults (c ∷ cs) (f ∷ fs) h =
-    let rest = few_told done (after_all s (told_by done c f)) faults cs fs h.1 in
-    omega (arith, rest, one_count done c f, length-append (told_by done c f) (told_of done cs fs))
+    let rest = few_told done (after_all s (told_of_piece done c f)) faults cs fs h.1 in
+    omega (arith, rest, one_count done c f, length-append (told_of_piece done c f) (told_of_pieces done cs fs))
 
 -- ---- the last fault among them
 
-one_fault : (done : Bool) (s : State) (faults : ℕ) (c : Candidate) (f : Fate) → IsTellable s faults c f → s.fault ≤ faults → (after_all s (told_by done c f)).fault ≤ faults
+one_fault : (done : Bool) (s : State) (faults : ℕ) (c : Candidate) (f : Fate) → IsTellable s faults c f → s.fault ≤ faults → (after_all s (told_of_piece done c f)).fault ≤ faults
 one_fault true s faults c fate.NoRoom h low = low
 one_fault false s faults c fate.NoRoom h low = low
 one_fault done s faults c (fate.Copied pinned) h low = low
@@ -148,10 +148,10 @@ one_fault true s faults c (fate.Refused count) h low = h
 one_fault false s faults c (fate.Refused count) h low = h
 
 pub last_fault : (done : Bool) (s : State) (faults : ℕ) (cs : List Candidate) (fs : List Fate) → AreTellable done s faults cs fs → s.fault ≤ faults
-    → (after_all s (told_of done cs fs)).fault ≤ faults
+    → (after_all s (told_of_pieces done cs fs)).fault ≤ faults
 last_fault done s faults [] [] h low = low
 last_fault done s faults [] (f ∷ fs) h low = absurd h
 last_fault done s faults (c ∷ cs) [] h low = absurd h
 last_fault done s faults (c ∷ cs) (f ∷ fs) h low =
-    let first : State = after_all s (told_by done c f) in
-    rw (after_all-append s (told_by done c f) (told_of done cs fs)) (last_fault done first faults cs fs h.1 (one_fault done s faults c f h.0 low))
+    let first : State = after_all s (told_of_piece done c f) in
+    rw (after_all-append s (told_of_piece done c f) (told_of_pieces done cs fs)) (last_fault done first faults cs fs h.1 (one_fault done s faults c f h.0 low))

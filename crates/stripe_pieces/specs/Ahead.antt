@@ -3,12 +3,12 @@ use Rattle.std.specs.Prelude.{ℕ, ◌≡◌, ◌+◌, ◌*◌, ◌≤◌, ◌==
 use Rattle.std.specs.List.{AllByRecursion}
 use Rattle.tape_base.specs.declared.geometries.Geometry.{Geometry}
 use Rattle.tape_base.specs.Geometry.{budget_of}
-use Rattle.logged_disk.specs.Device.{State as Device, IsAfter, TellsAll, seen as content_of}
+use Rattle.logged_disk.specs.Device.{DeviceState as Device, IsAfter, TellsAll, seen as content_of}
 use Rattle.cache_model.specs.State.{Row, State}
 use Rattle.cache_model.specs.Permit.{Permit}
 use Rattle.cache_model.specs.Due.{due_pieces}
 use Rattle.cache_model.specs.Outcomes.{AreOutcomes, Copied, NoRoom, Outcome, Refused, Spoiled, front_of}
-use Rattle.stripe_due.specs.Finding.{candidates_of, most_passed}
+use Rattle.stripe_due.specs.Finding.{due_candidates, most_passed}
 use Rattle.stripe_pieces.specs.declared.ahead.Ahead.{Ahead}
 use Rattle.stripe_pieces.specs.declared.ahead.Fate.{Fate}
 use Rattle.stripe_pieces.specs.declared.ahead.Fate.TheVariants as fate
@@ -39,15 +39,15 @@ AreFates (row ∷ rows) (o ∷ outcomes) (f ∷ fates) = IsFate row o f × AreFa
 AreFates _ _ _ = ⊥
 
 -- how many blocks of memory a piece takes: all that is read has its own
-abbrev pub taken_by : Row → Outcome → ℕ
-taken_by row NoRoom = 0
-taken_by row _ = row.blocks
+abbrev pub blocks_taken_by : Row → Outcome → ℕ
+blocks_taken_by row NoRoom = 0
+blocks_taken_by row _ = row.blocks
 
 -- how many blocks all of them take
 abbrev pub taken_by_all : List Row → List Outcome → ℕ
 taken_by_all [] outcomes = 0
 taken_by_all (row ∷ rows) [] = 0
-taken_by_all (row ∷ rows) (o ∷ outcomes) = taken_by row o + taken_by_all rows outcomes
+taken_by_all (row ∷ rows) (o ∷ outcomes) = blocks_taken_by row o + taken_by_all rows outcomes
 
 -- the document of a piece that is copied stands in memory, so many blocks from its front
 abbrev pub StandsAt : ℕ → Row → Outcome → List ℕ → Type 0
@@ -58,12 +58,12 @@ StandsAt at row _ memory = Unit {0}
 abbrev pub StandFrom : ℕ → List Row → List Outcome → List ℕ → Type 0
 StandFrom at [] outcomes memory = Unit {0}
 StandFrom at (row ∷ rows) [] memory = Unit {0}
-StandFrom at (row ∷ rows) (o ∷ outcomes) memory = StandsAt at row o memory × StandFrom (at + taken_by row o) rows outcomes memory
+StandFrom at (row ∷ rows) (o ∷ outcomes) memory = StandsAt at row o memory × StandFrom (at + blocks_taken_by row o) rows outcomes memory
 
 -- what is due at a moment was looked at within the budget, over a device at these two moments
 pub record LooksAhead (now : ℕ) (s : State) (before after : Device) (a : Ahead) : Type 0 where
   pub outcomes : List Outcome
-  pub due : a.due.items ≡ candidates_of s now
+  pub due : a.due.items ≡ due_candidates s now
   pub few : length a.due.items ≤ most_passed s.geometry
   pub fates : AreFates (due_pieces s now) outcomes a.fates.items
   pub stand : StandFrom 0 (due_pieces s now) outcomes a.bytes.items

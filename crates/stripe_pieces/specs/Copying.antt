@@ -21,17 +21,17 @@ abbrev pub left_records : Bool → Candidate → Bool → List Rec
 left_records done c fault = if done then rec.Unsaved c.id c.place fault ∷ [] else []
 
 -- what is told of one piece: damage and faults also of a flush that is not done
-abbrev pub told_by : Bool → Candidate → Fate → List Rec
-told_by done c fate.NoRoom = left_records done c false
-told_by done c (fate.Copied pinned) = []
-told_by done c (fate.Spoiled kept found) = rec.Damaged c.id c.place kept found ∷ []
-told_by done c (fate.Refused count) = rec.Fault count ∷ left_records done c true
+abbrev pub told_of_piece : Bool → Candidate → Fate → List Rec
+told_of_piece done c fate.NoRoom = left_records done c false
+told_of_piece done c (fate.Copied pinned) = []
+told_of_piece done c (fate.Spoiled kept found) = rec.Damaged c.id c.place kept found ∷ []
+told_of_piece done c (fate.Refused count) = rec.Fault count ∷ left_records done c true
 
 -- of each piece in turn
-abbrev pub told_of : Bool → List Candidate → List Fate → List Rec
-told_of done [] fates = []
-told_of done (c ∷ cs) [] = []
-told_of done (c ∷ cs) (f ∷ fs) = told_by done c f ++ told_of done cs fs
+abbrev pub told_of_pieces : Bool → List Candidate → List Fate → List Rec
+told_of_pieces done [] fates = []
+told_of_pieces done (c ∷ cs) [] = []
+told_of_pieces done (c ∷ cs) (f ∷ fs) = told_of_piece done c f ++ told_of_pieces done cs fs
 
 -- what is told as damaged is live, and a fault is one that the device counted
 abbrev pub IsTellable : State → ℕ → Candidate → Fate → Type 0
@@ -42,7 +42,7 @@ IsTellable s faults c _ = Unit {0}
 -- each behind the records of those before it
 abbrev pub AreTellable : Bool → State → ℕ → List Candidate → List Fate → Type 0
 AreTellable done s faults [] [] = Unit {0}
-AreTellable done s faults (c ∷ cs) (f ∷ fs) = IsTellable s faults c f × AreTellable done (after_all s (told_by done c f)) faults cs fs
+AreTellable done s faults (c ∷ cs) (f ∷ fs) = IsTellable s faults c f × AreTellable done (after_all s (told_of_piece done c f)) faults cs fs
 AreTellable done s faults _ _ = ⊥
 
 -- ---- what is copied
@@ -131,5 +131,5 @@ begun_behind s told = state_after (after_all s told) (rec.Began (cursor_next s) 
 -- what is told first, then that the next buffer begins, and then what is copied into it
 abbrev pub done_records : State → List Candidate → List Fate → List ℕ → List Rec
 done_records s cs fs memory =
-    let told : List Rec = told_of true cs fs in
+    let told : List Rec = told_of_pieces true cs fs in
     told ++ rec.Began (cursor_next s) (floor_next s) ∷ copied_of (begun_behind s told) 0 cs fs memory

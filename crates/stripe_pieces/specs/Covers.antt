@@ -3,7 +3,7 @@ use Rattle.std.specs.Prelude.{ℕ, ◌≡◌, ◌+◌, ◌-◌, ◌/◌, ◌≤�
 use Rattle.std.specs.List.{AllByRecursion}
 use Rattle.device_log.specs.Image.{span}
 use Rattle.device_log.specs.Calls.{Call, Read}
-use Rattle.logged_disk.specs.Device.{State as Device, IsAfter, IsTrusted, Keeps, seen as content_of}
+use Rattle.logged_disk.specs.Device.{DeviceState as Device, IsAfter, IsTrusted, Keeps, seen as content_of}
 use Rattle.cyclone.specs.Cyclone.{Seen}
 use Rattle.cache_model.specs.declared.record.Rec.{Rec}
 use Rattle.cache_model.specs.State.{State}
@@ -22,17 +22,17 @@ pub record Covers (p : Permit) (before after : List Call) : Type 0 where
   pub knows : (made : List Call) → after ≡ made ++ before → AllByRecursion (λ call. IsAmong call p.events) made
 
 -- a read gave what is seen there
-abbrev pub IsSeenOn : Device → Call → Type 0
-IsSeenOn device (Read at bytes) = bytes ≡ span (content_of device) at (length bytes / 512)
-IsSeenOn device _ = Unit {0}
+abbrev pub ReadIsSeen : Device → Call → Type 0
+ReadIsSeen device (Read at bytes) = bytes ≡ span (content_of device) at (length bytes / 512)
+ReadIsSeen device _ = Unit {0}
 
 -- what was read between two moments is what is seen there, where the device is trusted
-abbrev pub AreSeen : Device → Device → Type 0
-AreSeen old new = (made : List Call) → new.past ≡ made ++ old.past → IsTrusted new → AllByRecursion (IsSeenOn new) made
+abbrev pub AllReadIsSeen : Device → Device → Type 0
+AllReadIsSeen old new = (made : List Call) → new.past ≡ made ++ old.past → IsTrusted new → AllByRecursion (ReadIsSeen new) made
 
 -- what is asked first comes to this end, by one group of records or more
-abbrev pub Spends : Permit → State → Intent → List Rec → End → Type 0
-Spends p s i added e = (rest : List Intent) (why : Option Reason) → MayGrow p s (record { intents = i ∷ rest; refused = why }) added (work_after i rest why e)
+abbrev pub SpendsFirst : Permit → State → Intent → List Rec → End → Type 0
+SpendsFirst p s i added e = (rest : List Intent) (why : Option Reason) → MayGrow p s (record { intents = i ∷ rest; refused = why }) added (work_after i rest why e)
 
 -- what a call uses up at most: records, entries, and calls of the device with their blocks
 pub record Uses (records entries calls blocks : ℕ) (room left : ℕ) (old new : Seen) : Type 0 where

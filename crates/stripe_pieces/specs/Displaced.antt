@@ -11,8 +11,8 @@ use Rattle.cache_model.specs.Room.{MayDisplace}
 use Rattle.cache_model.specs.State.{State}
 
 -- what the entry of a piece displaces, in each step of a directory that displaces at all (`packed`), or that does not
-abbrev pub IsPushedOut : Bool → State → PieceId → List Rec → Type 0
-IsPushedOut packed s id displaced = (p : Permit) → p.packed ≡ packed → MayDisplace p s id displaced
+abbrev pub PushesOut : Bool → State → PieceId → List Rec → Type 0
+PushesOut packed s id displaced = (p : Permit) → p.packed ≡ packed → MayDisplace p s id displaced
 
 -- the record tells that a piece was displaced
 abbrev pub IsOfDisplacement : Rec → Type 0

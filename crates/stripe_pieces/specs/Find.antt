@@ -17,20 +17,20 @@ use Rattle.call_laws.specs.Contents.{Contents}
 use Rattle.stripe_pieces.specs.declared.answer.Found.{Found}
 use Rattle.stripe_pieces.specs.declared.answer.Found.TheVariants as found
 use Rattle.stripe_pieces.specs.Faults.{HasEffects}
-use Rattle.stripe_pieces.specs.Covers.{AreSeen, Covers}
+use Rattle.stripe_pieces.specs.Covers.{AllReadIsSeen, Covers}
 use Rattle.stripe_pieces.specs.Standing.{AreStanding}
 
 -- the record of what kept a live piece from being read
-abbrev pub cause_records : Row → Cause → List Rec
-cause_records row (cause.DeviceFault count) = rec.Fault count ∷ []
-cause_records row (cause.Damaged place kept found) = rec.Damaged row.id row.place kept found ∷ []
-cause_records row _ = []
+abbrev pub records_of_trouble : Row → Cause → List Rec
+records_of_trouble row (cause.DeviceFault count) = rec.Fault count ∷ []
+records_of_trouble row (cause.Damaged place kept found) = rec.Damaged row.id row.place kept found ∷ []
+records_of_trouble row _ = []
 
 -- no record of a piece that is not live, or that was found
 abbrev pub found_records : Option Row → Found → List Rec
 found_records None answer = []
 found_records (Some row) (found.Found length) = []
-found_records (Some row) (found.Missing why) = cause_records row why
+found_records (Some row) (found.Missing why) = records_of_trouble row why
 
 -- the same by the piece, which is live or not
 abbrev pub find_adds : State → PieceId → Found → List Rec
@@ -64,7 +64,7 @@ IsJudged place kept bytes (found.Missing why) into = (why ≡ cause.Damaged plac
 abbrev pub IsFoundAs : Permit → State → PieceId → Option Row → Found → List ℕ → Type 0
 IsFoundAs p s id None answer into = answer ≡ found.Missing (cause_of_piece s id)
 IsFoundAs p s id (Some row) (found.Found size) into = IsDocumentOf p s row size into
-IsFoundAs p s id (Some row) (found.Missing why) into = Trouble p s row (cause_records row why) why
+IsFoundAs p s id (Some row) (found.Missing why) into = Trouble p s row (records_of_trouble row why) why
 
 -- a fault with a live piece is told with the device's own count
 abbrev pub TellsCount : Option Row → ℕ → Found → Type 0
@@ -79,7 +79,7 @@ HasPayload contents _ answer into = Unit {0}
 -- what was found, in any step that covers the call; what was read is what is seen, what was refused is recorded, and where the
 -- device tells its content a payload is the one that is told
 pub record Finds (s : State) (old new : Seen) (id : PieceId) (answer : Found) (into : List ℕ) : Type 0 where
-  pub seen : AreSeen old.device new.device
+  pub seen : AllReadIsSeen old.device new.device
   pub faults : HasEffects old.device.past new.device.past (effects_told (find_adds s id answer))
   pub counted : TellsCount (live_row_of s id) new.device.faults answer
   pub contents : TellsAll new.device → (contents : Contents) → AreStanding contents s old → HasPayload contents (live_row_of s id) answer into

@@ -3,7 +3,7 @@ use Rattle.std.specs.Prelude.{ℕ, ◌≡◌, ◌≤◌, List, Some, Result, Ok,
 use Rattle.std.specs.List.{AllByRecursion}
 use Rattle.tape_base.specs.declared.pieces.PieceId.{PieceId}
 use Rattle.device_log.specs.Calls.{Call}
-use Rattle.logged_disk.specs.Device.{State as Device, TellsAll}
+use Rattle.logged_disk.specs.Device.{DeviceState as Device, TellsAll}
 use Rattle.cache_model.specs.declared.record.Rec.{Rec}
 use Rattle.cache_model.specs.declared.record.Rec.TheVariants as rec
 use Rattle.cache_model.specs.State.{Row, State, floor_now, live_row_of}
@@ -22,20 +22,20 @@ use Rattle.cache_model.specs.Damage.{TellNoDamage}
 -- ---- its records
 
 -- the record may be one of a flush: it speaks of pieces and the device alone
-abbrev pub IsOfFlush : Rec → Type 0
-IsOfFlush (rec.Began cursor floor) = Unit {0}
-IsOfFlush (rec.Moved piece from place digest) = Unit {0}
-IsOfFlush (rec.Unsaved piece place fault) = Unit {0}
-IsOfFlush (rec.Damaged piece place kept found) = Unit {0}
-IsOfFlush (rec.Fault count) = Unit {0}
-IsOfFlush _ = ⊥
+abbrev pub IsRecordOfFlush : Rec → Type 0
+IsRecordOfFlush (rec.Began cursor floor) = Unit {0}
+IsRecordOfFlush (rec.Moved piece from place digest) = Unit {0}
+IsRecordOfFlush (rec.Unsaved piece place fault) = Unit {0}
+IsRecordOfFlush (rec.Damaged piece place kept found) = Unit {0}
+IsRecordOfFlush (rec.Fault count) = Unit {0}
+IsRecordOfFlush _ = ⊥
 
 -- each of them may be one of a flush
 abbrev pub AreOfFlush : List Rec → Type 0
-AreOfFlush recs = AllByRecursion IsOfFlush recs
+AreOfFlush recs = AllByRecursion IsRecordOfFlush recs
 
 -- the same piece, where it stood or at another place
-pub record IsSamePiece (before row : Row) : Type 0 where
+pub record IsStillPiece (before row : Row) : Type 0 where
   pub id : row.id ≡ before.id
   pub blocks : row.blocks ≡ before.blocks
   pub payload : row.payload ≡ before.payload
@@ -43,8 +43,8 @@ pub record IsSamePiece (before row : Row) : Type 0 where
   pub alternates : row.alternates ≡ before.alternates
 
 -- what is live then was live before
-abbrev pub LiveBefore : State → State → Type 0
-LiveBefore s t = (id : PieceId) (row : Row) → live_row_of t id ≡ Some row → (before : Row) × (live_row_of s id ≡ Some before) × IsSamePiece before row
+abbrev pub EachWasLive : State → State → Type 0
+EachWasLive s t = (id : PieceId) (row : Row) → live_row_of t id ≡ Some row → (before : Row) × (live_row_of s id ≡ Some before) × IsStillPiece before row
 
 -- ---- its answer
 
@@ -59,7 +59,7 @@ flush_end (Ok flushed) = Done
 flush_end (Err why) = stop_end why
 
 -- what a finished flush tells: the blocks that were written, and the buffer that stands then
-pub record Tells (s t : State) (flushed : Flushed) : Type 0 where
+pub record TellsFlush (s t : State) (flushed : Flushed) : Type 0 where
   pub blocks : flushed.blocks ≡ s.filled
   pub cursor : flushed.cursor ≡ t.cursor
   pub floor : flushed.floor ≡ floor_now t
@@ -75,7 +75,7 @@ pub record FlushesAsAsked (now : ℕ) (old new : Kept) (before : List Call) (aft
   pub added : List Rec
   pub adds : new ≡ with_records old added
   pub kinds : AreOfFlush added
-  pub live : LiveBefore (state_of old) (state_of new)
+  pub live : EachWasLive (state_of old) (state_of new)
   -- a device that tells its content shows each piece as it was placed
   pub unharmed : TellsAll after → TellNoDamage added
   pub faults : HasEffects before after.past (effects_told added)

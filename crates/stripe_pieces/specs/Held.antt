@@ -17,8 +17,8 @@ use Rattle.cache_model.specs.State.{State, Row, floor_now, live_rows}
 use Rattle.cache_model.specs.Tape.{IsSound}
 
 -- the row under which a directory has a piece
-abbrev pub entry_of : Geometry → Row → DirRow
-entry_of g row = row_of_key g (key_of_piece row.id) row.place
+abbrev pub entry_of_piece : Geometry → Row → DirRow
+entry_of_piece g row = row_of_key g (key_of_piece row.id) row.place
 
 -- the same segment, bucket, tag and place, of whatever piece
 abbrev pub same_entry : DirRow → DirRow → Bool
@@ -68,7 +68,7 @@ pub record IsHeld (s : State) (c : Seen) : Type 0 where
   pub cursor : c.buffer.cursor ≡ s.cursor
   pub filled : filled_of c.buffer ≡ s.filled
   -- the entries in range are those of the live pieces, one each
-  pub entered : SameRows (rows_in_range c) (map (entry_of s.geometry) (live_rows s))
+  pub entered : SameRows (rows_in_range c) (map (entry_of_piece s.geometry) (live_rows s))
   pub buffered : AllByRecursion (IsBufferedWhereNew c.buffer) s.rows
   pub intact : TellsAll c.device → AllByRecursion (IsIntactWhereWritten s (content_of c.device)) s.rows
   pub laps : AllByRecursion (IsInLap s.geometry) s.rows

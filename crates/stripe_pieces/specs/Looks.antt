@@ -2,7 +2,7 @@
 use Rattle.std.specs.Prelude.{ℕ, ◌≡◌, ◌≢◌, ◌+◌, ◌-◌, ◌*◌, ◌≤◌, ◌==◌, Bool, false, not, if◌then◌else◌, List, [], ◌∷◌, ◌++◌, map, slice_index, slice_index_or, take, Some}
 use Rattle.std.specs.List.{AllByRecursion}
 use Rattle.tape_base.specs.Geometry.{budget_of}
-use Rattle.logged_disk.specs.Device.{State as Device, IsAfter, TellsAll, seen as content_of}
+use Rattle.logged_disk.specs.Device.{DeviceState as Device, IsAfter, TellsAll, seen as content_of}
 use Rattle.doc_header.specs.Reading.{document_digest}
 use Rattle.evacuator.specs.declared.choosing.Candidate.{Candidate}
 use Rattle.evacuator.specs.Choice.{blocks_of_all}
@@ -14,7 +14,7 @@ use Rattle.stripe_due.specs.Finding.{candidate_of}
 use Rattle.stripe_pieces.specs.declared.ahead.Ahead.{Ahead}
 use Rattle.stripe_pieces.specs.declared.ahead.Fate.{Fate}
 use Rattle.stripe_pieces.specs.declared.ahead.Fate.TheVariants as fate
-use Rattle.stripe_pieces.specs.Ahead.{AreFates, IsFate, StandFrom, StandsAt, taken_by, taken_by_all}
+use Rattle.stripe_pieces.specs.Ahead.{AreFates, IsFate, StandFrom, StandsAt, blocks_taken_by, taken_by_all}
 use Rattle.stripe_pieces.specs.Faults.{CountsUpTo, HasEffects, effects_among, effects_of}
 use Rattle.stripe_pieces.specs.Covers.{Covers}
 use Rattle.cache_model.specs.Damage.{TellNoDamage}
@@ -31,7 +31,7 @@ pub record AreOfRows (s : State) (candidates : List Candidate) (rows : List Row)
   pub are : candidates ≡ map candidate_of rows
 
 -- there are such pieces for the candidates, one for each and in their order
-pub record HasRows (s : State) (candidates : List Candidate) : Type 0 where
+pub record HasCandidateRows (s : State) (candidates : List Candidate) : Type 0 where
   pub rows : List Row
   pub of : AreOfRows s candidates rows
 
@@ -52,9 +52,9 @@ IsJudgedAs row bytes (fate.Spoiled kept found) = (kept ≡ row.digest) × (found
 IsJudgedAs row bytes _ = ⊥
 
 -- of these bytes it is a copy, where it is copied
-abbrev pub IsCopyOf : List ℕ → Outcome → Type 0
-IsCopyOf bytes (Copied read) = read ≡ bytes
-IsCopyOf bytes _ = Unit {0}
+abbrev pub IsCopiedFrom : List ℕ → Outcome → Type 0
+IsCopiedFrom bytes (Copied read) = read ≡ bytes
+IsCopiedFrom bytes _ = Unit {0}
 
 -- the same geometry and buffer, and no fault later than the device's
 pub record IsBeside (s : State) (device : Device) (t : State) : Type 0 where
@@ -66,8 +66,8 @@ pub record IsBeside (s : State) (device : Device) (t : State) : Type 0 where
 pub record Comes (s : State) (before after : Device) (row : Row) (f : Fate) (bytes : List ℕ) : Type 0 where
   pub outcome : Outcome
   pub fate : IsFate row outcome f
-  pub copy : IsCopyOf bytes outcome
-  pub taken : taken_by row outcome ≡ row.blocks
+  pub copy : IsCopiedFrom bytes outcome
+  pub taken : blocks_taken_by row outcome ≡ row.blocks
   pub count : CountsUpTo after.faults outcome
   pub unharmed : TellsAll after → TellNoDamage (records_of row outcome)
   pub exact : TellsAll after → IsAsSeen s.geometry (content_of before) row outcome
@@ -83,7 +83,7 @@ pub record LooksOn (s : State) (before after : Device) (row : Row) (at end : ℕ
   pub fate : IsFate row outcome note
   pub stands : StandsAt at row outcome new.bytes.items
   pub stay : take (512 * at) new.bytes.items ≡ take (512 * at) old.bytes.items
-  pub taken : end ≡ at + taken_by row outcome
+  pub taken : end ≡ at + blocks_taken_by row outcome
   pub count : CountsUpTo after.faults outcome
   pub unharmed : TellsAll after → TellNoDamage (records_of row outcome)
   pub exact : TellsAll after → IsAsSeen s.geometry (content_of before) row outcome

@@ -4,7 +4,7 @@ use Rattle.tape_base.specs.declared.pieces.PieceId.{PieceId}
 use Rattle.logged_disk.specs.declared.device.Disk.{Ghosts as DiskGhosts}
 use Rattle.dir_table.specs.declared.directory.Directory.{Ghosts as DirectoryGhosts}
 use Rattle.dir_table.specs.declared.rows.Walk.{Walk}
-use Rattle.cyclone.specs.Cyclone.{Seen, seen}
+use Rattle.cyclone.specs.Cyclone.{Seen, seen_cyclone}
 use Rattle.cache_model.specs.State.{State, Row, live_row_of}
 use Rattle.cache_model.specs.Kept.{Kept, state_of}
 use Rattle.cache_chronicle.specs.declared.chronicle.Chronicle.{Ghosts as ChronicleGhosts}
@@ -15,24 +15,24 @@ use Rattle.stripe_pieces.specs.declared.pieces.Pieces.{Pieces}
 
 module _ {D R C : Type 0} {d : DiskGhosts D} {r : DirectoryGhosts R} {c : ChronicleGhosts C} where
   -- the records of the pieces, as their chronicle keeps them
-  abbrev pub kept_of : Pieces D R C d r c → Kept
-  kept_of p = c.kept p.chronicle
+  abbrev pub kept_now : Pieces D R C d r c → Kept
+  kept_now p = c.kept p.chronicle
 
   -- what these records stand for
   abbrev pub state_now : Pieces D R C d r c → State
-  state_now p = state_of (kept_of p)
+  state_now p = state_of (kept_now p)
 
   -- the cyclone that has the pieces, as contracts see it
-  abbrev pub seen_of : Pieces D R C d r c → Seen
-  seen_of p = seen p.cyclone
+  abbrev pub seen_now : Pieces D R C d r c → Seen
+  seen_now p = seen_cyclone p.cyclone
 
   -- what holds of the pieces between calls
   abbrev pub ArePieces : Pieces D R C d r c → Type 0
-  ArePieces p = IsHeld (state_now p) (seen_of p)
+  ArePieces p = IsHeld (state_now p) (seen_now p)
 
   -- what is told of the pieces stands
   abbrev pub Stand : Contents → Pieces D R C d r c → Type 0
-  Stand contents p = AreStanding contents (state_now p) (seen_of p)
+  Stand contents p = AreStanding contents (state_now p) (seen_now p)
 
   -- what a call of the pieces keeps: they are held, and what is told of them goes on to stand, where it tells this of what is
   -- placed or copied
@@ -49,6 +49,6 @@ abbrev pub live_place_of : State → PieceId → Option ℕ
 live_place_of s id = option_map (λ (row : Row). row.place) (live_row_of s id)
 
 -- a walk over the places that a piece may have comes to it, where it is live
-pub record ComesTo {R : Type 0} (directory : DirectoryGhosts R) (s : State) (id : PieceId) (d : R) (walk : Walk) : Type 0 where
+pub record WalkComesTo {R : Type 0} (directory : DirectoryGhosts R) (s : State) (id : PieceId) (d : R) (walk : Walk) : Type 0 where
   pub walks : directory.walks d walk
   pub ahead : (row : Row) → live_row_of s id ≡ Some row → Contains (directory.rest d walk) row.place

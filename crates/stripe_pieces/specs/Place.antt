@@ -10,7 +10,7 @@ use Rattle.fragment_table.specs.Table.{total_length}
 use Rattle.cache_model.specs.declared.record.Rec.{Rec}
 use Rattle.cache_model.specs.declared.record.Rec.TheVariants as rec
 use Rattle.device_log.specs.Calls.{Call}
-use Rattle.logged_disk.specs.Device.{State as Device, TellsAll}
+use Rattle.logged_disk.specs.Device.{DeviceState as Device, TellsAll}
 use Rattle.cache_model.specs.State.{PutRow, State, after_all, list_of_put, place_now, row_of, vector_piece}
 use Rattle.cache_model.specs.Kept.{Kept, state_of, with_records}
 use Rattle.cache_model.specs.Verdict.{cuts_of}
@@ -21,11 +21,11 @@ use Rattle.cache_model.specs.Legal.{AreLiveTo, Does, IsCut, IsNext, IsWriting, M
 use Rattle.stripe_pieces.specs.declared.answer.Placed.{Placed}
 use Rattle.stripe_pieces.specs.declared.answer.Stop.{Stop}
 use Rattle.stripe_pieces.specs.declared.answer.Stop.TheVariants as stop
-use Rattle.stripe_pieces.specs.Displaced.{IsPushedOut}
+use Rattle.stripe_pieces.specs.Displaced.{PushesOut}
 use Rattle.stripe_pieces.specs.Faults.{HasEffects}
-use Rattle.stripe_pieces.specs.Covers.{Covers, Spends}
+use Rattle.stripe_pieces.specs.Covers.{Covers, SpendsFirst}
 use Rattle.cache_model.specs.Damage.{TellNoDamage}
-use Rattle.stripe_pieces.specs.Flush.{AreOfFlush, LiveBefore, stop_end}
+use Rattle.stripe_pieces.specs.Flush.{AreOfFlush, EachWasLive, stop_end}
 
 -- ---- room
 
@@ -39,18 +39,18 @@ pub record RoomsAsAsked (now : ℕ) (old new : Kept) (before : List Call) (after
   pub added : List Rec
   pub adds : new ≡ with_records old added
   pub kinds : AreOfFlush added
-  pub live : LiveBefore (state_of old) (state_of new)
+  pub live : EachWasLive (state_of old) (state_of new)
   pub unharmed : TellsAll after → TellNoDamage added
   pub faults : HasEffects before after.past (effects_told added)
   pub does : (p : Permit) → p.now ≡ now → Covers p before after.past → RoomIsMade p (state_of old) bytes added result
 
 -- where a piece of so many bytes would end; or where it has no room, where the copies of the flush before it end at the latest
-abbrev pub number_over : State → ℕ → ℕ
-number_over t bytes = if has_room t bytes then place_now t + blocks_of bytes else copies_end t
+abbrev pub exhausted_number : State → ℕ → ℕ
+exhausted_number t bytes = if has_room t bytes then place_now t + blocks_of bytes else copies_end t
 
 -- that is the number, and it is the limit or above
-abbrev pub ReachesLimit : State → ℕ → ℕ → Type 0
-ReachesLimit t bytes number = (number ≡ number_over t bytes) × (limit ≤ number)
+abbrev pub IsExhaustedAt : State → ℕ → ℕ → Type 0
+IsExhaustedAt t bytes number = (number ≡ exhausted_number t bytes) × (limit ≤ number)
 
 -- ---- a piece that has room
 
@@ -63,9 +63,9 @@ abbrev pub cut_records : PieceId → List ℕ → List Rec
 cut_records id payload = cut_record_of id (length payload) (digest_of payload)
 
 -- the records of a piece that is placed: of a fragment, that it was cut; then what its entry displaces, and its place
-pub record IsPlacedAs (packed : Bool) (s : State) (id : PieceId) (pin start : ℕ) (payload : List ℕ) (added : List Rec) : Type 0 where
+pub record AreOfPlace (packed : Bool) (s : State) (id : PieceId) (pin start : ℕ) (payload : List ℕ) (added : List Rec) : Type 0 where
   pub displaced : List Rec
-  pub pushed : IsPushedOut packed s id displaced
+  pub pushed : PushesOut packed s id displaced
   pub is : added ≡ cut_records id payload ++ (displaced ++ placed_record s id pin start (length payload) payload ∷ [])
 
 -- the place behind the piece
@@ -74,7 +74,7 @@ end_of s payload = place_now s + blocks_of (length payload)
 
 -- what is recorded of a piece that had room: nothing where it would end at the limit
 abbrev pub PlaceAdds : Bool → State → PieceId → ℕ → ℕ → List ℕ → Result Placed Stop → List Rec → Type 0
-PlaceAdds packed s id pin start payload (Ok placed) added = IsPlacedAs packed s id pin start payload added
+PlaceAdds packed s id pin start payload (Ok placed) added = AreOfPlace packed s id pin start payload added
 PlaceAdds packed s id pin start payload (Err why) added = added ≡ []
 
 -- the piece stands behind those before it, or would end at the limit
@@ -87,7 +87,7 @@ PlacesAt s payload (Err (stop.DeviceFault count)) = ⊥
 pub record PutsIn (packed : Bool) (old new : Kept) (id : PieceId) (pin start : ℕ) (payload : List ℕ) : Type 0 where
   pub added : List Rec
   pub adds : new ≡ with_records old added
-  pub are : IsPlacedAs packed (state_of old) id pin start payload added
+  pub are : AreOfPlace packed (state_of old) id pin start payload added
 
 -- what came of a piece that had room
 pub record PlacesIn (packed : Bool) (old new : Kept) (id : PieceId) (pin start : ℕ) (payload : List ℕ) (result : Result Placed Stop) : Type 0 where
@@ -102,7 +102,7 @@ place_end (Ok placed) = Done
 place_end (Err why) = stop_end why
 
 -- a piece that is new and small
-pub record IsNew (s : State) (id : PieceId) (payload : List ℕ) : Type 0 where
+pub record IsNewPiece (s : State) (id : PieceId) (payload : List ℕ) : Type 0 where
   pub nowhere : row_of s id ≡ None
   pub small : blocks_of (length payload) ≤ budget_of s.geometry
 
@@ -122,37 +122,37 @@ pub record IsCutAs (packed : Bool) (s : State) (id : PieceId) (pin start : ℕ) 
   pub piece : List Rec
   pub kinds : AreOfFlush room
   pub none : has_room s (length payload) ≡ true → room ≡ []
-  pub live : LiveBefore s (after_all s room)
-  pub are : IsPlacedAs packed (after_all s room) id pin start payload piece
+  pub live : EachWasLive s (after_all s room)
+  pub are : AreOfPlace packed (after_all s room) id pin start payload piece
   pub is : added ≡ room ++ piece
   pub place : placed.place ≡ place_now (after_all s room)
   pub payload_is : placed.payload ≡ digest_of payload
 
 -- why a fragment was not placed, with its number, behind the flush that it may have needed
-abbrev pub StopsBehind : State → State → ℕ → ℕ → Stop → Type 0
-StopsBehind s t faults bytes (stop.DeviceFault count) = (count ≡ faults) × (has_room s bytes ≡ false)
-StopsBehind s t faults bytes (stop.Exhausted number) = ReachesLimit t bytes number
+abbrev pub FragmentStopsBehind : State → State → ℕ → ℕ → Stop → Type 0
+FragmentStopsBehind s t faults bytes (stop.DeviceFault count) = (count ≡ faults) × (has_room s bytes ≡ false)
+FragmentStopsBehind s t faults bytes (stop.Exhausted number) = IsExhaustedAt t bytes number
 
 -- what is recorded then: that flush alone
 pub record IsStoppedAs (s : State) (faults : ℕ) (payload : List ℕ) (added : List Rec) (why : Stop) : Type 0 where
   pub kinds : AreOfFlush added
-  pub live : LiveBefore s (after_all s added)
-  pub why_is : StopsBehind s (after_all s added) faults (length payload) why
+  pub live : EachWasLive s (after_all s added)
+  pub why_is : FragmentStopsBehind s (after_all s added) faults (length payload) why
 
 -- what is recorded of a fragment, placed or stopped
-abbrev pub IsFragmentAs : Bool → State → ℕ → PieceId → ℕ → ℕ → List ℕ → List Rec → Result Placed Stop → Type 0
-IsFragmentAs packed s faults id pin start payload added (Ok placed) = IsCutAs packed s id pin start payload added placed
-IsFragmentAs packed s faults id pin start payload added (Err why) = IsStoppedAs s faults payload added why
+abbrev pub IsCutOrStoppedAs : Bool → State → ℕ → PieceId → ℕ → ℕ → List ℕ → List Rec → Result Placed Stop → Type 0
+IsCutOrStoppedAs packed s faults id pin start payload added (Ok placed) = IsCutAs packed s id pin start payload added placed
+IsCutOrStoppedAs packed s faults id pin start payload added (Err why) = IsStoppedAs s faults payload added why
 
 -- as `FlushesAsAsked`, of a fragment that is cut
 pub record CutsAsAsked (packed : Bool) (now : ℕ) (old new : Kept) (before : List Call) (after : Device) (id : PieceId) (pin start : ℕ) (payload : List ℕ) (result : Result Placed Stop) : Type 0 where
   pub added : List Rec
   pub adds : new ≡ with_records old added
-  pub shape : IsFragmentAs packed (state_of old) after.faults id pin start payload added result
+  pub shape : IsCutOrStoppedAs packed (state_of old) after.faults id pin start payload added result
   pub unharmed : TellsAll after → TellNoDamage added
   pub faults : HasEffects before after.past (effects_told added)
   pub does : (p : Permit) → p.packed ≡ packed → p.now ≡ now → Covers p before after.past
-      → Spends p (state_of old) (Fragment id.put id.index payload) added (place_end result)
+      → SpendsFirst p (state_of old) (Fragment id.put id.index payload) added (place_end result)
 
 -- ---- a vector
 

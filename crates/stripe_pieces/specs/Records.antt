@@ -17,12 +17,12 @@ use Rattle.cache_model.specs.declared.record.Rec.TheVariants as rec
 use Rattle.cache_model.specs.State.{State, Row, cursor_next, floor_next, floor_now, live_row_of, nothing_yet, place_now, row_of, after_all, state_after, without}
 use Rattle.cache_model.specs.Legal.{format_records}
 use Rattle.device_log.specs.Image.{SameBut, span}
-use Rattle.logged_disk.specs.Device.{State as Device, IsAfter, seen as content_of}
+use Rattle.logged_disk.specs.Device.{DeviceState as Device, IsAfter, seen as content_of}
 use Rattle.cache_model.specs.Tape.{IsSound}
 use Rattle.cache_model.specs.Slots.{AllFit, HasSlotForCopy}
 use Rattle.dir_table.specs.Displacement.{AreFew}
 use Rattle.stripe_pieces.specs.Held.{IsHeld}
-use Rattle.stripe_pieces.specs.Displaced.{IsPushedOut, displaced_of}
+use Rattle.stripe_pieces.specs.Displaced.{PushesOut, displaced_of}
 
 -- the document of a piece that may be placed now
 pub record IsPlaceable (s : State) (doc : Doc) (payload : List ℕ) (digest : Digest) : Type 0 where
@@ -45,7 +45,7 @@ placed_behind s new doc payload digest =
 -- then it is held, and these are the pieces that its entry displaces
 pub record IsHeldBehind (purges : Bool) (s : State) (new : Seen) (doc : Doc) (payload : List ℕ) (digest : Digest) : Type 0 where
   pub held : IsHeld (placed_behind s new doc payload digest) new
-  pub pushed : IsPushedOut purges s doc.id (displaced_of s new.displaced)
+  pub pushed : PushesOut purges s doc.id (displaced_of s new.displaced)
 
 -- so it is in each directory
 abbrev pub PlacedIsHeld : Type 0

@@ -5,7 +5,7 @@ use Rattle.tape_base.specs.declared.geometries.Geometry.{Geometry}
 use Rattle.tape_base.specs.declared.pieces.PieceId.{PieceId}
 use Rattle.tape_base.specs.Place.{slot_of}
 use Rattle.device_log.specs.Image.{Image, span}
-use Rattle.logged_disk.specs.Device.{State as Device, TellsAll, seen as content_of}
+use Rattle.logged_disk.specs.Device.{DeviceState as Device, TellsAll, seen as content_of}
 use Rattle.doc_header.specs.Moving.{BeginsWith}
 use Rattle.agg_buffer.specs.Buffer.{Buffer, bytes_at}
 use Rattle.cyclone.specs.Cyclone.{Seen}

@@ -1,6 +1,6 @@
 -- A device that was not asked, or that shows what it showed.
 use Rattle.std.specs.Prelude.{◌≡◌}
-use Rattle.logged_disk.specs.Device.{IsAfter, SeenStays, State as Device}
+use Rattle.logged_disk.specs.Device.{DeviceState as Device, IsAfter, SeenStays}
 
 -- the device made no call
 pub record IsStill (old new : Device) : Type 0 where

@@ -7,7 +7,7 @@ ghost use Rattle.cache_model.specs.State.{cursor_next, floor_next};
 ghost use Rattle.cache_model.specs.declared.record.Rec.TheVariants.{Began, Fault};
 ghost use Rattle.stripe_pieces.specs.Covers.{Uses};
 ghost use Rattle.logged_disk.specs.Device.{TellsAll};
-ghost use Rattle.stripe_pieces.specs.Copying.{AreCopyable, AreTellable, AreToldCopied, IsCopyable, IsCopyableWhereCopied, IsTellable, IsToldCopied, IsToldRow, begun_behind, blocks_for, copied_by, copied_of, copied_record, copies_among, copies_by, done_records, left_records, told_by, told_of};
+ghost use Rattle.stripe_pieces.specs.Copying.{AreCopyable, AreTellable, AreToldCopied, IsCopyable, IsCopyableWhereCopied, IsTellable, IsToldCopied, IsToldRow, begun_behind, blocks_for, copied_by, copied_of, copied_record, copies_among, copies_by, done_records, left_records, told_of_piece, told_of_pieces};
 ghost use Rattle.stripe_pieces.specs.declared.answer.Stop.TheVariants.{DeviceFault};
 
 use crate::ahead::{Ahead, Fate};
@@ -20,7 +20,7 @@ use logged_disk::Disk;
 use tape_base::BLOCK;
 
 impl<D: Disk, R: Directory + Drop, C: Chronicle> Pieces<D, R, C> {
-    ghost use Rattle.stripe_pieces.specs.Pieces.{ArePieces, GoOn, GoOnWith, kept_of, seen_of, state_now};
+    ghost use Rattle.stripe_pieces.specs.Pieces.{ArePieces, GoOn, GoOnWith, kept_now, seen_now, state_now};
 
     /// Behind a buffer that was written: tells what is not copied, begins the next buffer, and copies
     /// what was read into it.
@@ -28,26 +28,27 @@ impl<D: Disk, R: Directory + Drop, C: Chronicle> Pieces<D, R, C> {
         requires pieces { ArePieces self.old }
         requires next { next ≡ cursor_next (state_now self.old) }
         requires below { next < 2 ^ 62 }
-        requires written { HasBuffer (seen_of self.old) }
+        requires written { HasBuffer (seen_now self.old) }
         requires told { AreTellable true (state_now self.old)
-            (seen_of self.old).device.faults ahead.now.due.items ahead.now.fates.items }
+            (seen_now self.old).device.faults ahead.now.due.items ahead.now.fates.items }
         requires copied { AreCopyable R.purges (begun_behind (state_now self.old)
-            (told_of true ahead.now.due.items ahead.now.fates.items)) 0 ahead.now.due.items
+            (told_of_pieces true ahead.now.due.items ahead.now.fates.items)) 0 ahead.now.due.items
             ahead.now.fates.items ahead.now.bytes.items }
-        requires records { length (told_of true ahead.now.due.items ahead.now.fates.items) + 1 + copies_among ahead.now.fates.items ≤ C.room self.old.chronicle }
-        requires entries { copies_among ahead.now.fates.items ≤ (seen_of self.old).spare }
-        ensures pieces { GoOnWith (λ contents. TellsAll (seen_of self.old).device
+        requires records { length (told_of_pieces true ahead.now.due.items ahead.now.fates.items) + 1 + copies_among ahead.now.fates.items ≤ C.room self.old.chronicle }
+        requires entries { copies_among ahead.now.fates.items ≤ (seen_now self.old).spare }
+        ensures pieces { GoOnWith (λ contents. TellsAll (seen_now self.old).device
             → AreToldCopied contents (begun_behind (state_now self.old)
-            (told_of true ahead.now.due.items ahead.now.fates.items)) 0 ahead.now.due.items
+            (told_of_pieces true ahead.now.due.items ahead.now.fates.items)) 0 ahead.now.due.items
             ahead.now.fates.items ahead.now.bytes.items) self.old self.new }
-        ensures adds { kept_of self.new ≡ with_records (kept_of self.old)
+        ensures adds { kept_now self.new ≡ with_records (kept_now self.old)
             (done_records (state_now self.old) ahead.now.due.items ahead.now.fates.items
             ahead.now.bytes.items) }
-        ensures still { (seen_of self.new).device ≡ (seen_of self.old).device }
-        ensures uses { Uses (length (told_of true ahead.now.due.items ahead.now.fates.items) + 1
+        ensures still { (seen_now self.new).device ≡ (seen_now self.old).device }
+        ensures uses { Uses
+            (length (told_of_pieces true ahead.now.due.items ahead.now.fates.items) + 1
             + copies_among ahead.now.fates.items) (copies_among ahead.now.fates.items) 0 0
-            (C.room self.old.chronicle) (C.room self.new.chronicle) (seen_of self.old)
-            (seen_of self.new) }
+            (C.room self.old.chronicle) (C.room self.new.chronicle) (seen_now self.old)
+            (seen_now self.new) }
     {
         self.tell(ahead, true);
         self.begin(next);
@@ -59,15 +60,15 @@ impl<D: Disk, R: Directory + Drop, C: Chronicle> Pieces<D, R, C> {
         requires pieces { ArePieces self.old }
         requires next { next ≡ cursor_next (state_now self.old) }
         requires below { next < 2 ^ 62 }
-        requires written { HasBuffer (seen_of self.old) }
+        requires written { HasBuffer (seen_now self.old) }
         requires record { 1 ≤ C.room self.old.chronicle }
         ensures pieces { GoOn self.old self.new }
         ensures adds { let s = state_now self.old in
-            kept_of self.new ≡ with_records (kept_of self.old)
+            kept_now self.new ≡ with_records (kept_now self.old)
             (Began (cursor_next s) (floor_next s) ∷ []) }
-        ensures still { (seen_of self.new).device ≡ (seen_of self.old).device }
+        ensures still { (seen_now self.new).device ≡ (seen_now self.old).device }
         ensures uses { Uses 1 0 0 0 (C.room self.old.chronicle) (C.room self.new.chronicle)
-            (seen_of self.old) (seen_of self.new) }
+            (seen_now self.old) (seen_now self.new) }
     {
         self.cyclone.begin_next();
         records::began(&mut self.chronicle, next, self.cyclone.floor());
@@ -77,17 +78,17 @@ impl<D: Disk, R: Directory + Drop, C: Chronicle> Pieces<D, R, C> {
     pub(crate) fn stop(&mut self, ahead: &Ahead) -> Stop
         requires pieces { ArePieces self.old }
         requires told { AreTellable false (state_now self.old)
-            (seen_of self.old).device.faults ahead.now.due.items ahead.now.fates.items }
-        requires records { length (told_of false ahead.now.due.items ahead.now.fates.items) + 1 ≤ C.room self.old.chronicle }
+            (seen_now self.old).device.faults ahead.now.due.items ahead.now.fates.items }
+        requires records { length (told_of_pieces false ahead.now.due.items ahead.now.fates.items) + 1 ≤ C.room self.old.chronicle }
         ensures pieces { GoOn self.old self.new }
-        ensures adds { kept_of self.new ≡ with_records (kept_of self.old)
-            (told_of false ahead.now.due.items ahead.now.fates.items ++ Fault
-            (seen_of self.old).device.faults ∷ []) }
-        ensures why { result ≡ DeviceFault (seen_of self.old).device.faults }
-        ensures still { (seen_of self.new).device ≡ (seen_of self.old).device }
-        ensures uses { Uses (length (told_of false ahead.now.due.items ahead.now.fates.items)
-            + 1) 0 0 0 (C.room self.old.chronicle) (C.room self.new.chronicle) (seen_of self.old)
-            (seen_of self.new) }
+        ensures adds { kept_now self.new ≡ with_records (kept_now self.old)
+            (told_of_pieces false ahead.now.due.items ahead.now.fates.items ++ Fault
+            (seen_now self.old).device.faults ∷ []) }
+        ensures why { result ≡ DeviceFault (seen_now self.old).device.faults }
+        ensures still { (seen_now self.new).device ≡ (seen_now self.old).device }
+        ensures uses { Uses (length (told_of_pieces false ahead.now.due.items ahead.now.fates.items)
+            + 1) 0 0 0 (C.room self.old.chronicle) (C.room self.new.chronicle) (seen_now self.old)
+            (seen_now self.new) }
     {
         let count = self.cyclone.disk().faults();
         self.tell(ahead, false);
@@ -100,13 +101,13 @@ impl<D: Disk, R: Directory + Drop, C: Chronicle> Pieces<D, R, C> {
     fn tell(&mut self, ahead: &Ahead, done: bool)
         requires pieces { ArePieces self.old }
         requires told { AreTellable done (state_now self.old)
-            (seen_of self.old).device.faults ahead.now.due.items ahead.now.fates.items }
-        requires records { length (told_of done ahead.now.due.items ahead.now.fates.items) ≤ C.room self.old.chronicle }
+            (seen_now self.old).device.faults ahead.now.due.items ahead.now.fates.items }
+        requires records { length (told_of_pieces done ahead.now.due.items ahead.now.fates.items) ≤ C.room self.old.chronicle }
         ensures pieces { GoOn self.old self.new }
-        ensures adds { kept_of self.new ≡ with_records (kept_of self.old)
-            (told_of done ahead.now.due.items ahead.now.fates.items) }
-        ensures rest { SameButRows (seen_of self.old) (seen_of self.new) }
-        ensures room { C.room self.old.chronicle ≤ C.room self.new.chronicle + length (told_of done ahead.now.due.items ahead.now.fates.items) }
+        ensures adds { kept_now self.new ≡ with_records (kept_now self.old)
+            (told_of_pieces done ahead.now.due.items ahead.now.fates.items) }
+        ensures rest { SameButRows (seen_now self.old) (seen_now self.new) }
+        ensures room { C.room self.old.chronicle ≤ C.room self.new.chronicle + length (told_of_pieces done ahead.now.due.items ahead.now.fates.items) }
     {
         for i in 0..ahead.due.len() {
             self.tell_of(ahead.due[i], ahead.fates[i], done);
@@ -116,13 +117,13 @@ impl<D: Disk, R: Directory + Drop, C: Chronicle> Pieces<D, R, C> {
     fn tell_of(&mut self, candidate: Candidate, fate: Fate, done: bool)
         requires pieces { ArePieces self.old }
         requires told { IsTellable (state_now self.old)
-            (seen_of self.old).device.faults candidate fate }
-        requires records { length (told_by done candidate fate) ≤ C.room self.old.chronicle }
+            (seen_now self.old).device.faults candidate fate }
+        requires records { length (told_of_piece done candidate fate) ≤ C.room self.old.chronicle }
         ensures pieces { GoOn self.old self.new }
-        ensures adds { kept_of self.new ≡ with_records (kept_of self.old)
-            (told_by done candidate fate) }
-        ensures rest { SameButRows (seen_of self.old) (seen_of self.new) }
-        ensures room { C.room self.old.chronicle ≤ C.room self.new.chronicle + length (told_by done candidate fate) }
+        ensures adds { kept_now self.new ≡ with_records (kept_now self.old)
+            (told_of_piece done candidate fate) }
+        ensures rest { SameButRows (seen_now self.old) (seen_now self.new) }
+        ensures room { C.room self.old.chronicle ≤ C.room self.new.chronicle + length (told_of_piece done candidate fate) }
     {
         let Candidate { id, place, .. } = candidate;
         match fate {
@@ -140,7 +141,7 @@ impl<D: Disk, R: Directory + Drop, C: Chronicle> Pieces<D, R, C> {
         requires pieces { ArePieces self.old }
         requires records { length (left_records done candidate fault) ≤ C.room self.old.chronicle }
         ensures pieces { GoOn self.old self.new }
-        ensures adds { kept_of self.new ≡ with_records (kept_of self.old)
+        ensures adds { kept_now self.new ≡ with_records (kept_now self.old)
             (left_records done candidate fault) }
         ensures cyclone { self.new.cyclone ≡ self.old.cyclone }
         ensures room { C.room self.old.chronicle ≤ C.room self.new.chronicle + length (left_records done candidate fault) }
@@ -156,17 +157,17 @@ impl<D: Disk, R: Directory + Drop, C: Chronicle> Pieces<D, R, C> {
         requires copied { AreCopyable R.purges (state_now self.old) 0 ahead.now.due.items
             ahead.now.fates.items ahead.now.bytes.items }
         requires records { copies_among ahead.now.fates.items ≤ C.room self.old.chronicle }
-        requires entries { copies_among ahead.now.fates.items ≤ (seen_of self.old).spare }
-        ensures pieces { GoOnWith (λ contents. TellsAll (seen_of self.old).device
+        requires entries { copies_among ahead.now.fates.items ≤ (seen_now self.old).spare }
+        ensures pieces { GoOnWith (λ contents. TellsAll (seen_now self.old).device
             → AreToldCopied contents (state_now self.old) 0 ahead.now.due.items
             ahead.now.fates.items ahead.now.bytes.items) self.old self.new }
-        ensures adds { kept_of self.new ≡ with_records (kept_of self.old)
+        ensures adds { kept_now self.new ≡ with_records (kept_now self.old)
             (copied_of (state_now self.old) 0 ahead.now.due.items ahead.now.fates.items
             ahead.now.bytes.items) }
-        ensures still { (seen_of self.new).device ≡ (seen_of self.old).device }
+        ensures still { (seen_now self.new).device ≡ (seen_now self.old).device }
         ensures uses { Uses (copies_among ahead.now.fates.items)
             (copies_among ahead.now.fates.items) 0 0 (C.room self.old.chronicle)
-            (C.room self.new.chronicle) (seen_of self.old) (seen_of self.new) }
+            (C.room self.new.chronicle) (seen_now self.old) (seen_now self.new) }
     {
         let mut at = 0;
         for i in 0..ahead.due.len() {
@@ -186,15 +187,15 @@ impl<D: Disk, R: Directory + Drop, C: Chronicle> Pieces<D, R, C> {
         requires pieces { ArePieces self.old }
         requires copied { IsCopyableWhereCopied R.purges (state_now self.old) candidate fate bytes.now }
         requires records { copies_by fate ≤ C.room self.old.chronicle }
-        requires entries { copies_by fate ≤ (seen_of self.old).spare }
-        ensures pieces { GoOnWith (λ contents. TellsAll (seen_of self.old).device
+        requires entries { copies_by fate ≤ (seen_now self.old).spare }
+        ensures pieces { GoOnWith (λ contents. TellsAll (seen_now self.old).device
             → IsToldCopied contents (state_now self.old) candidate fate bytes.now)
             self.old self.new }
-        ensures adds { kept_of self.new ≡ with_records (kept_of self.old)
+        ensures adds { kept_now self.new ≡ with_records (kept_now self.old)
             (copied_by (state_now self.old) candidate fate bytes.now) }
-        ensures still { (seen_of self.new).device ≡ (seen_of self.old).device }
+        ensures still { (seen_now self.new).device ≡ (seen_now self.old).device }
         ensures uses { Uses (copies_by fate) (copies_by fate) 0 0 (C.room self.old.chronicle)
-            (C.room self.new.chronicle) (seen_of self.old) (seen_of self.new) }
+            (C.room self.new.chronicle) (seen_now self.old) (seen_now self.new) }
     {
         match fate {
             Fate::Copied { pinned } => self.move_here(candidate, pinned, bytes),
@@ -208,14 +209,14 @@ impl<D: Disk, R: Directory + Drop, C: Chronicle> Pieces<D, R, C> {
         requires pieces { ArePieces self.old }
         requires copied { IsCopyable R.purges (state_now self.old) candidate bytes.now }
         requires record { 1 ≤ C.room self.old.chronicle }
-        requires entry { 1 ≤ (seen_of self.old).spare }
-        ensures pieces { GoOnWith (λ contents. TellsAll (seen_of self.old).device
+        requires entry { 1 ≤ (seen_now self.old).spare }
+        ensures pieces { GoOnWith (λ contents. TellsAll (seen_now self.old).device
             → IsToldRow contents (state_now self.old) candidate bytes.now) self.old self.new }
-        ensures adds { kept_of self.new ≡ with_records (kept_of self.old)
+        ensures adds { kept_now self.new ≡ with_records (kept_now self.old)
             (copied_record (state_now self.old) candidate bytes.now ∷ []) }
-        ensures still { (seen_of self.new).device ≡ (seen_of self.old).device }
+        ensures still { (seen_now self.new).device ≡ (seen_now self.old).device }
         ensures uses { Uses 1 1 0 0 (C.room self.old.chronicle) (C.room self.new.chronicle)
-            (seen_of self.old) (seen_of self.new) }
+            (seen_now self.old) (seen_now self.new) }
     {
         let Candidate {
             id,

@@ -2,7 +2,7 @@
 ghost use Rattle.std.specs.Prelude.{◌≡◌, ◌*◌, ◌<◌, ◌≤◌, ◌^◌, Some, IsOk, length, take};
 ghost use Rattle.tape_base.specs.Geometry.{budget_of};
 ghost use Rattle.doc_header.specs.Reading.{payload_of};
-ghost use Rattle.cyclone.specs.Cyclone.{IsCyclone, IsStored, Reads, SameTape, seen};
+ghost use Rattle.cyclone.specs.Cyclone.{BlocksStand, IsCyclone, ReadsBlocks, SameTape, seen_cyclone};
 ghost use Rattle.cache_model.specs.Kept.{with_records};
 ghost use Rattle.logged_disk.specs.Device.{TellsAll};
 ghost use Rattle.stripe_pieces.specs.Covers.{Uses};
@@ -21,7 +21,7 @@ use logged_disk::Disk;
 use tape_base::{BLOCK, Digest, HEADER, PieceId};
 
 impl<D: Disk, R: Directory + Drop, C: Chronicle> Pieces<D, R, C> {
-    ghost use Rattle.stripe_pieces.specs.Pieces.{ArePieces, GoOn, kept_of, live_place_of, seen_of, state_now};
+    ghost use Rattle.stripe_pieces.specs.Pieces.{ArePieces, GoOn, kept_now, live_place_of, seen_now, state_now};
     ghost use Rattle.stripe_pieces.specs.Still.{IsUnwritten};
 
     /// Reads a live piece and brings its payload to the front of `into`, which has room for its blocks,
@@ -31,16 +31,16 @@ impl<D: Disk, R: Directory + Drop, C: Chronicle> Pieces<D, R, C> {
         requires record { 1 ≤ C.room self.old.chronicle }
         requires into { HasRoomFor (state_now self.old) id into.old }
         ensures pieces { GoOn self.old self.new }
-        ensures adds { kept_of self.new
-            ≡ with_records (kept_of self.old) (find_adds (state_now self.old) id result) }
-        ensures finds { Finds (state_now self.old) (seen_of self.old) (seen_of self.new) id result
+        ensures adds { kept_now self.new
+            ≡ with_records (kept_now self.old) (find_adds (state_now self.old) id result) }
+        ensures finds { Finds (state_now self.old) (seen_now self.old) (seen_now self.new) id result
             into.new }
         // A device that tells its content shows each piece as it was placed.
-        ensures unharmed { TellsAll (seen_of self.new).device
+        ensures unharmed { TellsAll (seen_now self.new).device
             → TellNoDamage (find_adds (state_now self.old) id result) }
-        ensures unwritten { IsUnwritten (seen_of self.old).device (seen_of self.new).device }
+        ensures unwritten { IsUnwritten (seen_now self.old).device (seen_now self.new).device }
         ensures uses { Uses 1 0 0 0 (C.room self.old.chronicle) (C.room self.new.chronicle)
-            (seen_of self.old) (seen_of self.new) }
+            (seen_now self.old) (seen_now self.new) }
     {
         match self.whereabouts(id) {
             Some(place) => self.read(id, place, into),
@@ -54,16 +54,16 @@ impl<D: Disk, R: Directory + Drop, C: Chronicle> Pieces<D, R, C> {
         requires into { HasRoomFor (state_now self.old) id into.old }
         requires live { live_place_of (state_now self.old) id ≡ Some place }
         ensures pieces { GoOn self.old self.new }
-        ensures adds { kept_of self.new
-            ≡ with_records (kept_of self.old) (find_adds (state_now self.old) id result) }
-        ensures finds { Finds (state_now self.old) (seen_of self.old) (seen_of self.new) id result
+        ensures adds { kept_now self.new
+            ≡ with_records (kept_now self.old) (find_adds (state_now self.old) id result) }
+        ensures finds { Finds (state_now self.old) (seen_now self.old) (seen_now self.new) id result
             into.new }
         // A device that tells its content shows each piece as it was placed.
-        ensures unharmed { TellsAll (seen_of self.new).device
+        ensures unharmed { TellsAll (seen_now self.new).device
             → TellNoDamage (find_adds (state_now self.old) id result) }
-        ensures unwritten { IsUnwritten (seen_of self.old).device (seen_of self.new).device }
+        ensures unwritten { IsUnwritten (seen_now self.old).device (seen_now self.new).device }
         ensures uses { Uses 1 0 0 0 (C.room self.old.chronicle) (C.room self.new.chronicle)
-            (seen_of self.old) (seen_of self.new) }
+            (seen_now self.old) (seen_now self.new) }
     {
         let (blocks, kept) = self.recorded(id, place);
         match load(&mut self.cyclone, place, blocks, into) {
@@ -83,7 +83,7 @@ impl<D: Disk, R: Directory + Drop, C: Chronicle> Pieces<D, R, C> {
         ensures recorded { IsRecorded (state_now self.now) id place result.0 result.1 }
         ensures some { 0 < result.0 }
         ensures few { result.0 ≤ budget_of (state_now self.now).geometry }
-        ensures stored { IsStored (seen_of self.now) place result.0 }
+        ensures stored { BlocksStand (seen_now self.now) place result.0 }
     {
         let piece = self.chronicle.live_of(id).unwrap();
         (piece.blocks, piece.digest)
@@ -105,12 +105,12 @@ impl<D: Disk, R: Directory + Drop, C: Chronicle> Pieces<D, R, C> {
         requires within { 512 * blocks ≤ length into.old }
         requires few { 512 * blocks ≤ 2 ^ 31 }
         ensures pieces { GoOn self.old self.new }
-        ensures adds { kept_of self.new ≡ with_records (kept_of self.old)
+        ensures adds { kept_now self.new ≡ with_records (kept_now self.old)
             (judged_records id place result) }
         ensures judges { IsJudged place kept (take (512 * blocks) into.old) result into.new }
-        ensures still { (seen_of self.new).device ≡ (seen_of self.old).device }
+        ensures still { (seen_now self.new).device ≡ (seen_now self.old).device }
         ensures uses { Uses 1 0 0 0 (C.room self.old.chronicle) (C.room self.new.chronicle)
-            (seen_of self.old) (seen_of self.new) }
+            (seen_now self.old) (seen_now self.new) }
     {
         let size = blocks as usize * BLOCK;
         let found = document_digest(&into[..size]);
@@ -135,12 +135,13 @@ pub(crate) fn load<D: Disk, R: Directory + Drop>(
     requires turns { IsCyclone cyclone.old }
     requires some { 0 < blocks }
     requires within { 512 * blocks ≤ length into.old }
-    requires stored { IsStored (seen cyclone.old) place blocks }
+    requires stored { BlocksStand (seen_cyclone cyclone.old) place blocks }
     ensures turns { IsCyclone cyclone.new }
-    ensures same { SameTape (seen cyclone.old) (seen cyclone.new) }
-    ensures reads { Reads (seen cyclone.old) (seen cyclone.new) place blocks result
+    ensures same { SameTape (seen_cyclone cyclone.old) (seen_cyclone cyclone.new) }
+    ensures reads { ReadsBlocks (seen_cyclone cyclone.old) (seen_cyclone cyclone.new) place
+        blocks result
         (take (512 * blocks) into.new) }
-    ensures buffered { (seen cyclone.old).buffer.cursor ≤ place → IsOk result }
+    ensures buffered { (seen_cyclone cyclone.old).buffer.cursor ≤ place → IsOk result }
     ensures length { length into.new ≡ length into.old }
 {
     cyclone.read(place, &mut into[..blocks as usize * BLOCK])

@@ -9,7 +9,7 @@ ghost use Rattle.stripe_actors.specs.Actors.{AreActors};
 ghost use Rattle.stripe_due.specs.Finding.{most_passed};
 ghost use Rattle.stripe_pieces.specs.Ahead.{IsMadeFor};
 ghost use Rattle.stripe_pieces.specs.Covers.{Uses};
-ghost use Rattle.stripe_pieces.specs.Flush.{FlushesAsAsked, StopsWith, Tells};
+ghost use Rattle.stripe_pieces.specs.Flush.{FlushesAsAsked, StopsWith, TellsFlush};
 ghost use Rattle.stripe_pieces.specs.Place.{RoomsAsAsked};
 
 use crate::ahead::Ahead;
@@ -24,7 +24,7 @@ use tape_base::{LIMIT, blocks_of};
 // No piece that is placed or copied ends at the limit: a buffer is written out only where the half of
 // the next one that takes the copies ends below it.
 impl<D: Disk, R: Directory + Drop, C: Chronicle> Pieces<D, R, C> {
-    ghost use Rattle.stripe_pieces.specs.Pieces.{ArePieces, GoOn, kept_of, seen_of, state_now};
+    ghost use Rattle.stripe_pieces.specs.Pieces.{ArePieces, GoOn, kept_now, seen_now, state_now};
 
     /// Writes the buffer out where it is not empty, begins the next one, and copies into it what is
     /// due at a moment. What is due is read before the buffer is written.
@@ -35,28 +35,28 @@ impl<D: Disk, R: Directory + Drop, C: Chronicle> Pieces<D, R, C> {
         requires ahead { IsMadeFor (state_now self.old).geometry ahead.old }
         requires records { 2 * most_passed (state_now self.old).geometry + 1
             ≤ C.room self.old.chronicle }
-        requires entries { budget_of (state_now self.old).geometry ≤ (seen_of self.old).spare }
-        requires calls { 1 ≤ (seen_of self.old).device.calls }
-        requires blocks { (seen_of self.old).geometry.agg ≤ (seen_of self.old).device.blocks }
+        requires entries { budget_of (state_now self.old).geometry ≤ (seen_now self.old).spare }
+        requires calls { 1 ≤ (seen_now self.old).device.calls }
+        requires blocks { (seen_now self.old).geometry.agg ≤ (seen_now self.old).device.blocks }
         ensures pieces { GoOn self.old self.new }
-        ensures does { FlushesAsAsked now (kept_of self.old) (kept_of self.new)
-            (seen_of self.old).device.past (seen_of self.new).device result }
-        ensures tells { IfOk result (Tells (state_now self.old) (state_now self.new)) }
+        ensures does { FlushesAsAsked now (kept_now self.old) (kept_now self.new)
+            (seen_now self.old).device.past (seen_now self.new).device result }
+        ensures tells { IfOk result (TellsFlush (state_now self.old) (state_now self.new)) }
         ensures stops { IfErr result (StopsWith (state_now self.old)
-            (seen_of self.new).device.faults) }
+            (seen_now self.new).device.faults) }
         ensures ahead { IsMadeFor (state_now self.old).geometry ahead.new }
-        ensures uses { let g = (seen_of self.old).geometry in
+        ensures uses { let g = (seen_now self.old).geometry in
             Uses (2 * most_passed g + 1) (budget_of g) 1 g.agg (C.room self.old.chronicle)
-            (C.room self.new.chronicle) (seen_of self.old) (seen_of self.new) }
+            (C.room self.new.chronicle) (seen_now self.old) (seen_now self.new) }
         // Half of the buffer at least is free then.
         ensures room { OnOk result ((state_now self.new).filled
             ≤ budget_of (state_now self.new).geometry) }
         // An empty buffer asks no device.
         ensures still { (state_now self.old).filled ≡ 0
-            → (seen_of self.new).device ≡ (seen_of self.old).device }
+            → (seen_now self.new).device ≡ (seen_now self.old).device }
         // Nor does one whose copies might reach the end of the tape.
         ensures ended { is_flush_exhausted (state_now self.old) ≡ true
-            → (seen_of self.new).device ≡ (seen_of self.old).device }
+            → (seen_now self.new).device ≡ (seen_now self.old).device }
     {
         let blocks = (self.cyclone.next_place() - self.cyclone.cursor()) as u32;
         if blocks == 0 {
@@ -108,22 +108,22 @@ impl<D: Disk, R: Directory + Drop, C: Chronicle> Pieces<D, R, C> {
         requires size { bytes ≤ 2147483648 }
         requires records { 2 * most_passed (state_now self.old).geometry + 1
             ≤ C.room self.old.chronicle }
-        requires entries { budget_of (state_now self.old).geometry ≤ (seen_of self.old).spare }
-        requires calls { 1 ≤ (seen_of self.old).device.calls }
-        requires blocks { (seen_of self.old).geometry.agg ≤ (seen_of self.old).device.blocks }
+        requires entries { budget_of (state_now self.old).geometry ≤ (seen_now self.old).spare }
+        requires calls { 1 ≤ (seen_now self.old).device.calls }
+        requires blocks { (seen_now self.old).geometry.agg ≤ (seen_now self.old).device.blocks }
         ensures pieces { GoOn self.old self.new }
-        ensures does { RoomsAsAsked now (kept_of self.old) (kept_of self.new)
-            (seen_of self.old).device.past (seen_of self.new).device bytes result }
+        ensures does { RoomsAsAsked now (kept_now self.old) (kept_now self.new)
+            (seen_now self.old).device.past (seen_now self.new).device bytes result }
         ensures room { OnOk result (has_room (state_now self.new) bytes ≡ true) }
         ensures full { OnErr result (has_room (state_now self.old) bytes ≡ false) }
         ensures stops { IfErr result (StopsWith (state_now self.old)
-            (seen_of self.new).device.faults) }
+            (seen_now self.new).device.faults) }
         ensures ahead { IsMadeFor (state_now self.old).geometry ahead.new }
         ensures still { has_room (state_now self.old) bytes ≡ true
-            → (seen_of self.new).device ≡ (seen_of self.old).device }
-        ensures uses { let g = (seen_of self.old).geometry in
+            → (seen_now self.new).device ≡ (seen_now self.old).device }
+        ensures uses { let g = (seen_now self.old).geometry in
             Uses (2 * most_passed g + 1) (budget_of g) 1 g.agg (C.room self.old.chronicle)
-            (C.room self.new.chronicle) (seen_of self.old) (seen_of self.new) }
+            (C.room self.new.chronicle) (seen_now self.old) (seen_now self.new) }
     {
         if blocks_of(bytes) <= self.cyclone.room() {
             return Ok(());

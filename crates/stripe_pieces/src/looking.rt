@@ -3,13 +3,13 @@
 ghost use Rattle.std.specs.Prelude.{◌≡◌, ◌+◌, ◌*◌, ◌≤◌, ◌<◌, ℕ, List, length, take, slice_get, slice_index, Some, nat_le};
 ghost use Rattle.tape_base.specs.Geometry.{budget_of};
 ghost use Rattle.logged_disk.specs.Device.{IsAsked, SeenStays};
-ghost use Rattle.evacuator.specs.Choice.{AreRising, IsChoice, blocks_of_all};
+ghost use Rattle.evacuator.specs.Choice.{CandidatesRise, IsChoice, blocks_of_all};
 ghost use Rattle.cyclone.specs.Cyclone.{SameTape};
 ghost use Rattle.cache_model.specs.State.{Row};
 ghost use Rattle.stripe_actors.specs.Actors.{AreActors};
 ghost use Rattle.stripe_due.specs.Finding.{candidate_of, most_passed};
 ghost use Rattle.stripe_pieces.specs.Ahead.{IsMadeFor, LooksAhead};
-ghost use Rattle.stripe_pieces.specs.Looks.{AreOfRows, Comes, HasRow, HasRows, IsJudgedAs, Looked, LooksOn, MayBeCopied, blocks_kept};
+ghost use Rattle.stripe_pieces.specs.Looks.{AreOfRows, Comes, HasCandidateRows, HasRow, IsJudgedAs, Looked, LooksOn, MayBeCopied, blocks_kept};
 
 use crate::Pieces;
 use crate::ahead::{Ahead, Fate};
@@ -24,7 +24,7 @@ use stripe_due::find_due;
 use tape_base::{BLOCK, floor_of};
 
 impl<D: Disk, R: Directory + Drop, C: Chronicle> Pieces<D, R, C> {
-    ghost use Rattle.stripe_pieces.specs.Pieces.{ArePieces, seen_of, state_now};
+    ghost use Rattle.stripe_pieces.specs.Pieces.{ArePieces, seen_now, state_now};
 
     /// Finds what is due at a moment, and reads what the budget keeps of it.
     pub(crate) fn look_ahead(&mut self, now: u64, actors: &Actors, ahead: &mut Ahead)
@@ -33,12 +33,12 @@ impl<D: Disk, R: Directory + Drop, C: Chronicle> Pieces<D, R, C> {
         requires ahead { IsMadeFor (state_now self.old).geometry ahead.old }
         ensures pieces { ArePieces self.new }
         ensures chronicle { self.new.chronicle ≡ self.old.chronicle }
-        ensures same { SameTape (seen_of self.old) (seen_of self.new) }
-        ensures asked { IsAsked (seen_of self.old).device (seen_of self.new).device }
-        ensures seen { SeenStays (seen_of self.old).device (seen_of self.new).device }
+        ensures same { SameTape (seen_now self.old) (seen_now self.new) }
+        ensures asked { IsAsked (seen_now self.old).device (seen_now self.new).device }
+        ensures seen { SeenStays (seen_now self.old).device (seen_now self.new).device }
         ensures ahead { IsMadeFor (state_now self.old).geometry ahead.new }
-        ensures looks { LooksAhead now (state_now self.old) (seen_of self.old).device
-            (seen_of self.new).device ahead.new }
+        ensures looks { LooksAhead now (state_now self.old) (seen_now self.old).device
+            (seen_now self.new).device ahead.new }
     {
         let g = self.cyclone.geometry();
         let next = floor_of(g, self.cyclone.next_cursor());
@@ -59,21 +59,21 @@ impl<D: Disk, R: Directory + Drop, C: Chronicle> Pieces<D, R, C> {
     fn read_kept(&mut self, ahead: &mut Ahead)
         requires pieces { ArePieces self.old }
         requires ahead { IsMadeFor (state_now self.old).geometry ahead.old }
-        requires rows { HasRows (state_now self.old) ahead.old.due.items }
+        requires rows { HasCandidateRows (state_now self.old) ahead.old.due.items }
         requires few { length ahead.old.due.items ≤ most_passed (state_now self.old).geometry }
         requires choice { IsChoice (budget_of (state_now self.old).geometry)
             (blocks_of_all ahead.old.due.items)
             (take (length ahead.old.due.items) ahead.old.kept.items) }
         ensures pieces { ArePieces self.new }
         ensures chronicle { self.new.chronicle ≡ self.old.chronicle }
-        ensures same { SameTape (seen_of self.old) (seen_of self.new) }
-        ensures asked { IsAsked (seen_of self.old).device (seen_of self.new).device }
-        ensures seen { SeenStays (seen_of self.old).device (seen_of self.new).device }
+        ensures same { SameTape (seen_now self.old) (seen_now self.new) }
+        ensures asked { IsAsked (seen_now self.old).device (seen_now self.new).device }
+        ensures seen { SeenStays (seen_now self.old).device (seen_now self.new).device }
         ensures ahead { IsMadeFor (state_now self.old).geometry ahead.new }
         ensures due { ahead.new.due.items ≡ ahead.old.due.items }
         ensures looked { (rows : List Row) → AreOfRows (state_now self.old) ahead.old.due.items rows
-            → (end : ℕ) × Looked (state_now self.old) (seen_of self.old).device
-            (seen_of self.new).device rows end ahead.new }
+            → (end : ℕ) × Looked (state_now self.old) (seen_now self.old).device
+            (seen_now self.new).device rows end ahead.new }
     {
         ahead.fates.clear();
         let mut at = 0;
@@ -88,7 +88,7 @@ impl<D: Disk, R: Directory + Drop, C: Chronicle> Pieces<D, R, C> {
         requires ahead { IsMadeFor (state_now self.old).geometry ahead.old }
         requires within { i < length ahead.old.due.items }
         requires few { length ahead.old.due.items ≤ most_passed (state_now self.old).geometry }
-        requires rows { HasRows (state_now self.old) ahead.old.due.items }
+        requires rows { HasCandidateRows (state_now self.old) ahead.old.due.items }
         requires fates { length ahead.old.fates.items ≡ i }
         requires room { at ≤ budget_of (state_now self.old).geometry }
         requires choice { slice_get ahead.old.kept.items i
@@ -96,9 +96,9 @@ impl<D: Disk, R: Directory + Drop, C: Chronicle> Pieces<D, R, C> {
             (budget_of (state_now self.old).geometry)) }
         ensures pieces { ArePieces self.new }
         ensures chronicle { self.new.chronicle ≡ self.old.chronicle }
-        ensures same { SameTape (seen_of self.old) (seen_of self.new) }
-        ensures asked { IsAsked (seen_of self.old).device (seen_of self.new).device }
-        ensures seen { SeenStays (seen_of self.old).device (seen_of self.new).device }
+        ensures same { SameTape (seen_now self.old) (seen_now self.new) }
+        ensures asked { IsAsked (seen_now self.old).device (seen_now self.new).device }
+        ensures seen { SeenStays (seen_now self.old).device (seen_now self.new).device }
         ensures ahead { IsMadeFor (state_now self.old).geometry ahead.new }
         ensures due { ahead.new.due ≡ ahead.old.due }
         ensures kept { ahead.new.kept ≡ ahead.old.kept }
@@ -107,8 +107,8 @@ impl<D: Disk, R: Directory + Drop, C: Chronicle> Pieces<D, R, C> {
         ensures room { result ≤ budget_of (state_now self.old).geometry }
         ensures looks { (row : Row) → slice_get ahead.old.due.items i ≡ Some (candidate_of row)
             → MayBeCopied (state_now self.old) row
-            → LooksOn (state_now self.old) (seen_of self.old).device
-            (seen_of self.new).device row at result ahead.old ahead.new }
+            → LooksOn (state_now self.old) (seen_now self.old).device
+            (seen_now self.new).device row at result ahead.old ahead.new }
     {
         if !ahead.kept[i] {
             ahead.fates.push(Fate::NoRoom).unwrap();
@@ -128,13 +128,13 @@ impl<D: Disk, R: Directory + Drop, C: Chronicle> Pieces<D, R, C> {
         requires into { length into.old ≡ 512 * candidate.blocks }
         ensures pieces { ArePieces self.new }
         ensures chronicle { self.new.chronicle ≡ self.old.chronicle }
-        ensures same { SameTape (seen_of self.old) (seen_of self.new) }
-        ensures asked { IsAsked (seen_of self.old).device (seen_of self.new).device }
-        ensures seen { SeenStays (seen_of self.old).device (seen_of self.new).device }
+        ensures same { SameTape (seen_now self.old) (seen_now self.new) }
+        ensures asked { IsAsked (seen_now self.old).device (seen_now self.new).device }
+        ensures seen { SeenStays (seen_now self.old).device (seen_now self.new).device }
         ensures comes { (row : Row) → candidate ≡ candidate_of row
             → MayBeCopied (state_now self.old) row
-            → Comes (state_now self.old) (seen_of self.old).device
-            (seen_of self.new).device row result into.new }
+            → Comes (state_now self.old) (seen_now self.old).device
+            (seen_now self.new).device row result into.new }
     {
         match load(&mut self.cyclone, candidate.place, candidate.blocks, into) {
             Ok(()) => self.compare(candidate, into),
@@ -167,7 +167,7 @@ impl<D: Disk, R: Directory + Drop, C: Chronicle> Pieces<D, R, C> {
 
 // Marks in front of `kept` which of the pieces the budget keeps.
 fn mark_kept(due: &[Candidate], budget: u32, kept: &mut [bool])
-    requires rising { AreRising due.now }
+    requires rising { CandidatesRise due.now }
     requires few { length due.now ≤ length kept.old }
     ensures choice { IsChoice budget (blocks_of_all due.now) (take (length due.now) kept.new) }
 {

@@ -2,7 +2,7 @@
 ghost use Rattle.std.specs.Prelude.{◌≡◌, ◌*◌, ◌<◌, ◌≤◌, ◌^◌, [], IfOk, IfErr, OnOk, OnErr};
 ghost use Rattle.cache_model.specs.Kept.{all_of};
 ghost use Rattle.cache_model.specs.Legal.{format_records};
-ghost use Rattle.cyclone.specs.Cyclone.{IsCyclone, SameButRoom, seen};
+ghost use Rattle.cyclone.specs.Cyclone.{IsCyclone, SameButRoom, seen_cyclone};
 ghost use Rattle.logged_disk.specs.Device.{Affords, Keeps};
 ghost use Rattle.stripe_pieces.specs.Units.{entries_of_unit, records_of_unit};
 ghost use Rattle.stripe_pieces.specs.This.{is_this};
@@ -39,7 +39,7 @@ pub struct Pieces<D: Disk, R: Directory + Drop, C: Chronicle> {
 }
 
 impl<D: Disk, R: Directory + Drop, C: Chronicle> Pieces<D, R, C> {
-    ghost use Rattle.stripe_pieces.specs.Pieces.{ArePieces, GoOn, Stand, kept_of, live_place_of, seen_of, state_now};
+    ghost use Rattle.stripe_pieces.specs.Pieces.{ArePieces, GoOn, Stand, kept_now, live_place_of, seen_now, state_now};
 
     /// Begins a session on an empty content area. A refusal gives back the device and the chronicle.
     pub fn format(
@@ -51,9 +51,9 @@ impl<D: Disk, R: Directory + Drop, C: Chronicle> Pieces<D, R, C> {
         requires sized { g.content ≤ (D.state disk).size }
         requires empty { C.kept chronicle ≡ all_of [] }
         ensures pieces { IfOk result ArePieces }
-        ensures records { IfOk result (λ p. kept_of p ≡ all_of (format_records g)) }
+        ensures records { IfOk result (λ p. kept_now p ≡ all_of (format_records g)) }
         ensures contents { IfOk result (λ p. (contents : Contents) → Stand contents p) }
-        ensures device { IfOk result (λ p. (seen_of p).device ≡ D.state disk) }
+        ensures device { IfOk result (λ p. (seen_now p).device ≡ D.state disk) }
         ensures back { IfErr result (λ r. (r.1 ≡ disk) × (C.kept r.2 ≡ all_of [])) }
     {
         let mut chronicle = chronicle;
@@ -72,7 +72,7 @@ impl<D: Disk, R: Directory + Drop, C: Chronicle> Pieces<D, R, C> {
         requires empty { C.kept chronicle ≡ all_of [] }
         ensures same { result.cyclone ≡ cyclone }
         ensures records { C.kept result.chronicle
-            ≡ all_of (format_records (seen cyclone).geometry) }
+            ≡ all_of (format_records (seen_cyclone cyclone).geometry) }
     {
         let mut chronicle = chronicle;
         records::formatted(&mut chronicle, cyclone.geometry());
@@ -84,18 +84,18 @@ impl<D: Disk, R: Directory + Drop, C: Chronicle> Pieces<D, R, C> {
     pub fn prepare(&mut self, units: u32, flushes: u32) -> Result<(), AllocError>
         requires { ArePieces self.old }
         ensures pieces { GoOn self.old self.new }
-        ensures records { kept_of self.new ≡ kept_of self.old }
-        ensures same { SameButRoom (seen_of self.old) (seen_of self.new) }
-        ensures record { OnOk result (records_of_unit (seen_of self.old).geometry * units ≤ C.room self.new.chronicle) }
+        ensures records { kept_now self.new ≡ kept_now self.old }
+        ensures same { SameButRoom (seen_now self.old) (seen_now self.new) }
+        ensures record { OnOk result (records_of_unit (seen_now self.old).geometry * units ≤ C.room self.new.chronicle) }
         ensures room { C.room self.old.chronicle ≤ C.room self.new.chronicle }
-        ensures spare { OnOk result (entries_of_unit (seen_of self.old).geometry * units
-            ≤ (seen_of self.new).spare) }
-        ensures device { let old = (seen_of self.old).device in
-            OnOk result (Affords flushes (flushes * (seen_of self.old).geometry.agg) old
-            (seen_of self.new).device) }
-        ensures none { OnErr result (Affords 0 0 (seen_of self.old).device
-            (seen_of self.new).device) }
-        ensures keeps { Keeps 0 0 (seen_of self.old).device (seen_of self.new).device }
+        ensures spare { OnOk result (entries_of_unit (seen_now self.old).geometry * units
+            ≤ (seen_now self.new).spare) }
+        ensures device { let old = (seen_now self.old).device in
+            OnOk result (Affords flushes (flushes * (seen_now self.old).geometry.agg) old
+            (seen_now self.new).device) }
+        ensures none { OnErr result (Affords 0 0 (seen_now self.old).device
+            (seen_now self.new).device) }
+        ensures keeps { Keeps 0 0 (seen_now self.old).device (seen_now self.new).device }
     {
         let g = self.cyclone.geometry();
         let entries = (g.agg as usize / 2 + 1) * units as usize;
@@ -105,15 +105,15 @@ impl<D: Disk, R: Directory + Drop, C: Chronicle> Pieces<D, R, C> {
 
     /// Gives the device and the chronicle back.
     pub fn into_parts(self) -> (D, C)
-        ensures device { D.state result.0 ≡ (seen_of self).device }
-        ensures records { C.kept result.1 ≡ kept_of self }
+        ensures device { D.state result.0 ≡ (seen_now self).device }
+        ensures records { C.kept result.1 ≡ kept_now self }
     {
         let Pieces { cyclone, chronicle } = self;
         (cyclone.into_disk(), chronicle)
     }
 
     pub fn chronicle(&self) -> &C
-        ensures { C.kept result.now ≡ kept_of self.now }
+        ensures { C.kept result.now ≡ kept_now self.now }
     {
         &self.chronicle
     }

@@ -18,7 +18,7 @@ use logged_disk::Disk;
 use tape_base::{Digest, Key, PieceId};
 
 impl<D: Disk, R: Directory + Drop, C: Chronicle> Pieces<D, R, C> {
-    ghost use Rattle.stripe_pieces.specs.Pieces.{ArePieces, GoOn, kept_of, live_place_of, seen_of, state_now};
+    ghost use Rattle.stripe_pieces.specs.Pieces.{ArePieces, GoOn, kept_now, live_place_of, seen_now, state_now};
 
     /// Records that the bytes of a live piece are not its own, and takes its entry out.
     pub fn damage(&mut self, id: PieceId, place: u64, kept: Digest, found: Digest)
@@ -26,12 +26,12 @@ impl<D: Disk, R: Directory + Drop, C: Chronicle> Pieces<D, R, C> {
         requires record { 1 ≤ C.room self.old.chronicle }
         requires live { live_place_of (state_now self.old) id ≡ Some place }
         ensures pieces { GoOn self.old self.new }
-        ensures adds { kept_of self.new ≡ with_records (kept_of self.old)
+        ensures adds { kept_now self.new ≡ with_records (kept_now self.old)
             (Damaged id place kept found ∷ []) }
-        ensures rest { SameButRows (seen_of self.old) (seen_of self.new) }
-        ensures still { (seen_of self.new).device ≡ (seen_of self.old).device }
+        ensures rest { SameButRows (seen_now self.old) (seen_now self.new) }
+        ensures still { (seen_now self.new).device ≡ (seen_now self.old).device }
         ensures uses { Uses 1 0 0 0 (C.room self.old.chronicle) (C.room self.new.chronicle)
-            (seen_of self.old) (seen_of self.new) }
+            (seen_now self.old) (seen_now self.new) }
     {
         self.cyclone.take_out(id, place);
         records::damaged(&mut self.chronicle, id, place, kept, found);
@@ -42,9 +42,9 @@ impl<D: Disk, R: Directory + Drop, C: Chronicle> Pieces<D, R, C> {
     fn take_entry(&mut self, id: PieceId)
         requires pieces { ArePieces self.old }
         ensures gone { (t : State) → IsWithout (state_now self.old) t id
-            → IsHeld t (seen_of self.new) }
+            → IsHeld t (seen_now self.new) }
         ensures chronicle { self.new.chronicle ≡ self.old.chronicle }
-        ensures rest { SameButRows (seen_of self.old) (seen_of self.new) }
+        ensures rest { SameButRows (seen_now self.old) (seen_now self.new) }
     {
         if let Some(place) = self.whereabouts(id) {
             self.cyclone.take_out(id, place);
@@ -56,9 +56,9 @@ impl<D: Disk, R: Directory + Drop, C: Chronicle> Pieces<D, R, C> {
         requires pieces { ArePieces self.old }
         ensures held { (length : ℕ) (list : List Stored)
             → IsHeld (state_after (state_now self.old) (Committed put key length list))
-            (seen_of self.new) }
+            (seen_now self.new) }
         ensures chronicle { self.new.chronicle ≡ self.old.chronicle }
-        ensures rest { SameButRows (seen_of self.old) (seen_of self.new) }
+        ensures rest { SameButRows (seen_now self.old) (seen_now self.new) }
     {
         match self.chronicle.vector_of(key) {
             Some(earlier) if earlier.put != put => self.take_entry(earlier),
@@ -73,11 +73,11 @@ impl<D: Disk, R: Directory + Drop, C: Chronicle> Pieces<D, R, C> {
         requires pieces { ArePieces self.old }
         requires record { 1 ≤ C.room self.old.chronicle }
         ensures pieces { GoOn self.old self.new }
-        ensures adds { kept_of self.new
-            ≡ with_records (kept_of self.old) (Committed put key length alternates ∷ []) }
-        ensures still { (seen_of self.new).device ≡ (seen_of self.old).device }
+        ensures adds { kept_now self.new
+            ≡ with_records (kept_now self.old) (Committed put key length alternates ∷ []) }
+        ensures still { (seen_now self.new).device ≡ (seen_now self.old).device }
         ensures uses { Uses 1 0 0 0 (C.room self.old.chronicle) (C.room self.new.chronicle)
-            (seen_of self.old) (seen_of self.new) }
+            (seen_now self.old) (seen_now self.new) }
     {
         self.take_earlier(put, key);
         records::committed(&mut self.chronicle, put, key, length, alternates);
@@ -89,12 +89,12 @@ impl<D: Disk, R: Directory + Drop, C: Chronicle> Pieces<D, R, C> {
         requires record { 1 ≤ C.room self.old.chronicle }
         requires live { IsSome (live_vector_of (state_now self.old) key) }
         ensures pieces { GoOn self.old self.new }
-        ensures adds { kept_of self.new ≡ with_records (kept_of self.old)
+        ensures adds { kept_now self.new ≡ with_records (kept_now self.old)
             (Removed result key ∷ []) }
         ensures put { vector_of (state_now self.old) key ≡ Some (vector_piece key result) }
-        ensures still { (seen_of self.new).device ≡ (seen_of self.old).device }
+        ensures still { (seen_now self.new).device ≡ (seen_now self.old).device }
         ensures uses { Uses 1 0 0 0 (C.room self.old.chronicle) (C.room self.new.chronicle)
-            (seen_of self.old) (seen_of self.new) }
+            (seen_now self.old) (seen_now self.new) }
     {
         let vector = self.chronicle.vector_of(key).unwrap();
         self.take_entry(vector);

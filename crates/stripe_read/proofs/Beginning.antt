@@ -6,7 +6,7 @@ use Rattle.std.proofs.lemmas.Bool.{eq-eqb}
 use Rattle.tape_base.specs.declared.actors.Actor.{Actor}
 use Rattle.tape_base.specs.declared.keys.Key.{Key}
 use Rattle.device_log.specs.Calls.{Call}
-use Rattle.logged_disk.specs.Device.{State as Device}
+use Rattle.logged_disk.specs.Device.{DeviceState as Device}
 use Rattle.logged_disk.proofs.GoingOn.{told_before}
 use Rattle.alternate_vector.specs.Field.{Field}
 use Rattle.cache_model.specs.declared.answer.ReadAnswer.{ReadAnswer}
@@ -27,19 +27,19 @@ use Rattle.stripe_vectors.proofs.Seeing.{seen_before, still_seen}
 use Rattle.stripe_read.specs.declared.opening.Looked.{Looked}
 use Rattle.stripe_read.specs.declared.opening.Looked.TheVariants as looked
 use Rattle.stripe_read.specs.declared.opening.Opened.{Opened}
-use Rattle.stripe_read.specs.Readers.{IsOpenReader, IsReaderOf}
-use Rattle.stripe_read.specs.Lookups.{IfReader, IsCountedMiss, IsFound, LooksUp, Opens, Tells, answer_in, answer_of, lookup_adds, open_adds, opened_as, trouble_with}
+use Rattle.stripe_read.specs.Readers.{IsOpenStripeReader, IsStripeReaderOf}
+use Rattle.stripe_read.specs.Lookups.{IfOpened, IsFound, LooksUp, MissIsCounted, Opens, TellsOpened, answer_of_looked, answer_of_opened, lookup_adds, lookup_trouble, opened_as, opening_adds}
 use Rattle.stripe_read.proofs.Looking.{hit_adds, key_pair_wider, nothing_recorded}
 use Rattle.stripe_read.proofs.Staying.{LeavesReaders, cause_leaves, state_behind, two_calls}
 
 -- ---- records
 
-answer_as : (number : ℕ) (key : Key) (found : Looked) → answer_in (opened_as number key found) ≡ answer_of found
+answer_as : (number : ℕ) (key : Key) (found : Looked) → answer_of_opened (opened_as number key found) ≡ answer_of_looked found
 answer_as number key (looked.Hit chosen) = refl
 answer_as number key (looked.Follow put) = refl
 answer_as number key (looked.Miss why) = refl
 
-trouble_leaves : (s : State) (o : Option Row) (answer : ReadAnswer) → LeavesReaders s (after_all s (trouble_with o answer))
+trouble_leaves : (s : State) (o : Option Row) (answer : ReadAnswer) → LeavesReaders s (after_all s (lookup_trouble o answer))
 trouble_leaves s None answer = record { readers = refl; pending = refl; number = refl }
 trouble_leaves s (Some row) (read.Hit put) = record { readers = refl; pending = refl; number = refl }
 trouble_leaves s (Some row) (read.Follow put) = record { readers = refl; pending = refl; number = refl }
@@ -55,9 +55,9 @@ found_first : (n : ℕ) (row : ReaderRow) (rows : List ReaderRow) → row.reader
 found_first n row rows is = ap (λ (b : Bool). cond b (Some row) (find (λ (x : ReaderRow). x.reader == n) rows)) (eq-eqb row.reader n is)
 
 abbrev opens_now : State → Actor → Key → List Field → Looked → State
-opens_now t who key request found = state_after t (rec.ReadOpened t.next_reader who key request (answer_of found))
+opens_now t who key request found = state_after t (rec.ReadOpened t.next_reader who key request (answer_of_looked found))
 
-open_as : (t : State) (who : Actor) (key : Key) (request : List Field) (found : Looked) → IfReader (IsOpenReader (opens_now t who key request found)) (opened_as t.next_reader key found)
+open_as : (t : State) (who : Actor) (key : Key) (request : List Field) (found : Looked) → IfOpened (IsOpenStripeReader (opens_now t who key request found)) (opened_as t.next_reader key found)
 open_as t who key request (looked.Hit chosen) = record {
   row = record { actor = who.0; reader = t.next_reader; key = key; put = chosen.put; table = Some (table_of_hit t key request); next = 1 };
   found = found_first t.next_reader (record { actor = who.0; reader = t.next_reader; key = key; put = chosen.put; table = Some (table_of_hit t key request); next = 1 }) t.readers refl;
@@ -80,7 +80,7 @@ open_as t who key request (looked.Miss why) = tt
 
 -- it has the fragments of the alternate
 own_as : (t : State) (who : Actor) (key : Key) (request : List Field) (found : Looked) → Rattle.stripe_read.specs.Lookups.HasTable t key request found
-    → IfReader (IsReaderOf (opens_now t who key request found)) (opened_as t.next_reader key found)
+    → IfOpened (IsStripeReaderOf (opens_now t who key request found)) (opened_as t.next_reader key found)
 own_as t who key request (looked.Hit chosen) table = record {
   actor = who.0;
   found = found_first t.next_reader (record { actor = who.0; reader = t.next_reader; key = key; put = chosen.put; table = Some (table_of_hit t key request); next = 1 }) t.readers refl
@@ -91,7 +91,7 @@ own_as t who key request (looked.Follow put) table =
 own_as t who key request (looked.Miss why) table = tt
 
 -- a hit is looked up with nothing recorded
-table_behind : (k k1 : Kept) (key : Key) (request : List Field) (found : Looked) → k1 ≡ with_records k (lookup_adds (state_of k) key (answer_of found)) → Rattle.stripe_read.specs.Lookups.HasTable (state_of k) key request found
+table_behind : (k k1 : Kept) (key : Key) (request : List Field) (found : Looked) → k1 ≡ with_records k (lookup_adds (state_of k) key (answer_of_looked found)) → Rattle.stripe_read.specs.Lookups.HasTable (state_of k) key request found
     → Rattle.stripe_read.specs.Lookups.HasTable (state_of k1) key request found
 table_behind k k1 key request (looked.Hit chosen) is table =
     let same : k1 ≡ k = nothing_recorded k k1 (is ∙ ap (with_records k) (hit_adds (state_of k) key chosen.put)) in
@@ -101,56 +101,56 @@ table_behind k k1 key request (looked.Miss why) is table = tt
 
 -- ---- what it tells
 
-miss_later : (before after : ℕ) (s : State) (key : Key) (answer : ReadAnswer) → before ≤ after → IsCountedMiss before s key answer → IsCountedMiss after s key answer
+miss_later : (before after : ℕ) (s : State) (key : Key) (answer : ReadAnswer) → before ≤ after → MissIsCounted before s key answer → MissIsCounted after s key answer
 miss_later before after s key (read.Miss why) h (inl is) = inl is
 miss_later before after s key (read.Miss why) h (inr counted) = inr (cause_later before after why h counted)
 miss_later before after s key _ h counted = tt
 
-tells_as : (number : ℕ) (key : Key) (found : Looked) → Tells number (opened_as number key found)
+tells_as : (number : ℕ) (key : Key) (found : Looked) → TellsOpened number (opened_as number key found)
 tells_as number key (looked.Hit chosen) = (refl, refl, refl)
 tells_as number key (looked.Follow put) = (refl, refl, refl)
 tells_as number key (looked.Miss why) = tt
 
 -- ---- the call
 
-module _ (k k0 k1 k2 : Kept) (who : Actor) (key : Key) (request : List Field) (found : Looked) (opened : Opened) (same : k0 ≡ k) (looks : k1 ≡ with_records k0 (lookup_adds (state_of k0) key (answer_of found)))
-    (opens : k2 ≡ with_records k1 (rec.ReadOpened (state_of k1).next_reader who key request (answer_of found) ∷ [])) (is : opened ≡ opened_as (state_of k1).next_reader key found) where
-  looks_first : k1 ≡ with_records k (lookup_adds (state_of k) key (answer_of found))
-  looks_first = looks ∙ ap (λ x. with_records x (lookup_adds (state_of x) key (answer_of found))) same
+module _ (k k0 k1 k2 : Kept) (who : Actor) (key : Key) (request : List Field) (found : Looked) (opened : Opened) (same : k0 ≡ k) (looks : k1 ≡ with_records k0 (lookup_adds (state_of k0) key (answer_of_looked found)))
+    (opens : k2 ≡ with_records k1 (rec.ReadOpened (state_of k1).next_reader who key request (answer_of_looked found) ∷ [])) (is : opened ≡ opened_as (state_of k1).next_reader key found) where
+  looks_first : k1 ≡ with_records k (lookup_adds (state_of k) key (answer_of_looked found))
+  looks_first = looks ∙ ap (λ x. with_records x (lookup_adds (state_of x) key (answer_of_looked found))) same
 
   number : (state_of k1).next_reader ≡ (state_of k).next_reader
-  number = (looked_leaves k k1 key (answer_of found) looks_first).number
+  number = (looked_leaves k k1 key (answer_of_looked found) looks_first).number
 
   state_is : state_of k2 ≡ opens_now (state_of k1) who key request found
-  state_is = state_behind k1 k2 (rec.ReadOpened (state_of k1).next_reader who key request (answer_of found) ∷ []) opens
+  state_is = state_behind k1 k2 (rec.ReadOpened (state_of k1).next_reader who key request (answer_of_looked found) ∷ []) opens
 
-  pub begun_adds : k2 ≡ with_records k (open_adds (state_of k) who key request (answer_in opened))
+  pub begun_adds : k2 ≡ with_records k (opening_adds (state_of k) who key request (answer_of_opened opened))
   begun_adds =
-      two_calls k k1 k2 (lookup_adds (state_of k) key (answer_of found)) (rec.ReadOpened (state_of k1).next_reader who key request (answer_of found) ∷ []) looks_first opens
-      ∙ (ap (λ n. with_records k (lookup_adds (state_of k) key (answer_of found) ++ rec.ReadOpened n who key request (answer_of found) ∷ [])) number
-      ∙ ap (λ a. with_records k (open_adds (state_of k) who key request a)) (sym (ap answer_in is ∙ answer_as (state_of k1).next_reader key found)))
+      two_calls k k1 k2 (lookup_adds (state_of k) key (answer_of_looked found)) (rec.ReadOpened (state_of k1).next_reader who key request (answer_of_looked found) ∷ []) looks_first opens
+      ∙ (ap (λ n. with_records k (lookup_adds (state_of k) key (answer_of_looked found) ++ rec.ReadOpened n who key request (answer_of_looked found) ∷ [])) number
+      ∙ ap (λ a. with_records k (opening_adds (state_of k) who key request a)) (sym (ap answer_of_opened is ∙ answer_as (state_of k1).next_reader key found)))
 
   pub begun_quiet : IsQuiet (state_of k) → IsQuiet (state_of k2)
-  begun_quiet quiet = subst IsQuiet (sym state_is) (quiet_now (answer_of found) ((looked_leaves k k1 key (answer_of found) looks_first).pending ∙ quiet))
+  begun_quiet quiet = subst IsQuiet (sym state_is) (quiet_now (answer_of_looked found) ((looked_leaves k k1 key (answer_of_looked found) looks_first).pending ∙ quiet))
     where
       quiet_now : (a : ReadAnswer) → IsQuiet (state_of k1) → IsQuiet (state_after (state_of k1) (rec.ReadOpened (state_of k1).next_reader who key request a))
       quiet_now a h = h
 
-  pub begun_tells : Tells (state_of k).next_reader opened
-  begun_tells = subst (λ n. Tells n opened) number (subst (Tells (state_of k1).next_reader) (sym is) (tells_as (state_of k1).next_reader key found))
+  pub begun_tells : TellsOpened (state_of k).next_reader opened
+  begun_tells = subst (λ n. TellsOpened n opened) number (subst (TellsOpened (state_of k1).next_reader) (sym is) (tells_as (state_of k1).next_reader key found))
 
-  pub begun_reader : IfReader (IsOpenReader (state_of k2)) opened
-  begun_reader = subst (λ t. IfReader (IsOpenReader t) opened) (sym state_is) (subst (IfReader (IsOpenReader (opens_now (state_of k1) who key request found))) (sym is) (open_as (state_of k1) who key request found))
+  pub begun_reader : IfOpened (IsOpenStripeReader (state_of k2)) opened
+  begun_reader = subst (λ t. IfOpened (IsOpenStripeReader t) opened) (sym state_is) (subst (IfOpened (IsOpenStripeReader (opens_now (state_of k1) who key request found))) (sym is) (open_as (state_of k1) who key request found))
 
-  begun_own : Rattle.stripe_read.specs.Lookups.HasTable (state_of k) key request found → IfReader (IsReaderOf (state_of k2)) opened
+  begun_own : Rattle.stripe_read.specs.Lookups.HasTable (state_of k) key request found → IfOpened (IsStripeReaderOf (state_of k2)) opened
   begun_own table =
-      subst (λ t. IfReader (IsReaderOf t) opened) (sym state_is)
-      (subst (IfReader (IsReaderOf (opens_now (state_of k1) who key request found))) (sym is) (own_as (state_of k1) who key request found (table_behind k k1 key request found looks_first table)))
+      subst (λ t. IfOpened (IsStripeReaderOf t) opened) (sym state_is)
+      (subst (IfOpened (IsStripeReaderOf (opens_now (state_of k1) who key request found))) (sym is) (own_as (state_of k1) who key request found (table_behind k k1 key request found looks_first table)))
 
-  begun_does : (p : Permit) → IsQuiet (state_of k) → IsFound p (state_of k) key request found → Does p (state_of k) (Look who.0 key request) (open_adds (state_of k) who key request (answer_in opened)) Done
+  begun_does : (p : Permit) → IsQuiet (state_of k) → IsFound p (state_of k) key request found → Does p (state_of k) (Look who.0 key request) (opening_adds (state_of k) who key request (answer_of_opened opened)) Done
   begun_does p quiet h =
-      subst (λ a. Does p (state_of k) (Look who.0 key request) (open_adds (state_of k) who key request a) Done) (sym (ap answer_in is ∙ answer_as (state_of k1).next_reader key found))
-      (DoesLook.looks (record { who = who; before = lookup_adds (state_of k) key (answer_of found); answer = answer_of found; number = refl; quiet = quiet; right = h.right; is = refl }))
+      subst (λ a. Does p (state_of k) (Look who.0 key request) (opening_adds (state_of k) who key request a) Done) (sym (ap answer_of_opened is ∙ answer_as (state_of k1).next_reader key found))
+      (DoesLook.looks (record { who = who; before = lookup_adds (state_of k) key (answer_of_looked found); answer = answer_of_looked found; number = refl; quiet = quiet; right = h.right; is = refl }))
 
   pub begun_opens : (old older new newer : Device) → older.past ≡ old.past → IsStill new newer → IsQuiet (state_of k) → LooksUp (state_of k0) older new key request found → Opens (state_of k) (state_of k2) old newer who key request opened
   begun_opens old older new newer from still quiet l =
@@ -166,15 +166,16 @@ module _ (k k0 k1 k2 : Kept) (who : Actor) (key : Key) (request : List Field) (f
                   )
             ];
         counted =
-            subst (IsCountedMiss newer.faults (state_of k) key) (sym (ap answer_in is ∙ answer_as (state_of k1).next_reader key found))
-            (miss_later new.faults newer.faults (state_of k) key (answer_of found) (omega (arith, still.faults)) m.counted);
+            subst (MissIsCounted newer.faults (state_of k) key)
+            (sym (ap answer_of_opened is ∙ answer_as (state_of k1).next_reader key found))
+            (miss_later new.faults newer.faults (state_of k) key (answer_of_looked found) (omega (arith, still.faults)) m.counted);
       }
 
 -- ---- by what the call came to
 
-module _ (k k0 k1 k2 : Kept) (who : Actor) (key : Key) (request : List Field) (found : Looked) (same : k0 ≡ k) (looks : k1 ≡ with_records k0 (lookup_adds (state_of k0) key (answer_of found))) where
+module _ (k k0 k1 k2 : Kept) (who : Actor) (key : Key) (request : List Field) (found : Looked) (same : k0 ≡ k) (looks : k1 ≡ with_records k0 (lookup_adds (state_of k0) key (answer_of_looked found))) where
   abbrev AddsIt : Result Opened AllocError → Type 0
-  AddsIt r = IfOk r (λ (opened : Opened). k2 ≡ with_records k1 (rec.ReadOpened (state_of k1).next_reader who key request (answer_of found) ∷ []))
+  AddsIt r = IfOk r (λ (opened : Opened). k2 ≡ with_records k1 (rec.ReadOpened (state_of k1).next_reader who key request (answer_of_looked found) ∷ []))
 
   abbrev OpensIt : Result Opened AllocError → Type 0
   OpensIt r = IfOk r (λ opened. opened ≡ opened_as (state_of k1).next_reader key found)
@@ -183,11 +184,11 @@ module _ (k k0 k1 k2 : Kept) (who : Actor) (key : Key) (request : List Field) (f
   quiet_then (Ok opened) adds opens ok quiet = begun_quiet k k0 k1 k2 who key request found opened same looks adds opens quiet
   quiet_then (Err e) adds opens ok quiet = cc
 
-  pub adds_then : (r : Result Opened AllocError) → AddsIt r → OpensIt r → IfOk r (λ opened. k2 ≡ with_records k (open_adds (state_of k) who key request (answer_in opened)))
+  pub adds_then : (r : Result Opened AllocError) → AddsIt r → OpensIt r → IfOk r (λ opened. k2 ≡ with_records k (opening_adds (state_of k) who key request (answer_of_opened opened)))
   adds_then (Ok opened) adds opens = begun_adds k k0 k1 k2 who key request found opened same looks adds opens
   adds_then (Err e) adds opens = tt
 
-  pub reader_then : (r : Result Opened AllocError) → AddsIt r → OpensIt r → IfOk r (IfReader (IsOpenReader (state_of k2)))
+  pub reader_then : (r : Result Opened AllocError) → AddsIt r → OpensIt r → IfOk r (IfOpened (IsOpenStripeReader (state_of k2)))
   reader_then (Ok opened) adds opens = begun_reader k k0 k1 k2 who key request found opened same looks adds opens
   reader_then (Err e) adds opens = tt
 
@@ -196,7 +197,7 @@ module _ (k k0 k1 k2 : Kept) (who : Actor) (key : Key) (request : List Field) (f
   opens_then old older new newer (Ok opened) adds opens from still quiet l = begun_opens k k0 k1 k2 who key request found opened same looks adds opens old older new newer from still quiet l
   opens_then old older new newer (Err e) adds opens from still quiet l = tt
 
-  pub tells_then : (r : Result Opened AllocError) → AddsIt r → OpensIt r → IfOk r (Tells (state_of k).next_reader)
+  pub tells_then : (r : Result Opened AllocError) → AddsIt r → OpensIt r → IfOk r (TellsOpened (state_of k).next_reader)
   tells_then (Ok opened) adds opens = begun_tells k k0 k1 k2 who key request found opened same looks adds opens
   tells_then (Err e) adds opens = tt
 

@@ -3,7 +3,7 @@ use Rattle.std.proofs.Common.{◌≡◌, ◌≢◌, ℕ, ◌<◌, ◌≤◌, Lis
 use Rattle.std.specs.Prelude.{Option, Some, None, option_and_then, option_map}
 use Rattle.tape_base.specs.declared.digests.Digest.{Digest}
 use Rattle.tape_base.specs.declared.pieces.PieceId.{PieceId}
-use Rattle.logged_disk.specs.Device.{State as Device, TellsAll}
+use Rattle.logged_disk.specs.Device.{DeviceState as Device, TellsAll}
 use Rattle.fragment_table.specs.Table.{TableRow}
 use Rattle.cyclone.specs.Cyclone.{Seen}
 use Rattle.cache_model.specs.declared.cause.Cause.{Cause}
@@ -18,8 +18,8 @@ use Rattle.cache_model.proofs.Lists.{own_piece}
 use Rattle.call_laws.specs.Contents.{Contents}
 use Rattle.stripe_pieces.specs.declared.answer.Found.{Found}
 use Rattle.stripe_pieces.specs.declared.answer.Found.TheVariants as found
-use Rattle.stripe_pieces.specs.Covers.{AreSeen, Covers}
-use Rattle.stripe_pieces.specs.Find.{Finds, HasPayload, IsFoundAs, cause_records, find_adds, found_records}
+use Rattle.stripe_pieces.specs.Covers.{AllReadIsSeen, Covers}
+use Rattle.stripe_pieces.specs.Find.{Finds, HasPayload, IsFoundAs, find_adds, found_records, records_of_trouble}
 use Rattle.stripe_pieces.proofs.Candidates.{live_is}
 use Rattle.stripe_read.specs.declared.fetching.Unlike.{Unlike}
 use Rattle.stripe_read.specs.Fetches.{Fetches, IsCompared, IsFetched, IsOtherPiece, IsPieceAsListed, IsUnlikePiece}
@@ -83,12 +83,12 @@ is_read p s row size into h = by (either s.cursor row.place)
     by (inr below) = IsRead.given h.bytes (h.given below) h.digest
 
 mismatched : (p : Permit) (s : State) (id : PieceId) (listed : Digest) (row : Row) (entry : TableRow) (why : Cause) (u : Unlike) → live_row_of s id ≡ Some row → digest_in entry ≡ listed → IsRead p s row
-    → why ≡ cause.Damaged u.place listed u.found → IsUnlikePiece s id listed u → ReadTrouble p s row entry (cause_records row why) why
+    → why ≡ cause.Damaged u.place listed u.found → IsUnlikePiece s id listed u → ReadTrouble p s row entry (records_of_trouble row why) why
 mismatched p s id listed row entry why u live lists read is h =
     let at : row.place ≡ u.place = place_is (live_row_of s id) row u.place live h.place in
     let same : why ≡ damage_cause row (digest_in entry) u.found =
     is ∙ (ap (λ n. cause.Damaged n listed u.found) (sym at) ∙ ap (λ d. cause.Damaged row.place d u.found) (sym lists)) in
-    subst (λ (y : Cause). ReadTrouble p s row entry (cause_records row y) y) (sym same)
+    subst (λ (y : Cause). ReadTrouble p s row entry (records_of_trouble row y) y) (sym same)
     (ReadTrouble.mismatched u.found read (unlike_row s id listed u.found row entry live h.payload h.differ lists))
 
 compared_by : (p : Permit) (s : State) (id : PieceId) (o : Option Row) (listed : Digest) (entry : TableRow) (size : ℕ) (into : List ℕ) (answer : Found) → live_row_of s id ≡ o → digest_in entry ≡ listed
@@ -110,7 +110,7 @@ compared_payload contents s id (Some row) listed size into (found.Missing why) c
 pub compared : (s : State) (old new newer : Seen) (id : PieceId) (listed : Digest) (size : ℕ) (into : List ℕ) (answer : Found)
     → newer.device ≡ new.device → Finds s old new id (found.Found size) into → IsCompared s id listed size answer → Fetches s old newer id listed answer into
 compared s old new newer id listed size into answer still f c = record {
-  seen = subst (AreSeen old.device) (sym still) f.seen;
+  seen = subst (AllReadIsSeen old.device) (sym still) f.seen;
   contents = λ tells contents stands.
       compared_payload contents s id (live_row_of s id) listed size into answer c (f.contents (subst TellsAll still tells) contents stands);
   answers = λ p entry covers lists.
@@ -121,7 +121,7 @@ compared s old new newer id listed size into answer still f c = record {
 missing_by : (p : Permit) (s : State) (id : PieceId) (o : Option Row) (entry : TableRow) (why : Cause) (into : List ℕ)
     → IsFoundAs p s id o (found.Missing why) into → IsFetched p s id o entry (found.Missing why) into
 missing_by p s id None entry why into h = h
-missing_by p s id (Some row) entry why into h = ReadTrouble.troubled (cause_records row why) why h
+missing_by p s id (Some row) entry why into h = ReadTrouble.troubled (records_of_trouble row why) why h
 
 missing_payload : (contents : Contents) (o : Option Row) (why : Cause) (into : List ℕ) → HasPayload contents o (found.Missing why) into
 missing_payload contents None why into = tt

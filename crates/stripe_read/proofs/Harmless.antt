@@ -1,6 +1,6 @@
 -- Calls one behind the other, where one of them may tell a piece as damaged.
 use Rattle.std.proofs.Common.{◌⊎◌, inl, inr}
-use Rattle.logged_disk.specs.Device.{State as Device}
+use Rattle.logged_disk.specs.Device.{DeviceState as Device}
 use Rattle.cache_model.specs.Kept.{Kept}
 use Rattle.stripe_core.specs.Between.{IsBetween}
 use Rattle.stripe_core.proofs.Between.{between-trans}

@@ -4,10 +4,10 @@ use Rattle.std.specs.Prelude.{Option, Some, None, if◌then◌else◌, option_an
 use Rattle.std.proofs.lemmas.List.{append-nil}
 use Rattle.tape_base.specs.declared.keys.Key.{Key}
 use Rattle.tape_base.specs.declared.pieces.PieceId.{PieceId}
-use Rattle.logged_disk.specs.Device.{State as Device}
+use Rattle.logged_disk.specs.Device.{DeviceState as Device}
 use Rattle.alternate_vector.specs.Field.{Field}
 use Rattle.alternate_vector.specs.Alternates.{Stored}
-use Rattle.open_directory.specs.Directory.{followed as followed_put}
+use Rattle.open_directory.specs.Directory.{put_followed as followed_put}
 use Rattle.cache_model.specs.declared.cause.Cause.{Cause}
 use Rattle.cache_model.specs.declared.answer.ReadAnswer.{ReadAnswer}
 use Rattle.cache_model.specs.declared.answer.ReadAnswer.TheVariants as read
@@ -21,16 +21,16 @@ use Rattle.cache_model.specs.Pair.{Documents, IsKeyPair}
 use Rattle.cache_model.specs.Vectors.{AreVectors, IsVectorAs}
 use Rattle.call_laws.specs.Contents.{Untold}
 use Rattle.call_laws.proofs.Kept.{tells_or_not}
-use Rattle.stripe_core.specs.Counts.{IsCountedCause}
-use Rattle.stripe_actors.specs.Actors.{AreActors, Seen}
+use Rattle.stripe_core.specs.Counts.{CauseIsCounted}
+use Rattle.stripe_actors.specs.Actors.{ActorsSeen, AreActors}
 use Rattle.stripe_actors.specs.ActorLaws.{number_in}
 use Rattle.stripe_actors.proofs.Telling.{followed_same}
 use Rattle.stripe_vectors.specs.declared.reading.KeyVector.TheVariants as vector
-use Rattle.stripe_vectors.specs.Reading.{FindsVector, IsReadAs, IsVectorFound, ReadIsListed, trouble_records}
+use Rattle.stripe_vectors.specs.Reading.{FindsVector, IsVectorFound, ReadIsListed, VectorIsReadAs, trouble_records}
 use Rattle.stripe_read.specs.declared.opening.Chosen.{Chosen}
 use Rattle.stripe_read.specs.declared.opening.Looked.{Looked}
 use Rattle.stripe_read.specs.declared.opening.Looked.TheVariants as looked
-use Rattle.stripe_read.specs.Lookups.{HasTable, IsChosen, IsCountedMiss, IsFound, LooksUp, answer_of, lookup_adds, otherwise, trouble_with}
+use Rattle.stripe_read.specs.Lookups.{HasTable, IsChosen, IsFound, LooksUp, MissIsCounted, answer_of_looked, lookup_adds, lookup_trouble, otherwise}
 use Rattle.stripe_read.proofs.Comparing.{either}
 
 -- ---- the writer to follow, or the cause
@@ -39,14 +39,14 @@ followed_by : (s : State) (key : Key) (o : Option PutRow) (put : ℕ) → option
 followed_by s key None put h = cc
 followed_by s key (Some row) put h = let same : row.put ≡ put = cc in ap read.Follow (sym same)
 
-pub followed_is : (s : State) (a : Seen) (key : Key) (request : List Field) (put : ℕ) → AreActors s a → followed_put key request a.held.writers ≡ Some put → read.Follow put ≡ otherwise s key request
+pub followed_is : (s : State) (a : ActorsSeen) (key : Key) (request : List Field) (put : ℕ) → AreActors s a → followed_put key request a.held.writers ≡ Some put → read.Follow put ≡ otherwise s key request
 followed_is s a key request put actors h = followed_by s key (followed s key request) put (sym (followed_same s a actors key request) ∙ h)
 
 missed_by : (s : State) (key : Key) (o : Option PutRow) → option_map number_in o ≡ None → read.Miss (cause_of_miss s key) ≡ unwrap_or (option_map follow_answer o) (read.Miss (cause_of_miss s key))
 missed_by s key None h = refl
 missed_by s key (Some row) h = cc
 
-pub missed_is : (s : State) (a : Seen) (key : Key) (request : List Field) → AreActors s a → followed_put key request a.held.writers ≡ None → read.Miss (cause_of_miss s key) ≡ otherwise s key request
+pub missed_is : (s : State) (a : ActorsSeen) (key : Key) (request : List Field) → AreActors s a → followed_put key request a.held.writers ≡ None → read.Miss (cause_of_miss s key) ≡ otherwise s key request
 missed_is s a key request actors h = missed_by s key (followed s key request) (sym (followed_same s a actors key request) ∙ h)
 
 -- ---- a key without a live vector has no alternates, and one that has is missed for no match
@@ -79,16 +79,16 @@ live_is_no_match s key row h = no_match_by s key (last_vector s key) row h
 
 -- ---- what is recorded
 
-otherwise_by : (s : State) (key : Key) (o : Option Row) (f : Option PutRow) → live_vector_of s key ≡ o → trouble_with o (unwrap_or (option_map follow_answer f) (read.Miss (cause_of_miss s key))) ≡ []
+otherwise_by : (s : State) (key : Key) (o : Option Row) (f : Option PutRow) → live_vector_of s key ≡ o → lookup_trouble o (unwrap_or (option_map follow_answer f) (read.Miss (cause_of_miss s key))) ≡ []
 otherwise_by s key None f e = refl
 otherwise_by s key (Some row) (Some put) e = refl
-otherwise_by s key (Some row) None e = ap (λ why. trouble_with (Some row) (read.Miss why)) (live_is_no_match s key row e).1
+otherwise_by s key (Some row) None e = ap (λ why. lookup_trouble (Some row) (read.Miss why)) (live_is_no_match s key row e).1
 
 -- where nothing kept the vector from being read, that adds nothing
 pub otherwise_adds : (s : State) (key : Key) (request : List Field) → lookup_adds s key (otherwise s key request) ≡ []
 otherwise_adds s key request = otherwise_by s key (live_vector_of s key) (followed s key request) refl
 
-hit_by : (o : Option Row) (put : ℕ) → trouble_with o (read.Hit put) ≡ []
+hit_by : (o : Option Row) (put : ℕ) → lookup_trouble o (read.Hit put) ≡ []
 hit_by None put = refl
 hit_by (Some row) put = refl
 
@@ -112,7 +112,7 @@ read_by k new (Some row) list is = nothing_recorded k new is
 pub read_same : (k new : Kept) (key : Key) (list : List Stored) → new ≡ with_records k (trouble_records (live_vector_of (state_of k) key) (vector.Read list)) → new ≡ k
 read_same k new key list is = read_by k new (live_vector_of (state_of k) key) list is
 
-pub same_adds : (k new : Kept) (key : Key) (request : List Field) (found : Looked) → new ≡ k → answer_of found ≡ otherwise (state_of k) key request → new ≡ with_records k (lookup_adds (state_of k) key (answer_of found))
+pub same_adds : (k new : Kept) (key : Key) (request : List Field) (found : Looked) → new ≡ k → answer_of_looked found ≡ otherwise (state_of k) key request → new ≡ with_records k (lookup_adds (state_of k) key (answer_of_looked found))
 same_adds k new key request found same is =
     same ∙ (sym (nothing_recorded k (with_records k []) refl) ∙ ap (with_records k) (sym (ap (lookup_adds (state_of k) key) is ∙ otherwise_adds (state_of k) key request)))
 
@@ -124,7 +124,7 @@ verdict_hit s key request a h = ap (λ o. unwrap_or (option_map hit_answer o) (o
 verdict_otherwise : (s : State) (key : Key) (request : List Field) → hit s key request ≡ None → lookup_verdict s key request ≡ otherwise s key request
 verdict_otherwise s key request h = ap (λ o. unwrap_or (option_map hit_answer o) (otherwise s key request)) h
 
-vector_is_read : (p : Permit) (s : State) (row : Row) (list : List Stored) → IsReadAs p s row list → IsRead p s row
+vector_is_read : (p : Permit) (s : State) (row : Row) (list : List Stored) → VectorIsReadAs p s row list → IsRead p s row
 vector_is_read p s row list h = by (either s.cursor row.place)
   where
     by : ((s.cursor ≤ row.place) ⊎ (row.place < s.cursor)) → IsRead p s row
@@ -132,22 +132,22 @@ vector_is_read p s row list h = by (either s.cursor row.place)
     by (inr below) = IsRead.given h.bytes (h.given below) h.digest
 
 -- the verdict that was found, with the vector read where it is live
-verdict_found : (p : Permit) (s : State) (key : Key) (request : List Field) (found : Looked) → IsReadWhereLive p s (live_vector_of s key) → lookup_verdict s key request ≡ answer_of found → lookup_adds s key (answer_of found) ≡ []
+verdict_found : (p : Permit) (s : State) (key : Key) (request : List Field) (found : Looked) → IsReadWhereLive p s (live_vector_of s key) → lookup_verdict s key request ≡ answer_of_looked found → lookup_adds s key (answer_of_looked found) ≡ []
     → HasTable s key request found → IsFound p s key request found
 verdict_found p s key request found was is adds table = record {
-  right = subst (λ recs. IsLookup p s key request recs (answer_of found)) (sym adds) (subst (IsLookup p s key request []) is (IsLookup.verdict was));
+  right = subst (λ recs. IsLookup p s key request recs (answer_of_looked found)) (sym adds) (subst (IsLookup p s key request []) is (IsLookup.verdict was));
   table = table;
 }
 
 -- ---- a vector that was read
 
 -- what is answered where no alternate is hit is no count of the device
-otherwise_counted : (faults : ℕ) (s : State) (key : Key) (request : List Field) (answer : ReadAnswer) → answer ≡ otherwise s key request → IsCountedMiss faults s key answer
+otherwise_counted : (faults : ℕ) (s : State) (key : Key) (request : List Field) (answer : ReadAnswer) → answer ≡ otherwise s key request → MissIsCounted faults s key answer
 otherwise_counted faults s key request answer is = by (followed s key request) is
   where
-    by : (o : Option PutRow) → answer ≡ unwrap_or (option_map follow_answer o) (read.Miss (cause_of_miss s key)) → IsCountedMiss faults s key answer
-    by (Some w) h = subst (IsCountedMiss faults s key) (sym h) tt
-    by None h = subst (IsCountedMiss faults s key) (sym h) (inl refl)
+    by : (o : Option PutRow) → answer ≡ unwrap_or (option_map follow_answer o) (read.Miss (cause_of_miss s key)) → MissIsCounted faults s key answer
+    by (Some w) h = subst (MissIsCounted faults s key) (sym h) tt
+    by None h = subst (MissIsCounted faults s key) (sym h) (inl refl)
 
 -- a pair of some documents is one of more
 pub key_pair_wider : (P Q : Documents) → ((s : State) (row : Row) (document : List ℕ) → P s row document → Q s row document)
@@ -169,7 +169,8 @@ key_pair_wider P Q wider p s key h = record {
 module _ (s : State) (old new : Device) (key : Key) (request : List Field) where
   -- what was read is what the key has, or two documents of one SHA-256 are shown on a device that did not tell its content
   read_listed : ReadIsListed → (list : List Stored) → FindsVector s old new key (vector.Read list) → (p : Permit) → AreVectors s → (row : Row)
-      → live_vector_of s key ≡ Some row → IsReadAs p s row list → (list ≡ alternates_of s key) ⊎ IsKeyPair (Untold new IsVectorAs) p s key
+      → live_vector_of s key ≡ Some row → VectorIsReadAs p s row list
+      → (list ≡ alternates_of s key) ⊎ IsKeyPair (Untold new IsVectorAs) p s key
   read_listed law list f p each row live read = elim (tells_or_not new) [
     | inl tells ↦ inl (f.exact tells)
     | inr n ↦ elim (law p s key row list each live read) [
@@ -179,7 +180,8 @@ module _ (s : State) (old new : Device) (key : Key) (request : List Field) where
   ]
 
   -- there is none
-  absent_in : (p : Permit) (found : Looked) → answer_of found ≡ otherwise s key request → HasTable s key request found → (o : Option Row)
+  absent_in : (p : Permit) (found : Looked) → answer_of_looked found ≡ otherwise s key request → HasTable s key request found
+      → (o : Option Row)
       → live_vector_of s key ≡ o → IsVectorFound p s o vector.Absent
       → IsFound p s key request found ⊎ IsKeyPair (Untold new IsVectorAs) p s key
   absent_in p found is table (Some row) live h = absurd h
@@ -187,11 +189,11 @@ module _ (s : State) (old new : Device) (key : Key) (request : List Field) where
       inl (verdict_found p s key request found (subst (IsReadWhereLive p s) (sym live) tt) (verdict_otherwise s key request (ap (last_match request) (no_alternates s key live)) ∙ sym is)
       (ap (lookup_adds s key) is ∙ otherwise_adds s key request) table)
 
-  pub absent_looks : (found : Looked) → answer_of found ≡ otherwise s key request → HasTable s key request found → FindsVector s old new key vector.Absent → LooksUp s old new key request found
+  pub absent_looks : (found : Looked) → answer_of_looked found ≡ otherwise s key request → HasTable s key request found → FindsVector s old new key vector.Absent → LooksUp s old new key request found
   absent_looks found is table f = record {
     seen = f.seen;
     answers = λ p covers each. absent_in p found is table (live_vector_of s key) refl (f.answers p covers);
-    counted = otherwise_counted new.faults s key request (answer_of found) is;
+    counted = otherwise_counted new.faults s key request (answer_of_looked found) is;
   }
 
   -- it cannot be read
@@ -199,11 +201,11 @@ module _ (s : State) (old new : Device) (key : Key) (request : List Field) where
       → IsFound p s key request (looked.Miss why) ⊎ IsKeyPair (Untold new IsVectorAs) p s key
   trouble_in p why None live h = absurd h
   trouble_in p why (Some row) live h = inl (record {
-    right = subst (λ o. IsLookup p s key request (trouble_with o (read.Miss why)) (read.Miss why)) (sym live) (IsLookup.trouble row (Rattle.stripe_pieces.specs.Find.cause_records row why) why live h);
+    right = subst (λ o. IsLookup p s key request (lookup_trouble o (read.Miss why)) (read.Miss why)) (sym live) (IsLookup.trouble row (Rattle.stripe_pieces.specs.Find.records_of_trouble row why) why live h);
     table = tt;
   })
 
-  pub trouble_looks : (why : Cause) → IsCountedCause new.faults why → FindsVector s old new key (vector.Trouble why) → LooksUp s old new key request (looked.Miss why)
+  pub trouble_looks : (why : Cause) → CauseIsCounted new.faults why → FindsVector s old new key (vector.Trouble why) → LooksUp s old new key request (looked.Miss why)
   trouble_looks why counts f = record {
     seen = f.seen;
     answers = λ p covers each. trouble_in p why (live_vector_of s key) refl (f.answers p covers);
@@ -211,9 +213,10 @@ module _ (s : State) (old new : Device) (key : Key) (request : List Field) where
   }
 
   -- it was read, and nothing in it answers
-  unmatched_in : (p : Permit) (found : Looked) (list : List Stored) → answer_of found ≡ otherwise s key request → HasTable s key request found
+  unmatched_in : (p : Permit) (found : Looked) (list : List Stored) → answer_of_looked found ≡ otherwise s key request → HasTable s key request found
       → last_match request list ≡ None → (o : Option Row) → live_vector_of s key ≡ o → IsVectorFound p s o (vector.Read list)
-      → ((row : Row) → o ≡ Some row → IsReadAs p s row list → (list ≡ alternates_of s key) ⊎ IsKeyPair (Untold new IsVectorAs) p s key)
+      → ((row : Row) → o ≡ Some row → VectorIsReadAs p s row list
+      → (list ≡ alternates_of s key) ⊎ IsKeyPair (Untold new IsVectorAs) p s key)
       → IsFound p s key request found ⊎ IsKeyPair (Untold new IsVectorAs) p s key
   unmatched_in p found list is table none None live h law = absurd h
   unmatched_in p found list is table none (Some row) live h law = elim (law row refl h) [
@@ -222,14 +225,14 @@ module _ (s : State) (old new : Device) (key : Key) (request : List Field) where
     | inr collide ↦ inr collide
   ]
 
-  pub unmatched_looks : ReadIsListed → (found : Looked) (list : List Stored) → answer_of found ≡ otherwise s key request → HasTable s key request found → IsChosen (last_match request list) None
+  pub unmatched_looks : ReadIsListed → (found : Looked) (list : List Stored) → answer_of_looked found ≡ otherwise s key request → HasTable s key request found → IsChosen (last_match request list) None
       → FindsVector s old new key (vector.Read list) → LooksUp s old new key request found
   unmatched_looks law found list is table none f = record {
     seen = f.seen;
     answers = λ p covers each.
         unmatched_in p found list is table (no_choice (last_match request list) none) (live_vector_of s key) refl (f.answers p covers)
         (read_listed law list f p each);
-    counted = otherwise_counted new.faults s key request (answer_of found) is;
+    counted = otherwise_counted new.faults s key request (answer_of_looked found) is;
   }
     where
       no_choice : (o : Option Stored) → IsChosen o None → o ≡ None
@@ -247,7 +250,8 @@ module _ (s : State) (old new : Device) (key : Key) (request : List Field) where
 
   matched_in : (p : Permit) (chosen : Chosen) (list : List Stored) → IsChosen (last_match request list) (Some chosen) → (o : Option Row)
       → live_vector_of s key ≡ o → IsVectorFound p s o (vector.Read list)
-      → ((row : Row) → o ≡ Some row → IsReadAs p s row list → (list ≡ alternates_of s key) ⊎ IsKeyPair (Untold new IsVectorAs) p s key)
+      → ((row : Row) → o ≡ Some row → VectorIsReadAs p s row list
+      → (list ≡ alternates_of s key) ⊎ IsKeyPair (Untold new IsVectorAs) p s key)
       → IsFound p s key request (looked.Hit chosen) ⊎ IsKeyPair (Untold new IsVectorAs) p s key
   matched_in p chosen list is None live h law = absurd h
   matched_in p chosen list is (Some row) live h law = elim (law row refl h) [

@@ -14,8 +14,8 @@ use Rattle.cache_model.specs.Legal.{IsAsListed, ReadTrouble}
 use Rattle.call_laws.specs.Contents.{Contents}
 use Rattle.stripe_pieces.specs.declared.answer.Found.{Found}
 use Rattle.stripe_pieces.specs.declared.answer.Found.TheVariants as found
-use Rattle.stripe_pieces.specs.Covers.{AreSeen, Covers}
-use Rattle.stripe_pieces.specs.Find.{HasPayload, cause_records}
+use Rattle.stripe_pieces.specs.Covers.{AllReadIsSeen, Covers}
+use Rattle.stripe_pieces.specs.Find.{HasPayload, records_of_trouble}
 use Rattle.stripe_pieces.specs.Standing.{AreStanding}
 use Rattle.stripe_pieces.specs.Pieces.{live_place_of}
 use Rattle.stripe_read.specs.declared.fetching.Unlike.{Unlike}
@@ -46,12 +46,12 @@ IsCompared s id listed size (found.Missing why) = (u : Unlike) × (why ≡ cause
 abbrev pub IsFetched : Permit → State → PieceId → Option Row → TableRow → Found → List ℕ → Type 0
 IsFetched p s id None entry answer into = answer ≡ found.Missing (cause_of_piece s id)
 IsFetched p s id (Some row) entry (found.Found size) into = IsDocumentOf p s row size into × IsAsListed row entry
-IsFetched p s id (Some row) entry (found.Missing why) into = ReadTrouble p s row entry (cause_records row why) why
+IsFetched p s id (Some row) entry (found.Missing why) into = ReadTrouble p s row entry (records_of_trouble row why) why
 
 -- what was read is what is seen, and what came of it in any step that covers the call, for each row of a table that
 -- lists this digest; where the device tells its content a payload is the one that is told
 pub record Fetches (s : State) (old new : Seen) (id : PieceId) (listed : Digest) (answer : Found) (into : List ℕ) : Type 0 where
-  pub seen : AreSeen old.device new.device
+  pub seen : AllReadIsSeen old.device new.device
   pub contents : TellsAll new.device → (contents : Contents) → AreStanding contents s old → HasPayload contents (live_row_of s id) answer into
   pub answers : (p : Permit) (entry : TableRow) → Covers p old.device.past new.device.past → digest_in entry ≡ listed
       → IsFetched p s id (live_row_of s id) entry answer into

@@ -5,7 +5,7 @@ use Rattle.tape_base.specs.declared.keys.Key.{Key}
 use Rattle.fragment_table.specs.Table.{Table, total_length}
 use Rattle.alternate_vector.specs.Field.{Field}
 use Rattle.alternate_vector.specs.Alternates.{Stored}
-use Rattle.logged_disk.specs.Device.{State as Device}
+use Rattle.logged_disk.specs.Device.{DeviceState as Device}
 use Rattle.cache_model.specs.declared.answer.ReadAnswer.{ReadAnswer}
 use Rattle.cache_model.specs.declared.answer.ReadAnswer.TheVariants as read
 use Rattle.cache_model.specs.declared.record.Rec.{Rec}
@@ -17,16 +17,16 @@ use Rattle.cache_model.specs.Legal.{Does, IsLookup}
 use Rattle.cache_model.specs.Pair.{IsKeyPair}
 use Rattle.cache_model.specs.Vectors.{AreVectors, IsVectorAs}
 use Rattle.call_laws.specs.Contents.{Untold}
-use Rattle.stripe_pieces.specs.Covers.{AreSeen, Covers}
-use Rattle.stripe_core.specs.Counts.{IsCountedCause}
-use Rattle.stripe_pieces.specs.Find.{cause_records}
+use Rattle.stripe_pieces.specs.Covers.{AllReadIsSeen, Covers}
+use Rattle.stripe_core.specs.Counts.{CauseIsCounted}
+use Rattle.stripe_pieces.specs.Find.{records_of_trouble}
 use Rattle.stripe_read.specs.declared.reader.Reader.{Reader}
 use Rattle.stripe_read.specs.declared.opening.Chosen.{Chosen}
 use Rattle.stripe_read.specs.declared.opening.Looked.{Looked}
 use Rattle.stripe_read.specs.declared.opening.Looked.TheVariants as looked
 use Rattle.stripe_read.specs.declared.opening.Opened.{Opened}
 use Rattle.stripe_read.specs.declared.opening.Opened.TheVariants as opened
-use Rattle.stripe_read.specs.Readers.{IsReaderOf, rows_in}
+use Rattle.stripe_read.specs.Readers.{IsStripeReaderOf, rows_hit}
 
 -- ---- what answers
 
@@ -35,10 +35,10 @@ abbrev pub otherwise : State → Key → List Field → ReadAnswer
 otherwise s key request = unwrap_or (option_map follow_answer (followed s key request)) (read.Miss (cause_of_miss s key))
 
 -- the answer of what was found
-abbrev pub answer_of : Looked → ReadAnswer
-answer_of (looked.Hit chosen) = read.Hit chosen.put
-answer_of (looked.Follow put) = read.Follow put
-answer_of (looked.Miss why) = read.Miss why
+abbrev pub answer_of_looked : Looked → ReadAnswer
+answer_of_looked (looked.Hit chosen) = read.Hit chosen.put
+answer_of_looked (looked.Follow put) = read.Follow put
+answer_of_looked (looked.Miss why) = read.Miss why
 
 -- what was chosen is the put and the fragments of the alternate
 abbrev pub IsChosen : Option Stored → Option Chosen → Type 0
@@ -48,15 +48,15 @@ IsChosen (Some a) None = ⊥
 IsChosen (Some a) (Some chosen) = (chosen.put ≡ a.put) × (chosen.table.rows ≡ a.table)
 
 -- the record of what kept the key's live vector from being read
-abbrev pub trouble_with : Option Row → ReadAnswer → List Rec
-trouble_with None answer = []
-trouble_with (Some row) (read.Hit put) = []
-trouble_with (Some row) (read.Follow put) = []
-trouble_with (Some row) (read.Miss why) = cause_records row why
+abbrev pub lookup_trouble : Option Row → ReadAnswer → List Rec
+lookup_trouble None answer = []
+lookup_trouble (Some row) (read.Hit put) = []
+lookup_trouble (Some row) (read.Follow put) = []
+lookup_trouble (Some row) (read.Miss why) = records_of_trouble row why
 
 -- the same by the key, whose vector is live or not
 abbrev pub lookup_adds : State → Key → ReadAnswer → List Rec
-lookup_adds s key answer = trouble_with (live_vector_of s key) answer
+lookup_adds s key answer = lookup_trouble (live_vector_of s key) answer
 
 -- the fragments of a hit are those of the alternate
 abbrev pub HasTable : State → Key → List Field → Looked → Type 0
@@ -66,21 +66,21 @@ HasTable s key request (looked.Miss why) = Unit {0}
 
 -- this is what the lookup finds
 pub record IsFound (p : Permit) (s : State) (key : Key) (request : List Field) (found : Looked) : Type 0 where
-  pub right : IsLookup p s key request (lookup_adds s key (answer_of found)) (answer_of found)
+  pub right : IsLookup p s key request (lookup_adds s key (answer_of_looked found)) (answer_of_looked found)
   pub table : HasTable s key request found
 
 -- the cause of a miss is that of the records, or tells no count to which the device has not come
-abbrev pub IsCountedMiss : ℕ → State → Key → ReadAnswer → Type 0
-IsCountedMiss faults s key (read.Miss why) = (why ≡ cause_of_miss s key) ⊎ IsCountedCause faults why
-IsCountedMiss faults s key _ = Unit {0}
+abbrev pub MissIsCounted : ℕ → State → Key → ReadAnswer → Type 0
+MissIsCounted faults s key (read.Miss why) = (why ≡ cause_of_miss s key) ⊎ CauseIsCounted faults why
+MissIsCounted faults s key _ = Unit {0}
 
 -- what was read is what is seen, and what came of it in any step that covers the call; or two documents of
 -- one SHA-256 are shown, on a device that did not tell its content
 pub record LooksUp (s : State) (old new : Device) (key : Key) (request : List Field) (found : Looked) : Type 0 where
-  pub seen : AreSeen old new
+  pub seen : AllReadIsSeen old new
   pub answers : (p : Permit) → Covers p old.past new.past → AreVectors s
       → IsFound p s key request found ⊎ IsKeyPair (Untold new IsVectorAs) p s key
-  pub counted : IsCountedMiss new.faults s key (answer_of found)
+  pub counted : MissIsCounted new.faults s key (answer_of_looked found)
 
 -- ---- what opens
 
@@ -93,36 +93,37 @@ opened_as number key (looked.Follow put) =
 opened_as number key (looked.Miss why) = opened.Miss why
 
 -- the answer by which what was opened is recorded
-abbrev pub answer_in : Opened → ReadAnswer
-answer_in (opened.Hit reader put length) = read.Hit put
-answer_in (opened.Follow reader put) = read.Follow put
-answer_in (opened.Miss why) = read.Miss why
+abbrev pub answer_of_opened : Opened → ReadAnswer
+answer_of_opened (opened.Hit reader put length) = read.Hit put
+answer_of_opened (opened.Follow reader put) = read.Follow put
+answer_of_opened (opened.Miss why) = read.Miss why
 
 -- the trouble with the key's vector, where that is the cause, and the lookup
-abbrev pub open_adds : State → Actor → Key → List Field → ReadAnswer → List Rec
-open_adds s who key request answer = lookup_adds s key answer ++ rec.ReadOpened s.next_reader who key request answer ∷ []
+abbrev pub opening_adds : State → Actor → Key → List Field → ReadAnswer → List Rec
+opening_adds s who key request answer = lookup_adds s key answer ++ rec.ReadOpened s.next_reader who key request answer ∷ []
 
 -- something holds of the reader that was opened
-abbrev pub IfReader : (Reader → Type 0) → Opened → Type 0
-IfReader P (opened.Hit reader put length) = P reader
-IfReader P (opened.Follow reader put) = P reader
-IfReader P (opened.Miss why) = Unit {0}
+abbrev pub IfOpened : (Reader → Type 0) → Opened → Type 0
+IfOpened P (opened.Hit reader put length) = P reader
+IfOpened P (opened.Follow reader put) = P reader
+IfOpened P (opened.Miss why) = Unit {0}
 
 -- the length of the body that a reader hit
-abbrev pub length_in : Reader → Option ℕ
-length_in r = option_map (λ (t : Table). total_length t.rows) r.table
+abbrev pub length_hit : Reader → Option ℕ
+length_hit r = option_map (λ (t : Table). total_length t.rows) r.table
 
 -- the reader has the next number; the put and the length are those that it has
-abbrev pub Tells : ℕ → Opened → Type 0
-Tells number (opened.Hit reader put length) = (reader.reader ≡ number) × (put ≡ reader.put) × (length_in reader ≡ Some length)
-Tells number (opened.Follow reader put) = (reader.reader ≡ number) × (put ≡ reader.put) × (rows_in reader ≡ None)
-Tells number (opened.Miss why) = Unit {0}
+abbrev pub TellsOpened : ℕ → Opened → Type 0
+TellsOpened number (opened.Hit reader put length) = (reader.reader ≡ number) × (put ≡ reader.put) × (length_hit reader ≡ Some length)
+TellsOpened number (opened.Follow reader put) = (reader.reader ≡ number) × (put ≡ reader.put) × (rows_hit reader ≡ None)
+TellsOpened number (opened.Miss why) = Unit {0}
 
 -- what was read is what is seen, and in any step that covers the call: it was looked up as asked, and the
 -- reader has the fragments of the alternate; or two documents of one SHA-256 are shown, on a device that did not tell its content
 pub record Opens (s t : State) (old new : Device) (who : Actor) (key : Key) (request : List Field) (answer : Opened) : Type 0 where
-  pub seen : AreSeen old new
+  pub seen : AllReadIsSeen old new
   pub does : (p : Permit) → Covers p old.past new.past → AreVectors s
-      → (Does p s (Look who.0 key request) (open_adds s who key request (answer_in answer)) Done × IfReader (IsReaderOf t) answer)
+      → (Does p s (Look who.0 key request) (opening_adds s who key request (answer_of_opened answer)) Done
+      × IfOpened (IsStripeReaderOf t) answer)
       ⊎ IsKeyPair (Untold new IsVectorAs) p s key
-  pub counted : IsCountedMiss new.faults s key (answer_in answer)
+  pub counted : MissIsCounted new.faults s key (answer_of_opened answer)

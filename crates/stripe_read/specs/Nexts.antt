@@ -12,106 +12,107 @@ use Rattle.cache_model.specs.Verdict.{cause_of_piece, digest_in, next_piece, nex
 use Rattle.cache_model.specs.Permit.{Done, Permit, ReadOn}
 use Rattle.cache_model.specs.Legal.{Does, IsAsListed, IsUnlike, answer_record, live_next}
 use Rattle.call_laws.specs.Contents.{Contents}
-use Rattle.stripe_pieces.specs.Covers.{AreSeen, Covers}
-use Rattle.stripe_core.specs.Counts.{IsCountedCause}
+use Rattle.stripe_pieces.specs.Covers.{AllReadIsSeen, Covers}
+use Rattle.stripe_core.specs.Counts.{CauseIsCounted}
 use Rattle.cache_model.specs.Given.{IsDocumentOf}
-use Rattle.stripe_pieces.specs.Find.{cause_records}
+use Rattle.stripe_pieces.specs.Find.{records_of_trouble}
 use Rattle.stripe_pieces.specs.Standing.{AreStanding}
 use Rattle.stripe_read.specs.declared.reader.Reader.{Reader}
 use Rattle.stripe_read.specs.declared.reading.NextPiece.{NextPiece}
 use Rattle.stripe_read.specs.declared.reading.NextPiece.TheVariants as piece
-use Rattle.stripe_read.specs.Readers.{IsReaderOf, as_row}
+use Rattle.stripe_read.specs.Readers.{IsStripeReaderOf, row_of_reader}
 
 -- the row of the fragment that it takes next has this length and this digest
 pub record HasNext (s : State) (r : Reader) (length : ℕ) (digest : Digest) : Type 0 where
   pub row : TableRow
-  pub found : next_row s (as_row r) ≡ Some row
+  pub found : next_row s (row_of_reader r) ≡ Some row
   pub length_is : row.length ≡ length
   pub digest_is : digest_in row ≡ digest
 
 -- ---- records
 
 -- an answer as it is recorded, where the fragment is listed with that length
-abbrev pub noted : ℕ → NextPiece → NextAnswer
-noted listed (piece.Piece index length) = next.Gave index listed
-noted listed (piece.End length) = next.Ended length
-noted listed (piece.NotYet cut) = next.Waited cut
-noted listed (piece.Broken why) = next.Broke why
+abbrev pub answer_noted : ℕ → NextPiece → NextAnswer
+answer_noted listed (piece.Piece index length) = next.Gave index listed
+answer_noted listed (piece.End length) = next.Ended length
+answer_noted listed (piece.NotYet cut) = next.Waited cut
+answer_noted listed (piece.Broken why) = next.Broke why
 
 -- the length with which the fragment that it takes next is listed
-abbrev pub listed_length : State → Reader → ℕ
-listed_length s r = unwrap_or (option_map (λ (row : TableRow). row.length) (next_row s (as_row r))) 0
+abbrev pub next_listed_length : State → Reader → ℕ
+next_listed_length s r = unwrap_or (option_map (λ (row : TableRow). row.length) (next_row s (row_of_reader r))) 0
 
 -- the record of what kept the next fragment, where it is live, from being given
-abbrev pub trouble_with : Option Row → NextPiece → List Rec
-trouble_with None answer = []
-trouble_with (Some row) (piece.Broken why) = cause_records row why
-trouble_with (Some row) _ = []
+abbrev pub piece_trouble : Option Row → NextPiece → List Rec
+piece_trouble None answer = []
+piece_trouble (Some row) (piece.Broken why) = records_of_trouble row why
+piece_trouble (Some row) _ = []
 
 -- the trouble with that fragment, where that is the cause, and the answer
-abbrev pub read_adds : State → Reader → NextPiece → List Rec
-read_adds s r answer = trouble_with (live_next s (as_row r)) answer ++ answer_record r.reader (noted (listed_length s r) answer) ∷ []
+abbrev pub reading_adds : State → Reader → NextPiece → List Rec
+reading_adds s r answer =
+    piece_trouble (live_next s (row_of_reader r)) answer ++ answer_record r.reader (answer_noted (next_listed_length s r) answer) ∷ []
 
 -- ---- what it is given
 
 -- the fragment that it takes next is live, and this is its payload: of bytes that have the recorded digest; by the
 -- records it is the one that the reader's table lists, or that the writer has cut
-pub record IsFragment (p : Permit) (s : State) (r : Reader) (index size : ℕ) (into : List ℕ) : Type 0 where
+pub record IsNextPayload (p : Permit) (s : State) (r : Reader) (index size : ℕ) (into : List ℕ) : Type 0 where
   pub entry : TableRow
   pub row : Row
   pub index_is : index ≡ r.next
-  pub cut : next_row s (as_row r) ≡ Some entry
-  pub live : live_row_of s (next_piece (as_row r)) ≡ Some row
+  pub cut : next_row s (row_of_reader r) ≡ Some entry
+  pub live : live_row_of s (next_piece (row_of_reader r)) ≡ Some row
   pub document : IsDocumentOf p s row size into
   pub listed : IsAsListed row entry
 
 -- the fragment, where one is given; any other answer gives no bytes
-abbrev pub Gives : Permit → State → Reader → NextPiece → List ℕ → Type 0
-Gives p s r (piece.Piece index size) into = IsFragment p s r index size into
-Gives p s r (piece.End length) into = Unit {0}
-Gives p s r (piece.NotYet cut) into = Unit {0}
-Gives p s r (piece.Broken why) into = Unit {0}
+abbrev pub GivesFragment : Permit → State → Reader → NextPiece → List ℕ → Type 0
+GivesFragment p s r (piece.Piece index size) into = IsNextPayload p s r index size into
+GivesFragment p s r (piece.End length) into = Unit {0}
+GivesFragment p s r (piece.NotYet cut) into = Unit {0}
+GivesFragment p s r (piece.Broken why) into = Unit {0}
 
 -- the cause for which it breaks is that of the records, or tells no count to which the device has not come
-abbrev pub IsCountedBreak : ℕ → State → Reader → NextPiece → Type 0
-IsCountedBreak faults s r (piece.Broken why) = (why ≡ cause_of_piece s (next_piece (as_row r))) ⊎ IsCountedCause faults why
-IsCountedBreak faults s r _ = Unit {0}
+abbrev pub BreakIsCounted : ℕ → State → Reader → NextPiece → Type 0
+BreakIsCounted faults s r (piece.Broken why) = (why ≡ cause_of_piece s (next_piece (row_of_reader r))) ⊎ CauseIsCounted faults why
+BreakIsCounted faults s r _ = Unit {0}
 
 -- the payload that is given is the one that is told of the fragment
-abbrev pub GivesPayload : Contents → Option Row → NextPiece → List ℕ → Type 0
-GivesPayload contents (Some row) (piece.Piece index size) into = IfSome (contents row.id row.alternates) (λ c. (size ≡ length c.payload) × (take size into ≡ c.payload))
-GivesPayload contents _ answer into = Unit {0}
+abbrev pub GivesToldPayload : Contents → Option Row → NextPiece → List ℕ → Type 0
+GivesToldPayload contents (Some row) (piece.Piece index size) into = IfSome (contents row.id row.alternates) (λ c. (size ≡ length c.payload) × (take size into ≡ c.payload))
+GivesToldPayload contents _ answer into = Unit {0}
 
 -- what was read is what is seen, and in any step that covers the call: it was read on as asked, where the
 -- reader has the fragments of the records; and what it is given, where the device tells its content as it is told
 pub record ReadsOn (s : State) (old new : Seen) (r : Reader) (answer : NextPiece) (into : List ℕ) : Type 0 where
-  pub seen : AreSeen old.device new.device
-  pub contents : TellsAll new.device → (contents : Contents) → AreStanding contents s old → GivesPayload contents (live_next s (as_row r)) answer into
-  pub does : (p : Permit) → Covers p old.device.past new.device.past → IsReaderOf s r → Does p s (ReadOn r.reader) (read_adds s r answer) Done
-  pub gives : (p : Permit) → Covers p old.device.past new.device.past → Gives p s r answer into
-  pub counted : IsCountedBreak new.device.faults s r answer
+  pub seen : AllReadIsSeen old.device new.device
+  pub contents : TellsAll new.device → (contents : Contents) → AreStanding contents s old → GivesToldPayload contents (live_next s (row_of_reader r)) answer into
+  pub does : (p : Permit) → Covers p old.device.past new.device.past → IsStripeReaderOf s r → Does p s (ReadOn r.reader) (reading_adds s r answer) Done
+  pub gives : (p : Permit) → Covers p old.device.past new.device.past → GivesFragment p s r answer into
+  pub counted : BreakIsCounted new.device.faults s r answer
 
 -- the fragment that it takes next is live, and by the records its payload is not the one that the reader's table lists,
 -- or that the writer has cut
-pub record IsOtherNext (s : State) (r : Reader) : Type 0 where
+pub record NextIsOther (s : State) (r : Reader) : Type 0 where
   pub entry : TableRow
   pub row : Row
   pub found : Digest
-  pub cut : next_row s (as_row r) ≡ Some entry
-  pub live : live_row_of s (next_piece (as_row r)) ≡ Some row
+  pub cut : next_row s (row_of_reader r) ≡ Some entry
+  pub live : live_row_of s (next_piece (row_of_reader r)) ≡ Some row
   pub unlike : IsUnlike row entry found
 
 -- ---- where it is then
 
 -- the index that it takes next: one further, where a fragment was given
-abbrev pub next_behind : ℕ → NextPiece → ℕ
-next_behind index (piece.Piece given length) = index + 1
-next_behind index _ = index
+abbrev pub index_behind : ℕ → NextPiece → ℕ
+index_behind index (piece.Piece given length) = index + 1
+index_behind index _ = index
 
 -- behind a fragment that it was given, and else as it was
-pub record GoesOn (old : Reader) (answer : NextPiece) (new : Reader) : Type 0 where
+pub record IsBehindPiece (old : Reader) (answer : NextPiece) (new : Reader) : Type 0 where
   pub reader : new.reader ≡ old.reader
   pub key : new.key ≡ old.key
   pub put : new.put ≡ old.put
   pub table : new.table ≡ old.table
-  pub next : new.next ≡ next_behind old.next answer
+  pub next : new.next ≡ index_behind old.next answer

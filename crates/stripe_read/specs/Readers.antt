@@ -8,19 +8,19 @@ use Rattle.cache_model.specs.Legal.{Does}
 use Rattle.stripe_read.specs.declared.reader.Reader.{Reader}
 
 -- the fragments of what it hit
-abbrev pub rows_in : Reader → Option (List TableRow)
-rows_in r = option_map (λ (t : Table). t.rows) r.table
+abbrev pub rows_hit : Reader → Option (List TableRow)
+rows_hit r = option_map (λ (t : Table). t.rows) r.table
 
 -- the row of a reader that an actor opened, by what the reader has at hand
-abbrev pub row_by : ℕ → Reader → ReaderRow
-row_by actor r = record { actor = actor; reader = r.reader; key = r.key; put = r.put; table = rows_in r; next = r.next }
+abbrev pub row_of_reader_by : ℕ → Reader → ReaderRow
+row_of_reader_by actor r = record { actor = actor; reader = r.reader; key = r.key; put = r.put; table = rows_hit r; next = r.next }
 
 -- the same where it does not matter who opened it
-abbrev pub as_row : Reader → ReaderRow
-as_row r = row_by 0 r
+abbrev pub row_of_reader : Reader → ReaderRow
+row_of_reader r = row_of_reader_by 0 r
 
 -- the reader is open, and its put and the index that it takes next are those of the records
-pub record IsOpenReader (s : State) (r : Reader) : Type 0 where
+pub record IsOpenStripeReader (s : State) (r : Reader) : Type 0 where
   pub row : ReaderRow
   pub found : reader_of s r.reader ≡ Some row
   pub key_is : row.key ≡ r.key
@@ -30,10 +30,10 @@ pub record IsOpenReader (s : State) (r : Reader) : Type 0 where
   pub first : 1 ≤ r.next
 
 -- its fragments are those of the records too
-pub record IsReaderOf (s : State) (r : Reader) : Type 0 where
+pub record IsStripeReaderOf (s : State) (r : Reader) : Type 0 where
   pub actor : ℕ
-  pub found : reader_of s r.reader ≡ Some (row_by actor r)
+  pub found : reader_of s r.reader ≡ Some (row_of_reader_by actor r)
 
 -- it is closed as it was asked
-abbrev pub ClosesAsAsked : State → Reader → Type 0
-ClosesAsAsked s r = (p : Permit) → Does p s (StopReading r.reader) (rec.ReadClosed r.reader ∷ []) Done
+abbrev pub ReaderClosesAsAsked : State → Reader → Type 0
+ReaderClosesAsAsked s r = (p : Permit) → Does p s (StopReading r.reader) (rec.ReadClosed r.reader ∷ []) Done

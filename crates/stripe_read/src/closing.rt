@@ -5,7 +5,7 @@ ghost use Rattle.cache_model.specs.Kept.{with_records};
 ghost use Rattle.stripe_pieces.specs.Still.{IsStill};
 ghost use Rattle.stripe_core.specs.Stripe.{kept_in, seen_in, state_in};
 ghost use Rattle.stripe_core.specs.Between.{IsResting, Rests};
-ghost use Rattle.stripe_read.specs.Readers.{ClosesAsAsked, IsOpenReader};
+ghost use Rattle.stripe_read.specs.Readers.{IsOpenStripeReader, ReaderClosesAsAsked};
 ghost use Rattle.stripe_read.specs.Others.{AddsOfReader};
 
 use crate::Reader;
@@ -21,12 +21,12 @@ pub fn close_read<D: Disk, R: Directory + Drop, C: Chronicle>(
     reader: Reader,
 ) -> Result<(), (AllocError, Reader)>
     requires resting { IsResting stripe.old }
-    requires reader { IsOpenReader (state_in stripe.old) reader }
+    requires reader { IsOpenStripeReader (state_in stripe.old) reader }
     ensures rests { Rests stripe.old stripe.new }
     ensures adds { OnOk result (kept_in stripe.new
         ≡ with_records (kept_in stripe.old) (rec.ReadClosed reader.reader ∷ [])) }
     ensures own { AddsOfReader reader.reader (kept_in stripe.old) (kept_in stripe.new) }
-    ensures does { ClosesAsAsked (state_in stripe.old) reader }
+    ensures does { ReaderClosesAsAsked (state_in stripe.old) reader }
     ensures err { IfErr result (λ e. kept_in stripe.new ≡ kept_in stripe.old) }
     ensures back { IfErr result (λ e. e.1 ≡ reader) }
     ensures still { IsStill (seen_in stripe.old).device (seen_in stripe.new).device }

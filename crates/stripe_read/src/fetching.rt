@@ -9,7 +9,7 @@ ghost use Rattle.stripe_pieces.specs.Find.{find_adds};
 ghost use Rattle.stripe_pieces.specs.Still.{IsStill};
 ghost use Rattle.stripe_core.specs.Stripe.{IsStripe, kept_in, seen_in, state_in, units_in};
 ghost use Rattle.stripe_core.specs.Between.{Between, Proceeds};
-ghost use Rattle.stripe_read.specs.Readers.{IsOpenReader, as_row};
+ghost use Rattle.stripe_read.specs.Readers.{IsOpenStripeReader, row_of_reader};
 ghost use Rattle.stripe_read.specs.Fetches.{Fetches, IsCompared, IsOtherPiece, IsPieceAsListed, IsUnlikePiece};
 
 use crate::Reader;
@@ -28,9 +28,9 @@ pub(crate) fn next_row<D: Disk, R: Directory + Drop, C: Chronicle>(
     reader: &Reader,
 ) -> Option<(u32, Digest)>
     requires stripe { IsStripe stripe.now }
-    requires reader { IsOpenReader (state_in stripe.now) reader.now }
+    requires reader { IsOpenStripeReader (state_in stripe.now) reader.now }
     ensures row { result ≡ option_map table_row
-        (next_row (state_in stripe.now) (as_row reader.now)) }
+        (next_row (state_in stripe.now) (row_of_reader reader.now)) }
     ensures few { IfSome result (λ row. reader.now.next ≤ most_fragments) }
 {
     match &reader.table {
@@ -56,10 +56,10 @@ fn followed_row<D: Disk, R: Directory + Drop, C: Chronicle>(
     reader: &Reader,
 ) -> Option<(u32, Digest)>
     requires stripe { IsStripe stripe.now }
-    requires reader { IsOpenReader (state_in stripe.now) reader.now }
+    requires reader { IsOpenStripeReader (state_in stripe.now) reader.now }
     requires follows { reader.now.table ≡ None }
     ensures row { result ≡ option_map table_row
-        (next_row (state_in stripe.now) (as_row reader.now)) }
+        (next_row (state_in stripe.now) (row_of_reader reader.now)) }
     ensures few { IfSome result (λ row. reader.now.next ≤ most_fragments) }
 {
     let directory = stripe.open_directory();

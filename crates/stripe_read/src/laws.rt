@@ -1,13 +1,13 @@
 // What the calls of one reader leave of others: laws, each the contract of a function with an empty
 // body.
-ghost use Rattle.stripe_read.specs.Others.{ReadersStay, ReadsLeaveOthers};
+ghost use Rattle.stripe_read.specs.Others.{ReadsLeaveOtherReaders, StripeReadersStay};
 
 /// Records of one reader leave the other readers, and all puts, as they are.
 pub fn reads_leave_others()
-    ensures { ReadsLeaveOthers }
+    ensures { ReadsLeaveOtherReaders }
 {}
 
 /// And a reader whose row is left as it is stays the one of its records.
 pub fn readers_stay()
-    ensures { ReadersStay }
+    ensures { StripeReadersStay }
 {}

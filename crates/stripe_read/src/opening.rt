@@ -7,8 +7,8 @@ ghost use Rattle.stripe_core.specs.Acts.{IsFollowable};
 ghost use Rattle.stripe_pieces.specs.Still.{IsStill, IsUnwritten};
 ghost use Rattle.stripe_core.specs.Stripe.{IsStripe, kept_in, seen_in, state_in, units_in};
 ghost use Rattle.stripe_core.specs.Between.{Continues, IsResting, Rests};
-ghost use Rattle.stripe_read.specs.Readers.{IsOpenReader};
-ghost use Rattle.stripe_read.specs.Lookups.{HasTable, IfReader, IsChosen, LooksUp, Opens, Tells, answer_in, answer_of, lookup_adds, open_adds, opened_as, otherwise};
+ghost use Rattle.stripe_read.specs.Readers.{IsOpenStripeReader};
+ghost use Rattle.stripe_read.specs.Lookups.{HasTable, IfOpened, IsChosen, LooksUp, Opens, TellsOpened, answer_of_looked, answer_of_opened, lookup_adds, opened_as, opening_adds, otherwise};
 ghost use Rattle.stripe_read.specs.Others.{AddsOfReader};
 
 use crate::Reader;
@@ -69,13 +69,13 @@ pub fn open_read<D: Disk, R: Directory + Drop, C: Chronicle>(
     ensures rests { Rests stripe.old stripe.new }
     ensures adds { IfOk result (λ opened. kept_in stripe.new
         ≡ with_records (kept_in stripe.old)
-        (open_adds (state_in stripe.old) actor key request (answer_in opened))) }
+        (opening_adds (state_in stripe.old) actor key request (answer_of_opened opened))) }
     ensures own { AddsOfReader (state_in stripe.old).next_reader (kept_in stripe.old)
         (kept_in stripe.new) }
     ensures opens { IfOk result (Opens (state_in stripe.old) (state_in stripe.new)
         (seen_in stripe.old).device (seen_in stripe.new).device actor key request) }
-    ensures reader { IfOk result (IfReader (IsOpenReader (state_in stripe.new))) }
-    ensures tells { IfOk result (Tells (state_in stripe.old).next_reader) }
+    ensures reader { IfOk result (IfOpened (IsOpenStripeReader (state_in stripe.new))) }
+    ensures tells { IfOk result (TellsOpened (state_in stripe.old).next_reader) }
     ensures err { OnErr result (kept_in stripe.new ≡ kept_in stripe.old) }
     ensures unwritten { IsUnwritten (seen_in stripe.old).device (seen_in stripe.new).device }
 {
@@ -94,11 +94,11 @@ fn look_up<D: Disk, R: Directory + Drop, C: Chronicle>(
     ensures continues { Continues stripe.old stripe.new }
     ensures adds { IfOk result (λ looked. kept_in stripe.new
         ≡ with_records (kept_in stripe.old)
-        (lookup_adds (state_in stripe.old) key (answer_of looked))) }
+        (lookup_adds (state_in stripe.old) key (answer_of_looked looked))) }
     ensures looks { IfOk result (LooksUp (state_in stripe.old) (seen_in stripe.old).device
         (seen_in stripe.new).device key request.now) }
     ensures follows { IfOk result (λ looked. IsFollowable (state_in stripe.new)
-        (answer_of looked)) }
+        (answer_of_looked looked)) }
     ensures err { OnErr result (kept_in stripe.new ≡ kept_in stripe.old) }
     ensures unwritten { IsUnwritten (seen_in stripe.old).device (seen_in stripe.new).device }
     ensures unit { units_in stripe.old ≤ units_in stripe.new + 1 }
@@ -139,9 +139,9 @@ fn look_further<D: Disk, R: Directory + Drop, C: Chronicle>(
     request: &Fields,
 ) -> Looked
     requires { IsStripe stripe.now }
-    ensures answer { answer_of result ≡ otherwise (state_in stripe.now) key request.now }
+    ensures answer { answer_of_looked result ≡ otherwise (state_in stripe.now) key request.now }
     ensures table { HasTable (state_in stripe.now) key request.now result }
-    ensures follows { IsFollowable (state_in stripe.now) (answer_of result) }
+    ensures follows { IsFollowable (state_in stripe.now) (answer_of_looked result) }
 {
     match stripe.open_directory().follow(key, request) {
         Some(put) => Looked::Follow { put },
@@ -159,12 +159,12 @@ fn begin<D: Disk, R: Directory + Drop, C: Chronicle>(
 ) -> Result<Opened, AllocError>
     requires stripe { IsStripe stripe.old }
     requires unit { 1 ≤ units_in stripe.old }
-    requires follows { IsFollowable (state_in stripe.old) (answer_of looked) }
+    requires follows { IsFollowable (state_in stripe.old) (answer_of_looked looked) }
     ensures continues { Continues stripe.old stripe.new }
     ensures adds { IfOk result (λ opened. kept_in stripe.new
         ≡ with_records (kept_in stripe.old)
         (rec.ReadOpened (state_in stripe.old).next_reader actor key request
-        (answer_of looked) ∷ [])) }
+        (answer_of_looked looked) ∷ [])) }
     ensures opens { IfOk result (λ opened. opened
         ≡ opened_as (state_in stripe.old).next_reader key looked) }
     ensures memory { IsOk result }
@@ -177,7 +177,7 @@ fn begin<D: Disk, R: Directory + Drop, C: Chronicle>(
 impl Looked {
     // As it is recorded.
     fn answer(&self) -> ReadAnswer
-        ensures { result ≡ answer_of self.now }
+        ensures { result ≡ answer_of_looked self.now }
     {
         match self {
             Looked::Hit(chosen) => ReadAnswer::Hit { put: chosen.put },

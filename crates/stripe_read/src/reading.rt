@@ -7,8 +7,8 @@ ghost use Rattle.cache_model.specs.Verdict.{next_piece, next_row, verdict_at_end
 ghost use Rattle.stripe_pieces.specs.Still.{IsStill};
 ghost use Rattle.stripe_core.specs.Stripe.{IsStripe, kept_in, seen_in, state_in, units_in};
 ghost use Rattle.stripe_core.specs.Between.{Between, IsResting, Proceeds, Rests};
-ghost use Rattle.stripe_read.specs.Readers.{IsOpenReader, IsReaderOf, as_row, rows_in};
-ghost use Rattle.stripe_read.specs.Nexts.{GoesOn, HasNext, IsOtherNext, ReadsOn, noted, read_adds};
+ghost use Rattle.stripe_read.specs.Readers.{IsOpenStripeReader, IsStripeReaderOf, row_of_reader, rows_hit};
+ghost use Rattle.stripe_read.specs.Nexts.{HasNext, IsBehindPiece, NextIsOther, ReadsOn, answer_noted, reading_adds};
 ghost use Rattle.stripe_read.specs.Others.{AddsOfReader};
 
 use crate::Reader;
@@ -41,21 +41,22 @@ pub fn read_next<D: Disk, R: Directory + Drop, C: Chronicle>(
     into: &mut [u8],
 ) -> Result<NextPiece, AllocError>
     requires resting { IsResting stripe.old }
-    requires reader { IsOpenReader (state_in stripe.old) reader.old }
+    requires reader { IsOpenStripeReader (state_in stripe.old) reader.old }
     requires into { length into.old ≡ 512 * budget_of (state_in stripe.old).geometry }
     ensures resting { IsResting stripe.new }
     ensures proceeds { Proceeds stripe.old stripe.new }
     ensures unharmed { Between stripe.old stripe.new
-        ⊎ IsOtherNext (state_in stripe.old) reader.old }
+        ⊎ NextIsOther (state_in stripe.old) reader.old }
     ensures adds { IfOk result (λ answer. kept_in stripe.new
-        ≡ with_records (kept_in stripe.old) (read_adds (state_in stripe.old) reader.old answer)) }
+        ≡ with_records (kept_in stripe.old)
+        (reading_adds (state_in stripe.old) reader.old answer)) }
     ensures own { AddsOfReader reader.old.reader (kept_in stripe.old) (kept_in stripe.new) }
     ensures reads { IfOk result (λ answer. ReadsOn (state_in stripe.old) (seen_in stripe.old)
         (seen_in stripe.new) reader.old answer into.new) }
-    ensures goes { IfOk result (λ answer. GoesOn reader.old answer reader.new) }
-    ensures reader { IsOpenReader (state_in stripe.new) reader.new }
-    ensures keeps { IsReaderOf (state_in stripe.old) reader.old
-        → IsReaderOf (state_in stripe.new) reader.new }
+    ensures goes { IfOk result (λ answer. IsBehindPiece reader.old answer reader.new) }
+    ensures reader { IsOpenStripeReader (state_in stripe.new) reader.new }
+    ensures keeps { IsStripeReaderOf (state_in stripe.old) reader.old
+        → IsStripeReaderOf (state_in stripe.new) reader.new }
     ensures err { OnErr result (kept_in stripe.new ≡ kept_in stripe.old) }
     ensures same { OnErr result (reader.new ≡ reader.old) }
     ensures untouched { OnErr result (IsStill (seen_in stripe.old).device
@@ -78,22 +79,23 @@ fn give<D: Disk, R: Directory + Drop, C: Chronicle>(
 ) -> Result<NextPiece, AllocError>
     requires resting { IsResting stripe.old }
     requires units { 3 ≤ units_in stripe.old }
-    requires reader { IsOpenReader (state_in stripe.old) reader.old }
+    requires reader { IsOpenStripeReader (state_in stripe.old) reader.old }
     requires next { HasNext (state_in stripe.old) reader.old cut digest }
     requires few { reader.old.next ≤ most_fragments }
     requires into { length into.old ≡ 512 * budget_of (state_in stripe.old).geometry }
     ensures resting { IsResting stripe.new }
     ensures proceeds { Proceeds stripe.old stripe.new }
     ensures unharmed { Between stripe.old stripe.new
-        ⊎ IsOtherNext (state_in stripe.old) reader.old }
+        ⊎ NextIsOther (state_in stripe.old) reader.old }
     ensures adds { IfOk result (λ answer. kept_in stripe.new
-        ≡ with_records (kept_in stripe.old) (read_adds (state_in stripe.old) reader.old answer)) }
+        ≡ with_records (kept_in stripe.old)
+        (reading_adds (state_in stripe.old) reader.old answer)) }
     ensures reads { IfOk result (λ answer. ReadsOn (state_in stripe.old) (seen_in stripe.old)
         (seen_in stripe.new) reader.old answer into.new) }
-    ensures goes { IfOk result (λ answer. GoesOn reader.old answer reader.new) }
-    ensures reader { IsOpenReader (state_in stripe.new) reader.new }
-    ensures keeps { IsReaderOf (state_in stripe.old) reader.old
-        → IsReaderOf (state_in stripe.new) reader.new }
+    ensures goes { IfOk result (λ answer. IsBehindPiece reader.old answer reader.new) }
+    ensures reader { IsOpenStripeReader (state_in stripe.new) reader.new }
+    ensures keeps { IsStripeReaderOf (state_in stripe.old) reader.old
+        → IsStripeReaderOf (state_in stripe.new) reader.new }
     ensures err { OnErr result (kept_in stripe.new ≡ kept_in stripe.old) }
     ensures same { OnErr result (reader.new ≡ reader.old) }
     ensures untouched { OnErr result (IsStill (seen_in stripe.old).device
@@ -123,17 +125,17 @@ fn stop<D: Disk, R: Directory + Drop, C: Chronicle>(
 ) -> NextPiece
     requires resting { IsResting stripe.old }
     requires unit { 1 ≤ units_in stripe.old }
-    requires reader { IsOpenReader (state_in stripe.old) reader.now }
-    requires none { next_row (state_in stripe.old) (as_row reader.now) ≡ None }
+    requires reader { IsOpenStripeReader (state_in stripe.old) reader.now }
+    requires none { next_row (state_in stripe.old) (row_of_reader reader.now) ≡ None }
     ensures rests { Rests stripe.old stripe.new }
     ensures adds { kept_in stripe.new
-        ≡ with_records (kept_in stripe.old) (read_adds (state_in stripe.old) reader.now result) }
+        ≡ with_records (kept_in stripe.old) (reading_adds (state_in stripe.old) reader.now result) }
     ensures reads { (into : List ℕ) → ReadsOn (state_in stripe.old) (seen_in stripe.old)
         (seen_in stripe.new) reader.now result into }
-    ensures goes { GoesOn reader.now result reader.now }
-    ensures reader { IsOpenReader (state_in stripe.new) reader.now }
-    ensures keeps { IsReaderOf (state_in stripe.old) reader.now
-        → IsReaderOf (state_in stripe.new) reader.now }
+    ensures goes { IsBehindPiece reader.now result reader.now }
+    ensures reader { IsOpenStripeReader (state_in stripe.new) reader.now }
+    ensures keeps { IsStripeReaderOf (state_in stripe.old) reader.now
+        → IsStripeReaderOf (state_in stripe.new) reader.now }
     ensures still { (seen_in stripe.new).device ≡ (seen_in stripe.old).device }
 {
     let answer = at_end(stripe, reader);
@@ -147,9 +149,10 @@ fn at_end<D: Disk, R: Directory + Drop, C: Chronicle>(
     reader: &Reader,
 ) -> NextPiece
     requires stripe { IsStripe stripe.now }
-    requires reader { IsOpenReader (state_in stripe.now) reader.now }
-    ensures { noted 0 result ≡ verdict_at_end (state_in stripe.now) (as_row reader.now)
-        (rows_in reader.now) }
+    requires reader { IsOpenStripeReader (state_in stripe.now) reader.now }
+    ensures { answer_noted 0 result
+        ≡ verdict_at_end (state_in stripe.now) (row_of_reader reader.now)
+        (rows_hit reader.now) }
 {
     match &reader.table {
         Some(table) => NextPiece::End {
@@ -164,9 +167,10 @@ fn how_put_stands<D: Disk, R: Directory + Drop, C: Chronicle>(
     reader: &Reader,
 ) -> NextPiece
     requires stripe { IsStripe stripe.now }
-    requires reader { IsOpenReader (state_in stripe.now) reader.now }
+    requires reader { IsOpenStripeReader (state_in stripe.now) reader.now }
     requires follows { reader.now.table ≡ None }
-    ensures { noted 0 result ≡ verdict_at_end (state_in stripe.now) (as_row reader.now) None }
+    ensures { answer_noted 0 result
+        ≡ verdict_at_end (state_in stripe.now) (row_of_reader reader.now) None }
 {
     let directory = stripe.open_directory();
     // It is asked for what its answer tells of the directory.
@@ -182,7 +186,7 @@ fn how_put_stands<D: Disk, R: Directory + Drop, C: Chronicle>(
 impl Reader {
     // The fragment that it takes next.
     fn next_piece(&self) -> PieceId
-        ensures { result ≡ next_piece (as_row self.now) }
+        ensures { result ≡ next_piece (row_of_reader self.now) }
     {
         PieceId {
             first: self.key,
@@ -195,7 +199,7 @@ impl Reader {
 impl NextPiece {
     // As it is recorded, where the fragment is listed with that length.
     fn noted(&self, listed: u32) -> NextAnswer
-        ensures { result ≡ noted listed self.now }
+        ensures { result ≡ answer_noted listed self.now }
     {
         match self {
             NextPiece::Piece { index, .. } => NextAnswer::Gave {

@@ -23,7 +23,7 @@ use Rattle.stripe_pieces.specs.Standing.{AreStanding}
 use Rattle.cache_model.specs.Given.{IsDocumentOf}
 use Rattle.stripe_pieces.proofs.Covering.{own_covers, own_permit}
 use Rattle.stripe_vectors.specs.declared.reading.KeyVector.TheVariants as answer
-use Rattle.stripe_vectors.specs.Reading.{FindsVector, IsReadAs, IsVectorFound, listed_in, spelled_in}
+use Rattle.stripe_vectors.specs.Reading.{FindsVector, IsVectorFound, VectorIsReadAs, alternates_spelled, spelled_in}
 
 -- ---- a piece that is live
 
@@ -48,15 +48,15 @@ module _ (s : State) (old new : Seen) (id : PieceId) (row : Row) (size : ℕ) (i
   payload_of_list (Some other) list is h = h.1 ∙ ap vector_bytes (cc is)
 
   -- so what is read are the key's alternates, where the device tells its content and each vector stood as it lists
-  is_listed : (key : Key) (list : List Stored) → live_vector_of s key ≡ Some row → list ≡ listed_in (take size into) → AreVectors s
+  is_listed : (key : Key) (list : List Stored) → live_vector_of s key ≡ Some row → list ≡ alternates_spelled (take size into) → AreVectors s
       → HasPayload contents_of_vectors (live_row_of s id) (found.Found size) into → list ≡ alternates_of s key
   is_listed key list there spelled vectors has =
       let l = live_vector_is_listed s key row vectors there in
       let told = subst (λ o. HasPayload contents_of_vectors o (found.Found size) into) live has in
-      spelled ∙ (ap listed_in (payload_of_list row.alternates l.0 l.1.lists told)
+      spelled ∙ (ap alternates_spelled (payload_of_list row.alternates l.0 l.1.lists told)
       ∙ (ap spelled_in (vector_again l.0 l.1.spelled.some l.1.spelled.stored) ∙ sym l.2))
 
-  pub found_vector : (key : Key) (list : List Stored) → vector_of s key ≡ Some id → list ≡ listed_in (take size into)
+  pub found_vector : (key : Key) (list : List Stored) → vector_of s key ≡ Some id → list ≡ alternates_spelled (take size into)
       → (TellsAll new.device → AreVectors s) → AreStanding contents_of_vectors s old → FindsVector s old.device new.device key (answer.Read list)
   found_vector key list vector spelled vectors stands =
       let there : live_vector_of s key ≡ Some row = ap (option_and_then (live_row_of s)) vector ∙ live in
@@ -65,7 +65,7 @@ module _ (s : State) (old new : Seen) (id : PieceId) (row : Row) (size : ℕ) (i
         exact = λ tells. is_listed key list there spelled (vectors tells) (finds.contents tells contents_of_vectors stands);
         answers = λ p covers.
             let d = document p covers in
-            let read : IsReadAs p s row list = record { bytes = d.bytes; whole = d.whole; of_bytes = d.of_bytes; digest = d.digest; given = d.given; spelled = spelled ∙ ap listed_in d.payload } in
+            let read : VectorIsReadAs p s row list = record { bytes = d.bytes; whole = d.whole; of_bytes = d.of_bytes; digest = d.digest; given = d.given; spelled = spelled ∙ ap alternates_spelled d.payload } in
             subst (λ o. IsVectorFound p s o (answer.Read list)) (sym there) read;
       }
 

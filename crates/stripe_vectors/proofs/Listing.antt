@@ -10,15 +10,15 @@ use Rattle.cache_model.specs.Permit.{Permit}
 use Rattle.cache_model.specs.Pair.{IsKeyPair}
 use Rattle.cache_model.specs.Vectors.{AreVectors, IsVectorAs, LiveVectorIsListed, VectorIsReadBack, vector_document}
 use Rattle.cache_model.proofs.VectorLaws.{IsLiveVector, live_vector_stands}
-use Rattle.stripe_vectors.specs.Reading.{IsReadAs, listed_in, spelled_in}
+use Rattle.stripe_vectors.specs.Reading.{VectorIsReadAs, alternates_spelled, spelled_in}
 
-pub read_is_listed : LiveVectorIsListed → VectorIsReadBack → (p : Permit) (s : State) (key : Key) (row : Row) (list : List Stored) → AreVectors s → live_vector_of s key ≡ Some row → IsReadAs p s row list
+pub read_is_listed : LiveVectorIsListed → VectorIsReadBack → (p : Permit) (s : State) (key : Key) (row : Row) (list : List Stored) → AreVectors s → live_vector_of s key ≡ Some row → VectorIsReadAs p s row list
     → (list ≡ alternates_of s key) ⊎ IsKeyPair IsVectorAs p s key
 read_is_listed listed back p s key row list each live read =
     let l = listed s key row each live in
     let stands : IsLiveVector s row = live_vector_stands s key row live in
     elim (back s row l.0 read.bytes l.1 read.of_bytes read.digest) [
-      | inl same ↦ inl (read.spelled ∙ (ap listed_in same ∙ (ap spelled_in (vector_again l.0 l.1.spelled.some l.1.spelled.stored) ∙ sym l.2)))
+      | inl same ↦ inl (read.spelled ∙ (ap alternates_spelled same ∙ (ap spelled_in (vector_again l.0 l.1.spelled.some l.1.spelled.stored) ∙ sym l.2)))
       | inr collide ↦ inr (record {
         row = row;
         vector = live;

@@ -2,7 +2,7 @@
 use Rattle.std.specs.Prelude.{ℕ, ◌≡◌, ◌*◌, ◌⊎◌, List, [], length, Option, Some, None, Result, Ok, Err}
 use Rattle.hex.specs.Hex.{IsBytes}
 use Rattle.tape_base.specs.declared.keys.Key.{Key}
-use Rattle.logged_disk.specs.Device.{State as Device, TellsAll}
+use Rattle.logged_disk.specs.Device.{DeviceState as Device, TellsAll}
 use Rattle.doc_header.specs.Reading.{document_digest, payload_of}
 use Rattle.alternate_vector.specs.declared.fault.VectorFault.{VectorFault}
 use Rattle.alternate_vector.specs.Alternates.{Stored}
@@ -14,8 +14,8 @@ use Rattle.cache_model.specs.Permit.{Permit}
 use Rattle.cache_model.specs.Given.{IsGiven, IsWritten, Trouble}
 use Rattle.cache_model.specs.Pair.{IsKeyPair}
 use Rattle.cache_model.specs.Vectors.{AreVectors, IsVectorAs}
-use Rattle.stripe_pieces.specs.Covers.{AreSeen, Covers}
-use Rattle.stripe_pieces.specs.Find.{cause_records}
+use Rattle.stripe_pieces.specs.Covers.{AllReadIsSeen, Covers}
+use Rattle.stripe_pieces.specs.Find.{records_of_trouble}
 use Rattle.stripe_vectors.specs.declared.reading.KeyVector.{KeyVector}
 use Rattle.stripe_vectors.specs.declared.reading.KeyVector.TheVariants as found
 
@@ -25,17 +25,17 @@ spelled_in (Ok list) = list
 spelled_in (Err fault) = []
 
 -- the alternates that a payload lists, in their order
-abbrev pub listed_in : List ℕ → List Stored
-listed_in payload = spelled_in (read_vector payload)
+abbrev pub alternates_spelled : List ℕ → List Stored
+alternates_spelled payload = spelled_in (read_vector payload)
 
 -- the document of a live vector was read, and this is what it lists
-pub record IsReadAs (p : Permit) (s : State) (row : Row) (list : List Stored) : Type 0 where
+pub record VectorIsReadAs (p : Permit) (s : State) (row : Row) (list : List Stored) : Type 0 where
   pub bytes : List ℕ
   pub whole : length bytes ≡ 512 * row.blocks
   pub of_bytes : IsBytes bytes
   pub digest : row.digest ≡ document_digest bytes
   pub given : IsWritten s row → IsGiven p s row bytes
-  pub spelled : list ≡ listed_in (payload_of bytes)
+  pub spelled : list ≡ alternates_spelled (payload_of bytes)
 
 -- no vector is live; or it was read; or the trouble with it
 abbrev pub IsVectorFound : Permit → State → Option Row → KeyVector → Type 0
@@ -43,8 +43,8 @@ IsVectorFound p s None found.Absent = Unit {0}
 IsVectorFound p s None (found.Read list) = ⊥
 IsVectorFound p s None (found.Trouble why) = ⊥
 IsVectorFound p s (Some row) found.Absent = ⊥
-IsVectorFound p s (Some row) (found.Read list) = IsReadAs p s row list
-IsVectorFound p s (Some row) (found.Trouble why) = Trouble p s row (cause_records row why) why
+IsVectorFound p s (Some row) (found.Read list) = VectorIsReadAs p s row list
+IsVectorFound p s (Some row) (found.Trouble why) = Trouble p s row (records_of_trouble row why) why
 
 -- what was read are the key's alternates
 abbrev pub HasAlternates : State → Key → KeyVector → Type 0
@@ -54,7 +54,7 @@ HasAlternates s key _ = Unit {0}
 -- what was read is what is seen, and what came of it in any step that covers the call; where the device tells its content, what
 -- the key has
 pub record FindsVector (s : State) (old new : Device) (key : Key) (answer : KeyVector) : Type 0 where
-  pub seen : AreSeen old new
+  pub seen : AllReadIsSeen old new
   pub exact : TellsAll new → HasAlternates s key answer
   pub answers : (p : Permit) → Covers p old.past new.past → IsVectorFound p s (live_vector_of s key) answer
 
@@ -63,7 +63,7 @@ abbrev pub trouble_records : Option Row → KeyVector → List Rec
 trouble_records None answer = []
 trouble_records (Some row) found.Absent = []
 trouble_records (Some row) (found.Read list) = []
-trouble_records (Some row) (found.Trouble why) = cause_records row why
+trouble_records (Some row) (found.Trouble why) = records_of_trouble row why
 
 -- the same by the key, whose vector is live or not
 abbrev pub vector_adds : State → Key → KeyVector → List Rec
@@ -71,5 +71,5 @@ vector_adds s key answer = trouble_records (live_vector_of s key) answer
 
 -- what was read is what the key has, or two documents of one SHA-256 are shown
 abbrev pub ReadIsListed : Type 0
-ReadIsListed = (p : Permit) (s : State) (key : Key) (row : Row) (list : List Stored) → AreVectors s → live_vector_of s key ≡ Some row → IsReadAs p s row list
+ReadIsListed = (p : Permit) (s : State) (key : Key) (row : Row) (list : List Stored) → AreVectors s → live_vector_of s key ≡ Some row → VectorIsReadAs p s row list
     → (list ≡ alternates_of s key) ⊎ IsKeyPair IsVectorAs p s key

@@ -4,12 +4,12 @@ ghost use Rattle.alternate_vector.specs.Reading.{read_vector};
 ghost use Rattle.cache_model.specs.Kept.{with_records};
 ghost use Rattle.cache_model.specs.State.{live_row_of};
 ghost use Rattle.cache_model.specs.Verdict.{live_vector_of, vector_of};
-ghost use Rattle.stripe_pieces.specs.Covers.{AreSeen};
+ghost use Rattle.stripe_pieces.specs.Covers.{AllReadIsSeen};
 ghost use Rattle.stripe_pieces.specs.Find.{HasRoomFor};
 ghost use Rattle.stripe_pieces.specs.Still.{IsUnwritten};
 ghost use Rattle.stripe_core.specs.Stripe.{IsStripe, kept_in, room_for, seen_in, state_in, units_in};
 ghost use Rattle.stripe_core.specs.Between.{Continues};
-ghost use Rattle.stripe_vectors.specs.Reading.{FindsVector, listed_in, vector_adds};
+ghost use Rattle.stripe_vectors.specs.Reading.{FindsVector, alternates_spelled, vector_adds};
 
 use alternate_vector::{Vector, VectorFault};
 use cache_chronicle::Chronicle;
@@ -43,7 +43,7 @@ pub fn read_vector<D: Disk, R: Directory + Drop, C: Chronicle>(
     ensures finds { IfOk result (FindsVector (state_in stripe.old) (seen_in stripe.old).device
         (seen_in stripe.new).device key) }
     // What was read is what is seen, also where memory is wanting for it.
-    ensures seen { AreSeen (seen_in stripe.old).device (seen_in stripe.new).device }
+    ensures seen { AllReadIsSeen (seen_in stripe.old).device (seen_in stripe.new).device }
     ensures err { OnErr result (kept_in stripe.new ≡ kept_in stripe.old) }
     ensures unwritten { IsUnwritten (seen_in stripe.old).device (seen_in stripe.new).device }
     ensures row { (put : ℕ) → room_for put stripe.new.actors ≡ room_for put stripe.old.actors }
@@ -86,7 +86,7 @@ fn read_live<D: Disk, R: Directory + Drop, C: Chronicle>(
     ensures finds { IfOk result (FindsVector (state_in stripe.old) (seen_in stripe.old).device
         (seen_in stripe.new).device key) }
     // What was read is what is seen, also where memory is wanting for it.
-    ensures seen { AreSeen (seen_in stripe.old).device (seen_in stripe.new).device }
+    ensures seen { AllReadIsSeen (seen_in stripe.old).device (seen_in stripe.new).device }
     ensures err { OnErr result (kept_in stripe.new ≡ kept_in stripe.old) }
     ensures unwritten { IsUnwritten (seen_in stripe.old).device (seen_in stripe.new).device }
     ensures row { (put : ℕ) → room_for put stripe.new.actors ≡ room_for put stripe.old.actors }
@@ -115,7 +115,7 @@ fn read_through<D: Disk, R: Directory + Drop, C: Chronicle>(
     ensures finds { IfOk result (FindsVector (state_in stripe.old) (seen_in stripe.old).device
         (seen_in stripe.new).device key) }
     // What was read is what is seen, also where memory is wanting for it.
-    ensures seen { AreSeen (seen_in stripe.old).device (seen_in stripe.new).device }
+    ensures seen { AllReadIsSeen (seen_in stripe.old).device (seen_in stripe.new).device }
     ensures err { OnErr result (kept_in stripe.new ≡ kept_in stripe.old) }
     ensures unwritten { IsUnwritten (seen_in stripe.old).device (seen_in stripe.new).device }
     ensures row { (put : ℕ) → room_for put stripe.new.actors ≡ room_for put stripe.old.actors }
@@ -130,7 +130,7 @@ fn read_through<D: Disk, R: Directory + Drop, C: Chronicle>(
 
 // What a payload lists.
 fn listed(alloc: Global, payload: &[u8]) -> Result<Vector, AllocError>
-    ensures { IfOk result (λ list. list ≡ listed_in payload.now) }
+    ensures { IfOk result (λ list. list ≡ alternates_spelled payload.now) }
 {
     match Vector::decode(alloc, payload) {
         Ok(list) => Ok(list),

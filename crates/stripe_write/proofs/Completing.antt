@@ -32,16 +32,16 @@ use Rattle.stripe_core.specs.declared.refusal.Refusal.TheVariants as refusal
 use Rattle.stripe_pieces.specs.declared.answer.Stop.{Stop}
 use Rattle.stripe_pieces.specs.declared.answer.Stop.TheVariants as stop
 use Rattle.stripe_core.specs.Acts.{CommitsAsAsked, committed_record}
-use Rattle.stripe_core.specs.Stripe.{Answers, HasMemory}
+use Rattle.stripe_core.specs.Stripe.{AnswersOrWants, HasMemory}
 use Rattle.stripe_pieces.specs.Covers.{Covers}
-use Rattle.stripe_pieces.specs.Place.{IsPlacedAs, IsVectorFor, IsVectorOf, PlacesAt, PlacesIn, PlacesVector, ReachesLimit}
+use Rattle.stripe_pieces.specs.Place.{AreOfPlace, IsExhaustedAt, IsVectorFor, IsVectorOf, PlacesAt, PlacesIn, PlacesVector}
 use Rattle.stripe_pieces.proofs.Displacing.{displaced_list}
 use Rattle.stripe_vectors.specs.declared.spelling.Spelled.{Spelled}
 use Rattle.stripe_vectors.specs.Spelled.{IsSpelled, listed_with}
 use Rattle.stripe_write.specs.declared.weighing.Vectors.{Vectors}
 use Rattle.stripe_write.specs.declared.writer.Writer.{Writer}
-use Rattle.stripe_write.specs.Writers.{IsAtHand, IsWriterOf}
-use Rattle.stripe_write.specs.Closing.{AreSpelled, IsReadFor, alternate_at_close, rest_rows, rows_at_close, size_at_close}
+use Rattle.stripe_write.specs.Writers.{IsAtHandInStripe, IsStripeWriterOf}
+use Rattle.stripe_write.specs.Closing.{AreSpelled, IsReadFor, closing_alternate, closing_rows, closing_size, row_of_rest}
 use Rattle.stripe_write.specs.Finishing.{AreLive, FinishesAsRead, IsCurrent, VectorStops, bytes_now, picked, vector_now}
 use Rattle.stripe_write.specs.declared.finishing.Receipt.{Receipt}
 use Rattle.stripe_write.proofs.Pushed.{pushed_by}
@@ -80,11 +80,11 @@ small_picked g w v true h = small_merged g w v v.merged refl h
 small_picked g w v false h = h.alone.small
 
 picked_by : (s : State) (w : Writer) (v : Vectors) (o : Option Row) → live_vector_of s w.key ≡ o → AreSpelled s.geometry w v → IsReadFor s w v
-    → IsSpelled s.geometry (alternates_of s w.key) (alternate_at_close w) (picked v (is_some o))
-picked_by s w v None e h read = subst (λ list. IsSpelled s.geometry list (alternate_at_close w) v.alone) (sym (no_alternates s w.key e)) h.alone
+    → IsSpelled s.geometry (alternates_of s w.key) (closing_alternate w) (picked v (is_some o))
+picked_by s w v None e h read = subst (λ list. IsSpelled s.geometry list (closing_alternate w) v.alone) (sym (no_alternates s w.key e)) h.alone
 picked_by s w v (Some row) e h read =
     let m = read row e in
-    subst (λ o. IsSpelled s.geometry (alternates_of s w.key) (alternate_at_close w) (unwrap_or o v.alone)) (sym m.1) m.2
+    subst (λ o. IsSpelled s.geometry (alternates_of s w.key) (closing_alternate w) (unwrap_or o v.alone)) (sym m.1) m.2
 
 -- ---- the put, when all is cut
 
@@ -94,16 +94,17 @@ pub record IsClosing (s : State) (w : Writer) : Type 0 where
   pub writing : IsWriting s w.put row
   pub key_is : row.key ≡ w.key
   pub cuts_are : row.cuts ≡ w.table.rows
-  pub alternate_is : alternate_of row ≡ alternate_at_close w
+  pub alternate_is : alternate_of row ≡ closing_alternate w
 
-no_rest : (w : Writer) → w.gathered.items ≡ [] → rows_at_close w ≡ w.table.rows
-no_rest w h = ap (λ bytes. w.table.rows ++ rest_rows bytes) h ∙ append-nil w.table.rows
+no_rest : (w : Writer) → w.gathered.items ≡ [] → closing_rows w ≡ w.table.rows
+no_rest w h = ap (λ bytes. w.table.rows ++ row_of_rest bytes) h ∙ append-nil w.table.rows
 
-pub is_closing : (s : State) (w : Writer) → IsQuiet s → is_writing s w.put ≡ true → IsWriterOf s w → w.gathered.items ≡ [] → IsClosing s w
+pub is_closing : (s : State) (w : Writer) → IsQuiet s → is_writing s w.put ≡ true → IsStripeWriterOf s w → w.gathered.items ≡ []
+    → IsClosing s w
 is_closing s w quiet writing own none =
     let o = open_put (put_of s w.put) writing in
-    let here : IsAtHand s.geometry o.0 w = own o.0 o.1 o.2 in
-    let cuts : o.0.cuts ≡ rows_at_close w = here.cuts_are ∙ sym (no_rest w none) in
+    let here : IsAtHandInStripe s.geometry o.0 w = own o.0 o.1 o.2 in
+    let cuts : o.0.cuts ≡ closing_rows w = here.cuts_are ∙ sym (no_rest w none) in
     let number : o.0.put ≡ w.put = own_number w.put s.puts o.0 o.1 in
     let made : ℕ → ℕ → List Rattle.alternate_vector.specs.Field.Field → List Rattle.alternate_vector.specs.Field.Field → List TableRow → Stored =
     λ n pin q r rows. record { put = n; pin = pin; length = total_length rows; request = q; response = r; table = rows } in
@@ -120,7 +121,7 @@ is_closing s w quiet writing own none =
     }
 
 -- what its vector is to list
-listed_now : (s : State) (w : Writer) (c : IsClosing s w) → s.displaced ≡ [] → list_of_put s w.put ≡ listed_with s.geometry (alternates_of s w.key) (alternate_at_close w)
+listed_now : (s : State) (w : Writer) (c : IsClosing s w) → s.displaced ≡ [] → list_of_put s w.put ≡ listed_with s.geometry (alternates_of s w.key) (closing_alternate w)
 listed_now s w c none =
     ap (λ (o : Option PutRow). unwrap_or (option_map (merged_list s) o) []) c.writing.found
     ∙ (ap (λ (d : List Row). listed_with s.geometry (list_among s (d ++ s.rows) c.row.key) (alternate_of c.row)) none
@@ -128,7 +129,7 @@ listed_now s w c none =
 
 pub is_current : (s : State) (w : Writer) (v : Vectors) (c : IsClosing s w) → s.displaced ≡ [] → AreSpelled s.geometry w v → IsReadFor s w v → IsCurrent s w (vector_now s w v)
 is_current s w v c none spelled read =
-    let here : IsSpelled s.geometry (alternates_of s w.key) (alternate_at_close w) (vector_now s w v) = picked_by s w v (live_vector_of s w.key) refl spelled read in
+    let here : IsSpelled s.geometry (alternates_of s w.key) (closing_alternate w) (vector_now s w v) = picked_by s w v (live_vector_of s w.key) refl spelled read in
     let list = listed_now s w c none in
     record {
       payload = here.bytes ∙ ap vector_bytes (sym list);
@@ -141,7 +142,7 @@ is_current s w v c none spelled read =
 pub lists_spelled : (s : State) (w : Writer) (v : Vectors) (c : IsClosing s w) → s.displaced ≡ [] → AreSpelled s.geometry w v
     → IsReadFor s w v → IsSpelling (vector_bytes (list_of_put s w.put)) (list_of_put s w.put)
 lists_spelled s w v c none spelled read =
-    let here : IsSpelled s.geometry (alternates_of s w.key) (alternate_at_close w) (vector_now s w v) =
+    let here : IsSpelled s.geometry (alternates_of s w.key) (closing_alternate w) (vector_now s w v) =
     picked_by s w v (live_vector_of s w.key) refl spelled read in
     subst (λ list. IsSpelling (vector_bytes list) list) (sym (listed_now s w c none)) here.again
 
@@ -177,10 +178,10 @@ live_to s w c last whole = λ index some within.
     let id : fragment_piece w.key w.put index ≡ fragment_piece c.row.key c.row.put index = ap (λ k. fragment_piece k w.put index) (sym c.key_is) ∙ ap (λ n. fragment_piece c.row.key n index) (sym number) in
     subst (λ i. (row : Row) × (live_row_of s i ≡ Some row)) id (some_is (live_row_of s (fragment_piece w.key w.put index)) (whole index some within))
 
-pub fits_alone : (s : State) (w : Writer) (c : IsClosing s w) → blocks_of (size_at_close w) ≤ budget_of s.geometry → FitsAlone s c.row 0
+pub fits_alone : (s : State) (w : Writer) (c : IsClosing s w) → blocks_of (closing_size w) ≤ budget_of s.geometry → FitsAlone s c.row 0
 fits_alone s w c fits = subst (λ (a : Stored). blocks_of (vector_size (a ∷ [])) ≤ budget_of s.geometry) (sym c.alternate_is) fits
 
-pub is_cut : (s : State) (w : Writer) (c : IsClosing s w) → blocks_of (size_at_close w) ≤ budget_of s.geometry → IsCut s w.put (length w.table.rows) c.row
+pub is_cut : (s : State) (w : Writer) (c : IsClosing s w) → blocks_of (closing_size w) ≤ budget_of s.geometry → IsCut s w.put (length w.table.rows) c.row
 is_cut s w c fits = record { writing = c.writing; count = ap length c.cuts_are; alone = fits_alone s w c fits }
 
 pub vector_of_put : (s : State) (w : Writer) (v : Vectors) (pin : ℕ) (payload : List ℕ) (c : IsClosing s w) → AreSpelled s.geometry w v → has_room s (bytes_now s w v) ≡ true
@@ -206,7 +207,7 @@ closed : (o : Option PutRow) (row : PutRow) → option_map (with_writing Closed)
 closed None row h o = cc
 closed (Some first) row h o = let same : with_writing Closed first ≡ row = cc in let clash : Closed ≡ Open = ap (λ (p : PutRow). p.writing) same ∙ o in cc
 
-pub closed_writer : (s : State) (w : Writer) (key : Key) (bytes : ℕ) (list : List Stored) → IsWriterOf (state_after s (rec.Committed w.put key bytes list)) w
+pub closed_writer : (s : State) (w : Writer) (key : Key) (bytes : ℕ) (list : List Stored) → IsStripeWriterOf (state_after s (rec.Committed w.put key bytes list)) w
 closed_writer s w key bytes list = λ row found o.
     absurd (closed (put_of s w.put) row
     (sym (find-changed (λ (p : PutRow). p.put) (with_writing Closed) (λ p. refl) w.put w.put s.puts ∙ ap (λ b. cond b (option_map (with_writing Closed) (put_of s w.put)) (put_of s w.put)) (eq-eqb w.put w.put refl)) ∙ found) o)
@@ -222,11 +223,11 @@ placed_lists s key put place blocks pin digest =
     (row_in-placed id s.rows row ∙ ap (λ b. if b then Some row else row_in s.rows id) (same_piece-same id))
 
 -- it stands behind what its entry displaces
-pub vector_state : {packed : Bool} (s : State) (key : Key) (put pin : ℕ) (payload : List ℕ) (added : List Rec) → (a : IsPlacedAs packed s (vector_piece key put) pin 0 payload added)
+pub vector_state : {packed : Bool} (s : State) (key : Key) (put pin : ℕ) (payload : List ℕ) (added : List Rec) → (a : AreOfPlace packed s (vector_piece key put) pin 0 payload added)
     → after_all s added ≡ state_after (after_all s a.displaced) (placed_record s (vector_piece key put) pin 0 (length payload) payload)
 vector_state s key put pin payload added a = ap (after_all s) a.is ∙ after_all-append s a.displaced (placed_record s (vector_piece key put) pin 0 (length payload) payload ∷ [])
 
-vector_lists : {packed : Bool} (s : State) (key : Key) (put pin : ℕ) (payload : List ℕ) (added : List Rec) → IsPlacedAs packed s (vector_piece key put) pin 0 payload added
+vector_lists : {packed : Bool} (s : State) (key : Key) (put pin : ℕ) (payload : List ℕ) (added : List Rec) → AreOfPlace packed s (vector_piece key put) pin 0 payload added
     → list_of_piece (after_all s added) (vector_piece key put) ≡ list_of_put s put
 vector_lists s key put pin payload added a =
     ap (λ t. list_of_piece t (vector_piece key put)) (vector_state s key put pin payload added a)
@@ -254,7 +255,7 @@ module _ (packed : Bool) (now : ℕ) (old new : Kept) (before after : List Call)
   id = vector_piece w.key w.put
 
   vector_at : (number : ℕ) → IsVectorOf s id pin 0 payload → PlacesAt s payload (Err (stop.Exhausted number)) → VectorStops s w (refusal.Exhausted number)
-  vector_at number v at = (cuts_at_hand s w c, subst (λ n. ReachesLimit s n number) v.length_is (place_reaches s payload number v.room at))
+  vector_at number v at = (cuts_at_hand s w c, subst (λ n. IsExhaustedAt s n number) v.length_is (place_reaches s payload number v.room at))
 
   -- the vector that has no place
   no_place : (number : ℕ) → PlacesVector packed old new before after id pin 0 payload (Err (stop.Exhausted number)) → FinishesAsRead packed now before after old new w v (Err (refusal.Exhausted number))
@@ -270,7 +271,7 @@ module _ (packed : Bool) (now : ℕ) (old new : Kept) (before after : List Call)
         };
   }
 
-  pub refused_finishes : (why : Refusal) → Answers {X = Placed} (Err why) (PlacesVector packed old new before after id pin 0 payload) (new ≡ old)
+  pub refused_finishes : (why : Refusal) → AnswersOrWants {X = Placed} (Err why) (PlacesVector packed old new before after id pin 0 payload) (new ≡ old)
       → HasMemory {X = Placed} (Err why) → FinishesAsRead packed now before after old new w v (Err why)
   refused_finishes (refusal.Exhausted number) h memory = no_place number h
   refused_finishes (refusal.DeviceFault number) h memory = absurd h.places.at
@@ -300,12 +301,12 @@ module _ (packed : Bool) (now : ℕ) (old new : Kept) (before after : List Call)
 -- ---- a vector that was not placed
 
 -- nothing was recorded
-pub not_placed : (packed : Bool) (old new : Kept) (before after : List Call) (piece : PieceId) (pin : ℕ) (payload : List ℕ) (why : Refusal) → Answers {X = Placed} (Err why) (PlacesVector packed old new before after piece pin 0 payload) (new ≡ old) → new ≡ old
+pub not_placed : (packed : Bool) (old new : Kept) (before after : List Call) (piece : PieceId) (pin : ℕ) (payload : List ℕ) (why : Refusal) → AnswersOrWants {X = Placed} (Err why) (PlacesVector packed old new before after piece pin 0 payload) (new ≡ old) → new ≡ old
 not_placed packed old new before after piece pin payload (refusal.Exhausted number) h = nothing_placed old new piece pin payload (stop.Exhausted number) h.places
 not_placed packed old new before after piece pin payload (refusal.DeviceFault count) h = nothing_placed old new piece pin payload (stop.DeviceFault count) h.places
 not_placed packed old new before after piece pin payload (refusal.Memory e) h = h
 not_placed packed old new before after piece pin payload _ h = absurd h
 
 pub refused_writer : (packed : Bool) (old new : Kept) (before after : List Call) (w : Writer) (pin : ℕ) (payload : List ℕ) (why : Refusal)
-    → Answers {X = Placed} (Err why) (PlacesVector packed old new before after (vector_piece w.key w.put) pin 0 payload) (new ≡ old) → IsWriterOf (state_of old) w → IsWriterOf (state_of new) w
-refused_writer packed old new before after w pin payload why h own = subst (λ k. IsWriterOf (state_of k) w) (sym (not_placed packed old new before after (vector_piece w.key w.put) pin payload why h)) own
+    → AnswersOrWants {X = Placed} (Err why) (PlacesVector packed old new before after (vector_piece w.key w.put) pin 0 payload) (new ≡ old) → IsStripeWriterOf (state_of old) w → IsStripeWriterOf (state_of new) w
+refused_writer packed old new before after w pin payload why h own = subst (λ k. IsStripeWriterOf (state_of k) w) (sym (not_placed packed old new before after (vector_piece w.key w.put) pin payload why h)) own

@@ -3,7 +3,7 @@ use Rattle.std.proofs.Common.{◌≡◌, ℕ, ◌+◌, ◌*◌, ◌<◌, inl, in
 use Rattle.std.specs.Prelude.{Some, option_map, find, ◌==◌, MatchBool, OnOk}
 use Rattle.std.specs.List.{AllByRecursion}
 use Rattle.device_log.specs.Calls.{Call}
-use Rattle.logged_disk.specs.Device.{State as Device}
+use Rattle.logged_disk.specs.Device.{DeviceState as Device}
 use Rattle.std.specs.declared.alloc.AllocError.{AllocError}
 use Rattle.std.proofs.lemmas.Bool.{eq-eqb, eqb-true}
 use Rattle.std.proofs.lemmas.List.{length-append}
@@ -25,19 +25,19 @@ use Rattle.cache_model.proofs.ByNumber.{find-changed}
 use Rattle.stripe_pieces.specs.declared.answer.Placed.{Placed}
 use Rattle.stripe_core.specs.declared.refusal.Refusal.{Refusal}
 use Rattle.stripe_core.specs.declared.refusal.Refusal.TheVariants as refusal
-use Rattle.stripe_pieces.specs.Place.{CutsAsAsked, IsCutAs, IsFragmentOf, IsPlacedAs, PlacesAsAsked, PlacesVector, ReachesLimit}
+use Rattle.stripe_pieces.specs.Place.{AreOfPlace, CutsAsAsked, IsCutAs, IsExhaustedAt, IsFragmentOf, PlacesAsAsked, PlacesVector}
 use Rattle.stripe_pieces.specs.Displaced.{AreOfDisplacement}
-use Rattle.stripe_core.specs.Stripe.{Answers}
+use Rattle.stripe_core.specs.Stripe.{AnswersOrWants}
 use Rattle.stripe_pieces.proofs.Displacing.{displaced_puts}
 use Rattle.stripe_write.specs.declared.writer.Writer.{Writer}
 use Rattle.stripe_write.proofs.Ended.{own_number}
 use Rattle.stripe_write.proofs.Flushed.{LeavesActors, flush_is_own, flush_leaves}
 use Rattle.stripe_write.proofs.Pushed.{pushed_by, pushed_is_own}
 use Rattle.stripe_write.proofs.Spending.{state_behind}
-use Rattle.stripe_write.specs.Writers.{IsAllCut, IsAtHand, IsWriterOf}
+use Rattle.stripe_write.specs.Writers.{IsAllCutInStripe, IsAtHandInStripe, IsStripeWriterOf}
 use Rattle.stripe_write.specs.Writes.{IsReady, next_id, next_start}
-use Rattle.stripe_write.specs.Numbers.{StopsAtLimit}
-use Rattle.stripe_write.specs.Others.{IsOfPut}
+use Rattle.stripe_write.specs.Numbers.{StopsExhausted}
+use Rattle.stripe_write.specs.Others.{IsRecordOfPut}
 
 -- ---- it is the next fragment of its put
 
@@ -78,7 +78,7 @@ ready_fragment s w quiet r small =
 abbrev pub cut_of : PieceId → List ℕ → Rec
 cut_of id payload = rec.Cut id.put id.index (length payload) (digest_of payload)
 
-cut_two : {packed : Bool} (s : State) (id : PieceId) (pin start : ℕ) (payload : List ℕ) (added : List Rec) → is_vector id ≡ false → (a : IsPlacedAs packed s id pin start payload added)
+cut_two : {packed : Bool} (s : State) (id : PieceId) (pin start : ℕ) (payload : List ℕ) (added : List Rec) → is_vector id ≡ false → (a : AreOfPlace packed s id pin start payload added)
     → added ≡ cut_of id payload ∷ (a.displaced ++ placed_record s id pin start (length payload) payload ∷ [])
 cut_two s id pin start payload added kind a = a.is ∙ rw kind refl
 
@@ -123,7 +123,7 @@ one_more rows row size is whole =
     total_one r = omega arith
 
 all_cut_or_whole : (w new : Writer) (rows : List TableRow) (row : TableRow) (size : ℕ) → (w.sealed ≡ true) ⊎ (row.length ≡ size) → new.sealed ≡ w.sealed → new.gathered.items ≡ []
-    → total_length rows ≡ length rows * size → IsAllCut new ⊎ (total_length (rows ++ row ∷ []) ≡ length (rows ++ row ∷ []) * size)
+    → total_length rows ≡ length rows * size → IsAllCutInStripe new ⊎ (total_length (rows ++ row ∷ []) ≡ length (rows ++ row ∷ []) * size)
 all_cut_or_whole w new rows row size (inl is) same empty whole = inl (record { sealed = same ∙ is; empty = empty })
 all_cut_or_whole w new rows row size (inr is) same empty whole = inr (one_more rows row size is whole)
 
@@ -143,7 +143,7 @@ cut_row s t w added placed r c is =
 -- the writer behind a cut
 pub cut_writer : {packed : Bool} (s t : State) (w new : Writer) (added : List Rec) (placed : Placed) → IsReady s w → IsCutAs packed s (next_id w) w.pin (next_start w) w.gathered.items added placed → t ≡ after_all s added
     → new.put ≡ w.put → new.key ≡ w.key → new.request ≡ w.request → new.response ≡ w.response → new.pin ≡ w.pin → new.sealed ≡ w.sealed → new.gathered.items ≡ []
-    → new.table.rows ≡ w.table.rows ++ made_row (length w.gathered.items) (digest_of w.gathered.items).0 ∷ [] → IsWriterOf t new
+    → new.table.rows ≡ w.table.rows ++ made_row (length w.gathered.items) (digest_of w.gathered.items).0 ∷ [] → IsStripeWriterOf t new
 cut_writer s t w new added placed r c is put key request response pin sealed gathered rows = λ row found o.
     let payload : List ℕ = w.gathered.items in
     let leaves : LeavesActors s (after_all s c.room) = flush_leaves s c.room c.kinds in
@@ -154,7 +154,7 @@ cut_writer s t w new added placed r c is put key request response pin sealed gat
     let geometry : t.geometry ≡ s.geometry = ap (λ (x : State). x.geometry) state ∙ (behind.geometry ∙ leaves.geometry) in
     let name : Some row ≡ Some (with_cut cut r.row) = sym found ∙ (ap (put_of t) put ∙ there) in
     let row_is : row ≡ with_cut cut r.row = cc in
-    subst (λ (x : PutRow). IsAtHand t.geometry x new) (sym row_is) (record {
+    subst (λ (x : PutRow). IsAtHandInStripe t.geometry x new) (sym row_is) (record {
       key_is = r.key_is ∙ sym key;
       request_is = r.request_is ∙ sym request;
       response_is = r.response_is ∙ sym response;
@@ -178,28 +178,29 @@ module _ (w : Writer) (n t : ℕ) (p : List ℕ) (n_is : n ≡ length w.table.ro
   at_next : (F : PieceId → ℕ → List ℕ → Type 0) → F id t p → F (next_id w) (next_start w) w.gathered.items
   at_next F h = subst (F (next_id w) (next_start w)) p_is (subst (λ x. F (next_id w) x p) t_is (subst (λ i. F i t p) id_is h))
 
-  pub cuts_behind : (packed : Bool) (now : ℕ) (old new : Kept) (first : List Call) (after : Device) (r : Result Placed Refusal) → Answers r (PlacesAsAsked packed now old new first after id w.pin t p) (new ≡ old)
-      → Answers r (CutsAsAsked packed now old new first after (next_id w) w.pin (next_start w) w.gathered.items) (new ≡ old)
+  pub cuts_behind : (packed : Bool) (now : ℕ) (old new : Kept) (first : List Call) (after : Device) (r : Result Placed Refusal) → AnswersOrWants r (PlacesAsAsked packed now old new first after id w.pin t p) (new ≡ old)
+      → AnswersOrWants r (CutsAsAsked packed now old new first after (next_id w) w.pin (next_start w) w.gathered.items) (new ≡ old)
   cuts_behind packed now old new first after r h =
-      let there : Answers r (PlacesAsAsked packed now old new first after (next_id w) w.pin (next_start w) w.gathered.items) (new ≡ old) =
-      at_next (λ i x q. Answers r (PlacesAsAsked packed now old new first after i w.pin x q) (new ≡ old)) h in
-      subst (λ b. Answers r (λ x. MatchBool b (PlacesVector packed old new first after.past (next_id w) w.pin (next_start w) w.gathered.items x)
+      let there : AnswersOrWants r (PlacesAsAsked packed now old new first after (next_id w) w.pin (next_start w) w.gathered.items)
+      (new ≡ old) =
+      at_next (λ i x q. AnswersOrWants r (PlacesAsAsked packed now old new first after i w.pin x q) (new ≡ old)) h in
+      subst (λ b. AnswersOrWants r (λ x. MatchBool b (PlacesVector packed old new first after.past (next_id w) w.pin (next_start w) w.gathered.items x)
       (CutsAsAsked packed now old new first after (next_id w) w.pin (next_start w) w.gathered.items x)) (new ≡ old)) (next_no_vector w) there
 
 -- a cut that stops at the limit tells the number
 pub cut_stops : (packed : Bool) (now : ℕ) (old new : Kept) (first : List Call) (after : Device) (piece : PieceId) (pin start : ℕ) (payload : List ℕ) (why : Refusal)
-    → Answers {X = Placed} (Err why) (CutsAsAsked packed now old new first after piece pin start payload) (new ≡ old) → StopsAtLimit (state_of new) (length payload) why
-cut_stops packed now old new first after piece pin start payload (refusal.Exhausted number) h = subst (λ t. ReachesLimit t (length payload) number) (sym (state_behind old new h.added h.adds)) h.shape.why_is
+    → AnswersOrWants {X = Placed} (Err why) (CutsAsAsked packed now old new first after piece pin start payload) (new ≡ old) → StopsExhausted (state_of new) (length payload) why
+cut_stops packed now old new first after piece pin start payload (refusal.Exhausted number) h = subst (λ t. IsExhaustedAt t (length payload) number) (sym (state_behind old new h.added h.adds)) h.shape.why_is
 cut_stops packed now old new first after piece pin start payload _ h = tt
 
 -- the records of a cut are its put's own
-pub cut_is_own : {packed : Bool} (s : State) (piece : PieceId) (pin start : ℕ) (payload : List ℕ) (added : List Rec) (placed : Placed) → is_vector piece ≡ false → IsCutAs packed s piece pin start payload added placed → AllByRecursion (IsOfPut piece.put) added
+pub cut_is_own : {packed : Bool} (s : State) (piece : PieceId) (pin start : ℕ) (payload : List ℕ) (added : List Rec) (placed : Placed) → is_vector piece ≡ false → IsCutAs packed s piece pin start payload added placed → AllByRecursion (IsRecordOfPut piece.put) added
 cut_is_own s piece pin start payload added placed kind c =
     let room : State = after_all s c.room in
     let pushed = pushed_is_own piece.put c.are.displaced (cut_pushed s piece pin start payload added placed c) in
-    let two : AllByRecursion (IsOfPut piece.put) c.piece =
-    subst (AllByRecursion (IsOfPut piece.put)) (sym (cut_two room piece pin start payload c.piece kind c.are)) (refl, all_append (IsOfPut piece.put) c.are.displaced _ pushed (tt, tt)) in
-    subst (AllByRecursion (IsOfPut piece.put)) (sym c.is) (all_append (IsOfPut piece.put) c.room c.piece (flush_is_own piece.put c.room c.kinds) two)
+    let two : AllByRecursion (IsRecordOfPut piece.put) c.piece =
+    subst (AllByRecursion (IsRecordOfPut piece.put)) (sym (cut_two room piece pin start payload c.piece kind c.are)) (refl, all_append (IsRecordOfPut piece.put) c.are.displaced _ pushed (tt, tt)) in
+    subst (AllByRecursion (IsRecordOfPut piece.put)) (sym c.is) (all_append (IsRecordOfPut piece.put) c.room c.piece (flush_is_own piece.put c.room c.kinds) two)
 
 pub rows_behind : (r : Result (Unit {0}) AllocError) (u : Unit {0}) (before after : List TableRow) (size : ℕ) (digest : Digest) (bytes : List ℕ) → r ≡ Ok u → OnOk r (after ≡ before ++ made_row size digest.0 ∷ [])
     → size ≡ length bytes → digest ≡ digest_of bytes → after ≡ before ++ made_row (length bytes) (digest_of bytes).0 ∷ []

@@ -13,7 +13,7 @@ use Rattle.cache_model.specs.declared.record.Rec.TheVariants as rec
 use Rattle.cache_model.specs.State.{PutRow, State, fragment_piece, put_of, most_fragments}
 use Rattle.cache_model.specs.Kept.{Kept, state_of, with_records}
 use Rattle.device_log.specs.Calls.{Call}
-use Rattle.logged_disk.specs.Device.{State as Device}
+use Rattle.logged_disk.specs.Device.{DeviceState as Device}
 use Rattle.cache_model.specs.Legal.{is_writing}
 use Rattle.stripe_pieces.specs.declared.answer.Placed.{Placed}
 use Rattle.stripe_core.specs.declared.refusal.Refusal.{Refusal}
@@ -22,11 +22,11 @@ use Rattle.stripe_pieces.specs.declared.answer.Stop.{Stop}
 use Rattle.stripe_pieces.specs.declared.answer.Stop.TheVariants as stop
 use Rattle.stripe_pieces.specs.Flush.{AreOfFlush}
 use Rattle.stripe_pieces.specs.Place.{CutsAsAsked, RoomsAsAsked}
-use Rattle.stripe_core.specs.Stripe.{Answers}
+use Rattle.stripe_core.specs.Stripe.{AnswersOrWants}
 use Rattle.stripe_write.specs.declared.writer.Writer.{Writer}
-use Rattle.stripe_write.specs.Writers.{IsAllCut, IsAtHand, IsWriterOf}
-use Rattle.stripe_write.specs.Writes.{CutsNext, IsCutting, IsOverflow, IsReady, OverflowsAsAsked, SameWriter, WritesAs, WritesAsAsked, WritesWhere, gathered_with, is_cut, left_of, next_id, next_payload, next_start, overflow_adds, taken_of}
-use Rattle.stripe_write.specs.Others.{IsOfPut}
+use Rattle.stripe_write.specs.Writers.{IsAllCutInStripe, IsAtHandInStripe, IsStripeWriterOf}
+use Rattle.stripe_write.specs.Writes.{CutsNextAsAsked, IsCuttingInStripe, IsOverflow, IsReady, OverflowsAsAsked, SameWriter, WritesAs, WritesAsAsked, WritesWhere, completes_fragment, gathered_behind, left_gathered, next_id, next_start, overflow_adds, payload_cut_next, taken_up_to_cut}
+use Rattle.stripe_write.specs.Others.{IsRecordOfPut}
 use Rattle.stripe_write.proofs.Ended.{open_put}
 use Rattle.stripe_write.proofs.Flushed.{LeavesActors, flush_is_own, flush_leaves, leaves_all}
 use Rattle.stripe_write.proofs.Spending.{nothing_more, state_behind}
@@ -34,17 +34,17 @@ use Rattle.stripe_write.proofs.Cutting.{cut_is_own, next_no_vector}
 
 -- ---- a writer that is as it was, or has gathered more
 
-all_cut_still : (w new : Writer) (P : Type 0) → SameWriter w new → IsAllCut w ⊎ P → IsAllCut new ⊎ P
+all_cut_still : (w new : Writer) (P : Type 0) → SameWriter w new → IsAllCutInStripe w ⊎ P → IsAllCutInStripe new ⊎ P
 all_cut_still w new P same (inl all) = inl (record { sealed = same.sealed ∙ all.sealed; empty = same.gathered ∙ all.empty })
 all_cut_still w new P same (inr whole) = inr whole
 
-whole_of : (w : Writer) (P : Type 0) → w.sealed ≡ false → IsAllCut w ⊎ P → P
+whole_of : (w : Writer) (P : Type 0) → w.sealed ≡ false → IsAllCutInStripe w ⊎ P → P
 whole_of w P unsealed (inl all) = let clash : true ≡ false = sym all.sealed ∙ unsealed in cc
 whole_of w P unsealed (inr whole) = whole
 
-pub same_writer : (s : State) (w new : Writer) → SameWriter w new → IsWriterOf s w → IsWriterOf s new
+pub same_writer : (s : State) (w new : Writer) → SameWriter w new → IsStripeWriterOf s w → IsStripeWriterOf s new
 same_writer s w new same own = λ row found o.
-    let here : IsAtHand s.geometry row w = own row (ap (put_of s) (sym same.put) ∙ found) o in
+    let here : IsAtHandInStripe s.geometry row w = own row (ap (put_of s) (sym same.put) ∙ found) o in
     record {
       key_is = here.key_is ∙ sym same.key;
       request_is = here.request_is ∙ sym same.request;
@@ -66,9 +66,9 @@ pub record SameButGathered (old new : Writer) : Type 0 where
   pub rows : new.table.rows ≡ old.table.rows
   pub sealed : new.sealed ≡ old.sealed
 
-pub more_writer : (s : State) (w new : Writer) → SameButGathered w new → w.sealed ≡ false → length w.table.rows < most_fragments → length new.gathered.items < s.geometry.fragment → IsWriterOf s w → IsWriterOf s new
+pub more_writer : (s : State) (w new : Writer) → SameButGathered w new → w.sealed ≡ false → length w.table.rows < most_fragments → length new.gathered.items < s.geometry.fragment → IsStripeWriterOf s w → IsStripeWriterOf s new
 more_writer s w new same unsealed one few own = λ row found o.
-    let here : IsAtHand s.geometry row w = own row (ap (put_of s) (sym same.put) ∙ found) o in
+    let here : IsAtHandInStripe s.geometry row w = own row (ap (put_of s) (sym same.put) ∙ found) o in
     record {
       key_is = here.key_is ∙ sym same.key;
       request_is = here.request_is ∙ sym same.request;
@@ -80,14 +80,15 @@ more_writer s w new same unsealed one few own = λ row found o.
       more = λ some. rw here.cuts_are one;
     }
 
-pub few_gathered : (s : State) (w : Writer) → is_writing s w.put ≡ true → IsWriterOf s w → length w.gathered.items < s.geometry.fragment
+pub few_gathered : (s : State) (w : Writer) → is_writing s w.put ≡ true → IsStripeWriterOf s w
+    → length w.gathered.items < s.geometry.fragment
 few_gathered s w writing own = let o = open_put (put_of s w.put) writing in (own o.0 o.1 o.2).few
 
-pub is_ready : (s : State) (w new : Writer) → is_writing s w.put ≡ true → w.sealed ≡ false → IsWriterOf s w → SameButGathered w new → length w.table.rows < most_fragments → length new.gathered.items ≡ s.geometry.fragment → 0 < new.table.room
+pub is_ready : (s : State) (w new : Writer) → is_writing s w.put ≡ true → w.sealed ≡ false → IsStripeWriterOf s w → SameButGathered w new → length w.table.rows < most_fragments → length new.gathered.items ≡ s.geometry.fragment → 0 < new.table.room
     → IsReady s new
 is_ready s w new writing unsealed own same few size room =
     let o = open_put (put_of s w.put) writing in
-    let here : IsAtHand s.geometry o.0 w = own o.0 o.1 o.2 in
+    let here : IsAtHandInStripe s.geometry o.0 w = own o.0 o.1 o.2 in
     record {
       row = o.0;
       found = ap (put_of s) same.put ∙ o.1;
@@ -110,15 +111,15 @@ is_ready s w new writing unsealed own same few size room =
 pub taken_length : (xs : List ℕ) (n : ℕ) → n ≤ length xs → length (take n xs) ≡ n
 taken_length xs n h = let cut : length (take n xs) ≡ min n (length xs) = length-take n xs in omega (arith, cut)
 
-pub gathered_length : (w : Writer) (bytes : List ℕ) (n : ℕ) → n ≤ length bytes → length (gathered_with w bytes n) ≡ length w.gathered.items + n
+pub gathered_length : (w : Writer) (bytes : List ℕ) (n : ℕ) → n ≤ length bytes → length (gathered_behind w bytes n) ≡ length w.gathered.items + n
 gathered_length w bytes n h =
-    let both : length (gathered_with w bytes n) ≡ length w.gathered.items + length (take n bytes) = length-append w.gathered.items (take n bytes) in
+    let both : length (gathered_behind w bytes n) ≡ length w.gathered.items + length (take n bytes) = length-append w.gathered.items (take n bytes) in
     both ∙ ap (λ k. length w.gathered.items + k) (taken_length bytes n h)
 
-pub cut_now : (g : Geometry) (w : Writer) (n : ℕ) → length w.gathered.items + n ≡ g.fragment → is_cut g w n ≡ true
+pub cut_now : (g : Geometry) (w : Writer) (n : ℕ) → length w.gathered.items + n ≡ g.fragment → completes_fragment g w n ≡ true
 cut_now g w n h = eq-eqb (length w.gathered.items + n) g.fragment h
 
-pub not_cut : (g : Geometry) (w : Writer) (n : ℕ) → length w.gathered.items + n < g.fragment → is_cut g w n ≡ false
+pub not_cut : (g : Geometry) (w : Writer) (n : ℕ) → length w.gathered.items + n < g.fragment → completes_fragment g w n ≡ false
 not_cut g w n h = by (length w.gathered.items + n == g.fragment) refl
   where
     by : (b : Bool) → (length w.gathered.items + n == g.fragment) ≡ b → b ≡ false
@@ -137,8 +138,8 @@ same_cuts {packed} now old new before after w w' r same h =
     (subst (λ i. CutsAsAsked packed now old new before after i w'.pin (next_start w') w'.gathered.items r) id h))
 
 -- what was asked of the writer that has gathered was asked of the one that took the bytes
-asked_does : {packed : Bool} (now : ℕ) (kept kept1 new : Kept) (before before1 : List Call) (after : Device) (w w' : Writer) (bytes : List ℕ) (n : ℕ) (r : Result Placed Stop) → kept1 ≡ kept → before1 ≡ before → SameButGathered w w' → w'.gathered.items ≡ gathered_with w bytes n
-    → CutsAsAsked packed now kept1 new before1 after (next_id w') w'.pin (next_start w') w'.gathered.items r → CutsAsAsked packed now kept new before after (next_id w) w.pin (next_start w) (gathered_with w bytes n) r
+asked_does : {packed : Bool} (now : ℕ) (kept kept1 new : Kept) (before before1 : List Call) (after : Device) (w w' : Writer) (bytes : List ℕ) (n : ℕ) (r : Result Placed Stop) → kept1 ≡ kept → before1 ≡ before → SameButGathered w w' → w'.gathered.items ≡ gathered_behind w bytes n
+    → CutsAsAsked packed now kept1 new before1 after (next_id w') w'.pin (next_start w') w'.gathered.items r → CutsAsAsked packed now kept new before after (next_id w) w.pin (next_start w) (gathered_behind w bytes n) r
 asked_does {packed} now kept kept1 new before before1 after w w' bytes n r e f same g h =
     subst (λ q. CutsAsAsked packed now kept new before after (next_id w) w.pin (next_start w) q r) g
     (subst (λ m. CutsAsAsked packed now kept new m after (next_id w) w.pin (next_start w) w'.gathered.items r) f
@@ -159,12 +160,12 @@ writes_wanting {packed} now old new before after w bytes e result is same =
     subst (WritesAsAsked packed now old new before after w bytes) (sym is) (writes_none now old new before after w bytes (Err (refusal.Memory e)) same refl)
 
 -- bytes that fill no fragment
-pub writes_few : {packed : Bool} (now : ℕ) (old new : Kept) (before : List Call) (after : Device) (w : Writer) (bytes : List ℕ) (n : ℕ) → new ≡ old → is_cut (state_of old).geometry w n ≡ false → WritesAsAsked packed now old new before after w bytes (Ok n)
+pub writes_few : {packed : Bool} (now : ℕ) (old new : Kept) (before : List Call) (after : Device) (w : Writer) (bytes : List ℕ) (n : ℕ) → new ≡ old → completes_fragment (state_of old).geometry w n ≡ false → WritesAsAsked packed now old new before after w bytes (Ok n)
 writes_few {packed} now old new before after w bytes n same few =
     let none : List Rec = [] in
     let nothing : none ≡ none = refl in
     writes_none now old new before after w bytes (Ok n) same
-    (subst (λ b. MatchBool b ((placed : Placed) × CutsNext packed now (state_of old) before after w (gathered_with w bytes n) none (Ok placed)) (none ≡ none)) (sym few) nothing)
+    (subst (λ b. MatchBool b ((placed : Placed) × CutsNextAsAsked packed now (state_of old) before after w (gathered_behind w bytes n) none (Ok placed)) (none ≡ none)) (sym few) nothing)
 
 -- the put is given up that would have too many fragments
 pub writes_over : {packed : Bool} (now : ℕ) (old new : Kept) (before : List Call) (after : Device) (w : Writer) (bytes : List ℕ) (result : Result ℕ Refusal) → IsOverflow result → new ≡ with_records old (overflow_adds w result) → OverflowsAsAsked (state_of old) w
@@ -182,44 +183,45 @@ writes_over now old new before after w bytes (Err refusal.NoSuchWriter) over add
 
 -- a fragment that was cut
 pub writes_cut : {packed : Bool} (now : ℕ) (old old1 new : Kept) (before before1 : List Call) (after : Device) (w w' : Writer) (bytes : List ℕ) (n : ℕ) (placed : Placed) → old1 ≡ old → before1 ≡ before → SameButGathered w w'
-    → w'.gathered.items ≡ gathered_with w bytes n → is_cut (state_of old).geometry w n ≡ true → CutsAsAsked packed now old1 new before1 after (next_id w') w'.pin (next_start w') w'.gathered.items (Ok placed)
+    → w'.gathered.items ≡ gathered_behind w bytes n → completes_fragment (state_of old).geometry w n ≡ true → CutsAsAsked packed now old1 new before1 after (next_id w') w'.pin (next_start w') w'.gathered.items (Ok placed)
     → WritesAsAsked packed now old new before after w bytes (Ok n)
 writes_cut {packed} now old old1 new before before1 after w w' bytes n placed e f same g cut h =
     let s : State = state_of old in
-    let payload : List ℕ = gathered_with w bytes n in
+    let payload : List ℕ = gathered_behind w bytes n in
     let mine : CutsAsAsked packed now old new before after (next_id w) w.pin (next_start w) payload (Ok placed) = asked_does now old old1 new before before1 after w w' bytes n (Ok placed) e f same g h in
-    let next : CutsNext packed now s before after w payload mine.added (Ok placed) = record { shape = mine.shape; does = mine.does } in
+    let next : CutsNextAsAsked packed now s before after w payload mine.added (Ok placed) =
+    record { shape = mine.shape; does = mine.does } in
     record {
       added = mine.added;
       adds = mine.adds;
       own = cut_is_own s (next_id w) w.pin (next_start w) payload mine.added placed (next_no_vector w) mine.shape;
       unharmed = mine.unharmed;
-      does = subst (λ b. MatchBool b ((x : Placed) × CutsNext packed now s before after w payload mine.added (Ok x)) (mine.added ≡ [])) (sym cut) (placed, next);
+      does = subst (λ b. MatchBool b ((x : Placed) × CutsNextAsAsked packed now s before after w payload mine.added (Ok x)) (mine.added ≡ [])) (sym cut) (placed, next);
     }
 
 -- a fragment that could not be cut
 stopped_own : {packed : Bool} (now : ℕ) (old new : Kept) (before : List Call) (after : Device) (w : Writer) (payload : List ℕ) (why : Stop) → (h : CutsAsAsked packed now old new before after (next_id w) w.pin (next_start w) payload (Err why))
-    → AllByRecursion (IsOfPut w.put) h.added
+    → AllByRecursion (IsRecordOfPut w.put) h.added
 stopped_own now old new before after w payload why h = flush_is_own w.put h.added h.shape.kinds
 
 pub writes_refused : {packed : Bool} (now : ℕ) (old old1 new : Kept) (before before1 : List Call) (after : Device) (w w' : Writer) (bytes : List ℕ) (why : Refusal) → old1 ≡ old → before1 ≡ before → SameButGathered w w'
-    → w'.gathered.items ≡ next_payload (state_of old) w bytes
-    → Answers {X = Placed} (Err why) (CutsAsAsked packed now old1 new before1 after (next_id w') w'.pin (next_start w') w'.gathered.items) (new ≡ old1) → WritesAsAsked packed now old new before after w bytes (Err why)
+    → w'.gathered.items ≡ payload_cut_next (state_of old) w bytes
+    → AnswersOrWants {X = Placed} (Err why) (CutsAsAsked packed now old1 new before1 after (next_id w') w'.pin (next_start w') w'.gathered.items) (new ≡ old1) → WritesAsAsked packed now old new before after w bytes (Err why)
 writes_refused now old old1 new before before1 after w w' bytes (refusal.DeviceFault count) e f same g h =
-    let mine = asked_does now old old1 new before before1 after w w' bytes (taken_of (state_of old).geometry w bytes) (Err (stop.DeviceFault count)) e f same g h in
+    let mine = asked_does now old old1 new before before1 after w w' bytes (taken_up_to_cut (state_of old).geometry w bytes) (Err (stop.DeviceFault count)) e f same g h in
     record {
       added = mine.added;
       adds = mine.adds;
-      own = stopped_own now old new before after w (next_payload (state_of old) w bytes) (stop.DeviceFault count) mine;
+      own = stopped_own now old new before after w (payload_cut_next (state_of old) w bytes) (stop.DeviceFault count) mine;
       unharmed = mine.unharmed;
       does = record { shape = mine.shape; does = mine.does };
     }
 writes_refused now old old1 new before before1 after w w' bytes (refusal.Exhausted number) e f same g h =
-    let mine = asked_does now old old1 new before before1 after w w' bytes (taken_of (state_of old).geometry w bytes) (Err (stop.Exhausted number)) e f same g h in
+    let mine = asked_does now old old1 new before before1 after w w' bytes (taken_up_to_cut (state_of old).geometry w bytes) (Err (stop.Exhausted number)) e f same g h in
     record {
       added = mine.added;
       adds = mine.adds;
-      own = stopped_own now old new before after w (next_payload (state_of old) w bytes) (stop.Exhausted number) mine;
+      own = stopped_own now old new before after w (payload_cut_next (state_of old) w bytes) (stop.Exhausted number) mine;
       unharmed = mine.unharmed;
       does = record { shape = mine.shape; does = mine.does };
     }
@@ -227,7 +229,7 @@ writes_refused now old old1 new before before1 after w w' bytes (refusal.Memory 
 writes_refused now old old1 new before before1 after w w' bytes _ e f same g h = absurd h
 
 -- a cut is refused where the fragment has gathered
-pub refused_where : (s : State) (w : Writer) (bytes : List ℕ) (why : Refusal) (P : Result Placed Stop → Type 0) (Wanting : Type 0) → Answers {X = Placed} (Err why) P Wanting → IsCutting s w bytes → WritesWhere s w bytes (Err why)
+pub refused_where : (s : State) (w : Writer) (bytes : List ℕ) (why : Refusal) (P : Result Placed Stop → Type 0) (Wanting : Type 0) → AnswersOrWants {X = Placed} (Err why) P Wanting → IsCuttingInStripe s w bytes → WritesWhere s w bytes (Err why)
 refused_where s w bytes (refusal.DeviceFault count) P Wanting h cutting = cutting
 refused_where s w bytes (refusal.Exhausted number) P Wanting h cutting = cutting
 refused_where s w bytes (refusal.Memory e) P Wanting h cutting = cutting.taking
@@ -247,7 +249,7 @@ flush_behind : (kept new : Kept) (recs : List Rec) → new ≡ with_records kept
 flush_behind kept new recs is kinds = subst (LeavesActors (state_of kept)) (sym (state_behind kept new recs is)) (flush_leaves (state_of kept) recs kinds)
 
 pub failed_leaves : (packed : Bool) (now : ℕ) (kept new : Kept) (before : List Call) (after : Device) (id : PieceId) (pin start : ℕ) (payload : List ℕ) (why : Refusal)
-    → Answers {X = Placed} (Err why) (CutsAsAsked packed now kept new before after id pin start payload) (new ≡ kept) → LeavesActors (state_of kept) (state_of new)
+    → AnswersOrWants {X = Placed} (Err why) (CutsAsAsked packed now kept new before after id pin start payload) (new ≡ kept) → LeavesActors (state_of kept) (state_of new)
 failed_leaves packed now kept new before after id pin start payload (refusal.DeviceFault count) h = flush_behind kept new h.added h.adds h.shape.kinds
 failed_leaves packed now kept new before after id pin start payload (refusal.Exhausted number) h = flush_behind kept new h.added h.adds h.shape.kinds
 failed_leaves packed now kept new before after id pin start payload (refusal.Memory e) h = subst (λ k. LeavesActors (state_of kept) (state_of k)) (sym h) (leaves_all (state_of kept))
@@ -257,17 +259,18 @@ failed_leaves packed now kept new before after id pin start payload _ h = absurd
 pub room_leaves : (now : ℕ) (old new : Kept) (before : List Call) (after : Device) (bytes : ℕ) (result : Result (Unit {0}) Stop) → RoomsAsAsked now old new before after bytes result → LeavesActors (state_of old) (state_of new)
 room_leaves now old new before after bytes result h = flush_behind old new h.added h.adds h.kinds
 
-pub still_writer : (s t : State) (w : Writer) → SamePuts s t → IsWriterOf s w → IsWriterOf t w
+pub still_writer : (s t : State) (w : Writer) → SamePuts s t → IsStripeWriterOf s w → IsStripeWriterOf t w
 still_writer s t w same own = λ row found o.
-    subst (λ g. IsAtHand g row w) (sym same.geometry) (own row (ap (find (λ (p : PutRow). p.put == w.put)) (sym same.puts) ∙ found) o)
+    subst (λ g. IsAtHandInStripe g row w) (sym same.geometry)
+    (own row (ap (find (λ (p : PutRow). p.put == w.put)) (sym same.puts) ∙ found) o)
 
-pub left_writer : (s t : State) (w : Writer) → LeavesActors s t → IsWriterOf s w → IsWriterOf t w
+pub left_writer : (s t : State) (w : Writer) → LeavesActors s t → IsStripeWriterOf s w → IsStripeWriterOf t w
 left_writer s t w leaves own = still_writer s t w (puts_left s t leaves) own
 
 -- what was gathered is taken back
-pub taken_back : (w : Writer) (bytes : List ℕ) (n before : ℕ) → before ≡ length w.gathered.items → take before (gathered_with w bytes n) ≡ w.gathered.items
+pub taken_back : (w : Writer) (bytes : List ℕ) (n before : ℕ) → before ≡ length w.gathered.items → take before (gathered_behind w bytes n) ≡ w.gathered.items
 taken_back w bytes n before is =
-    ap (λ k. take k (gathered_with w bytes n)) is
+    ap (λ k. take k (gathered_behind w bytes n)) is
     ∙ (take-append-le (length w.gathered.items) w.gathered.items (take n bytes) (omega arith) ∙ take_all (length w.gathered.items) w.gathered.items (omega arith))
 
 pub back : (w w' new : Writer) → SameButGathered w w' → SameButGathered w' new → new.gathered.items ≡ w.gathered.items → SameWriter w new
@@ -284,15 +287,15 @@ back w w' new a b g = record {
 
 -- ---- no bytes
 
-pub none_taken : (s : State) (w : Writer) → is_writing s w.put ≡ true → IsWriterOf s w → is_cut s.geometry w 0 ≡ false
+pub none_taken : (s : State) (w : Writer) → is_writing s w.put ≡ true → IsStripeWriterOf s w → completes_fragment s.geometry w 0 ≡ false
 none_taken s w writing own = let few : length w.gathered.items < s.geometry.fragment = few_gathered s w writing own in not_cut s.geometry w 0 (omega (arith, few))
 
-pub left_none : (s : State) (w : Writer) (bytes : List ℕ) → is_writing s w.put ≡ true → IsWriterOf s w → w.gathered.items ≡ left_of s.geometry w bytes 0
+pub left_none : (s : State) (w : Writer) (bytes : List ℕ) → is_writing s w.put ≡ true → IsStripeWriterOf s w → w.gathered.items ≡ left_gathered s.geometry w bytes 0
 left_none s w bytes writing own =
-    let none : is_cut s.geometry w 0 ≡ false = none_taken s w writing own in
-    sym (ap (λ b. if b then [] else gathered_with w bytes 0) none ∙ append-nil w.gathered.items)
+    let none : completes_fragment s.geometry w 0 ≡ false = none_taken s w writing own in
+    sym (ap (λ b. if b then [] else gathered_behind w bytes 0) none ∙ append-nil w.gathered.items)
 
 -- ---- behind a cut
 
-pub left_cut : (g : Geometry) (w : Writer) (bytes : List ℕ) (n : ℕ) → is_cut g w n ≡ true → left_of g w bytes n ≡ []
-left_cut g w bytes n cut = ap (λ b. if b then [] else gathered_with w bytes n) cut
+pub left_cut : (g : Geometry) (w : Writer) (bytes : List ℕ) (n : ℕ) → completes_fragment g w n ≡ true → left_gathered g w bytes n ≡ []
+left_cut g w bytes n cut = ap (λ b. if b then [] else gathered_behind w bytes n) cut

@@ -7,7 +7,7 @@ use Rattle.tape_base.specs.Blocks.{blocks_of}
 use Rattle.tape_base.specs.Piece.{is_vector, same_piece}
 use Rattle.tape_base.proofs.NameLaws.{same_piece-true}
 use Rattle.device_log.specs.Calls.{Call}
-use Rattle.logged_disk.specs.Device.{State as Device}
+use Rattle.logged_disk.specs.Device.{DeviceState as Device}
 use Rattle.doc_header.specs.Document.{digest_of_document}
 use Rattle.alternate_vector.specs.Alternates.{Stored}
 use Rattle.cache_model.specs.declared.record.Rec.{Rec}
@@ -16,12 +16,12 @@ use Rattle.cache_model.specs.Kept.{Kept, state_of}
 use Rattle.cache_model.specs.Room.{doc_at, placed_record}
 use Rattle.cache_model.specs.Verdict.{live_vector_of, vector_of_last}
 use Rattle.stripe_pieces.specs.Displaced.{AreOfDisplacement}
-use Rattle.stripe_pieces.specs.Flush.{AreOfFlush, IsSamePiece, LiveBefore}
+use Rattle.stripe_pieces.specs.Flush.{AreOfFlush, EachWasLive, IsStillPiece}
 use Rattle.stripe_pieces.proofs.Displacing.{displaced_puts}
 use Rattle.stripe_vectors.specs.Spelled.{IsSpelled}
 use Rattle.stripe_write.specs.declared.weighing.Vectors.{Vectors}
 use Rattle.stripe_write.specs.declared.writer.Writer.{Writer}
-use Rattle.stripe_write.specs.Closing.{IsReadFor, alternate_at_close}
+use Rattle.stripe_write.specs.Closing.{IsReadFor, closing_alternate}
 use Rattle.stripe_write.specs.Resting.{IsRestAs, RestsAsAsked}
 use Rattle.stripe_write.specs.Writes.{next_id, next_start}
 use Rattle.stripe_write.proofs.Spending.{state_behind}
@@ -57,7 +57,7 @@ pub record KeepsVectors (s t : State) : Type 0 where
   pub vectors : (key : Key) (row : Row) → live_vector_of t key ≡ Some row → WasLive s key row
   pub displaced : s.displaced ≡ [] → t.displaced ≡ []
 
-itself : (row : Row) → IsSamePiece row row
+itself : (row : Row) → IsStillPiece row row
 itself row = record { id = refl; blocks = refl; payload = refl; pin = refl; alternates = refl }
 
 pub keeps_self : (s : State) → KeepsVectors s s
@@ -82,7 +82,7 @@ keeps_then : (s t u : State) → KeepsVectors s t → KeepsVectors t u → Keeps
 keeps_then s t u a b = record { geometry = b.geometry ∙ a.geometry; vectors = λ key row h. was_then s t key row a (b.vectors key row h); displaced = λ h. b.displaced (a.displaced h) }
 
 -- behind the records of a flush
-pub keeps_flush : (s : State) (recs : List Rec) → AreOfFlush recs → LiveBefore s (after_all s recs) → KeepsVectors s (after_all s recs)
+pub keeps_flush : (s : State) (recs : List Rec) → AreOfFlush recs → EachWasLive s (after_all s recs) → KeepsVectors s (after_all s recs)
 keeps_flush s recs kinds live =
     let leaves : LeavesActors s (after_all s recs) = flush_leaves s recs kinds in
     record {
@@ -166,7 +166,7 @@ read_kept s t w new v keeps same read = λ row live.
       m.0,
       m.1,
       subst (λ (a : Stored). IsSpelled t.geometry (alternates_of t new.key) a m.0) (sym same.alternate)
-          (subst (λ list. IsSpelled t.geometry list (alternate_at_close w) m.0) lists (subst (λ g. IsSpelled g (alternates_of s w.key) (alternate_at_close w) m.0) (sym keeps.geometry) m.2)),
+          (subst (λ list. IsSpelled t.geometry list (closing_alternate w) m.0) lists (subst (λ g. IsSpelled g (alternates_of s w.key) (closing_alternate w) m.0) (sym keeps.geometry) m.2)),
     )
 
 -- also of the writer itself

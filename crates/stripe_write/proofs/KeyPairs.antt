@@ -1,7 +1,7 @@
 -- Of which documents a pair of a key's vector may be.
 use Rattle.std.proofs.Common.{ℕ, List}
 use Rattle.tape_base.specs.declared.keys.Key.{Key}
-use Rattle.logged_disk.specs.Device.{IsAfter, State as Device}
+use Rattle.logged_disk.specs.Device.{DeviceState as Device, IsAfter}
 use Rattle.logged_disk.proofs.GoingOn.{told_before}
 use Rattle.cache_model.specs.State.{Row, State}
 use Rattle.cache_model.specs.Permit.{Permit}

@@ -3,7 +3,7 @@ use Rattle.std.proofs.Common.{◌≡◌, ℕ, ◌<◌, List, [], ◌∷◌, leng
 use Rattle.std.specs.Prelude.{option_map, unwrap_or, Result}
 use Rattle.std.specs.List.{AllByRecursion}
 use Rattle.device_log.specs.Calls.{Call}
-use Rattle.logged_disk.specs.Device.{State as Device}
+use Rattle.logged_disk.specs.Device.{DeviceState as Device}
 use Rattle.fragment_table.specs.Table.{total_length}
 use Rattle.cache_model.specs.declared.record.Rec.{Rec}
 use Rattle.cache_model.specs.State.{State, put_of}
@@ -16,15 +16,15 @@ use Rattle.stripe_core.specs.declared.refusal.Refusal.{Refusal}
 use Rattle.stripe_core.specs.declared.refusal.Refusal.TheVariants as refusal
 use Rattle.stripe_pieces.specs.declared.answer.Stop.{Stop}
 use Rattle.stripe_pieces.specs.declared.answer.Stop.TheVariants as stop
-use Rattle.stripe_pieces.specs.Covers.{Spends}
+use Rattle.stripe_pieces.specs.Covers.{SpendsFirst}
 use Rattle.stripe_pieces.specs.Flush.{AreOfFlush}
 use Rattle.stripe_pieces.specs.Place.{CutsAsAsked, IsCutAs, IsStoppedAs}
-use Rattle.stripe_core.specs.Stripe.{Answers, HasMemory}
+use Rattle.stripe_core.specs.Stripe.{AnswersOrWants, HasMemory}
 use Rattle.stripe_write.specs.declared.writer.Writer.{Writer}
-use Rattle.stripe_write.specs.Closing.{SpendsAll, rest_intents}
+use Rattle.stripe_write.specs.Closing.{SpendsAll, asked_of_rest}
 use Rattle.stripe_write.specs.Resting.{IsRestAs, RestsAsAsked}
-use Rattle.stripe_write.specs.Others.{AddsOfPut, IsOfPut}
-use Rattle.stripe_write.specs.Writers.{IsAllCut, IsAtHand, IsWriterOf}
+use Rattle.stripe_write.specs.Others.{AddsOfPut, IsRecordOfPut}
+use Rattle.stripe_write.specs.Writers.{IsAllCutInStripe, IsAtHandInStripe, IsStripeWriterOf}
 use Rattle.stripe_write.specs.Writes.{IsReady, cuts_fragment, next_id, next_start}
 use Rattle.stripe_write.proofs.Flushed.{flush_is_own, flush_leaves}
 use Rattle.stripe_write.proofs.Spending.{nothing_more, state_behind}
@@ -36,7 +36,8 @@ none_shape : (packed : Bool) (s : State) (faults : ℕ) (w : Writer) (payload : 
 none_shape packed s faults w [] u e = refl
 none_shape packed s faults w (byte ∷ bytes) u e = absurd (omega (arith, e))
 
-none_spends : (p : Permit) (s : State) (w : Writer) (payload : List ℕ) → length payload ≡ 0 → SpendsAll p s (rest_intents w payload) [] Done
+none_spends : (p : Permit) (s : State) (w : Writer) (payload : List ℕ) → length payload ≡ 0
+    → SpendsAll p s (asked_of_rest w payload) [] Done
 none_spends p s w [] e = λ rest why. MayGrow.nothing
 none_spends p s w (byte ∷ bytes) e = absurd (omega (arith, e))
 
@@ -54,7 +55,7 @@ cut_shape : (packed : Bool) (s : State) (faults : ℕ) (w : Writer) (payload : L
 cut_shape packed s faults w [] added placed u some c = absurd (omega (arith, some))
 cut_shape packed s faults w (byte ∷ bytes) added placed u some c = (placed, c)
 
-cut_spends : (p : Permit) (s : State) (w : Writer) (payload : List ℕ) (added : List Rec) → 0 < length payload → Spends p s (cuts_fragment w payload) added Done → SpendsAll p s (rest_intents w payload) added Done
+cut_spends : (p : Permit) (s : State) (w : Writer) (payload : List ℕ) (added : List Rec) → 0 < length payload → SpendsFirst p s (cuts_fragment w payload) added Done → SpendsAll p s (asked_of_rest w payload) added Done
 cut_spends p s w [] added some h = absurd (omega (arith, some))
 cut_spends p s w (byte ∷ bytes) added some h = h
 
@@ -72,14 +73,14 @@ stop_shape : (packed : Bool) (s : State) (faults : ℕ) (w : Writer) (payload : 
 stop_shape packed s faults w [] added why some h = absurd (omega (arith, some))
 stop_shape packed s faults w (byte ∷ bytes) added why some h = h
 
-stop_spends : (p : Permit) (s : State) (w : Writer) (payload : List ℕ) (added : List Rec) (reason : Reason) → 0 < length payload → Spends p s (cuts_fragment w payload) added (Fails reason) → SpendsAll p s (rest_intents w payload) added (Fails reason)
+stop_spends : (p : Permit) (s : State) (w : Writer) (payload : List ℕ) (added : List Rec) (reason : Reason) → 0 < length payload → SpendsFirst p s (cuts_fragment w payload) added (Fails reason) → SpendsAll p s (asked_of_rest w payload) added (Fails reason)
 stop_spends p s w [] added reason some h = absurd (omega (arith, some))
 stop_spends p s w (byte ∷ bytes) added reason some h = h
 
 -- where the rest is refused, and memory is not wanting, what was asked of it fails
 pub rest_refused : (packed : Bool) (now : ℕ) (old new : Kept) (before : List Call) (after : Device) (w : Writer) (why : Refusal) → 0 < length w.gathered.items → HasMemory {X = Placed} (Err why)
-    → Answers {X = Placed} (Err why) (CutsAsAsked packed now old new before after (next_id w) w.pin (next_start w) w.gathered.items) (new ≡ old)
-    → Answers {X = Unit {0}} (Err why) (RestsAsAsked packed now old new before after w) ⊥
+    → AnswersOrWants {X = Placed} (Err why) (CutsAsAsked packed now old new before after (next_id w) w.pin (next_start w) w.gathered.items) (new ≡ old)
+    → AnswersOrWants {X = Unit {0}} (Err why) (RestsAsAsked packed now old new before after w) ⊥
 rest_refused packed now old new before after w (refusal.DeviceFault count) some memory h = record {
   added = h.added;
   adds = h.adds;
@@ -107,22 +108,22 @@ rest_puts {packed} now old new before after w why h =
     ap (λ (x : State). x.puts) (state_behind old new h.added h.adds) ∙ (flush_leaves (state_of old) h.added (stopped_kinds packed (state_of old) after.faults w w.gathered.items h.added why h.shape)).puts
 
 -- they are its put's own
-rest_is_own : (packed : Bool) (s : State) (faults : ℕ) (w : Writer) (payload : List ℕ) (added : List Rec) (u : Unit {0}) → IsRestAs packed s faults w payload added (Ok u) → AllByRecursion (IsOfPut w.put) added
-rest_is_own packed s faults w [] added u none = subst (AllByRecursion (IsOfPut w.put)) (sym none) tt
+rest_is_own : (packed : Bool) (s : State) (faults : ℕ) (w : Writer) (payload : List ℕ) (added : List Rec) (u : Unit {0}) → IsRestAs packed s faults w payload added (Ok u) → AllByRecursion (IsRecordOfPut w.put) added
+rest_is_own packed s faults w [] added u none = subst (AllByRecursion (IsRecordOfPut w.put)) (sym none) tt
 rest_is_own packed s faults w (byte ∷ bytes) added u h = cut_is_own s (next_id w) w.pin (next_start w) (byte ∷ bytes) added h.0 (next_no_vector w) h.1
 
 pub rest_own : {packed : Bool} (now : ℕ) (old new : Kept) (before : List Call) (after : Device) (w : Writer) (result : Result (Unit {0}) Stop) → RestsAsAsked packed now old new before after w result → AddsOfPut w.put old new
 rest_own {packed} now old new before after w (Ok u) h = record { added = h.added; adds = h.adds; own = rest_is_own packed (state_of old) after.faults w w.gathered.items h.added u h.shape }
 rest_own {packed} now old new before after w (Err why) h = record { added = h.added; adds = h.adds; own = flush_is_own w.put h.added (stopped_kinds packed (state_of old) after.faults w w.gathered.items h.added why h.shape) }
 
-not_all_cut : (w : Writer) (P : Type 0) → 0 < length w.gathered.items → IsAllCut w ⊎ P → P
+not_all_cut : (w : Writer) (P : Type 0) → 0 < length w.gathered.items → IsAllCutInStripe w ⊎ P → P
 not_all_cut w P some (inl all) = let none : length w.gathered.items ≡ 0 = ap length all.empty in absurd (omega (arith, some, none))
 not_all_cut w P some (inr whole) = whole
 
-pub rest_ready : (s : State) (w : Writer) → is_writing s w.put ≡ true → IsWriterOf s w → w.sealed ≡ true → 0 < length w.gathered.items → 0 < w.table.room → IsReady s w
+pub rest_ready : (s : State) (w : Writer) → is_writing s w.put ≡ true → IsStripeWriterOf s w → w.sealed ≡ true → 0 < length w.gathered.items → 0 < w.table.room → IsReady s w
 rest_ready s w writing own sealed some room =
     let o = open_put (put_of s w.put) writing in
-    let here : IsAtHand s.geometry o.0 w = own o.0 o.1 o.2 in
+    let here : IsAtHandInStripe s.geometry o.0 w = own o.0 o.1 o.2 in
     record {
       row = o.0;
       found = o.1;

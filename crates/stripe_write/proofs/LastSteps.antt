@@ -3,7 +3,7 @@ use Rattle.std.proofs.Common.{◌≡◌, ℕ, ◌+◌, List, [], ◌∷◌, ◌+
 use Rattle.std.specs.Prelude.{◌<◌, ◌==◌, Option, option_map, unwrap_or, find, if◌then◌else◌, IfErr}
 use Rattle.std.proofs.lemmas.List.{append-nil, append_assoc}
 use Rattle.device_log.specs.Calls.{Call}
-use Rattle.logged_disk.specs.Device.{IsAfter, State as Device}
+use Rattle.logged_disk.specs.Device.{DeviceState as Device, IsAfter}
 use Rattle.fragment_table.specs.Table.{TableRow}
 use Rattle.cache_model.specs.declared.record.Rec.{Rec}
 use Rattle.cache_model.specs.State.{PutRow, State, after_all, put_of}
@@ -17,11 +17,11 @@ use Rattle.stripe_core.specs.declared.refusal.Refusal.{Refusal}
 use Rattle.stripe_core.specs.declared.refusal.Refusal.TheVariants as refusal
 use Rattle.stripe_pieces.specs.declared.answer.Stop.{Stop}
 use Rattle.stripe_pieces.specs.declared.answer.Stop.TheVariants as stop
-use Rattle.stripe_pieces.specs.Covers.{Covers, Spends}
+use Rattle.stripe_pieces.specs.Covers.{Covers, SpendsFirst}
 use Rattle.stripe_pieces.specs.Flush.{stop_end}
-use Rattle.stripe_pieces.specs.Place.{ReachesLimit}
+use Rattle.stripe_pieces.specs.Place.{IsExhaustedAt}
 use Rattle.stripe_pieces.specs.Still.{IsStill, IsUnwritten}
-use Rattle.stripe_core.specs.Stripe.{Answers, Wanting}
+use Rattle.stripe_core.specs.Stripe.{AnswersOrWants, Wanting}
 use Rattle.stripe_pieces.proofs.Covering.{covers_first, covers_last}
 use Rattle.stripe_core.proofs.Stills.{still_shows, still_then, unwritten_then}
 use Rattle.cache_model.specs.Pair.{IsKeyPair}
@@ -29,13 +29,13 @@ use Rattle.call_laws.specs.Contents.{Untold}
 use Rattle.stripe_write.specs.declared.finishing.Receipt.{Receipt}
 use Rattle.stripe_write.specs.declared.weighing.Vectors.{Vectors}
 use Rattle.stripe_write.specs.declared.writer.Writer.{Writer}
-use Rattle.stripe_write.specs.Writers.{IsWriterOf}
+use Rattle.stripe_write.specs.Writers.{IsStripeWriterOf}
 use Rattle.stripe_write.specs.Writes.{SameButBytes, SameWriter}
-use Rattle.stripe_write.specs.Closing.{IsReadFor, SpendsAll, Weighs, WeighsAsAsked, WeighsWhere, close_intents, rest_intents, rest_rows, rows_at_close, weigh_end, work_behind}
+use Rattle.stripe_write.specs.Closing.{IsReadFor, SpendsAll, Weighs, WeighsAsAsked, WeighsWhere, asked_of_closing, asked_of_rest, closing_rows, row_of_rest, weigh_end, work_behind}
 use Rattle.stripe_write.specs.Resting.{RestsAsAsked}
 use Rattle.stripe_write.specs.Finishing.{FinishesAsRead, FinishesWhere, finish_end, finish_intents}
-use Rattle.stripe_write.specs.Closes.{Closes, ClosesAsAsked, ClosesWhere, EndsAsAsked, EndsWhere, IsRested, SealsWhere, Spent, UntouchedWhere, bytes_next, close_end, end_intents, is_sealed_by}
-use Rattle.stripe_write.specs.Numbers.{StopsAtLimit}
+use Rattle.stripe_write.specs.Closes.{ClosesAsAsked, ClosesInStripe, ClosesWhere, EndsAsAsked, EndsWhere, IsRested, SealsInStripeWhere, Spent, UntouchedWhere, bytes_placed_next, close_end, end_intents, is_sealed_by}
+use Rattle.stripe_write.specs.Numbers.{StopsExhausted}
 use Rattle.stripe_write.proofs.Ended.{open_put}
 use Rattle.stripe_write.proofs.Keeping.{KeepsVectors, keeps_rest, read_kept}
 use Rattle.stripe_write.proofs.KeyPairs.{key_later}
@@ -51,14 +51,14 @@ spends_append p s is js a b e first second = λ rest why.
     subst (λ (xs : List Intent). MayGrow p s (record { intents = xs; refused = why }) (a ++ b) (work_behind rest why e)) (sym (append_assoc is js rest)) (grows_on (first (js ++ rest) why) (second rest why))
 
 -- a writer that has no rest has all that is there at the end
-whole_rows : (w new : Writer) → SameAtClose w new → new.gathered.items ≡ [] → new.table.rows ≡ rows_at_close w
-whole_rows w new same none = sym (append-nil new.table.rows) ∙ (ap (λ b. new.table.rows ++ rest_rows b) (sym none) ∙ same.rows)
+whole_rows : (w new : Writer) → SameAtClose w new → new.gathered.items ≡ [] → new.table.rows ≡ closing_rows w
+whole_rows w new same none = sym (append-nil new.table.rows) ∙ (ap (λ b. new.table.rows ++ row_of_rest b) (sym none) ∙ same.rows)
 
 -- the put that is finished is the same
-finish_same : (w new : Writer) → SameAtClose w new → new.gathered.items ≡ [] → finish_intents new ≡ Finish w.put (length (rows_at_close w)) ∷ Commit w.put ∷ []
+finish_same : (w new : Writer) → SameAtClose w new → new.gathered.items ≡ [] → finish_intents new ≡ Finish w.put (length (closing_rows w)) ∷ Commit w.put ∷ []
 finish_same w new same none =
-    let rows : new.table.rows ≡ rows_at_close w = whole_rows w new same none in
-    ap (λ (r : List TableRow). Finish new.put (length r) ∷ Commit new.put ∷ []) rows ∙ ap (λ n. Finish n (length (rows_at_close w)) ∷ Commit n ∷ []) same.put
+    let rows : new.table.rows ≡ closing_rows w = whole_rows w new same none in
+    ap (λ (r : List TableRow). Finish new.put (length r) ∷ Commit new.put ∷ []) rows ∙ ap (λ n. Finish n (length (closing_rows w)) ∷ Commit n ∷ []) same.put
 
 end_same : (t : State) (w new : Writer) (result : Result Receipt Refusal) → new.put ≡ w.put → FinishesWhere t new result → finish_end new result ≡ close_end w result
 end_same t w new (Ok receipt) same f = refl
@@ -72,7 +72,7 @@ end_same t w new (Err refusal.Sealed) same f = absurd f
 end_same t w new (Err refusal.NoSuchWriter) same f = absurd f
 end_same t w new (Err (refusal.Memory e)) same f = absurd f
 
-same_rests : (w sealed : Writer) (bytes : List ℕ) → IsSealed w sealed → rest_intents sealed bytes ≡ rest_intents w bytes
+same_rests : (w sealed : Writer) (bytes : List ℕ) → IsSealed w sealed → asked_of_rest sealed bytes ≡ asked_of_rest w bytes
 same_rests w sealed [] is = refl
 same_rests w sealed (byte ∷ bytes) is =
     ap (λ n. Rattle.cache_model.specs.Permit.Fragment n (length sealed.table.rows + 1) (byte ∷ bytes) ∷ []) is.put
@@ -81,7 +81,7 @@ same_rests w sealed (byte ∷ bytes) is =
 -- what was read stays read behind the rest
 pub rest_reads : {packed : Bool} (now : ℕ) (old mid : Kept) (before : List Call) (between : Device)
     (w sealed cut : Writer) (v : Vectors) (u : Unit {0}) → IsSealed w sealed → SameButBytes sealed cut
-    → cut.table.rows ≡ rows_at_close sealed → cut.gathered.items ≡ [] → RestsAsAsked packed now old mid before between sealed (Ok u)
+    → cut.table.rows ≡ closing_rows sealed → cut.gathered.items ≡ [] → RestsAsAsked packed now old mid before between sealed (Ok u)
     → IsReadFor (state_of old) w v → IsReadFor (state_of mid) cut v
 rest_reads now old mid before between w sealed cut v u is same rows none rests read =
     read_kept (state_of old) (state_of mid) w cut v (keeps_rest now old mid before between sealed u rests)
@@ -89,7 +89,7 @@ rest_reads now old mid before between w sealed cut v u is same rows none rests r
 
 -- the rest is cut, and the put is finished
 module _ (packed : Bool) (now : ℕ) (old mid new : Kept) (first between last : Device) (w sealed cut : Writer) (v : Vectors) where
-  pub rest_then_finish : (u : Unit {0}) (result : Result Receipt Refusal) → IsSealed w sealed → SameButBytes sealed cut → cut.table.rows ≡ rows_at_close sealed → cut.gathered.items ≡ []
+  pub rest_then_finish : (u : Unit {0}) (result : Result Receipt Refusal) → IsSealed w sealed → SameButBytes sealed cut → cut.table.rows ≡ closing_rows sealed → cut.gathered.items ≡ []
       → IsAfter first between → IsAfter between last → RestsAsAsked packed now old mid first.past between sealed (Ok u)
       → FinishesWhere (state_of new) cut result → FinishesAsRead packed now between.past last.past mid new cut v result → EndsAsAsked packed now first.past last.past old new w v result
   rest_then_finish u result is same rows none f l rests where_ ends = record {
@@ -101,17 +101,17 @@ module _ (packed : Bool) (now : ℕ) (old mid new : Kept) (first between last : 
         let keeps : KeepsVectors s (state_of mid) = keeps_rest now old mid first.past between sealed u rests in
         let finished = ends.does p packs at (covers_last p first.past between.past last.past f.made f.past covers) (keeps.displaced displaced)
         (rest_reads now old mid first.past between w sealed cut v u is same rows none rests read) in
-        let intents : rest_intents sealed sealed.gathered.items ≡ rest_intents w w.gathered.items = ap (rest_intents sealed) is.gathered ∙ same_rests w sealed w.gathered.items is in
-        let cut_all : SpendsAll p s (rest_intents w w.gathered.items) a Done =
+        let intents : asked_of_rest sealed sealed.gathered.items ≡ asked_of_rest w w.gathered.items = ap (asked_of_rest sealed) is.gathered ∙ same_rests w sealed w.gathered.items is in
+        let cut_all : SpendsAll p s (asked_of_rest w w.gathered.items) a Done =
         subst (λ (is : List Intent). SpendsAll p s is a Done) intents (rests.does p packs at (covers_first p first.past between.past last.past l.made l.past covers)) in
-        let finish_all : SpendsAll p (after_all s a) (Finish w.put (length (rows_at_close w)) ∷ Commit w.put ∷ []) finished.added (close_end w result) =
-        subst (λ e. SpendsAll p (after_all s a) (Finish w.put (length (rows_at_close w)) ∷ Commit w.put ∷ []) finished.added e) (end_same (state_of new) w cut result all.put where_)
+        let finish_all : SpendsAll p (after_all s a) (Finish w.put (length (closing_rows w)) ∷ Commit w.put ∷ []) finished.added (close_end w result) =
+        subst (λ e. SpendsAll p (after_all s a) (Finish w.put (length (closing_rows w)) ∷ Commit w.put ∷ []) finished.added e) (end_same (state_of new) w cut result all.put where_)
         (subst (λ (is : List Intent). SpendsAll p (after_all s a) is finished.added (finish_end cut result)) (finish_same w cut all none)
         (subst (λ t. SpendsAll p t (finish_intents cut) finished.added (finish_end cut result)) there finished.does)) in
         record {
           added = a ++ finished.added;
           adds = then_more old mid new a finished.added rests.adds finished.adds;
-          does = spends_append p s (rest_intents w w.gathered.items) (Finish w.put (length (rows_at_close w)) ∷ Commit w.put ∷ []) a finished.added (close_end w result) cut_all finish_all;
+          does = spends_append p s (asked_of_rest w w.gathered.items) (Finish w.put (length (closing_rows w)) ∷ Commit w.put ∷ []) a finished.added (close_end w result) cut_all finish_all;
           number = finished_stops (state_of new) w cut result all.put (whole_rows w cut all none) finished.number;
         };
   }
@@ -124,31 +124,32 @@ fails_all p s is put n added reason h = λ rest why.
     (h (Finish put n ∷ Commit put ∷ rest) why)
 
 -- what the put has cut is still what the writer has
-still_cut : {packed : Bool} (now : ℕ) (old new : Kept) (before : List Call) (after : Device) (w sealed : Writer) (why : Stop) → is_writing (state_of old) w.put ≡ true → IsWriterOf (state_of old) w
+still_cut : {packed : Bool} (now : ℕ) (old new : Kept) (before : List Call) (after : Device) (w sealed : Writer) (why : Stop) → is_writing (state_of old) w.put ≡ true → IsStripeWriterOf (state_of old) w
     → RestsAsAsked packed now old new before after sealed (Err why) → cuts_of (state_of new) w.put ≡ w.table.rows
 still_cut now old new before after w sealed why writing own rests =
     let o = open_put (put_of (state_of old) w.put) writing in
     let same : put_of (state_of new) w.put ≡ put_of (state_of old) w.put = ap (λ (puts : List PutRow). find (λ (q : PutRow). q.put == w.put) puts) (rest_puts now old new before after sealed why rests) in
     ap (λ (x : Option PutRow). unwrap_or (option_map (λ (q : PutRow). q.cuts) x) []) (same ∙ o.1) ∙ (own o.0 o.1 o.2).cuts_are
 
-rest_stops_at : {packed : Bool} (now : ℕ) (old new : Kept) (before : List Call) (after : Device) (w sealed : Writer) (why : Stop) (number : ℕ) → IsSealed w sealed → is_writing (state_of old) w.put ≡ true → IsWriterOf (state_of old) w → 0 < length sealed.gathered.items
-    → RestsAsAsked packed now old new before after sealed (Err why) → ReachesLimit (state_of new) (length sealed.gathered.items) number → ReachesLimit (state_of new) (bytes_next (state_of new) w) number
+rest_stops_at : {packed : Bool} (now : ℕ) (old new : Kept) (before : List Call) (after : Device) (w sealed : Writer) (why : Stop) (number : ℕ) → IsSealed w sealed → is_writing (state_of old) w.put ≡ true → IsStripeWriterOf (state_of old) w → 0 < length sealed.gathered.items
+    → RestsAsAsked packed now old new before after sealed (Err why) → IsExhaustedAt (state_of new) (length sealed.gathered.items) number → IsExhaustedAt (state_of new) (bytes_placed_next (state_of new) w) number
 rest_stops_at now old new before after w sealed why number is writing own some rests reaches =
     let gathered = ap length is.gathered in
-    rest_stops (state_of new) w number (still_cut now old new before after w sealed why writing own rests) (subst (λ n. 0 < n) gathered some) (subst (λ n. ReachesLimit (state_of new) n number) gathered reaches)
+    rest_stops (state_of new) w number (still_cut now old new before after w sealed why writing own rests) (subst (λ n. 0 < n) gathered some) (subst (λ n. IsExhaustedAt (state_of new) n number) gathered reaches)
 
 -- the rest that was refused is what was asked of the writer before it was sealed
 rest_fails : {packed : Bool} (now : ℕ) (old new : Kept) (before : List Call) (after : Device) (w sealed : Writer) (why : Stop) (reason : Reason) → IsSealed w sealed → (rests : RestsAsAsked packed now old new before after sealed (Err why)) → stop_end why ≡ Fails reason
     → (p : Permit) → p.packed ≡ packed → p.now ≡ now → Covers p before after.past → SpendsAll p (state_of old) (end_intents w) rests.added (Fails reason)
 rest_fails now old new before after w sealed why reason is rests ends p packs at covers =
-    let intents : rest_intents sealed sealed.gathered.items ≡ rest_intents w w.gathered.items = ap (rest_intents sealed) is.gathered ∙ same_rests w sealed w.gathered.items is in
-    fails_all p (state_of old) (rest_intents w w.gathered.items) w.put (length (rows_at_close w)) rests.added reason
+    let intents : asked_of_rest sealed sealed.gathered.items ≡ asked_of_rest w w.gathered.items = ap (asked_of_rest sealed) is.gathered ∙ same_rests w sealed w.gathered.items is in
+    fails_all p (state_of old) (asked_of_rest w w.gathered.items) w.put (length (closing_rows w)) rests.added reason
     (subst (λ (is : List Intent). SpendsAll p (state_of old) is rests.added (Fails reason)) intents
-    (subst (λ e. SpendsAll p (state_of old) (rest_intents sealed sealed.gathered.items) rests.added e) ends (rests.does p packs at covers)))
+    (subst (λ e. SpendsAll p (state_of old) (asked_of_rest sealed sealed.gathered.items) rests.added e) ends
+    (rests.does p packs at covers)))
 
 pub no_rest_ends : {packed : Bool} (now : ℕ) (old new : Kept) (before : List Call) (after : Device) (w sealed : Writer) (v : Vectors) (why : Refusal) → IsSealed w sealed
-    → is_writing (state_of old) w.put ≡ true → IsWriterOf (state_of old) w → 0 < length sealed.gathered.items → StopsAtLimit (state_of new) (length sealed.gathered.items) why
-    → Answers {X = Unit {0}} (Err why) (RestsAsAsked packed now old new before after sealed) ⊥ → EndsAsAsked packed now before after.past old new w v (Err why)
+    → is_writing (state_of old) w.put ≡ true → IsStripeWriterOf (state_of old) w → 0 < length sealed.gathered.items → StopsExhausted (state_of new) (length sealed.gathered.items) why
+    → AnswersOrWants {X = Unit {0}} (Err why) (RestsAsAsked packed now old new before after sealed) ⊥ → EndsAsAsked packed now before after.past old new w v (Err why)
 no_rest_ends now old new before after w sealed v (refusal.DeviceFault count) is writing own some stops rests = record {
   does = λ p packs at covers none read. record {
     added = rests.added;
@@ -170,7 +171,7 @@ no_rest_ends now old new before after w sealed v _ is writing own some stops res
 -- ---- weighing, and then the rest
 
 -- the answers that come once the vector is weighed
-spent_by : (p : Permit) (s t : State) (w : Writer) (result : Result Receipt Refusal) (added : List Rec) → EndsWhere t w result → SpendsAll p s (close_intents w) added (close_end w result) → Spent p s w result added
+spent_by : (p : Permit) (s t : State) (w : Writer) (result : Result Receipt Refusal) (added : List Rec) → EndsWhere t w result → SpendsAll p s (asked_of_closing w) added (close_end w result) → Spent p s w result added
 spent_by p s t w (Ok receipt) added e h = h
 spent_by p s t w (Err (refusal.Lost index why)) added e h = h
 spent_by p s t w (Err (refusal.DeviceFault count)) added e h = h
@@ -206,20 +207,20 @@ weighed_closes now old mid new before between after w v result f l weighs displa
 
 -- ---- weighing that fails
 
-weigh_fails_by : (p : Permit) (s : State) (w : Writer) (bytes : List ℕ) (added : List Rec) (reason : Reason) → Spends p s (Weigh w.put (length w.gathered.items)) added (Fails reason)
-    → SpendsAll p s (Weigh w.put (length w.gathered.items) ∷ (rest_intents w bytes ++ Finish w.put (length (rows_at_close w)) ∷ Commit w.put ∷ [])) added (Fails reason)
-weigh_fails_by p s w [] added reason h = λ rest why. h (Finish w.put (length (rows_at_close w)) ∷ Commit w.put ∷ rest) why
+weigh_fails_by : (p : Permit) (s : State) (w : Writer) (bytes : List ℕ) (added : List Rec) (reason : Reason) → SpendsFirst p s (Weigh w.put (length w.gathered.items)) added (Fails reason)
+    → SpendsAll p s (Weigh w.put (length w.gathered.items) ∷ (asked_of_rest w bytes ++ Finish w.put (length (closing_rows w)) ∷ Commit w.put ∷ [])) added (Fails reason)
+weigh_fails_by p s w [] added reason h = λ rest why. h (Finish w.put (length (closing_rows w)) ∷ Commit w.put ∷ rest) why
 weigh_fails_by p s w (byte ∷ bytes) added reason h = λ rest why.
-    h (Rattle.cache_model.specs.Permit.Fragment w.put (length w.table.rows + 1) (byte ∷ bytes) ∷ Finish w.put (length (rows_at_close w)) ∷ Commit w.put ∷ rest) why
+    h (Rattle.cache_model.specs.Permit.Fragment w.put (length w.table.rows + 1) (byte ∷ bytes) ∷ Finish w.put (length (closing_rows w)) ∷ Commit w.put ∷ rest) why
 
-refused_spent : (p : Permit) (s t : State) (w : Writer) (why : Refusal) (added : List Rec) → WeighsWhere t w (Err why) → Spends p s (Weigh w.put (length w.gathered.items)) added (weigh_end w (Err why)) → Spent p s w (Err why) added
+refused_spent : (p : Permit) (s t : State) (w : Writer) (why : Refusal) (added : List Rec) → WeighsWhere t w (Err why) → SpendsFirst p s (Weigh w.put (length w.gathered.items)) added (weigh_end w (Err why)) → Spent p s w (Err why) added
 refused_spent p s t w (refusal.VectorTooLarge size) added where_ h = weigh_fails_by p s w w.gathered.items added (TooLarge w.put size) h
 refused_spent p s t w (refusal.DeviceFault count) added where_ h = weigh_fails_by p s w w.gathered.items added (Faulted count) h
 refused_spent p s t w (refusal.Memory e) added where_ h = h
 refused_spent p s t w _ added where_ h = absurd where_
 
 -- weighing does not come to the end of the tape
-weighed_stops : (s t : State) (w : Writer) (why : Refusal) → WeighsWhere s w (Err why) → StopsAtLimit t (bytes_next t w) why
+weighed_stops : (s t : State) (w : Writer) (why : Refusal) → WeighsWhere s w (Err why) → StopsExhausted t (bytes_placed_next t w) why
 weighed_stops s t w (refusal.Exhausted number) where_ = absurd where_
 weighed_stops s t w _ where_ = tt
 
@@ -234,7 +235,7 @@ refused_closes now old new before after w why where_ weighs = record {
 
 pub wanting_closes : {packed : Bool} (now : ℕ) (old new : Kept) (before : List Call) (after : Device) (w : Writer) (why : Refusal) (e : Rattle.std.specs.declared.alloc.AllocError.AllocError) → why ≡ refusal.Memory e → new ≡ old → ClosesAsAsked packed now before after old new w (Err why)
 wanting_closes now old new before after w why e is same = record {
-  does = λ p packs at covers told. inl (subst (λ (r : Refusal). Closes p old new w (Err r)) (sym is) (record { added = []; adds = same ∙ sym (nothing_more old); does = λ rest reason. MayGrow.nothing; number = tt }));
+  does = λ p packs at covers told. inl (subst (λ (r : Refusal). ClosesInStripe p old new w (Err r)) (sym is) (record { added = []; adds = same ∙ sym (nothing_more old); does = λ rest reason. MayGrow.nothing; number = tt }));
 }
 
 -- a writer of the same alternate, and the same bytes gathered
@@ -244,16 +245,16 @@ pub record SameCloser (old new : Writer) : Type 0 where
   pub gathered : new.gathered.items ≡ old.gathered.items
   pub rows : new.table.rows ≡ old.table.rows
 
-same_close : (w new : Writer) → SameCloser w new → close_intents new ≡ close_intents w
+same_close : (w new : Writer) → SameCloser w new → asked_of_closing new ≡ asked_of_closing w
 same_close w new same =
-    let rest : (bytes : List ℕ) → rest_intents new bytes ≡ rest_intents w bytes = same_rest_of w new same in
-    let rows : rows_at_close new ≡ rows_at_close w = ap (λ (r : List TableRow). r ++ rest_rows new.gathered.items) same.rows ∙ ap (λ b. w.table.rows ++ rest_rows b) same.gathered in
-    ap (λ n. Weigh n (length new.gathered.items) ∷ (rest_intents new new.gathered.items ++ Finish n (length (rows_at_close new)) ∷ Commit n ∷ [])) same.put
-    ∙ (ap (λ b. Weigh w.put (length b) ∷ (rest_intents new b ++ Finish w.put (length (rows_at_close new)) ∷ Commit w.put ∷ [])) same.gathered
-    ∙ (ap (λ (is : List Intent). Weigh w.put (length w.gathered.items) ∷ (is ++ Finish w.put (length (rows_at_close new)) ∷ Commit w.put ∷ [])) (rest w.gathered.items)
-    ∙ ap (λ (r : List TableRow). Weigh w.put (length w.gathered.items) ∷ (rest_intents w w.gathered.items ++ Finish w.put (length r) ∷ Commit w.put ∷ [])) rows))
+    let rest : (bytes : List ℕ) → asked_of_rest new bytes ≡ asked_of_rest w bytes = same_rest_of w new same in
+    let rows : closing_rows new ≡ closing_rows w = ap (λ (r : List TableRow). r ++ row_of_rest new.gathered.items) same.rows ∙ ap (λ b. w.table.rows ++ row_of_rest b) same.gathered in
+    ap (λ n. Weigh n (length new.gathered.items) ∷ (asked_of_rest new new.gathered.items ++ Finish n (length (closing_rows new)) ∷ Commit n ∷ [])) same.put
+    ∙ (ap (λ b. Weigh w.put (length b) ∷ (asked_of_rest new b ++ Finish w.put (length (closing_rows new)) ∷ Commit w.put ∷ [])) same.gathered
+    ∙ (ap (λ (is : List Intent). Weigh w.put (length w.gathered.items) ∷ (is ++ Finish w.put (length (closing_rows new)) ∷ Commit w.put ∷ [])) (rest w.gathered.items)
+    ∙ ap (λ (r : List TableRow). Weigh w.put (length w.gathered.items) ∷ (asked_of_rest w w.gathered.items ++ Finish w.put (length r) ∷ Commit w.put ∷ [])) rows))
   where
-    same_rest_of : (w new : Writer) → SameCloser w new → (bytes : List ℕ) → rest_intents new bytes ≡ rest_intents w bytes
+    same_rest_of : (w new : Writer) → SameCloser w new → (bytes : List ℕ) → asked_of_rest new bytes ≡ asked_of_rest w bytes
     same_rest_of w new same [] = refl
     same_rest_of w new same (byte ∷ bytes) =
         ap (λ n. Rattle.cache_model.specs.Permit.Fragment n (length new.table.rows + 1) (byte ∷ bytes) ∷ []) same.put
@@ -262,28 +263,28 @@ same_close w new same =
 spent_same : (p : Permit) (s : State) (w new : Writer) (result : Result Receipt Refusal) (added : List Rec) → SameCloser w new → Spent p s new result added → Spent p s w result added
 spent_same p s w new (Ok receipt) added same h = subst (λ (is : List Intent). SpendsAll p s is added Done) (same_close w new same) h
 spent_same p s w new (Err (refusal.VectorTooLarge size)) added same h =
-    subst (λ n. SpendsAll p s (close_intents w) added (Fails (TooLarge n size))) same.put (subst (λ (is : List Intent). SpendsAll p s is added (Fails (TooLarge new.put size))) (same_close w new same) h)
+    subst (λ n. SpendsAll p s (asked_of_closing w) added (Fails (TooLarge n size))) same.put (subst (λ (is : List Intent). SpendsAll p s is added (Fails (TooLarge new.put size))) (same_close w new same) h)
 spent_same p s w new (Err (refusal.Lost index why)) added same h =
-    subst (λ n. SpendsAll p s (close_intents w) added (Fails (Rattle.cache_model.specs.Permit.Lost n index))) same.put
+    subst (λ n. SpendsAll p s (asked_of_closing w) added (Fails (Rattle.cache_model.specs.Permit.Lost n index))) same.put
     (subst (λ (is : List Intent). SpendsAll p s is added (Fails (Rattle.cache_model.specs.Permit.Lost new.put index))) (same_close w new same) h)
 spent_same p s w new (Err (refusal.DeviceFault count)) added same h = subst (λ (is : List Intent). SpendsAll p s is added (Fails (Faulted count))) (same_close w new same) h
 spent_same p s w new (Err (refusal.Exhausted number)) added same h = subst (λ (is : List Intent). SpendsAll p s is added (Fails Exhausted)) (same_close w new same) h
 spent_same p s w new (Err (refusal.Memory e)) added same h =
-    subst (λ b. Spends p s (Weigh w.put (length b)) added Stays) same.gathered (subst (λ n. Spends p s (Weigh n (length new.gathered.items)) added Stays) same.put h)
+    subst (λ b. SpendsFirst p s (Weigh w.put (length b)) added Stays) same.gathered (subst (λ n. SpendsFirst p s (Weigh n (length new.gathered.items)) added Stays) same.put h)
 spent_same p s w new (Err refusal.NoSuchWriter) added same h = h
 spent_same p s w new (Err refusal.TooManyWriters) added same h = subst (λ (is : List Intent). SpendsAll p s is added Stays) (same_close w new same) h
 spent_same p s w new (Err refusal.TooManyFragments) added same h = subst (λ (is : List Intent). SpendsAll p s is added Stays) (same_close w new same) h
 spent_same p s w new (Err refusal.Sealed) added same h = subst (λ (is : List Intent). SpendsAll p s is added Stays) (same_close w new same) h
 
-next_same : (t : State) (w new : Writer) → SameCloser w new → bytes_next t new ≡ bytes_next t w
+next_same : (t : State) (w new : Writer) → SameCloser w new → bytes_placed_next t new ≡ bytes_placed_next t w
 next_same t w new same =
-    let rows : rows_at_close new ≡ rows_at_close w = ap (λ (r : List TableRow). r ++ rest_rows new.gathered.items) same.rows ∙ ap (λ b. w.table.rows ++ rest_rows b) same.gathered in
-    ap (λ n. if length (cuts_of t n) == length (rows_at_close new) then vector_length t n else length new.gathered.items) same.put
+    let rows : closing_rows new ≡ closing_rows w = ap (λ (r : List TableRow). r ++ row_of_rest new.gathered.items) same.rows ∙ ap (λ b. w.table.rows ++ row_of_rest b) same.gathered in
+    ap (λ n. if length (cuts_of t n) == length (closing_rows new) then vector_length t n else length new.gathered.items) same.put
     ∙ (ap (λ (r : List TableRow). if length (cuts_of t w.put) == length r then vector_length t w.put else length new.gathered.items) rows
-    ∙ ap (λ (b : List ℕ). if length (cuts_of t w.put) == length (rows_at_close w) then vector_length t w.put else length b) same.gathered)
+    ∙ ap (λ (b : List ℕ). if length (cuts_of t w.put) == length (closing_rows w) then vector_length t w.put else length b) same.gathered)
 
-stops_same : (t : State) (w new : Writer) (result : Result Receipt Refusal) → SameCloser w new → IfErr result (StopsAtLimit t (bytes_next t new)) → IfErr result (StopsAtLimit t (bytes_next t w))
-stops_same t w new result same h = subst (λ n. IfErr result (StopsAtLimit t n)) (next_same t w new same) h
+stops_same : (t : State) (w new : Writer) (result : Result Receipt Refusal) → SameCloser w new → IfErr result (StopsExhausted t (bytes_placed_next t new)) → IfErr result (StopsExhausted t (bytes_placed_next t w))
+stops_same t w new result same h = subst (λ n. IfErr result (StopsExhausted t n)) (next_same t w new same) h
 
 pub closes_same : {packed : Bool} (now : ℕ) (kept old new : Kept) (first before : List Call) (after : Device) (w used : Writer) (result : Result Receipt Refusal) → old ≡ kept → before ≡ first → SameCloser w used
     → ClosesAsAsked packed now before after old new used result → ClosesAsAsked packed now first after kept new w result
@@ -314,7 +315,7 @@ refused_where s t w _ writing h = absurd h
 abbrev pub sealed_by : Refusal → Writer → Writer
 sealed_by why w = record { put = w.put; key = w.key; request = w.request; response = w.response; pin = w.pin; gathered = w.gathered; table = w.table; sealed = is_sealed_by why w.sealed }
 
-pub refused_seals : (s : State) (w : Writer) (why : Refusal) → WeighsWhere s w (Err why) → SealsWhere w (sealed_by why w) (Err why)
+pub refused_seals : (s : State) (w : Writer) (why : Refusal) → WeighsWhere s w (Err why) → SealsInStripeWhere w (sealed_by why w) (Err why)
 refused_seals s w (refusal.DeviceFault count) h = refl
 refused_seals s w (refusal.Memory e) h = record { put = refl; key = refl; request = refl; response = refl; pin = refl; gathered = refl; rows = refl; sealed = refl }
 refused_seals s w (refusal.VectorTooLarge size) h = record { put = refl; key = refl; request = refl; response = refl; pin = refl; gathered = refl; rows = refl; sealed = refl }
@@ -332,7 +333,7 @@ writers_alike a b c front back = record {
   sealed = back.sealed ∙ front.sealed;
 }
 
-pub seals_same : (w same new : Writer) (result : Result Receipt Refusal) → SameWriter w same → SealsWhere same new result → SealsWhere w new result
+pub seals_same : (w same new : Writer) (result : Result Receipt Refusal) → SameWriter w same → SealsInStripeWhere same new result → SealsInStripeWhere w new result
 seals_same w same new (Err (refusal.Memory e)) is h = writers_alike w same new is h
 seals_same w same new (Err (refusal.VectorTooLarge size)) is h = writers_alike w same new is h
 seals_same w same new (Err refusal.NoSuchWriter) is h = writers_alike w same new is h
@@ -344,14 +345,15 @@ seals_same w same new (Err refusal.TooManyFragments) is h = tt
 seals_same w same new (Err refusal.Sealed) is h = tt
 seals_same w same new (Ok receipt) is h = tt
 
-pub ended_seals : (s : State) (w new : Writer) (result : Result Receipt Refusal) → EndsWhere s w result → new.sealed ≡ true → SealsWhere w new result
+pub ended_seals : (s : State) (w new : Writer) (result : Result Receipt Refusal) → EndsWhere s w result → new.sealed ≡ true → SealsInStripeWhere w new result
 ended_seals s w new (Err (refusal.DeviceFault count)) ends sealed = sealed
 ended_seals s w new (Err (refusal.Exhausted number)) ends sealed = sealed
 ended_seals s w new (Err (refusal.Lost index why)) ends sealed = tt
 ended_seals s w new (Ok receipt) ends sealed = tt
 ended_seals s w new (Err _) ends sealed = absurd ends
 
-pub refused_own : (s t : State) (w : Writer) (why : Refusal) → WeighsWhere t w (Err why) → IsWriterOf s w → IsWriterOf s (sealed_by why w)
+pub refused_own : (s t : State) (w : Writer) (why : Refusal) → WeighsWhere t w (Err why) → IsStripeWriterOf s w
+    → IsStripeWriterOf s (sealed_by why w)
 refused_own s t w (refusal.DeviceFault count) h own =
     sealed_writer s w (sealed_by (refusal.DeviceFault count) w) (record { put = refl; key = refl; request = refl; response = refl; pin = refl; gathered = refl; rows = refl; sealed = refl }) own
 refused_own s t w _ h own = own
@@ -363,7 +365,7 @@ rested_same w same new is (inl keeps) = inl (record { put = keeps.put ∙ is.put
 rested_same w same new is (inr cuts) = inr (record {
   put = cuts.put ∙ is.put;
   empty = cuts.empty;
-  rows = cuts.rows ∙ (ap (λ (rows : List TableRow). rows ++ rest_rows same.gathered.items) is.rows ∙ ap (λ bytes. w.table.rows ++ rest_rows bytes) is.gathered);
+  rows = cuts.rows ∙ (ap (λ (rows : List TableRow). rows ++ row_of_rest same.gathered.items) is.rows ∙ ap (λ bytes. w.table.rows ++ row_of_rest bytes) is.gathered);
 })
 
 -- ---- what stands of the device

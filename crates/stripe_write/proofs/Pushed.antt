@@ -11,21 +11,21 @@ use Rattle.cache_model.specs.State.{Row, State, after_all, last_vector, live_row
 use Rattle.cache_model.specs.Verdict.{live_vector_of, vector_of_last}
 use Rattle.cache_model.proofs.Lists.{row_in-without}
 use Rattle.stripe_pieces.specs.Displaced.{AreOfDisplacement, IsOfDisplacement}
-use Rattle.stripe_pieces.specs.Place.{IsPlacedAs}
+use Rattle.stripe_pieces.specs.Place.{AreOfPlace}
 use Rattle.stripe_pieces.proofs.Displacing.{pushed_kinds}
-use Rattle.stripe_write.specs.Others.{IsOfPut}
+use Rattle.stripe_write.specs.Others.{IsRecordOfPut}
 
 -- all that the entry of a piece displaces is recorded as displaced
-pub pushed_by : {packed : Bool} (s : State) (id : PieceId) (pin start : ℕ) (payload : List ℕ) (added : List Rec) → (a : IsPlacedAs packed s id pin start payload added) → AreOfDisplacement a.displaced
+pub pushed_by : {packed : Bool} (s : State) (id : PieceId) (pin start : ℕ) (payload : List ℕ) (added : List Rec) → (a : AreOfPlace packed s id pin start payload added) → AreOfDisplacement a.displaced
 pushed_by {packed} s id pin start payload added a = pushed_kinds packed s id a.displaced a.pushed
 
 -- ---- they are of any put
 
-one_of_put : (put : ℕ) (r : Rec) → IsOfDisplacement r → IsOfPut put r
+one_of_put : (put : ℕ) (r : Rec) → IsOfDisplacement r → IsRecordOfPut put r
 one_of_put put (rec.Displaced piece segment live) h = tt
 one_of_put put _ h = absurd h
 
-pub pushed_is_own : (put : ℕ) (recs : List Rec) → AreOfDisplacement recs → AllByRecursion (IsOfPut put) recs
+pub pushed_is_own : (put : ℕ) (recs : List Rec) → AreOfDisplacement recs → AllByRecursion (IsRecordOfPut put) recs
 pushed_is_own put [] h = tt
 pushed_is_own put (r ∷ recs) h = (one_of_put put r h.0, pushed_is_own put recs h.1)
 

@@ -6,7 +6,7 @@ use Rattle.tape_base.specs.declared.geometries.Geometry.{Geometry}
 use Rattle.tape_base.specs.Blocks.{blocks_of}
 use Rattle.tape_base.specs.Geometry.{budget_of}
 use Rattle.device_log.specs.Calls.{Call}
-use Rattle.logged_disk.specs.Device.{IsAfter, State as Device}
+use Rattle.logged_disk.specs.Device.{DeviceState as Device, IsAfter}
 use Rattle.cache_model.specs.declared.cause.Cause.{Cause}
 use Rattle.cache_model.specs.declared.record.Rec.{Rec}
 use Rattle.cache_model.specs.declared.record.Rec.TheVariants as rec
@@ -23,9 +23,9 @@ use Rattle.stripe_core.specs.declared.refusal.Refusal.{Refusal}
 use Rattle.stripe_core.specs.declared.refusal.Refusal.TheVariants as refusal
 use Rattle.stripe_pieces.specs.declared.answer.Stop.{Stop}
 use Rattle.stripe_pieces.specs.declared.answer.Stop.TheVariants as stop
-use Rattle.stripe_pieces.specs.Flush.{LiveBefore, StopsWith}
-use Rattle.stripe_pieces.specs.Place.{ReachesLimit, RoomsAsAsked}
-use Rattle.stripe_core.specs.Stripe.{Answers}
+use Rattle.stripe_pieces.specs.Flush.{EachWasLive, StopsWith}
+use Rattle.stripe_pieces.specs.Place.{IsExhaustedAt, RoomsAsAsked}
+use Rattle.stripe_core.specs.Stripe.{AnswersOrWants}
 use Rattle.stripe_pieces.proofs.Covering.{covers_first, covers_last, never_syncs, own_covers, own_permit}
 use Rattle.stripe_write.specs.declared.finishing.Receipt.{Receipt}
 use Rattle.stripe_write.specs.declared.weighing.Vectors.{Vectors}
@@ -88,7 +88,7 @@ pub room_keeps : (now : ℕ) (old new : Kept) (before : List Call) (after : Devi
 room_keeps now old new before after bytes r room =
     let s : State = state_of old in
     let there : state_of new ≡ after_all s room.added = state_behind old new room.added room.adds in
-    subst (KeepsVectors s) (sym there) (keeps_flush s room.added room.kinds (subst (LiveBefore s) there room.live))
+    subst (KeepsVectors s) (sym there) (keeps_flush s room.added room.kinds (subst (EachWasLive s) there room.live))
 
 module _ (packed : Bool) (now : ℕ) (old mid new : Kept) (first between last : Device) (w : Writer) (v : Vectors) (c : IsClosing (state_of old) w) (spelled : AreSpelled (state_of old).geometry w v) where
   abbrev s : State
@@ -133,10 +133,10 @@ module _ (packed : Bool) (now : ℕ) (old new : Kept) (before : List Call) (afte
   limit_at : (number : ℕ) → t.displaced ≡ [] → IsReadFor t w v → has_room t (bytes_now t w v) ≡ false → StopsWith t after.faults (stop.Exhausted number) → VectorStops t w (refusal.Exhausted number)
   limit_at number none read full stops =
       let here = is_current t w v c none spelled read in
-      (cuts_at_hand t w c, subst (λ n. ReachesLimit t n number) here.size (flush_reaches t (bytes_now t w v) after.faults number full stops))
+      (cuts_at_hand t w c, subst (λ n. IsExhaustedAt t n number) here.size (flush_reaches t (bytes_now t w v) after.faults number full stops))
 
-  pub no_room_ends : (why : Refusal) → Answers {X = Unit {0}} (Err why) (RoomsAsAsked now old new before after (bytes_now t w v)) ⊥ → has_room t (bytes_now t w v) ≡ false
-      → Answers {X = Unit {0}} (Err why) (λ r. IfErr r (StopsWith t after.faults)) ⊥ → FinishesAsRead packed now before after.past old new w v (Err why)
+  pub no_room_ends : (why : Refusal) → AnswersOrWants {X = Unit {0}} (Err why) (RoomsAsAsked now old new before after (bytes_now t w v)) ⊥ → has_room t (bytes_now t w v) ≡ false
+      → AnswersOrWants {X = Unit {0}} (Err why) (λ r. IfErr r (StopsWith t after.faults)) ⊥ → FinishesAsRead packed now before after.past old new w v (Err why)
   no_room_ends (refusal.DeviceFault count) room full stops = record {
     does = λ p packs at covers none read. record { added = room.added; adds = room.adds; does = stopped_by p room.added (Faulted count) none read (room.does p at covers); number = tt };
   }

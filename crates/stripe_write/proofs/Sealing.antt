@@ -12,9 +12,9 @@ use Rattle.cache_model.specs.State.{State, put_of}
 use Rattle.stripe_vectors.specs.Spelled.{IsSpelled}
 use Rattle.stripe_write.specs.declared.weighing.Vectors.{Vectors}
 use Rattle.stripe_write.specs.declared.writer.Writer.{Writer}
-use Rattle.stripe_write.specs.Writers.{IsAllCut, IsAtHand, IsWriterOf}
+use Rattle.stripe_write.specs.Writers.{IsAllCutInStripe, IsAtHandInStripe, IsStripeWriterOf}
 use Rattle.stripe_write.specs.Writes.{SameButBytes}
-use Rattle.stripe_write.specs.Closing.{AreSpelled, alternate_at_close, rest_rows, rows_at_close}
+use Rattle.stripe_write.specs.Closing.{AreSpelled, closing_alternate, closing_rows, row_of_rest}
 
 -- ---- a writer that is sealed
 
@@ -28,13 +28,13 @@ pub record IsSealed (old new : Writer) : Type 0 where
   pub rows : new.table.rows ≡ old.table.rows
   pub sealed : new.sealed ≡ true
 
-sealed_cut : (w new : Writer) (P : Type 0) → IsSealed w new → IsAllCut w ⊎ P → IsAllCut new ⊎ P
+sealed_cut : (w new : Writer) (P : Type 0) → IsSealed w new → IsAllCutInStripe w ⊎ P → IsAllCutInStripe new ⊎ P
 sealed_cut w new P same (inl cut) = inl (record { sealed = same.sealed; empty = same.gathered ∙ cut.empty })
 sealed_cut w new P same (inr whole) = inr whole
 
-pub sealed_writer : (s : State) (w new : Writer) → IsSealed w new → IsWriterOf s w → IsWriterOf s new
+pub sealed_writer : (s : State) (w new : Writer) → IsSealed w new → IsStripeWriterOf s w → IsStripeWriterOf s new
 sealed_writer s w new same own = λ row found o.
-    let here : IsAtHand s.geometry row w = own row (ap (put_of s) (sym same.put) ∙ found) o in
+    let here : IsAtHandInStripe s.geometry row w = own row (ap (put_of s) (sym same.put) ∙ found) o in
     record {
       key_is = here.key_is ∙ sym same.key;
       request_is = here.request_is ∙ sym same.request;
@@ -52,27 +52,27 @@ sealed_writer s w new same own = λ row found o.
 pub record SameAtClose (old new : Writer) : Type 0 where
   pub put : new.put ≡ old.put
   pub key : new.key ≡ old.key
-  pub rows : rows_at_close new ≡ rows_at_close old
-  pub alternate : alternate_at_close new ≡ alternate_at_close old
+  pub rows : closing_rows new ≡ closing_rows old
+  pub alternate : closing_alternate new ≡ closing_alternate old
 
 abbrev made : ℕ → ℕ → List Field → List Field → List TableRow → Stored
 made n pin q r rows = record { put = n; pin = pin; length = total_length rows; request = q; response = r; table = rows }
 
-same_alternate : (w new : Writer) → new.put ≡ w.put → new.pin ≡ w.pin → new.request ≡ w.request → new.response ≡ w.response → rows_at_close new ≡ rows_at_close w → alternate_at_close new ≡ alternate_at_close w
+same_alternate : (w new : Writer) → new.put ≡ w.put → new.pin ≡ w.pin → new.request ≡ w.request → new.response ≡ w.response → closing_rows new ≡ closing_rows w → closing_alternate new ≡ closing_alternate w
 same_alternate w new put pin request response rows =
-    ap (λ n. made n new.pin new.request new.response (rows_at_close new)) put
-    ∙ (ap (λ n. made w.put n new.request new.response (rows_at_close new)) pin
-    ∙ (ap (λ q. made w.put w.pin q new.response (rows_at_close new)) request
-    ∙ (ap (λ r. made w.put w.pin w.request r (rows_at_close new)) response ∙ ap (made w.put w.pin w.request w.response) rows)))
+    ap (λ n. made n new.pin new.request new.response (closing_rows new)) put
+    ∙ (ap (λ n. made w.put n new.request new.response (closing_rows new)) pin
+    ∙ (ap (λ q. made w.put w.pin q new.response (closing_rows new)) request
+    ∙ (ap (λ r. made w.put w.pin w.request r (closing_rows new)) response ∙ ap (made w.put w.pin w.request w.response) rows)))
 
 pub sealed_same : (w new : Writer) → IsSealed w new → SameAtClose w new
 sealed_same w new same =
-    let rows : rows_at_close new ≡ rows_at_close w = ap (λ (r : List TableRow). r ++ rest_rows new.gathered.items) same.rows ∙ ap (λ b. w.table.rows ++ rest_rows b) same.gathered in
+    let rows : closing_rows new ≡ closing_rows w = ap (λ (r : List TableRow). r ++ row_of_rest new.gathered.items) same.rows ∙ ap (λ b. w.table.rows ++ row_of_rest b) same.gathered in
     record { put = same.put; key = same.key; rows = rows; alternate = same_alternate w new same.put same.pin same.request same.response rows }
 
-pub cut_same : (w new : Writer) → SameButBytes w new → new.table.rows ≡ rows_at_close w → new.gathered.items ≡ [] → SameAtClose w new
+pub cut_same : (w new : Writer) → SameButBytes w new → new.table.rows ≡ closing_rows w → new.gathered.items ≡ [] → SameAtClose w new
 cut_same w new same rows none =
-    let all : rows_at_close new ≡ rows_at_close w = ap (λ b. new.table.rows ++ rest_rows b) none ∙ (append-nil new.table.rows ∙ rows) in
+    let all : closing_rows new ≡ closing_rows w = ap (λ b. new.table.rows ++ row_of_rest b) none ∙ (append-nil new.table.rows ∙ rows) in
     record { put = same.put; key = same.key; rows = all; alternate = same_alternate w new same.put same.pin same.request same.response all }
 
 pub then_same : (a b c : Writer) → SameAtClose a b → SameAtClose b c → SameAtClose a c

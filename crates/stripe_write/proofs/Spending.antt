@@ -7,19 +7,19 @@ use Rattle.cache_model.specs.Kept.{Kept, state_of, with_records}
 use Rattle.cache_model.specs.Permit.{Done, End, Intent, Permit}
 use Rattle.cache_model.specs.Legal.{Does}
 use Rattle.cache_model.proofs.Steps.{after_all-append, grows_by, grows_on}
-use Rattle.stripe_pieces.specs.Covers.{Spends}
+use Rattle.stripe_pieces.specs.Covers.{SpendsFirst}
 use Rattle.stripe_write.specs.Closing.{SpendsAll}
 
 -- one group of records
-pub one_group : (p : Permit) (s : State) (i : Intent) (added : List Rec) (e : End) → Does p s i added e → Spends p s i added e
+pub one_group : (p : Permit) (s : State) (i : Intent) (added : List Rec) (e : End) → Does p s i added e → SpendsFirst p s i added e
 one_group p s i added e d = λ rest why. grows_by p s (record { intents = i ∷ rest; refused = why }) _ added (e, d, refl)
 
 -- the first is done, and then the others
-pub then_all : (p : Permit) (s : State) (i : Intent) (is : List Intent) (a b : List Rec) (e : End) → Spends p s i a Done → SpendsAll p (after_all s a) is b e → SpendsAll p s (i ∷ is) (a ++ b) e
+pub then_all : (p : Permit) (s : State) (i : Intent) (is : List Intent) (a b : List Rec) (e : End) → SpendsFirst p s i a Done → SpendsAll p (after_all s a) is b e → SpendsAll p s (i ∷ is) (a ++ b) e
 then_all p s i is a b e first others = λ rest why. grows_on (first (is ++ rest) why) (others rest why)
 
 -- the last is done
-pub last_done : (p : Permit) (s : State) (i : Intent) (a : List Rec) → Spends p s i a Done → SpendsAll p s (i ∷ []) a Done
+pub last_done : (p : Permit) (s : State) (i : Intent) (a : List Rec) → SpendsFirst p s i a Done → SpendsAll p s (i ∷ []) a Done
 last_done p s i a h = λ rest why. h rest why
 
 -- ---- records that are kept

@@ -21,7 +21,7 @@ use Rattle.stripe_write.specs.declared.weighing.Vectors.{Vectors}
 use Rattle.stripe_write.specs.declared.writer.Writer.{Writer}
 use Rattle.stripe_write.specs.Closing.{AreSpelled, IsReadFor}
 use Rattle.stripe_write.specs.Finishing.{vector_now}
-use Rattle.stripe_write.specs.Writes.{IsToldNext, next_id, next_start}
+use Rattle.stripe_write.specs.Writes.{IsToldNextInStripe, next_id, next_start}
 use Rattle.stripe_write.proofs.Completing.{IsClosing, is_current, lists_spelled}
 
 -- ---- what a call has to be told
@@ -75,7 +75,7 @@ told_of_next contents s id start payload kind told = record { content = rw kind 
 
 -- of two writers of one put, with the same fragments cut, the same is told
 pub told_same : (contents : Contents) (w other : Writer) (payload : List ℕ) → other.put ≡ w.put → other.key ≡ w.key
-    → other.table.rows ≡ w.table.rows → IsToldNext w payload contents → IsToldNext other payload contents
+    → other.table.rows ≡ w.table.rows → IsToldNextInStripe w payload contents → IsToldNextInStripe other payload contents
 told_same contents w other payload put key rows told =
     let id : next_id other ≡ next_id w =
     ap (λ k. fragment_piece k other.put (length other.table.rows + 1)) key

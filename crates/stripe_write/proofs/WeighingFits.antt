@@ -7,7 +7,7 @@ use Rattle.std.proofs.lemmas.List.{length-append}
 use Rattle.tape_base.specs.declared.geometries.Geometry.{Geometry}
 use Rattle.tape_base.specs.Blocks.{blocks_of}
 use Rattle.tape_base.specs.Geometry.{budget_of}
-use Rattle.logged_disk.specs.Device.{State as Device, TellsAll}
+use Rattle.logged_disk.specs.Device.{DeviceState as Device, TellsAll}
 use Rattle.fragment_table.specs.Table.{TableRow, made_row}
 use Rattle.alternate_vector.specs.Field.{Field}
 use Rattle.alternate_vector.specs.Alternates.{Stored, fields_size, vector_size}
@@ -26,7 +26,7 @@ use Rattle.call_laws.specs.Contents.{Untold}
 use Rattle.call_laws.proofs.Kept.{tells_or_not}
 use Rattle.stripe_core.specs.declared.refusal.Refusal.{Refusal}
 use Rattle.stripe_core.specs.declared.refusal.Refusal.TheVariants as refusal
-use Rattle.stripe_pieces.specs.Covers.{AreSeen, Covers, Spends}
+use Rattle.stripe_pieces.specs.Covers.{AllReadIsSeen, Covers, SpendsFirst}
 use Rattle.stripe_core.specs.Stripe.{Wanting}
 use Rattle.stripe_pieces.proofs.Covering.{own_covers, own_permit}
 use Rattle.stripe_vectors.specs.declared.reading.KeyVector.{KeyVector}
@@ -36,9 +36,9 @@ use Rattle.stripe_vectors.specs.Reading.{FindsVector, ReadIsListed, trouble_reco
 use Rattle.stripe_vectors.specs.Spelled.{IsSpelled}
 use Rattle.stripe_write.specs.declared.weighing.Vectors.{Vectors}
 use Rattle.stripe_write.specs.declared.writer.Writer.{Writer}
-use Rattle.stripe_write.specs.Closing.{AreSpelled, IsReadFor, WeighsAsAsked, WeighsWhere, alternate_at_close, rest_rows, size_at_close, weigh_end}
+use Rattle.stripe_write.specs.Closing.{AreSpelled, IsReadFor, WeighsAsAsked, WeighsWhere, closing_alternate, closing_size, row_of_rest, weigh_end}
 use Rattle.stripe_write.specs.Weighing.{FitsWhere, IsSpelledWith, fault_in, fit_adds, list_in}
-use Rattle.stripe_write.specs.Writers.{IsAtHand, IsWriterOf}
+use Rattle.stripe_write.specs.Writers.{IsAtHandInStripe, IsStripeWriterOf}
 use Rattle.stripe_write.proofs.Ended.{open_put, own_number}
 use Rattle.stripe_write.proofs.KeyPairs.{key_wider}
 use Rattle.stripe_write.proofs.Spending.{nothing_more, state_behind}
@@ -62,21 +62,21 @@ size_cut row rest some =
     ap (λ b. vector_size (alternate_of (if b then row else with_cut (made_row rest []) row) ∷ [])) (not_zero rest some)
     ∙ ap (sized row.request row.response) (length-append row.cuts (made_row rest [] ∷ []))
 
-size_with : (row : PutRow) (rest : List ℕ) → size_alone row (length rest) ≡ sized row.request row.response (length (row.cuts ++ rest_rows rest))
+size_with : (row : PutRow) (rest : List ℕ) → size_alone row (length rest) ≡ sized row.request row.response (length (row.cuts ++ row_of_rest rest))
 size_with row [] = ap (λ (rows : List TableRow). sized row.request row.response (length rows)) (sym (append-nil row.cuts))
-size_with row (byte ∷ bytes) = size_cut row (length (byte ∷ bytes)) (omega arith) ∙ ap (sized row.request row.response) (sym (length-append row.cuts (rest_rows (byte ∷ bytes))))
+size_with row (byte ∷ bytes) = size_cut row (length (byte ∷ bytes)) (omega arith) ∙ ap (sized row.request row.response) (sym (length-append row.cuts (row_of_rest (byte ∷ bytes))))
 
-size_is : (g : Geometry) (row : PutRow) (w : Writer) → IsAtHand g row w → size_alone row (length w.gathered.items) ≡ size_at_close w
+size_is : (g : Geometry) (row : PutRow) (w : Writer) → IsAtHandInStripe g row w → size_alone row (length w.gathered.items) ≡ closing_size w
 size_is g row w here =
     size_with row w.gathered.items
-    ∙ (ap (λ fields. sized fields row.response (length (row.cuts ++ rest_rows w.gathered.items))) here.request_is
-    ∙ (ap (λ fields. sized w.request fields (length (row.cuts ++ rest_rows w.gathered.items))) here.response_is
-    ∙ ap (λ (rows : List TableRow). sized w.request w.response (length (rows ++ rest_rows w.gathered.items))) here.cuts_are))
+    ∙ (ap (λ fields. sized fields row.response (length (row.cuts ++ row_of_rest w.gathered.items))) here.request_is
+    ∙ (ap (λ fields. sized w.request fields (length (row.cuts ++ row_of_rest w.gathered.items))) here.response_is
+    ∙ ap (λ (rows : List TableRow). sized w.request w.response (length (rows ++ row_of_rest w.gathered.items))) here.cuts_are))
 
-pub more_gathered : (s : State) (w : Writer) → is_writing s w.put ≡ true → IsWriterOf s w → 0 < length w.gathered.items → length w.table.rows < most_fragments
+pub more_gathered : (s : State) (w : Writer) → is_writing s w.put ≡ true → IsStripeWriterOf s w → 0 < length w.gathered.items → length w.table.rows < most_fragments
 more_gathered s w writing own some =
     let o = open_put (put_of s w.put) writing in
-    let here : IsAtHand s.geometry o.0 w = own o.0 o.1 o.2 in
+    let here : IsAtHandInStripe s.geometry o.0 w = own o.0 o.1 o.2 in
     subst (λ (rows : List TableRow). length rows < most_fragments) here.cuts_are (here.more some)
 
 -- ---- what is spelled
@@ -89,7 +89,7 @@ small_of g None new None h m is = cc
 
 pub weighs_where : (s t : State) (list : Option (List Stored)) (w : Writer) (result : Result Vectors Refusal) → t.geometry ≡ s.geometry → FitsWhere t list w result → WeighsWhere s w result
 weighs_where s t list w (Ok v) same h =
-    subst (λ g. AreSpelled g w v) same (record { fits = h.fits; alone = h.alone; merged = small_of t.geometry list (alternate_at_close w) v.merged h.merged })
+    subst (λ g. AreSpelled g w v) same (record { fits = h.fits; alone = h.alone; merged = small_of t.geometry list (closing_alternate w) v.merged h.merged })
 weighs_where s t list w (Err (refusal.VectorTooLarge bytes)) same h = (h.0, subst (λ g. budget_of g < blocks_of bytes) same h.1)
 weighs_where s t list w (Err (refusal.Memory e)) same h = tt
 weighs_where s t list w (Err (refusal.DeviceFault count)) same h = absurd h
@@ -117,10 +117,10 @@ wants_nothing kept mid new w answer (Err _) h reads adds = tt
 
 -- ---- the last group
 
-fit_does : (p : Permit) (t : State) (w : Writer) (row : PutRow) (list : Option (List Stored)) (result : Result Vectors Refusal) → IsWriting t w.put row → IsAtHand t.geometry row w
-    → IsReadWhereLive p t (live_vector_of t row.key) → FitsWhere t list w result → Spends p t (Weigh w.put (length w.gathered.items)) (fit_adds w result) (weigh_end w result)
+fit_does : (p : Permit) (t : State) (w : Writer) (row : PutRow) (list : Option (List Stored)) (result : Result Vectors Refusal) → IsWriting t w.put row → IsAtHandInStripe t.geometry row w
+    → IsReadWhereLive p t (live_vector_of t row.key) → FitsWhere t list w result → SpendsFirst p t (Weigh w.put (length w.gathered.items)) (fit_adds w result) (weigh_end w result)
 fit_does p t w row list (Ok v) writing here readable h = λ rest why.
-    let size : size_alone row (length w.gathered.items) ≡ size_at_close w = size_is t.geometry row w here in
+    let size : size_alone row (length w.gathered.items) ≡ closing_size w = size_is t.geometry row w here in
     let fits : blocks_of (size_alone row (length w.gathered.items)) ≤ budget_of t.geometry = subst (λ n. blocks_of n ≤ budget_of t.geometry) (sym size) h.fits in
     grows_by p t _ _ [] (Done, DoesWeigh.weighs row writing readable fits refl, refl)
 fit_does p t w row list (Err (refusal.VectorTooLarge bytes)) writing here readable h = λ rest why.
@@ -141,8 +141,8 @@ fit_does p t w row list (Err refusal.Sealed) writing here readable h = absurd h
 fit_does p t w row list (Err refusal.NoSuchWriter) writing here readable h = absurd h
 
 -- behind what was read
-spends_on : (p : Permit) (s : State) (put rest : ℕ) (before added : List Rec) (e : End) → (before ≡ []) ⊎ DoesWeigh p s put rest before Stays → Spends p (after_all s before) (Weigh put rest) added e
-    → Spends p s (Weigh put rest) (before ++ added) e
+spends_on : (p : Permit) (s : State) (put rest : ℕ) (before added : List Rec) (e : End) → (before ≡ []) ⊎ DoesWeigh p s put rest before Stays → SpendsFirst p (after_all s before) (Weigh put rest) added e
+    → SpendsFirst p s (Weigh put rest) (before ++ added) e
 spends_on p s put rest before added e (inl none) h = λ is why.
     subst (λ recs. MayGrow p s (record { intents = Weigh put rest ∷ is; refused = why }) (recs ++ added) (work_after (Weigh put rest) is why e)) (sym none)
     (subst (λ recs. MayGrow p (after_all s recs) (record { intents = Weigh put rest ∷ is; refused = why }) added (work_after (Weigh put rest) is why e)) none (h is why))
@@ -157,8 +157,8 @@ merged_some g list new None h = absurd h
 read_by : (t : State) (w : Writer) (answer : KeyVector) (v : Vectors) → FitsWhere t (list_in answer) w (Ok v)
     → ((row : Row) → live_vector_of t w.key ≡ Some row → list_in answer ≡ Some (alternates_of t w.key)) → IsReadFor t w v
 read_by t w answer v h same = λ row live.
-    merged_some t.geometry (alternates_of t w.key) (alternate_at_close w) v.merged
-    (subst (λ o. IsSpelledWith t.geometry o (alternate_at_close w) v.merged) (same row live) h.merged)
+    merged_some t.geometry (alternates_of t w.key) (closing_alternate w) v.merged
+    (subst (λ o. IsSpelledWith t.geometry o (closing_alternate w) v.merged) (same row live) h.merged)
 
 told_by : (p : Permit) (s t : State) (w : Writer) (answer : KeyVector) (result : Result Vectors Refusal) → FitsWhere t (list_in answer) w result
     → (AreVectors s → ((row : Row) → live_vector_of t w.key ≡ Some row → list_in answer ≡ Some (alternates_of t w.key)) ⊎ IsKeyPair IsVectorAs p s w.key)
@@ -196,7 +196,7 @@ no_more mid new w P (Ok v) is h = subst (λ t. P t v) (sym (state_behind mid new
 -- ---- weighing
 
 -- memory is wanting before anything is read
-pub wants : (kept new : Kept) (before after : Device) (w : Writer) (e : AllocError) (result : Result Vectors Refusal) → result ≡ Err (refusal.Memory e) → new ≡ kept → AreSeen before after → WeighsAsAsked before after kept new w result
+pub wants : (kept new : Kept) (before after : Device) (w : Writer) (e : AllocError) (result : Result Vectors Refusal) → result ≡ Err (refusal.Memory e) → new ≡ kept → AllReadIsSeen before after → WeighsAsAsked before after kept new w result
 wants kept new before after w e result is same seen =
     subst (WeighsAsAsked before after kept new w) (sym is) (record {
       seen = seen;
@@ -210,7 +210,7 @@ wants kept new before after w e result is same seen =
     })
 
 -- the device refuses to give the vector
-pub faults : (kept new : Kept) (before after : Device) (w : Writer) (answer : KeyVector) (count : ℕ) → IsQuiet (state_of kept) → is_writing (state_of kept) w.put ≡ true → IsWriterOf (state_of kept) w
+pub faults : (kept new : Kept) (before after : Device) (w : Writer) (answer : KeyVector) (count : ℕ) → IsQuiet (state_of kept) → is_writing (state_of kept) w.put ≡ true → IsStripeWriterOf (state_of kept) w
     → fault_in answer ≡ Some count → new ≡ with_records kept (vector_adds (state_of kept) w.key answer) → FindsVector (state_of kept) before after w.key answer
     → WeighsAsAsked before after kept new w (Err (refusal.DeviceFault count))
 faults kept new before after w answer count quiet writing own fault adds finds =
@@ -234,10 +234,10 @@ faults kept new before after w answer count quiet writing own fault adds finds =
 pub record IsWeighed (kept mid new : Kept) (before during after : Device) (w : Writer) (answer : KeyVector) (result : Result Vectors Refusal) : Type 0 where
   pub quiet : IsQuiet (state_of kept)
   pub writing : is_writing (state_of kept) w.put ≡ true
-  pub own : IsWriterOf (state_of kept) w
+  pub own : IsStripeWriterOf (state_of kept) w
   pub quiet_then : IsQuiet (state_of mid)
   pub writing_then : is_writing (state_of mid) w.put ≡ true
-  pub own_then : IsWriterOf (state_of mid) w
+  pub own_then : IsStripeWriterOf (state_of mid) w
   pub no_fault : fault_in answer ≡ None
   pub reads : mid ≡ with_records kept (vector_adds (state_of kept) w.key answer)
   pub finds : FindsVector (state_of kept) before during w.key answer
@@ -261,7 +261,7 @@ weighs law kept mid new before during after w answer result h =
     let first : List Rec = vector_adds s w.key answer in
     let there : state_of mid ≡ after_all s first = state_behind kept mid first h.reads in
     let o = open_put (put_of (state_of mid) w.put) h.writing_then in
-    let here : IsAtHand (state_of mid).geometry o.0 w = h.own_then o.0 o.1 o.2 in
+    let here : IsAtHandInStripe (state_of mid).geometry o.0 w = h.own_then o.0 o.1 o.2 in
     let own = so_far law kept mid new before during after w answer result h (own_permit 0 before.past during.past)
     (own_covers 0 before.past during.past) in
     let exact : TellsAll after → IfOk result (IsReadFor (state_of mid) w) = λ tells.
@@ -269,18 +269,18 @@ weighs law kept mid new before during after w answer result h =
     exact_by (state_of mid) w answer result h.fits
     (subst (λ t. (row : Row) → live_vector_of t w.key ≡ Some row → list_in answer ≡ Some (alternates_of t w.key)) (sym there) same) in
     record {
-      seen = subst (AreSeen before) (sym h.still) h.finds.seen;
+      seen = subst (AllReadIsSeen before) (sym h.still) h.finds.seen;
       exact = λ tells. no_more mid new w (λ t. IsReadFor t w) result h.adds (exact tells);
       does = λ p covers.
           let far = so_far law kept mid new before during after w answer result h p (subst (λ (d : Device). Covers p before.past d.past) h.still covers) in
           let readable : IsReadWhereLive p (state_of mid) (live_vector_of (state_of mid) o.0.key) =
           subst (λ k. IsReadWhereLive p (state_of mid) (live_vector_of (state_of mid) k)) (sym here.key_is) (subst (λ t. IsReadWhereLive p t (live_vector_of t w.key)) (sym there) far.readable) in
-          let last : Spends p (state_of mid) (Weigh w.put (length w.gathered.items)) (fit_adds w result) (weigh_end w result) =
+          let last : SpendsFirst p (state_of mid) (Weigh w.put (length w.gathered.items)) (fit_adds w result) (weigh_end w result) =
           fit_does p (state_of mid) w o.0 (list_in answer) result (record { quiet = h.quiet_then; found = o.1; is_open = o.2 }) here readable h.fits in
           record {
             added = first ++ fit_adds w result;
             adds = h.adds ∙ (ap (λ k. with_records k (fit_adds w result)) h.reads ∙ ap (λ recs. let k : Kept = record { told = kept.told; base = kept.base; since = recs } in k) (append_assoc kept.since first (fit_adds w result)));
-            does = spends_on p s w.put (length w.gathered.items) first (fit_adds w result) (weigh_end w result) far.grows (subst (λ t. Spends p t (Weigh w.put (length w.gathered.items)) (fit_adds w result) (weigh_end w result)) there last);
+            does = spends_on p s w.put (length w.gathered.items) first (fit_adds w result) (weigh_end w result) far.grows (subst (λ t. SpendsFirst p t (Weigh w.put (length w.gathered.items)) (fit_adds w result) (weigh_end w result)) there last);
             told = no_more mid new w (λ t v. AreVectors s → IsReadFor t w v ⊎ IsKeyPair (Untold after IsVectorAs) p s w.key) result h.adds
                 (told_surely p after s (state_of mid) w result exact (told_by p s (state_of mid) w answer result h.fits
                 (subst (λ t. AreVectors s → ((row : Row) → live_vector_of t w.key ≡ Some row → list_in answer ≡ Some (alternates_of t w.key))

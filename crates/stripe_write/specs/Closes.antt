@@ -4,7 +4,7 @@ use Rattle.tape_base.specs.Blocks.{blocks_of}
 use Rattle.tape_base.specs.Geometry.{budget_of}
 use Rattle.fragment_table.specs.Table.{total_length}
 use Rattle.device_log.specs.Calls.{Call}
-use Rattle.logged_disk.specs.Device.{State as Device}
+use Rattle.logged_disk.specs.Device.{DeviceState as Device}
 use Rattle.cache_model.specs.declared.record.Rec.{Rec}
 use Rattle.cache_model.specs.State.{State, fragment_piece}
 use Rattle.cache_model.specs.Kept.{Kept, state_of, with_records}
@@ -16,27 +16,27 @@ use Rattle.cache_model.specs.Vectors.{AreTold, IsVectorAs}
 use Rattle.call_laws.specs.Contents.{Contents, TellsVectors, Untold}
 use Rattle.stripe_core.specs.declared.refusal.Refusal.{Refusal}
 use Rattle.stripe_core.specs.declared.refusal.Refusal.TheVariants as refusal
-use Rattle.stripe_pieces.specs.Covers.{Covers, Spends}
+use Rattle.stripe_pieces.specs.Covers.{Covers, SpendsFirst}
 use Rattle.stripe_pieces.specs.Still.{IsStill, IsUnwritten}
 use Rattle.cache_model.specs.Pair.{IsKeyPair}
 use Rattle.stripe_write.specs.declared.finishing.Receipt.{Receipt}
 use Rattle.stripe_write.specs.declared.weighing.Vectors.{Vectors}
 use Rattle.stripe_write.specs.declared.writer.Writer.{Writer}
-use Rattle.stripe_write.specs.Closing.{IsReadFor, SpendsAll, close_intents, rest_intents, rows_at_close, size_at_close}
-use Rattle.stripe_write.specs.Numbers.{StopsAtLimit}
-use Rattle.stripe_write.specs.Writes.{IsToldNext, SameWriter}
+use Rattle.stripe_write.specs.Closing.{IsReadFor, SpendsAll, asked_of_closing, asked_of_rest, closing_rows, closing_size}
+use Rattle.stripe_write.specs.Numbers.{StopsExhausted}
+use Rattle.stripe_write.specs.Writes.{IsToldNextInStripe, SameWriter}
 
 -- ---- when each answer comes
 
 -- the put is complete, of so many bytes and fragments
-pub record IsComplete (w : Writer) (receipt : Receipt) : Type 0 where
+pub record IsCompleteInStripe (w : Writer) (receipt : Receipt) : Type 0 where
   pub put : receipt.put ≡ w.put
-  pub bytes : receipt.length ≡ total_length (rows_at_close w)
-  pub fragments : receipt.fragments ≡ length (rows_at_close w)
+  pub bytes : receipt.length ≡ total_length (closing_rows w)
+  pub fragments : receipt.fragments ≡ length (closing_rows w)
 
 -- once the vector is weighed
 abbrev pub EndsWhere : State → Writer → Result Receipt Refusal → Type 0
-EndsWhere t w (Ok receipt) = IsComplete w receipt
+EndsWhere t w (Ok receipt) = IsCompleteInStripe w receipt
 EndsWhere t w (Err (refusal.Lost index why)) = why ≡ cause_of_piece t (fragment_piece w.key w.put index)
 EndsWhere t w (Err (refusal.DeviceFault count)) = Unit {0}
 EndsWhere t w (Err (refusal.Exhausted number)) = limit ≤ number
@@ -44,9 +44,9 @@ EndsWhere t w (Err _) = ⊥
 
 -- the same of all of closing: `s` is the state before it, and `t` the one behind it
 abbrev pub ClosesWhere : State → State → Writer → Result Receipt Refusal → Type 0
-ClosesWhere s t w (Ok receipt) = (is_writing s w.put ≡ true) × IsComplete w receipt
+ClosesWhere s t w (Ok receipt) = (is_writing s w.put ≡ true) × IsCompleteInStripe w receipt
 ClosesWhere s t w (Err refusal.NoSuchWriter) = is_writing s w.put ≡ false
-ClosesWhere s t w (Err (refusal.VectorTooLarge bytes)) = (is_writing s w.put ≡ true) × (bytes ≡ size_at_close w) × (budget_of s.geometry < blocks_of bytes)
+ClosesWhere s t w (Err (refusal.VectorTooLarge bytes)) = (is_writing s w.put ≡ true) × (bytes ≡ closing_size w) × (budget_of s.geometry < blocks_of bytes)
 ClosesWhere s t w (Err (refusal.Lost index why)) = (is_writing s w.put ≡ true) × (why ≡ cause_of_piece t (fragment_piece w.key w.put index))
 ClosesWhere s t w (Err (refusal.DeviceFault count)) = is_writing s w.put ≡ true
 ClosesWhere s t w (Err (refusal.Exhausted number)) = (is_writing s w.put ≡ true) × (limit ≤ number)
@@ -56,8 +56,8 @@ ClosesWhere s t w (Err _) = ⊥
 -- ---- what is recorded, and which number is told
 
 -- how many bytes the piece has that is placed next: the vector, once all is cut, and else the rest
-abbrev pub bytes_next : State → Writer → ℕ
-bytes_next t w = if length (cuts_of t w.put) == length (rows_at_close w) then vector_length t w.put else length w.gathered.items
+abbrev pub bytes_placed_next : State → Writer → ℕ
+bytes_placed_next t w = if length (cuts_of t w.put) == length (closing_rows w) then vector_length t w.put else length w.gathered.items
 
 -- the end to which each answer brings what is asked; behind any other refusal it is still to be done
 abbrev pub close_end : Writer → Result Receipt Refusal → End
@@ -70,69 +70,69 @@ close_end w (Err _) = Stays
 
 -- what is left of closing once the vector is weighed
 abbrev pub end_intents : Writer → List Intent
-end_intents w = rest_intents w w.gathered.items ++ Finish w.put (length (rows_at_close w)) ∷ Commit w.put ∷ []
+end_intents w = asked_of_rest w w.gathered.items ++ Finish w.put (length (closing_rows w)) ∷ Commit w.put ∷ []
 
 -- what that makes of the records, and the number that it tells at the end of the tape
-pub record Ends (p : Permit) (old new : Kept) (w : Writer) (result : Result Receipt Refusal) : Type 0 where
+pub record EndsInStripe (p : Permit) (old new : Kept) (w : Writer) (result : Result Receipt Refusal) : Type 0 where
   pub added : List Rec
   pub adds : new ≡ with_records old added
   pub does : SpendsAll p (state_of old) (end_intents w) added (close_end w result)
-  pub number : IfErr result (StopsAtLimit (state_of new) (bytes_next (state_of new) w))
+  pub number : IfErr result (StopsExhausted (state_of new) (bytes_placed_next (state_of new) w))
 
 -- what came of it, as `FinishesAsRead`
 pub record EndsAsAsked (packed : Bool) (now : ℕ) (before after : List Call) (old new : Kept) (w : Writer) (v : Vectors) (result : Result Receipt Refusal) : Type 0 where
-  pub does : (p : Permit) → p.packed ≡ packed → p.now ≡ now → Covers p before after → (state_of old).displaced ≡ [] → IsReadFor (state_of old) w v → Ends p old new w result
+  pub does : (p : Permit) → p.packed ≡ packed → p.now ≡ now → Covers p before after → (state_of old).displaced ≡ [] → IsReadFor (state_of old) w v → EndsInStripe p old new w result
 
 -- all that closing is asked is done, or fails; where memory is wanting it is still to be weighed; where
 -- there is no such writer nothing is
 abbrev pub Spent : Permit → State → Writer → Result Receipt Refusal → List Rec → Type 0
-Spent p s w (Err (refusal.Memory e)) added = Spends p s (Weigh w.put (length w.gathered.items)) added Stays
+Spent p s w (Err (refusal.Memory e)) added = SpendsFirst p s (Weigh w.put (length w.gathered.items)) added Stays
 Spent p s w (Err refusal.NoSuchWriter) added = added ≡ []
-Spent p s w result added = SpendsAll p s (close_intents w) added (close_end w result)
+Spent p s w result added = SpendsAll p s (asked_of_closing w) added (close_end w result)
 
 -- what closing makes of the records, and the number that it tells at the end of the tape
-pub record Closes (p : Permit) (old new : Kept) (w : Writer) (result : Result Receipt Refusal) : Type 0 where
+pub record ClosesInStripe (p : Permit) (old new : Kept) (w : Writer) (result : Result Receipt Refusal) : Type 0 where
   pub added : List Rec
   pub adds : new ≡ with_records old added
   pub does : Spent p (state_of old) w result added
-  pub number : IfErr result (StopsAtLimit (state_of new) (bytes_next (state_of new) w))
+  pub number : IfErr result (StopsExhausted (state_of new) (bytes_placed_next (state_of new) w))
 
 -- what came of it in any step at that moment that covers the call; or two documents of one SHA-256 are shown, on a device that
 -- did not tell its content
 pub record ClosesAsAsked (packed : Bool) (now : ℕ) (before : List Call) (after : Device) (old new : Kept) (w : Writer) (result : Result Receipt Refusal) : Type 0 where
   pub does : (p : Permit) → p.packed ≡ packed → p.now ≡ now → Covers p before after.past → AreTold (state_of old)
-      → Closes p old new w result ⊎ IsKeyPair (Untold after IsVectorAs) p (state_of old) w.key
+      → ClosesInStripe p old new w result ⊎ IsKeyPair (Untold after IsVectorAs) p (state_of old) w.key
 
 -- the rest is told of the fragment that it became, where it was cut; and each vector spells its alternates
-pub record IsToldClosed (new : State) (w : Writer) (contents : Contents) : Type 0 where
-  pub rest : length w.table.rows < length (cuts_of new w.put) → IsToldNext w w.gathered.items contents
+pub record IsToldClosedInStripe (new : State) (w : Writer) (contents : Contents) : Type 0 where
+  pub rest : length w.table.rows < length (cuts_of new w.put) → IsToldNextInStripe w w.gathered.items contents
   pub vectors : TellsVectors contents
 
 -- a writer that was refused by the device, or by the end of the tape, takes no more bytes; one whose rest was not come to is
 -- as it was
-abbrev pub SealsWhere : Writer → Writer → Result Receipt Refusal → Type 0
-SealsWhere old new (Err (refusal.DeviceFault count)) = new.sealed ≡ true
-SealsWhere old new (Err (refusal.Exhausted number)) = new.sealed ≡ true
-SealsWhere old new (Err (refusal.Memory e)) = SameWriter old new
-SealsWhere old new (Err (refusal.VectorTooLarge bytes)) = SameWriter old new
-SealsWhere old new (Err refusal.NoSuchWriter) = SameWriter old new
-SealsWhere old new _ = Unit {0}
+abbrev pub SealsInStripeWhere : Writer → Writer → Result Receipt Refusal → Type 0
+SealsInStripeWhere old new (Err (refusal.DeviceFault count)) = new.sealed ≡ true
+SealsInStripeWhere old new (Err (refusal.Exhausted number)) = new.sealed ≡ true
+SealsInStripeWhere old new (Err (refusal.Memory e)) = SameWriter old new
+SealsInStripeWhere old new (Err (refusal.VectorTooLarge bytes)) = SameWriter old new
+SealsInStripeWhere old new (Err refusal.NoSuchWriter) = SameWriter old new
+SealsInStripeWhere old new _ = Unit {0}
 
 -- the writer of the same put, with what it had cut and gathered
-pub record KeepsRest (old new : Writer) : Type 0 where
+pub record KeepsRestInStripe (old new : Writer) : Type 0 where
   pub put : new.put ≡ old.put
   pub gathered : new.gathered.items ≡ old.gathered.items
   pub rows : new.table.rows ≡ old.table.rows
 
 -- the same, once what it had gathered is cut
-pub record CutsRest (old new : Writer) : Type 0 where
+pub record CutsRestInStripe (old new : Writer) : Type 0 where
   pub put : new.put ≡ old.put
   pub empty : new.gathered.items ≡ []
-  pub rows : new.table.rows ≡ rows_at_close old
+  pub rows : new.table.rows ≡ closing_rows old
 
 -- what a writer has at hand once it was closed
 abbrev pub IsRested : Writer → Writer → Type 0
-IsRested old new = KeepsRest old new ⊎ CutsRest old new
+IsRested old new = KeepsRestInStripe old new ⊎ CutsRestInStripe old new
 
 -- while the vector is weighed only the device seals
 abbrev pub is_sealed_by : Refusal → Bool → Bool

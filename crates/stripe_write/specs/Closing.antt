@@ -4,7 +4,7 @@ use Rattle.tape_base.specs.declared.geometries.Geometry.{Geometry}
 use Rattle.tape_base.specs.Blocks.{blocks_of}
 use Rattle.tape_base.specs.Digest.{digest_of}
 use Rattle.tape_base.specs.Geometry.{budget_of}
-use Rattle.logged_disk.specs.Device.{State as Device, TellsAll}
+use Rattle.logged_disk.specs.Device.{DeviceState as Device, TellsAll}
 use Rattle.fragment_table.specs.Table.{TableRow, made_row, total_length}
 use Rattle.alternate_vector.specs.Alternates.{Stored, vector_size}
 use Rattle.cache_model.specs.declared.record.Rec.{Rec}
@@ -17,7 +17,7 @@ use Rattle.cache_model.specs.Legal.{MayGrow}
 use Rattle.call_laws.specs.Contents.{Untold}
 use Rattle.stripe_core.specs.declared.refusal.Refusal.{Refusal}
 use Rattle.stripe_core.specs.declared.refusal.Refusal.TheVariants as refusal
-use Rattle.stripe_pieces.specs.Covers.{AreSeen, Covers, Spends}
+use Rattle.stripe_pieces.specs.Covers.{AllReadIsSeen, Covers, SpendsFirst}
 use Rattle.stripe_vectors.specs.declared.spelling.Spelled.{Spelled}
 use Rattle.cache_model.specs.Pair.{IsKeyPair}
 use Rattle.stripe_vectors.specs.Spelled.{IsSpelled}
@@ -39,51 +39,51 @@ SpendsAll p s asked added e = (rest : List Intent) (why : Option Reason) → May
 -- ---- what is gathered and in no fragment
 
 -- the row of the last fragment, where there is a rest
-abbrev pub rest_rows : List ℕ → List TableRow
-rest_rows [] = []
-rest_rows (byte ∷ bytes) = made_row (length (byte ∷ bytes)) (digest_of (byte ∷ bytes)).0 ∷ []
+abbrev pub row_of_rest : List ℕ → List TableRow
+row_of_rest [] = []
+row_of_rest (byte ∷ bytes) = made_row (length (byte ∷ bytes)) (digest_of (byte ∷ bytes)).0 ∷ []
 
 -- the fragments of a put when it closes
-abbrev pub rows_at_close : Writer → List TableRow
-rows_at_close w = w.table.rows ++ rest_rows w.gathered.items
+abbrev pub closing_rows : Writer → List TableRow
+closing_rows w = w.table.rows ++ row_of_rest w.gathered.items
 
 -- the rest is cut, where there is one
-abbrev pub rest_intents : Writer → List ℕ → List Intent
-rest_intents w [] = []
-rest_intents w (byte ∷ bytes) = Fragment w.put (length w.table.rows + 1) (byte ∷ bytes) ∷ []
+abbrev pub asked_of_rest : Writer → List ℕ → List Intent
+asked_of_rest w [] = []
+asked_of_rest w (byte ∷ bytes) = Fragment w.put (length w.table.rows + 1) (byte ∷ bytes) ∷ []
 
 -- what closing is asked
-abbrev pub close_intents : Writer → List Intent
-close_intents w =
-    Weigh w.put (length w.gathered.items) ∷ (rest_intents w w.gathered.items ++ Finish w.put (length (rows_at_close w)) ∷ Commit w.put ∷ [])
+abbrev pub asked_of_closing : Writer → List Intent
+asked_of_closing w =
+    Weigh w.put (length w.gathered.items) ∷ (asked_of_rest w w.gathered.items ++ Finish w.put (length (closing_rows w)) ∷ Commit w.put ∷ [])
 
 -- the alternate that a put stands for when it closes
-abbrev pub alternate_at_close : Writer → Stored
-alternate_at_close w = record {
+abbrev pub closing_alternate : Writer → Stored
+closing_alternate w = record {
   put = w.put;
   pin = w.pin;
-  length = total_length (rows_at_close w);
+  length = total_length (closing_rows w);
   request = w.request;
   response = w.response;
-  table = rows_at_close w;
+  table = closing_rows w;
 }
 
 -- ---- the vector that the put is to have
 
 -- the bytes of the vector of the put's alternate alone
-abbrev pub size_at_close : Writer → ℕ
-size_at_close w = vector_size (alternate_at_close w ∷ [])
+abbrev pub closing_size : Writer → ℕ
+closing_size w = vector_size (closing_alternate w ∷ [])
 
 -- it is spelled from some list, and alone
 pub record AreSpelled (g : Geometry) (w : Writer) (v : Vectors) : Type 0 where
-  pub fits : blocks_of (size_at_close w) ≤ budget_of g
-  pub alone : IsSpelled g [] (alternate_at_close w) v.alone
+  pub fits : blocks_of (closing_size w) ≤ budget_of g
+  pub alone : IsSpelled g [] (closing_alternate w) v.alone
   pub merged : (m : Spelled) → v.merged ≡ Some m → blocks_of (length m.bytes.items) ≤ budget_of g
 
 -- while the key's vector is live, what it lists was read and spelled
 abbrev pub IsReadFor : State → Writer → Vectors → Type 0
 IsReadFor s w v = (row : Row) → live_vector_of s w.key ≡ Some row
-    → (m : Spelled) × (v.merged ≡ Some m) × IsSpelled s.geometry (alternates_of s w.key) (alternate_at_close w) m
+    → (m : Spelled) × (v.merged ≡ Some m) × IsSpelled s.geometry (alternates_of s w.key) (closing_alternate w) m
 
 -- ---- how weighing ends
 
@@ -98,7 +98,7 @@ weigh_end w (Err _) = Stays
 -- one; or memory is wanting
 abbrev pub WeighsWhere : State → Writer → Result Vectors Refusal → Type 0
 WeighsWhere s w (Ok vectors) = AreSpelled s.geometry w vectors
-WeighsWhere s w (Err (refusal.VectorTooLarge bytes)) = (bytes ≡ size_at_close w) × (budget_of s.geometry < blocks_of bytes)
+WeighsWhere s w (Err (refusal.VectorTooLarge bytes)) = (bytes ≡ closing_size w) × (budget_of s.geometry < blocks_of bytes)
 WeighsWhere s w (Err (refusal.DeviceFault count)) = Unit {0}
 WeighsWhere s w (Err (refusal.Memory e)) = Unit {0}
 WeighsWhere s w (Err _) = ⊥
@@ -107,13 +107,13 @@ WeighsWhere s w (Err _) = ⊥
 pub record Weighs (p : Permit) (after : Device) (old new : Kept) (w : Writer) (result : Result Vectors Refusal) : Type 0 where
   pub added : List Rec
   pub adds : new ≡ with_records old added
-  pub does : Spends p (state_of old) (Weigh w.put (length w.gathered.items)) added (weigh_end w result)
+  pub does : SpendsFirst p (state_of old) (Weigh w.put (length w.gathered.items)) added (weigh_end w result)
   pub told : IfOk result (λ v. AreVectors (state_of old) → IsReadFor (state_of new) w v
       ⊎ IsKeyPair (Untold after IsVectorAs) p (state_of old) w.key)
 
 -- what was read is what is seen, and what came of it in any step that covers the call; where the device tells its content, what
 -- the key has
 pub record WeighsAsAsked (before after : Device) (old new : Kept) (w : Writer) (result : Result Vectors Refusal) : Type 0 where
-  pub seen : AreSeen before after
+  pub seen : AllReadIsSeen before after
   pub exact : TellsAll after → IfOk result (IsReadFor (state_of new) w)
   pub does : (p : Permit) → Covers p before.past after.past → Weighs p after old new w result

@@ -2,7 +2,7 @@
 use Rattle.std.specs.Prelude.{ℕ, ◌≡◌, ◌<◌, ◌≤◌, ◌-◌, Bool, true, false, List, [], ◌∷◌, length, Option, Some, None, IsSome, is_some, unwrap_or, Result, Ok, Err, IfErr}
 use Rattle.fragment_table.specs.Table.{total_length}
 use Rattle.device_log.specs.Calls.{Call}
-use Rattle.logged_disk.specs.Device.{State as Device, TellsAll}
+use Rattle.logged_disk.specs.Device.{DeviceState as Device, TellsAll}
 use Rattle.cache_model.specs.declared.record.Rec.{Rec}
 use Rattle.cache_model.specs.State.{State, fragment_piece, list_of_put, live_row_of}
 use Rattle.cache_model.specs.Kept.{Kept, state_of, with_records}
@@ -13,7 +13,7 @@ use Rattle.cache_model.specs.Room.{greatest_pin, limit}
 use Rattle.stripe_core.specs.declared.refusal.Refusal.{Refusal}
 use Rattle.stripe_core.specs.declared.refusal.Refusal.TheVariants as refusal
 use Rattle.stripe_pieces.specs.Covers.{Covers}
-use Rattle.stripe_pieces.specs.Place.{ReachesLimit}
+use Rattle.stripe_pieces.specs.Place.{IsExhaustedAt}
 use Rattle.stripe_vectors.specs.declared.spelling.Spelled.{Spelled}
 use Rattle.stripe_write.specs.declared.finishing.Receipt.{Receipt}
 use Rattle.stripe_write.specs.declared.weighing.Vectors.{Vectors}
@@ -84,7 +84,7 @@ FinishesWhere s w (Err _) = ⊥
 
 -- all that the put has is cut, and its vector has no place
 abbrev pub VectorStops : State → Writer → Refusal → Type 0
-VectorStops t w (refusal.Exhausted number) = (cuts_of t w.put ≡ w.table.rows) × ReachesLimit t (vector_length t w.put) number
+VectorStops t w (refusal.Exhausted number) = (cuts_of t w.put ≡ w.table.rows) × IsExhaustedAt t (vector_length t w.put) number
 VectorStops t w _ = Unit {0}
 
 -- what it makes of the records, and the number that it tells at the end of the tape

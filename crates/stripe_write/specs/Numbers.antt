@@ -3,9 +3,9 @@ use Rattle.std.specs.Prelude.{ℕ}
 use Rattle.cache_model.specs.State.{State}
 use Rattle.stripe_core.specs.declared.refusal.Refusal.{Refusal}
 use Rattle.stripe_core.specs.declared.refusal.Refusal.TheVariants as refusal
-use Rattle.stripe_pieces.specs.Place.{ReachesLimit}
+use Rattle.stripe_pieces.specs.Place.{IsExhaustedAt}
 
 -- a call that stops at the limit, when a piece of so many bytes was to be placed, tells that number
-abbrev pub StopsAtLimit : State → ℕ → Refusal → Type 0
-StopsAtLimit t bytes (refusal.Exhausted number) = ReachesLimit t bytes number
-StopsAtLimit t bytes _ = Unit {0}
+abbrev pub StopsExhausted : State → ℕ → Refusal → Type 0
+StopsExhausted t bytes (refusal.Exhausted number) = IsExhaustedAt t bytes number
+StopsExhausted t bytes _ = Unit {0}

@@ -1,7 +1,7 @@
 -- The rest that a writer gathered is cut as its last fragment.
 use Rattle.std.specs.Prelude.{ℕ, ◌≡◌, Bool, List, [], ◌∷◌, Result, Ok, Err}
 use Rattle.device_log.specs.Calls.{Call}
-use Rattle.logged_disk.specs.Device.{State as Device}
+use Rattle.logged_disk.specs.Device.{DeviceState as Device}
 use Rattle.cache_model.specs.declared.record.Rec.{Rec}
 use Rattle.cache_model.specs.State.{State}
 use Rattle.cache_model.specs.Kept.{Kept, state_of, with_records}
@@ -12,7 +12,7 @@ use Rattle.stripe_pieces.specs.Covers.{Covers}
 use Rattle.stripe_pieces.specs.Flush.{stop_end}
 use Rattle.stripe_pieces.specs.Place.{IsCutAs, IsStoppedAs}
 use Rattle.stripe_write.specs.declared.writer.Writer.{Writer}
-use Rattle.stripe_write.specs.Closing.{SpendsAll, rest_intents}
+use Rattle.stripe_write.specs.Closing.{SpendsAll, asked_of_rest}
 use Rattle.stripe_write.specs.Writes.{next_id, next_start}
 
 -- the records of these bytes, where there are some: a cut, or why there is none
@@ -32,4 +32,4 @@ pub record RestsAsAsked (packed : Bool) (now : ℕ) (old new : Kept) (before : L
   pub added : List Rec
   pub adds : new ≡ with_records old added
   pub shape : IsRestAs packed (state_of old) after.faults w w.gathered.items added result
-  pub does : (p : Permit) → p.packed ≡ packed → p.now ≡ now → Covers p before after.past → SpendsAll p (state_of old) (rest_intents w w.gathered.items) added (rest_end result)
+  pub does : (p : Permit) → p.packed ≡ packed → p.now ≡ now → Covers p before after.past → SpendsAll p (state_of old) (asked_of_rest w w.gathered.items) added (rest_end result)

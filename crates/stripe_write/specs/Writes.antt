@@ -12,25 +12,25 @@ use Rattle.cache_model.specs.Kept.{Kept, state_of, with_records}
 use Rattle.cache_model.specs.Permit.{Done, Fails, Fragment, GiveUp, Intent, ManyFragments, Overflow, Permit}
 use Rattle.cache_model.specs.Legal.{Does, is_writing}
 use Rattle.device_log.specs.Calls.{Call}
-use Rattle.logged_disk.specs.Device.{State as Device, TellsAll}
+use Rattle.logged_disk.specs.Device.{DeviceState as Device, TellsAll}
 use Rattle.call_laws.specs.Contents.{Contents}
 use Rattle.stripe_pieces.specs.declared.answer.Placed.{Placed}
 use Rattle.stripe_core.specs.declared.refusal.Refusal.{Refusal}
 use Rattle.stripe_core.specs.declared.refusal.Refusal.TheVariants as refusal
 use Rattle.stripe_pieces.specs.declared.answer.Stop.{Stop}
 use Rattle.stripe_pieces.specs.declared.answer.Stop.TheVariants as stop
-use Rattle.stripe_pieces.specs.Covers.{Covers, Spends}
+use Rattle.stripe_pieces.specs.Covers.{Covers, SpendsFirst}
 use Rattle.cache_model.specs.Damage.{TellNoDamage}
-use Rattle.stripe_pieces.specs.Place.{IsFragmentAs, place_end}
+use Rattle.stripe_pieces.specs.Place.{IsCutOrStoppedAs, place_end}
 use Rattle.stripe_write.specs.declared.writer.Writer.{Writer}
-use Rattle.stripe_write.specs.Others.{IsOfPut}
+use Rattle.stripe_write.specs.Others.{IsRecordOfPut}
 
 -- ---- a writer opens
 
 -- the answer as it is recorded: a writer by the number of its put
-abbrev pub number_of : Result Writer Refusal → Result ℕ Refusal
-number_of (Ok w) = Ok w.put
-number_of (Err why) = Err why
+abbrev pub number_of_opened : Result Writer Refusal → Result ℕ Refusal
+number_of_opened (Ok w) = Ok w.put
+number_of_opened (Err why) = Err why
 
 -- ---- a writer is given up
 
@@ -54,16 +54,16 @@ AbortsAsAsked s put key answer = (p : Permit) → Does p s (GiveUp put) (abort_a
 -- ---- a writer takes bytes
 
 -- how many bytes are taken: up to the next cut
-abbrev pub taken_of : Geometry → Writer → List ℕ → ℕ
-taken_of g w bytes = min (length bytes) (g.fragment - length w.gathered.items)
+abbrev pub taken_up_to_cut : Geometry → Writer → List ℕ → ℕ
+taken_up_to_cut g w bytes = min (length bytes) (g.fragment - length w.gathered.items)
 
 -- the bytes that are gathered then
-abbrev pub gathered_with : Writer → List ℕ → ℕ → List ℕ
-gathered_with w bytes n = w.gathered.items ++ take n bytes
+abbrev pub gathered_behind : Writer → List ℕ → ℕ → List ℕ
+gathered_behind w bytes n = w.gathered.items ++ take n bytes
 
 -- as many are gathered as a fragment has
-abbrev pub is_cut : Geometry → Writer → ℕ → Bool
-is_cut g w n = length w.gathered.items + n == g.fragment
+abbrev pub completes_fragment : Geometry → Writer → ℕ → Bool
+completes_fragment g w n = length w.gathered.items + n == g.fragment
 
 -- the fragment that is cut next, behind those in the table
 abbrev pub next_id : Writer → PieceId
@@ -74,38 +74,39 @@ abbrev pub next_start : Writer → ℕ
 next_start w = total_length w.table.rows
 
 -- these bytes are told of the fragment that is cut next, as they are placed
-abbrev pub IsToldNext : Writer → List ℕ → Contents → Type 0
-IsToldNext w payload contents = IfSome (contents (next_id w) None) (λ c. c ≡ record { start = next_start w; payload = payload })
+abbrev pub IsToldNextInStripe : Writer → List ℕ → Contents → Type 0
+IsToldNextInStripe w payload contents = IfSome (contents (next_id w) None) (λ c. c ≡ record { start = next_start w; payload = payload })
 
 -- the bytes that stay gathered: none behind a cut
-abbrev pub left_of : Geometry → Writer → List ℕ → ℕ → List ℕ
-left_of g w bytes n = if is_cut g w n then [] else gathered_with w bytes n
+abbrev pub left_gathered : Geometry → Writer → List ℕ → ℕ → List ℕ
+left_gathered g w bytes n = if completes_fragment g w n then [] else gathered_behind w bytes n
 
 -- a writer of the same put, behind the bytes that it took
 pub record GathersAsAsked (g : Geometry) (old : Writer) (bytes : List ℕ) (n : ℕ) (new : Writer) : Type 0 where
   pub put : new.put ≡ old.put
-  pub gathered : new.gathered.items ≡ left_of g old bytes n
+  pub gathered : new.gathered.items ≡ left_gathered g old bytes n
   pub sealed : new.sealed ≡ old.sealed
 
 -- the put is open, and its writer takes bytes
-abbrev pub IsTaking : State → Writer → Type 0
-IsTaking s w = (is_writing s w.put ≡ true) × (w.sealed ≡ false)
+abbrev pub IsTakingInStripe : State → Writer → Type 0
+IsTakingInStripe s w = (is_writing s w.put ≡ true) × (w.sealed ≡ false)
 
 -- with these bytes the next fragment has gathered, and there may be one more
-pub record IsCutting (s : State) (w : Writer) (bytes : List ℕ) : Type 0 where
-  pub taking : IsTaking s w
+pub record IsCuttingInStripe (s : State) (w : Writer) (bytes : List ℕ) : Type 0 where
+  pub taking : IsTakingInStripe s w
   pub few : length w.table.rows < most_fragments
-  pub full : is_cut s.geometry w (taken_of s.geometry w bytes) ≡ true
+  pub full : completes_fragment s.geometry w (taken_up_to_cut s.geometry w bytes) ≡ true
 
 -- when each answer comes; a fragment more is begun only where there may be one more
 abbrev pub WritesWhere : State → Writer → List ℕ → Result ℕ Refusal → Type 0
-WritesWhere s w bytes (Ok n) = IsTaking s w × (n ≡ taken_of s.geometry w bytes) × (0 < length bytes → length w.table.rows < most_fragments)
+WritesWhere s w bytes (Ok n) = IsTakingInStripe s w × (n ≡ taken_up_to_cut s.geometry w bytes)
+    × (0 < length bytes → length w.table.rows < most_fragments)
 WritesWhere s w bytes (Err refusal.NoSuchWriter) = is_writing s w.put ≡ false
 WritesWhere s w bytes (Err refusal.Sealed) = (is_writing s w.put ≡ true) × (w.sealed ≡ true)
-WritesWhere s w bytes (Err refusal.TooManyFragments) = IsTaking s w × (0 < length bytes) × (length w.table.rows ≡ most_fragments)
-WritesWhere s w bytes (Err (refusal.DeviceFault count)) = IsCutting s w bytes
-WritesWhere s w bytes (Err (refusal.Exhausted number)) = IsCutting s w bytes
-WritesWhere s w bytes (Err (refusal.Memory e)) = IsTaking s w
+WritesWhere s w bytes (Err refusal.TooManyFragments) = IsTakingInStripe s w × (0 < length bytes) × (length w.table.rows ≡ most_fragments)
+WritesWhere s w bytes (Err (refusal.DeviceFault count)) = IsCuttingInStripe s w bytes
+WritesWhere s w bytes (Err (refusal.Exhausted number)) = IsCuttingInStripe s w bytes
+WritesWhere s w bytes (Err (refusal.Memory e)) = IsTakingInStripe s w
 WritesWhere s w bytes (Err _) = ⊥
 
 -- to cut these bytes as that fragment
@@ -114,26 +115,27 @@ cuts_fragment w payload = Fragment w.put (length w.table.rows + 1) payload
 
 -- the records of the next fragment, which is cut or cannot be, in any step at that moment that covers
 -- the call
-pub record CutsNext (packed : Bool) (now : ℕ) (s : State) (before : List Call) (after : Device) (w : Writer) (payload : List ℕ) (added : List Rec) (result : Result Placed Stop) : Type 0 where
-  pub shape : IsFragmentAs packed s after.faults (next_id w) w.pin (next_start w) payload added result
-  pub does : (p : Permit) → p.packed ≡ packed → p.now ≡ now → Covers p before after.past → Spends p s (cuts_fragment w payload) added (place_end result)
+pub record CutsNextAsAsked (packed : Bool) (now : ℕ) (s : State) (before : List Call) (after : Device) (w : Writer) (payload : List ℕ) (added : List Rec) (result : Result Placed Stop) : Type 0 where
+  pub shape : IsCutOrStoppedAs packed s after.faults (next_id w) w.pin (next_start w) payload added result
+  pub does : (p : Permit) → p.packed ≡ packed → p.now ≡ now → Covers p before after.past → SpendsFirst p s (cuts_fragment w payload) added (place_end result)
 
 -- the bytes that are gathered when a fragment has gathered
-abbrev pub next_payload : State → Writer → List ℕ → List ℕ
-next_payload s w bytes = gathered_with w bytes (taken_of s.geometry w bytes)
+abbrev pub payload_cut_next : State → Writer → List ℕ → List ℕ
+payload_cut_next s w bytes = gathered_behind w bytes (taken_up_to_cut s.geometry w bytes)
 
 -- they are told of it where a write cut it
-abbrev pub IsToldWritten : State → Writer → List ℕ → Result ℕ Refusal → Contents → Type 0
-IsToldWritten s w bytes result contents = IfOk result (λ n. is_cut s.geometry w n ≡ true → IsToldNext w (gathered_with w bytes n) contents)
+abbrev pub IsToldWrittenInStripe : State → Writer → List ℕ → Result ℕ Refusal → Contents → Type 0
+IsToldWrittenInStripe s w bytes result contents =
+    IfOk result (λ n. completes_fragment s.geometry w n ≡ true → IsToldNextInStripe w (gathered_behind w bytes n) contents)
 
 -- the next fragment is cut, where it has gathered, or cannot be; or there would be one too many
 abbrev pub WritesAs : Bool → ℕ → State → List Call → Device → Writer → List ℕ → Result ℕ Refusal → List Rec → Type 0
-WritesAs packed now s before after w bytes (Ok n) added = MatchBool (is_cut s.geometry w n)
-    ((placed : Placed) × CutsNext packed now s before after w (gathered_with w bytes n) added (Ok placed)) (added ≡ [])
+WritesAs packed now s before after w bytes (Ok n) added = MatchBool (completes_fragment s.geometry w n)
+    ((placed : Placed) × CutsNextAsAsked packed now s before after w (gathered_behind w bytes n) added (Ok placed)) (added ≡ [])
 WritesAs packed now s before after w bytes (Err (refusal.DeviceFault count)) added =
-    CutsNext packed now s before after w (next_payload s w bytes) added (Err (stop.DeviceFault count))
+    CutsNextAsAsked packed now s before after w (payload_cut_next s w bytes) added (Err (stop.DeviceFault count))
 WritesAs packed now s before after w bytes (Err (refusal.Exhausted number)) added =
-    CutsNext packed now s before after w (next_payload s w bytes) added (Err (stop.Exhausted number))
+    CutsNextAsAsked packed now s before after w (payload_cut_next s w bytes) added (Err (stop.Exhausted number))
 WritesAs packed now s before after w bytes (Err refusal.TooManyFragments) added =
     (added ≡ rec.Aborted w.put w.key ∷ []) × ((p : Permit) → Does p s (Overflow w.put) added (Fails (ManyFragments w.put)))
 WritesAs packed now s before after w bytes (Err _) added = added ≡ []
@@ -143,7 +145,7 @@ WritesAs packed now s before after w bytes (Err _) added = added ≡ []
 pub record WritesAsAsked (packed : Bool) (now : ℕ) (old new : Kept) (before : List Call) (after : Device) (w : Writer) (bytes : List ℕ) (result : Result ℕ Refusal) : Type 0 where
   pub added : List Rec
   pub adds : new ≡ with_records old added
-  pub own : AllByRecursion (IsOfPut w.put) added
+  pub own : AllByRecursion (IsRecordOfPut w.put) added
   -- a device that tells its content shows each piece as it was placed
   pub unharmed : TellsAll after → TellNoDamage added
   pub does : WritesAs packed now (state_of old) before after w bytes result added

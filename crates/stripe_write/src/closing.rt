@@ -6,11 +6,11 @@ ghost use Rattle.stripe_pieces.specs.Still.{IsStill};
 ghost use Rattle.stripe_core.specs.Stripe.{IsStripe, kept_in, room_for, seen_in, state_in, units_in, Wanting};
 ghost use Rattle.stripe_core.specs.Between.{Continues, IsResting, RestsWith};
 ghost use Rattle.stripe_write.specs.Others.{AddsOfPut};
-ghost use Rattle.stripe_write.specs.Writers.{IsWriterOf};
+ghost use Rattle.stripe_write.specs.Writers.{IsStripeWriterOf};
 ghost use Rattle.stripe_write.specs.Writes.{SameWriter};
 ghost use Rattle.stripe_write.specs.Closing.{AreSpelled};
 ghost use Rattle.stripe_write.specs.Finishing.{IsReadWhereTold};
-ghost use Rattle.stripe_write.specs.Closes.{ClosesAsAsked, ClosesWhere, EndsAsAsked, EndsWhere, IsRested, IsToldClosed, SealsWhere, UntouchedWhere, is_sealed_by};
+ghost use Rattle.stripe_write.specs.Closes.{ClosesAsAsked, ClosesWhere, EndsAsAsked, EndsWhere, IsRested, IsToldClosedInStripe, SealsInStripeWhere, UntouchedWhere, is_sealed_by};
 
 use crate::Writer;
 use crate::finishing::{Receipt, finish};
@@ -37,13 +37,13 @@ pub fn close_write<D: Disk, R: Directory + Drop, C: Chronicle>(
     now: u64,
 ) -> Result<Receipt, Refusal>
     requires resting { IsResting stripe.old }
-    requires writer { IsWriterOf (state_in stripe.old) writer.old }
-    ensures rests { RestsWith (IsToldClosed (state_in stripe.new) writer.old) stripe.old stripe.new }
+    requires writer { IsStripeWriterOf (state_in stripe.old) writer.old }
+    ensures rests { RestsWith (IsToldClosedInStripe (state_in stripe.new) writer.old) stripe.old stripe.new }
     ensures closes { ClosesWhere (state_in stripe.old) (state_in stripe.new) writer.old result }
     ensures does { ClosesAsAsked R.purges now (seen_in stripe.old).device.past (seen_in stripe.new).device
         (kept_in stripe.old) (kept_in stripe.new) writer.old result }
-    ensures writer { IsWriterOf (state_in stripe.new) writer.new }
-    ensures seals { SealsWhere writer.old writer.new result }
+    ensures writer { IsStripeWriterOf (state_in stripe.new) writer.new }
+    ensures seals { SealsInStripeWhere writer.old writer.new result }
     ensures rested { IsRested writer.old writer.new }
     ensures untouched { UntouchedWhere (seen_in stripe.old).device
         (seen_in stripe.new).device result }
@@ -86,17 +86,17 @@ fn close_open<D: Disk, R: Directory + Drop, C: Chronicle>(
     now: u64,
 ) -> Result<Receipt, Refusal>
     requires resting { IsResting stripe.old }
-    requires writer { IsWriterOf (state_in stripe.old) writer.old }
+    requires writer { IsStripeWriterOf (state_in stripe.old) writer.old }
     requires open { is_writing (state_in stripe.old) writer.old.put ≡ true }
     requires units { 5 ≤ units_in stripe.old }
     requires row { 0 < room_for writer.old.put stripe.old.actors }
     requires table { 0 < writer.old.table.room }
-    ensures rests { RestsWith (IsToldClosed (state_in stripe.new) writer.old) stripe.old stripe.new }
+    ensures rests { RestsWith (IsToldClosedInStripe (state_in stripe.new) writer.old) stripe.old stripe.new }
     ensures closes { ClosesWhere (state_in stripe.old) (state_in stripe.new) writer.old result }
     ensures does { ClosesAsAsked R.purges now (seen_in stripe.old).device.past (seen_in stripe.new).device
         (kept_in stripe.old) (kept_in stripe.new) writer.old result }
-    ensures writer { IsWriterOf (state_in stripe.new) writer.new }
-    ensures seals { SealsWhere writer.old writer.new result }
+    ensures writer { IsStripeWriterOf (state_in stripe.new) writer.new }
+    ensures seals { SealsInStripeWhere writer.old writer.new result }
     ensures rested { IsRested writer.old writer.new }
     ensures untouched { UntouchedWhere (seen_in stripe.old).device
         (seen_in stripe.new).device result }
@@ -131,18 +131,18 @@ fn end<D: Disk, R: Directory + Drop, C: Chronicle>(
     now: u64,
 ) -> Result<Receipt, Refusal>
     requires resting { IsResting stripe.old }
-    requires writer { IsWriterOf (state_in stripe.old) writer.old }
+    requires writer { IsStripeWriterOf (state_in stripe.old) writer.old }
     requires open { is_writing (state_in stripe.old) writer.old.put ≡ true }
     requires read { IsReadWhereTold (seen_in stripe.old).device (state_in stripe.old) writer.old vectors }
     requires spelled { AreSpelled (state_in stripe.old).geometry writer.old vectors }
     requires units { 4 ≤ units_in stripe.old }
     requires row { 0 < room_for writer.old.put stripe.old.actors }
     requires table { 0 < writer.old.table.room }
-    ensures rests { RestsWith (IsToldClosed (state_in stripe.new) writer.old) stripe.old stripe.new }
+    ensures rests { RestsWith (IsToldClosedInStripe (state_in stripe.new) writer.old) stripe.old stripe.new }
     ensures ends { EndsWhere (state_in stripe.new) writer.old result }
     ensures does { EndsAsAsked R.purges now (seen_in stripe.old).device.past (seen_in stripe.new).device.past
         (kept_in stripe.old) (kept_in stripe.new) writer.old vectors result }
-    ensures writer { IsWriterOf (state_in stripe.new) writer.new }
+    ensures writer { IsStripeWriterOf (state_in stripe.new) writer.new }
     ensures sealed { writer.new.sealed ≡ true }
     ensures rested { IsRested writer.old writer.new }
     ensures counts { IfErr result (IsCounted (seen_in stripe.new).device.faults) }

@@ -12,10 +12,10 @@ ghost use Rattle.stripe_core.specs.Acts.{CommitsAsAsked, IsCommitting, committed
 ghost use Rattle.stripe_pieces.specs.Flush.{StopsWith};
 ghost use Rattle.stripe_pieces.specs.Place.{RoomsAsAsked};
 ghost use Rattle.stripe_core.specs.Counts.{IsCounted};
-ghost use Rattle.stripe_core.specs.Stripe.{Answers, IsStripe, kept_in, seen_in, state_in, units_in};
+ghost use Rattle.stripe_core.specs.Stripe.{AnswersOrWants, IsStripe, kept_in, seen_in, state_in, units_in};
 ghost use Rattle.stripe_core.specs.Between.{Continues, IsResting, Rests, RestsWith};
 ghost use Rattle.stripe_write.specs.Others.{AddsOfPut};
-ghost use Rattle.stripe_write.specs.Writers.{IsWriterOf};
+ghost use Rattle.stripe_write.specs.Writers.{IsStripeWriterOf};
 ghost use Rattle.stripe_write.specs.Closing.{AreSpelled};
 ghost use Rattle.stripe_write.specs.Finishing.{AreLive, FinishesAsRead, FinishesWhere, IsFirstLost, IsReadWhereTold, IsReceiptOf, bytes_now, picked};
 
@@ -80,7 +80,7 @@ pub(crate) fn finish<D: Disk, R: Directory + Drop, C: Chronicle>(
     now: u64,
 ) -> Result<Receipt, Refusal>
     requires resting { IsResting stripe.old }
-    requires writer { IsWriterOf (state_in stripe.old) writer.now }
+    requires writer { IsStripeWriterOf (state_in stripe.old) writer.now }
     requires open { is_writing (state_in stripe.old) writer.now.put ≡ true }
     requires cut { writer.now.gathered.items ≡ [] }
     requires read { IsReadWhereTold (seen_in stripe.old).device (state_in stripe.old) writer.now vectors }
@@ -92,7 +92,7 @@ pub(crate) fn finish<D: Disk, R: Directory + Drop, C: Chronicle>(
         (seen_in stripe.new).device.past (kept_in stripe.old)
         (kept_in stripe.new) writer.now vectors result }
     ensures counts { IfErr result (IsCounted (seen_in stripe.new).device.faults) }
-    ensures writer { IsWriterOf (state_in stripe.new) writer.now }
+    ensures writer { IsStripeWriterOf (state_in stripe.new) writer.now }
     ensures own { AddsOfPut writer.now.put (kept_in stripe.old) (kept_in stripe.new) }
 {
     match make_room(stripe, writer, &vectors, now) {
@@ -109,7 +109,7 @@ fn end<D: Disk, R: Directory + Drop, C: Chronicle>(
     now: u64,
 ) -> Result<Receipt, Refusal>
     requires resting { IsResting stripe.old }
-    requires writer { IsWriterOf (state_in stripe.old) writer.now }
+    requires writer { IsStripeWriterOf (state_in stripe.old) writer.now }
     requires open { is_writing (state_in stripe.old) writer.now.put ≡ true }
     requires cut { writer.now.gathered.items ≡ [] }
     requires read { IsReadWhereTold (seen_in stripe.old).device (state_in stripe.old) writer.now vectors }
@@ -123,7 +123,7 @@ fn end<D: Disk, R: Directory + Drop, C: Chronicle>(
         (seen_in stripe.new).device.past (kept_in stripe.old)
         (kept_in stripe.new) writer.now vectors result }
     ensures counts { IfErr result (IsCounted (seen_in stripe.new).device.faults) }
-    ensures writer { IsWriterOf (state_in stripe.new) writer.now }
+    ensures writer { IsStripeWriterOf (state_in stripe.new) writer.now }
     ensures own { AddsOfPut writer.now.put (kept_in stripe.old) (kept_in stripe.new) }
 {
     match first_lost(stripe, writer) {
@@ -145,10 +145,10 @@ fn make_room<D: Disk, R: Directory + Drop, C: Chronicle>(
     ensures continues { Continues stripe.old stripe.new }
     ensures full { OnErr result (has_room (state_in stripe.old)
         (bytes_now (state_in stripe.old) writer.now vectors.now) ≡ false) }
-    ensures does { Answers result (RoomsAsAsked now (kept_in stripe.old) (kept_in stripe.new)
+    ensures does { AnswersOrWants result (RoomsAsAsked now (kept_in stripe.old) (kept_in stripe.new)
         (seen_in stripe.old).device.past (seen_in stripe.new).device
         (bytes_now (state_in stripe.old) writer.now vectors.now)) ⊥ }
-    ensures stops { Answers result (λ r. IfErr r
+    ensures stops { AnswersOrWants result (λ r. IfErr r
         (StopsWith (state_in stripe.old) (seen_in stripe.new).device.faults)) ⊥ }
     ensures counts { IfErr result (IsCounted (seen_in stripe.new).device.faults) }
     ensures room { OnOk result (has_room (state_in stripe.new)
@@ -187,7 +187,7 @@ fn lose<D: Disk, R: Directory + Drop, C: Chronicle>(
     index: u32,
 ) -> Refusal
     requires resting { IsResting stripe.old }
-    requires writer { IsWriterOf (state_in stripe.old) writer.now }
+    requires writer { IsStripeWriterOf (state_in stripe.old) writer.now }
     requires open { is_writing (state_in stripe.old) writer.now.put ≡ true }
     requires lost { live_row_of (state_in stripe.old)
         (fragment_piece writer.now.key writer.now.put index) ≡ None }
@@ -199,7 +199,7 @@ fn lose<D: Disk, R: Directory + Drop, C: Chronicle>(
     ensures adds { kept_in stripe.new ≡ with_records (kept_in stripe.old)
         (rec.Aborted writer.now.put writer.now.key ∷ []) }
     ensures still { (seen_in stripe.new).device ≡ (seen_in stripe.old).device }
-    ensures writer { IsWriterOf (state_in stripe.new) writer.now }
+    ensures writer { IsStripeWriterOf (state_in stripe.new) writer.now }
 {
     let id = PieceId {
         first: writer.key,
@@ -219,7 +219,7 @@ fn complete<D: Disk, R: Directory + Drop, C: Chronicle>(
     now: u64,
 ) -> Result<Receipt, Refusal>
     requires resting { IsResting stripe.old }
-    requires writer { IsWriterOf (state_in stripe.old) writer.now }
+    requires writer { IsStripeWriterOf (state_in stripe.old) writer.now }
     requires open { is_writing (state_in stripe.old) writer.now.put ≡ true }
     requires cut { writer.now.gathered.items ≡ [] }
     requires read { IsReadWhereTold (seen_in stripe.old).device (state_in stripe.old) writer.now vectors }
@@ -234,7 +234,7 @@ fn complete<D: Disk, R: Directory + Drop, C: Chronicle>(
         (seen_in stripe.new).device.past (kept_in stripe.old)
         (kept_in stripe.new) writer.now vectors result }
     ensures counts { IfErr result (IsCounted (seen_in stripe.new).device.faults) }
-    ensures writer { IsWriterOf (state_in stripe.new) writer.now }
+    ensures writer { IsStripeWriterOf (state_in stripe.new) writer.now }
     ensures own { AddsOfPut writer.now.put (kept_in stripe.old) (kept_in stripe.new) }
 {
     let live = is_live(stripe, writer);
@@ -265,7 +265,7 @@ fn commit<D: Disk, R: Directory + Drop, C: Chronicle>(
     ensures does { CommitsAsAsked (state_in stripe.old) writer.now.put writer.now.key alternates }
     ensures receipt { IsReceiptOf writer.now result }
     ensures still { (seen_in stripe.new).device ≡ (seen_in stripe.old).device }
-    ensures writer { IsWriterOf (state_in stripe.new) writer.now }
+    ensures writer { IsStripeWriterOf (state_in stripe.new) writer.now }
 {
     stripe.commit(writer.put, writer.key, alternates);
     Receipt {

@@ -12,9 +12,9 @@ ghost use Rattle.stripe_pieces.specs.Still.{IsUnwritten};
 ghost use Rattle.stripe_core.specs.Stripe.{kept_in, room_for, seen_in, state_in, units_in, Wanting};
 ghost use Rattle.stripe_core.specs.Between.{IsResting, Rests};
 ghost use Rattle.stripe_write.specs.Others.{AddsOfPut};
-ghost use Rattle.stripe_write.specs.Writers.{IsWriterOf};
-ghost use Rattle.stripe_write.specs.Closing.{WeighsAsAsked, WeighsWhere, alternate_at_close, rows_at_close};
-ghost use Rattle.stripe_write.specs.Weighing.{FitsWhere, IsOwnOf, IsSpelledAlone, IsSpelledWith, fault_in, fit_adds, list_in};
+ghost use Rattle.stripe_write.specs.Writers.{IsStripeWriterOf};
+ghost use Rattle.stripe_write.specs.Closing.{WeighsAsAsked, WeighsWhere, closing_alternate, closing_rows};
+ghost use Rattle.stripe_write.specs.Weighing.{FitsWhere, IsOwnAlternateOf, IsSpelledAlone, IsSpelledWith, fault_in, fit_adds, list_in};
 
 use crate::Writer;
 use alternate_vector::{Alternate, Vector};
@@ -50,7 +50,7 @@ pub(crate) fn weigh<D: Disk, R: Directory + Drop, C: Chronicle>(
     writer: &Writer,
 ) -> Result<Vectors, Refusal>
     requires resting { IsResting stripe.old }
-    requires writer { IsWriterOf (state_in stripe.old) writer.now }
+    requires writer { IsStripeWriterOf (state_in stripe.old) writer.now }
     requires open { is_writing (state_in stripe.old) writer.now.put ≡ true }
     requires units { 2 ≤ units_in stripe.old }
     ensures rests { Rests stripe.old stripe.new }
@@ -60,7 +60,7 @@ pub(crate) fn weigh<D: Disk, R: Directory + Drop, C: Chronicle>(
     ensures unwritten { IsUnwritten (seen_in stripe.old).device (seen_in stripe.new).device }
     ensures counts { IfErr result (IsCounted (seen_in stripe.new).device.faults) }
     ensures wanting { Wanting result (kept_in stripe.new ≡ kept_in stripe.old) }
-    ensures writer { IsWriterOf (state_in stripe.new) writer.now }
+    ensures writer { IsStripeWriterOf (state_in stripe.new) writer.now }
     ensures puts { OnOk result ((state_in stripe.new).puts ≡ (state_in stripe.old).puts) }
     ensures geometry { OnOk result ((state_in stripe.new).geometry
         ≡ (state_in stripe.old).geometry) }
@@ -106,15 +106,15 @@ fn fit<D: Disk, R: Directory + Drop, C: Chronicle>(
     list: Option<Vector>,
 ) -> Result<Vectors, Refusal>
     requires resting { IsResting stripe.old }
-    requires writer { IsWriterOf (state_in stripe.old) writer.now }
+    requires writer { IsStripeWriterOf (state_in stripe.old) writer.now }
     requires open { is_writing (state_in stripe.old) writer.now.put ≡ true }
     requires units { 1 ≤ units_in stripe.old }
-    requires own { IsOwnOf (state_in stripe.old).geometry writer.now own }
+    requires own { IsOwnAlternateOf (state_in stripe.old).geometry writer.now own }
     ensures rests { Rests stripe.old stripe.new }
     ensures fits { FitsWhere (state_in stripe.old) list writer.now result }
     ensures adds { kept_in stripe.new ≡ with_records (kept_in stripe.old)
         (fit_adds writer.now result) }
-    ensures writer { IsWriterOf (state_in stripe.new) writer.now }
+    ensures writer { IsStripeWriterOf (state_in stripe.new) writer.now }
     ensures same { OnOk result (stripe.new ≡ stripe.old) }
     ensures still { (seen_in stripe.new).device ≡ (seen_in stripe.old).device }
 {
@@ -136,7 +136,7 @@ fn fit<D: Disk, R: Directory + Drop, C: Chronicle>(
 fn spell_own(alloc: Global, g: &Geometry, writer: &Writer) -> Result<Own, AllocError>
     requires few { length writer.now.gathered.items < g.now.fragment }
     requires more { 0 < length writer.now.gathered.items → length writer.now.table.rows < most_fragments }
-    ensures { IfOk result (IsOwnOf g.now writer.now) }
+    ensures { IfOk result (IsOwnAlternateOf g.now writer.now) }
 {
     let alternate = alternate_of(g, writer)?;
     let alone = spell_alone(alloc, g, &alternate)?;
@@ -147,7 +147,7 @@ fn spell_own(alloc: Global, g: &Geometry, writer: &Writer) -> Result<Own, AllocE
 fn alternate_of(g: &Geometry, writer: &Writer) -> Result<Alternate, AllocError>
     requires few { length writer.now.gathered.items < g.now.fragment }
     requires more { 0 < length writer.now.gathered.items → length writer.now.table.rows < most_fragments }
-    ensures stored { IfOk result (λ a. stored_of a ≡ alternate_at_close writer.now) }
+    ensures stored { IfOk result (λ a. stored_of a ≡ closing_alternate writer.now) }
     ensures length { IfOk result (λ a. a.length ≡ total_length a.table.rows) }
 {
     let table = table_of(g, writer)?;
@@ -165,7 +165,7 @@ fn alternate_of(g: &Geometry, writer: &Writer) -> Result<Alternate, AllocError>
 fn table_of(g: &Geometry, writer: &Writer) -> Result<FragTable, AllocError>
     requires few { length writer.now.gathered.items < g.now.fragment }
     requires more { 0 < length writer.now.gathered.items → length writer.now.table.rows < most_fragments }
-    ensures { IfOk result (λ table. table.rows ≡ rows_at_close writer.now) }
+    ensures { IfOk result (λ table. table.rows ≡ closing_rows writer.now) }
 {
     // The length of a fragment is read for what it tells of the width of the rest.
     let _fragment = g.fragment;

@@ -5,16 +5,16 @@ ghost use Rattle.fragment_table.specs.Table.{made_row};
 ghost use Rattle.cache_model.specs.Kept.{with_records};
 ghost use Rattle.cache_model.specs.Legal.{is_writing};
 ghost use Rattle.cache_model.specs.State.{most_fragments};
-ghost use Rattle.stripe_actors.specs.Calls.{HasNumber};
-ghost use Rattle.stripe_core.specs.Acts.{OpensAsAsked, opened_record};
+ghost use Rattle.stripe_actors.specs.Calls.{HasPutNumber};
+ghost use Rattle.stripe_core.specs.Acts.{OpensAsAsked, write_opened_record};
 ghost use Rattle.stripe_pieces.specs.Place.{CutsAsAsked};
 ghost use Rattle.stripe_core.specs.Counts.{IsCounted};
 ghost use Rattle.stripe_pieces.specs.Still.{IsStill};
-ghost use Rattle.stripe_core.specs.Stripe.{Answers, HasMemory, IsStripe, kept_in, room_for, seen_in, state_in, units_in, Unstopped};
+ghost use Rattle.stripe_core.specs.Stripe.{AnswersOrWants, HasMemory, IsStripe, kept_in, room_for, seen_in, state_in, units_in, Unstopped};
 ghost use Rattle.stripe_core.specs.Between.{IsResting, Rests, RestsWith};
-ghost use Rattle.stripe_write.specs.Numbers.{StopsAtLimit};
-ghost use Rattle.stripe_write.specs.Writers.{IsWriterOf};
-ghost use Rattle.stripe_write.specs.Writes.{AbortsAsAsked, AbortsWhere, GathersAsAsked, IsOverflow, IsReady, IsToldNext, IsToldWritten, OverflowsAsAsked, SameButBytes, SameWriter, WritesAsAsked, WritesWhere, abort_adds, next_id, next_start, number_of, overflow_adds};
+ghost use Rattle.stripe_write.specs.Numbers.{StopsExhausted};
+ghost use Rattle.stripe_write.specs.Writers.{IsStripeWriterOf};
+ghost use Rattle.stripe_write.specs.Writes.{AbortsAsAsked, AbortsWhere, GathersAsAsked, IsOverflow, IsReady, IsToldNextInStripe, IsToldWrittenInStripe, OverflowsAsAsked, SameButBytes, SameWriter, WritesAsAsked, WritesWhere, abort_adds, next_id, next_start, number_of_opened, overflow_adds};
 
 use crate::Writer;
 use alternate_vector::Fields;
@@ -42,11 +42,11 @@ pub fn open_write<D: Disk, R: Directory + Drop, C: Chronicle>(
     ensures rests { Rests stripe.old stripe.new }
     ensures adds { OnOk result (kept_in stripe.new
         ≡ with_records (kept_in stripe.old)
-        (opened_record (state_in stripe.old) actor key request response pin ∷ [])) }
+        (write_opened_record (state_in stripe.old) actor key request response pin ∷ [])) }
     ensures err { OnErr result (kept_in stripe.new ≡ kept_in stripe.old) }
     ensures does { OpensAsAsked (state_in stripe.old) actor key request response pin
-        (number_of result) }
-    ensures writer { IfOk result (IsWriterOf (state_in stripe.new)) }
+        (number_of_opened result) }
+    ensures writer { IfOk result (IsStripeWriterOf (state_in stripe.new)) }
     ensures empty { IfOk result (λ w. w.gathered.items ≡ []) }
     ensures unsealed { IfOk result (λ w. w.sealed ≡ false) }
     ensures still { (seen_in stripe.new).device ≡ (seen_in stripe.old).device }
@@ -67,15 +67,16 @@ pub fn write<D: Disk, R: Directory + Drop, C: Chronicle>(
     now: u64,
 ) -> Result<usize, Refusal>
     requires resting { IsResting stripe.old }
-    requires writer { IsWriterOf (state_in stripe.old) writer.old }
-    ensures rests { RestsWith (IsToldWritten (state_in stripe.old) writer.old bytes.now result)
+    requires writer { IsStripeWriterOf (state_in stripe.old) writer.old }
+    ensures rests { RestsWith
+        (IsToldWrittenInStripe (state_in stripe.old) writer.old bytes.now result)
         stripe.old stripe.new }
     ensures writes { WritesWhere (state_in stripe.old) writer.old bytes.now result }
-    ensures number { IfErr result (StopsAtLimit (state_in stripe.new)
+    ensures number { IfErr result (StopsExhausted (state_in stripe.new)
         (state_in stripe.old).geometry.fragment) }
     ensures does { WritesAsAsked R.purges now (kept_in stripe.old) (kept_in stripe.new)
         (seen_in stripe.old).device.past (seen_in stripe.new).device writer.old bytes.now result }
-    ensures writer { IsWriterOf (state_in stripe.new) writer.new }
+    ensures writer { IsStripeWriterOf (state_in stripe.new) writer.new }
     ensures gathers { IfOk result (λ n. GathersAsAsked
         (state_in stripe.old).geometry writer.old bytes.now n writer.new) }
     ensures same { OnErr result (SameWriter writer.old writer.new) }
@@ -103,13 +104,13 @@ pub fn abort_write<D: Disk, R: Directory + Drop, C: Chronicle>(
     writer: &mut Writer,
 ) -> Result<u64, Refusal>
     requires resting { IsResting stripe.old }
-    requires writer { IsWriterOf (state_in stripe.old) writer.old }
+    requires writer { IsStripeWriterOf (state_in stripe.old) writer.old }
     ensures rests { Rests stripe.old stripe.new }
     ensures adds { kept_in stripe.new ≡ with_records (kept_in stripe.old)
         (abort_adds writer.old.key result) }
     ensures aborts { AbortsWhere (state_in stripe.old) writer.old.put result }
     ensures does { AbortsAsAsked (state_in stripe.old) writer.old.put writer.old.key result }
-    ensures writer { IsWriterOf (state_in stripe.new) writer.new }
+    ensures writer { IsStripeWriterOf (state_in stripe.new) writer.new }
     ensures same { writer.new ≡ writer.old }
     ensures still { IsStill (seen_in stripe.old).device (seen_in stripe.new).device }
 {
@@ -143,15 +144,15 @@ fn begin<D: Disk, R: Directory + Drop, C: Chronicle>(
     pin: u64,
 ) -> Result<Writer, Refusal>
     requires resting { IsResting stripe.old }
-    requires number { HasNumber (state_in stripe.old) }
+    requires number { HasPutNumber (state_in stripe.old) }
     ensures rests { Rests stripe.old stripe.new }
     ensures adds { OnOk result (kept_in stripe.new
         ≡ with_records (kept_in stripe.old)
-        (opened_record (state_in stripe.old) actor key request response pin ∷ [])) }
+        (write_opened_record (state_in stripe.old) actor key request response pin ∷ [])) }
     ensures err { OnErr result (kept_in stripe.new ≡ kept_in stripe.old) }
     ensures does { OpensAsAsked (state_in stripe.old) actor key request response pin
-        (number_of result) }
-    ensures writer { IfOk result (IsWriterOf (state_in stripe.new)) }
+        (number_of_opened result) }
+    ensures writer { IfOk result (IsStripeWriterOf (state_in stripe.new)) }
     ensures empty { IfOk result (λ w. w.gathered.items ≡ []) }
     ensures unsealed { IfOk result (λ w. w.sealed ≡ false) }
     ensures still { (seen_in stripe.new).device ≡ (seen_in stripe.old).device }
@@ -178,7 +179,7 @@ fn overflow<D: Disk, R: Directory + Drop, C: Chronicle>(
     writer: &Writer,
 ) -> Result<usize, Refusal>
     requires resting { IsResting stripe.old }
-    requires writer { IsWriterOf (state_in stripe.old) writer.now }
+    requires writer { IsStripeWriterOf (state_in stripe.old) writer.now }
     requires open { is_writing (state_in stripe.old) writer.now.put ≡ true }
     requires full { length writer.now.table.rows ≡ most_fragments }
     ensures rests { Rests stripe.old stripe.new }
@@ -186,7 +187,7 @@ fn overflow<D: Disk, R: Directory + Drop, C: Chronicle>(
     ensures adds { kept_in stripe.new ≡ with_records (kept_in stripe.old)
         (overflow_adds writer.now result) }
     ensures does { OverflowsAsAsked (state_in stripe.old) writer.now }
-    ensures writer { IsWriterOf (state_in stripe.new) writer.now }
+    ensures writer { IsStripeWriterOf (state_in stripe.new) writer.now }
     ensures still { IsStill (seen_in stripe.old).device (seen_in stripe.new).device }
 {
     stripe.prepare(None, 1)?;
@@ -202,18 +203,19 @@ fn take<D: Disk, R: Directory + Drop, C: Chronicle>(
     now: u64,
 ) -> Result<usize, Refusal>
     requires resting { IsResting stripe.old }
-    requires writer { IsWriterOf (state_in stripe.old) writer.old }
+    requires writer { IsStripeWriterOf (state_in stripe.old) writer.old }
     requires open { is_writing (state_in stripe.old) writer.old.put ≡ true }
     requires unsealed { writer.old.sealed ≡ false }
     requires few { length writer.old.table.rows < most_fragments }
-    ensures rests { RestsWith (IsToldWritten (state_in stripe.old) writer.old bytes.now result)
+    ensures rests { RestsWith
+        (IsToldWrittenInStripe (state_in stripe.old) writer.old bytes.now result)
         stripe.old stripe.new }
     ensures writes { WritesWhere (state_in stripe.old) writer.old bytes.now result }
-    ensures number { IfErr result (StopsAtLimit (state_in stripe.new)
+    ensures number { IfErr result (StopsExhausted (state_in stripe.new)
         (state_in stripe.old).geometry.fragment) }
     ensures does { WritesAsAsked R.purges now (kept_in stripe.old) (kept_in stripe.new)
         (seen_in stripe.old).device.past (seen_in stripe.new).device writer.old bytes.now result }
-    ensures writer { IsWriterOf (state_in stripe.new) writer.new }
+    ensures writer { IsStripeWriterOf (state_in stripe.new) writer.new }
     ensures gathers { IfOk result (λ n. GathersAsAsked
         (state_in stripe.old).geometry writer.old bytes.now n writer.new) }
     ensures same { OnErr result (SameWriter writer.old writer.new) }
@@ -246,15 +248,15 @@ pub(crate) fn cut<D: Disk, R: Directory + Drop, C: Chronicle>(
 ) -> Result<Placed, Refusal>
     requires resting { IsResting stripe.old }
     requires ready { IsReady (state_in stripe.old) writer.old }
-    ensures rests { RestsWith (λ contents. OnOk result (IsToldNext writer.old
+    ensures rests { RestsWith (λ contents. OnOk result (IsToldNextInStripe writer.old
         writer.old.gathered.items contents)) stripe.old stripe.new }
     ensures does { let w = writer.old in
-        Answers result (CutsAsAsked R.purges now (kept_in stripe.old) (kept_in stripe.new)
+        AnswersOrWants result (CutsAsAsked R.purges now (kept_in stripe.old) (kept_in stripe.new)
         (seen_in stripe.old).device.past (seen_in stripe.new).device (next_id w) w.pin
         (next_start w) w.gathered.items) (kept_in stripe.new ≡ kept_in stripe.old) }
-    ensures number { IfErr result (StopsAtLimit (state_in stripe.new)
+    ensures number { IfErr result (StopsExhausted (state_in stripe.new)
         (length writer.old.gathered.items)) }
-    ensures writer { OnOk result (IsWriterOf (state_in stripe.new) writer.new) }
+    ensures writer { OnOk result (IsStripeWriterOf (state_in stripe.new) writer.new) }
     ensures rest { OnOk result (SameButBytes writer.old writer.new) }
     ensures rows { let w = writer.old in OnOk result (writer.new.table.rows
         ≡ w.table.rows ++ made_row (length w.gathered.items) (digest_of w.gathered.items).0 ∷ []) }

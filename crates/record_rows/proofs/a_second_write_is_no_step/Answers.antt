@@ -5,7 +5,7 @@ use Rattle.cache_model.specs.Given.{IsWrittenFirst, buffers_begun, last_written,
 use Rattle.cache_model.specs.Permit.{Permit}
 use Rattle.cache_model.specs.State.{after_all}
 use Rattle.record_rows.specs.Refused.{behind_calls, durable_calls, one_buffer, with_durable}
-use Rattle.record_rows.specs.Steps.{opened}
+use Rattle.record_rows.specs.Steps.{gate_written}
 use Rattle.record_rows.proofs.Fronts.{of_front}
 use Rattle.record_rows.proofs.a_second_write_is_no_step.Goals as goal
 
@@ -22,7 +22,7 @@ twice both whole first =
 pub returns : goal.returns
 returns c = λ digest one two first body both again whole step.
     let older : List Call = Wrote 20 both ∷ [] in
-    let p : Permit = behind_calls (durable_calls first) (RefusedCall ToSync 2 ∷ opened 2 ∷ Synced ∷ Wrote 11 body ∷ Synced ∷ Wrote 20 again ∷ older) in
+    let p : Permit = behind_calls (durable_calls first) (RefusedCall ToSync 2 ∷ gate_written 2 ∷ Synced ∷ Wrote 11 body ∷ Synced ∷ Wrote 20 again ∷ older) in
     let of = (step.synced refl).content.1.1.0 (omega arith) in
     of_front (λ before. 1 ≤ buffers_begun before → IsWrittenFirst p (after_all (with_durable digest) before) older → ⊥) (one_buffer one two) of.before of.behind of.is (
       (λ t w. early t),

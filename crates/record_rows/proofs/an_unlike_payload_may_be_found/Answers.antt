@@ -10,7 +10,7 @@ use Rattle.alternate_vector.specs.Spelling.{vector_bytes}
 use Rattle.cache_model.specs.Openings.{AreOfTwoKeys, IsEarlierPut, StatesLength}
 use Rattle.cache_model.specs.State.{row_of_found}
 use Rattle.cache_model.proofs.Found.{none_is, same_some}
-use Rattle.record_rows.specs.Unlike.{both_found, four_bytes, fragment_of, listed_digest, vector_found}
+use Rattle.record_rows.specs.Unlike.{both_found, found_vector_row, four_bytes, fragment_of, listed_digest}
 use Rattle.record_rows.proofs.an_unlike_payload_may_be_found.Goals as goal
 
 -- what the vector lists
@@ -20,11 +20,11 @@ its P list h p = subst P (same_some (four_bytes ∷ []) list (Some (four_bytes �
 states : (there : List ℕ) → StatesLength (fragment_of there) four_bytes
 states there put some entry h = ap (λ (e : TableRow). e.length) (same_some (made_row 4 listed_digest.0) entry _ refl h)
 
-no_index : StatesLength vector_found four_bytes
+no_index : StatesLength found_vector_row four_bytes
 no_index put some entry h = absurd (omega (arith, some))
 
-apart : (there : List ℕ) → All (AreOfTwoKeys (row_of_found (fragment_of there))) (row_of_found vector_found ∷ [])
-apart there = All-from_recursion (AreOfTwoKeys (row_of_found (fragment_of there))) (row_of_found vector_found ∷ []) ((λ first other. cc), tt)
+apart : (there : List ℕ) → All (AreOfTwoKeys (row_of_found (fragment_of there))) (row_of_found found_vector_row ∷ [])
+apart there = All-from_recursion (AreOfTwoKeys (row_of_found (fragment_of there))) (row_of_found found_vector_row ∷ []) ((λ first other. cc), tt)
 
 pub returns : goal.returns
 returns c = λ there others. (
@@ -39,7 +39,7 @@ returns c = λ there others. (
     };
     rising = (omega arith, omega arith, omega arith, (omega arith, omega arith, omega arith, omega arith));
     apart = ((refl, tt), (tt, tt));
-    keys = AllPairs-cons AreOfTwoKeys (row_of_found (fragment_of there)) (row_of_found vector_found ∷ []) (apart there)
+    keys = AllPairs-cons AreOfTwoKeys (row_of_found (fragment_of there)) (row_of_found found_vector_row ∷ []) (apart there)
         (λ i j d less within. absurd (omega (arith, less, within)));
     each = (
       record {
@@ -68,7 +68,7 @@ returns c = λ there others. (
       (
         (
           (λ list h same. its (AllByRecursion (StatesLength (fragment_of there))) list h (states there, tt)),
-          ((λ list h same. its (AllByRecursion (StatesLength vector_found)) list h (no_index, tt)), tt),
+          ((λ list h same. its (AllByRecursion (StatesLength found_vector_row)) list h (no_index, tt)), tt),
         ),
         tt,
       ),

@@ -3,7 +3,7 @@ use Rattle.cache_calls.specs.declared.calls.Opened.TheVariants as opened
 use Rattle.cache_calls.specs.Keeping.{state_at}
 use Rattle.script_run.specs.Asked.{get_intents}
 use Rattle.script_run.specs.Losses.{NoLossIsAFault}
-use Rattle.cache_replay.specs.Getting.{IsAnswered, IsUnderway, given_in, got_answer}
+use Rattle.cache_replay.specs.Getting.{GetIsAnswered, IsUnderway, given_in, got_answer}
 use Rattle.run_promise.specs.Outline.{count_in}
 use Rattle.cache_replay.proofs.Counts.{missed_tells}
 use Rattle.cache_replay.proofs.ReadsOn.{closed_leaves, leaves_more, losses_read}
@@ -59,7 +59,7 @@ returns-in-Hit-clause-gets g c =
     (rw c.in-Hit.is at c.in_ok-reader.ensures.gives).adds (rw c.in-Hit.is at c.in_ok-reader.ensures.gives).tells.0
     (rw c.in-Hit.is at c.in_ok-reader.ensures.gives).tells.1 (rw c.in-Hit.is at c.in_ok-reader.ensures.serves) c.open_read.ensures.stands in
     record {
-      answers = ok_as _ (λ got. IsAnswered g.S.Calls c.args.cache.now c.read_whole.new.cache asks [] (given_in got) (got_answer got)) c.read_whole.result
+      answers = ok_as _ (λ got. GetIsAnswered g.S.Calls c.args.cache.now c.read_whole.new.cache asks [] (given_in got) (got_answer got)) c.read_whole.result
           (λ got answered. answered c.args.cache.now asks under) c.read_whole.ensures.reads.answers;
       unharmed = sound_before g.S.Calls _ _ c.open_read.new.self _ _ c.open_read.ensures.keeps.unharmed
           (c.read_whole.ensures.reads.unharmed c.args.cache.now asks under);

@@ -1,13 +1,13 @@
 use Rattle.std.proofs.Common.{◌≡◌, List, [], length}
 use Rattle.cache_model.specs.Permit.{Intent}
 use Rattle.cache_calls.specs.Keeping.{state_at}
-use Rattle.cache_replay.specs.Getting.{IsHit, IsUnderway, StaysSound, rows_left}
-use Rattle.cache_replay.specs.ReaderLines.{IsReady, LeavesReader}
+use Rattle.cache_replay.specs.Getting.{IsHit, IsUnderway, StaysSound, rows_to_give}
+use Rattle.cache_replay.specs.ReaderLines.{IsReadyToRead, LeavesReader}
 use Rattle.cache_replay.proofs.getting.read_to_end.Given as goal
 
 abbrev pub invariant-loop-body : goal.invariant-loop-body
 invariant-loop-body g l = record {
-  ready : IsReady g.S.Calls l.cache l.page;
+  ready : IsReadyToRead g.S.Calls l.cache l.page;
   hit : IsHit (state_at (g.S.Calls.at l.cache)) (g.S.Calls.reading l.reader) (g.S.Calls.reading l.reader).put;
   put : (g.S.Calls.reading l.reader).put ≡ l.fn.put;
   number : (g.S.Calls.reading l.reader).reader ≡ (g.S.Calls.reading l.fn.reader).reader;
@@ -20,4 +20,4 @@ invariant-loop-body g l = record {
 }
 
 abbrev pub decreases-loop-body : goal.decreases-loop-body
-decreases-loop-body g l = rows_left (g.S.Calls.reading l.reader)
+decreases-loop-body g l = rows_to_give (g.S.Calls.reading l.reader)

@@ -1,6 +1,6 @@
 use Rattle.std.specs.Prelude.{None}
 use Rattle.script_lang.specs.declared.step.Step.TheVariants as step
-use Rattle.cache_replay.specs.Session.{state_in}
+use Rattle.cache_replay.specs.Session.{state_in_part}
 use Rattle.cache_replay.proofs.OnSession.{flush_without, plain_line}
 use Rattle.cache_replay.proofs.plain_lines.flush_line.Goals as goal
 
@@ -8,5 +8,5 @@ pub returns-in-Some : goal.returns-in-Some
 returns-in-Some g c = record {
   line = plain_line (record { rest = g.met.S.Calls.at_rest; vectors = g.met.S.Calls.vectors_listed; recorded = g.met.S.Calls.recorded }) c.args.session.now
       c.in-Some.part c.flush.new.part c.in-Some.is c.requires.session None None step.Flush
-      (flush_without (state_in c.in-Some.part)) c.flush.result c.flush.ensures.line;
+      (flush_without (state_in_part c.in-Some.part)) c.flush.result c.flush.ensures.line;
 }

@@ -1,10 +1,10 @@
 use Rattle.std.proofs.Common.{◌≡◌, ◌≤◌, sym, ◌∙◌, ap, subst, true}
 use Rattle.logged_disk.proofs.GoingOn.{told_before}
 use Rattle.cache_model.specs.Legal.{is_writing}
-use Rattle.cache_calls.specs.Adds.{Adds, IsOfPut}
+use Rattle.cache_calls.specs.Adds.{AddsOnly, IsOfPut}
 use Rattle.cache_calls.specs.Keeping.{state_at}
 use Rattle.cache_calls.proofs.Keeping.{keeps_then}
-use Rattle.cache_replay.specs.Feeding.{FeedsWhere, IsCutWhere, IsOpenBehind, taken_of}
+use Rattle.cache_replay.specs.Feeding.{FeedsWhere, IsCutWhere, IsOpenBehind, taken_by_feed}
 use Rattle.cache_replay.specs.Replies.{count_of_refusal}
 use Rattle.cache_replay.proofs.PutEnds.{close_counts, closes_fill, err_when, refused_fill}
 use Rattle.cache_replay.proofs.Frames.{adds_then, losses_kept}
@@ -51,8 +51,8 @@ returns-in-None-clause-tells g c =
     let new = g.S.Calls.at c.close_write.new.self in
     let w = g.S.Calls.written c.args.writer.now in
     let v = g.S.Calls.written c.feed.new.writer in
-    let own : Adds (IsOfPut w.put) first new =
-    adds_then (IsOfPut w.put) first mid new c.feed.ensures.fed.own (subst (λ q. Adds (IsOfPut q) mid new) c.feed.ensures.fed.fed.put c.close_write.ensures.own) in
+    let own : AddsOnly (IsOfPut w.put) first new =
+    adds_then (IsOfPut w.put) first mid new c.feed.ensures.fed.own (subst (λ q. AddsOnly (IsOfPut q) mid new) c.feed.ensures.fed.fed.put c.close_write.ensures.own) in
     record {
       own = own;
       counts = err_when (λ why. count_of_refusal why ≤ new.device.faults) c.close_write.result
@@ -67,7 +67,7 @@ returns-in-None-clause-stands g c = λ contents told before.
     let v = g.S.Calls.written c.feed.new.writer in
     let fed = c.feed.ensures.fed in
     let rest = g.met.S.Calls.at_rest c.close_write.new.self c.close_write.ensures.keeps.goes_on.holds_then in
-    let whole = fed.taken_is ∙ ap (taken_of (state_at mid) w c.args.body.now) c.in-None.is in
+    let whole = fed.taken_is ∙ ap (taken_by_feed (state_at mid) w c.args.body.now) c.in-None.is in
     c.close_write.ensures.stands contents
     (closed_told (state_at mid) (state_at new) w v c.args.body.now c.feed.result.taken contents c.requires.fresh fed.fed whole
     (record { writing = writes_on g c; writer = fed.writer }) (put_grows mid new rest v.put v.put c.close_write.ensures.own) told)

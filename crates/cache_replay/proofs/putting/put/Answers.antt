@@ -1,7 +1,7 @@
 use Rattle.std.proofs.Common.{◌≤◌, refl, sym, subst}
 use Rattle.logged_disk.proofs.GoingOn.{told_before}
 use Rattle.tape_base.specs.declared.actors.Actor.{Actor}
-use Rattle.cache_calls.specs.Adds.{Adds, IsOfPut}
+use Rattle.cache_calls.specs.Adds.{AddsOnly, IsOfPut}
 use Rattle.cache_calls.specs.Keeping.{state_at}
 use Rattle.cache_calls.proofs.Keeping.{keeps_then}
 use Rattle.cache_replay.specs.Replies.{count_of_refusal}
@@ -45,9 +45,9 @@ returns-in-Ok-clause-tells g c =
     let mid = g.S.Calls.at c.open_write.new.self in
     let new = g.S.Calls.at c.put_open.new.cache in
     let put = (state_at old).next_put in
-    let opened : Adds (IsOfPut put) old mid = c.open_write.ensures.own in
+    let opened : AddsOnly (IsOfPut put) old mid = c.open_write.ensures.own in
     record {
-      own = adds_then (IsOfPut put) old mid new opened (subst (λ q. Adds (IsOfPut q) mid new) c.in-Ok.ensures.gives.answers.put c.put_open.ensures.tells.own);
+      own = adds_then (IsOfPut put) old mid new opened (subst (λ q. AddsOnly (IsOfPut q) mid new) c.in-Ok.ensures.gives.answers.put c.put_open.ensures.tells.own);
       counts = err_when (λ why. count_of_refusal why ≤ new.device.faults) c.put_open.result (losses_kept old mid opened.added opened.adds) c.put_open.ensures.tells.counts;
     }
 

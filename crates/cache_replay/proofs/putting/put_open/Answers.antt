@@ -1,6 +1,6 @@
 use Rattle.std.proofs.Common.{subst}
 use Rattle.logged_disk.proofs.GoingOn.{told_before}
-use Rattle.cache_calls.specs.Adds.{Adds, IsOfPut}
+use Rattle.cache_calls.specs.Adds.{AddsOnly, IsOfPut}
 use Rattle.cache_calls.specs.Keeping.{state_at}
 use Rattle.cache_calls.proofs.Keeping.{keeps_then}
 use Rattle.cache_replay.specs.Putting.{FillsWhere, TellsOfPut}
@@ -41,7 +41,7 @@ returns-in-Err-clause-tells g c =
     let put = (g.S.Calls.written c.args.writer.now).put in
     tells_ended (g.S.Calls.at c.args.cache.now) mid new put c.abort_write-end.result c.in-Err.why c.unless_memory.result c.abort_write-end.ensures.keeps.goes_on.later
     (subst (TellsOfPut (g.S.Calls.at c.args.cache.now) mid put) c.in-Err.is c.fill.ensures.tells)
-    (subst (λ q. Adds (IsOfPut q) mid new) c.fill.ensures.put c.abort_write-end.ensures.own) c.unless_memory.ensures
+    (subst (λ q. AddsOnly (IsOfPut q) mid new) c.fill.ensures.put c.abort_write-end.ensures.own) c.unless_memory.ensures
 
 pub returns-in-Err-clause-stands : goal.returns-in-Err-clause-stands
 returns-in-Err-clause-stands g c = λ contents told before.

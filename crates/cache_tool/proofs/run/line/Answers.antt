@@ -5,7 +5,7 @@ use Rattle.cache_replay.specs.Session.{devices_of, return_in}
 use Rattle.script_run.specs.Ledger.{AreReached}
 use Rattle.device_bay.specs.Calls.{refusals_of}
 use Rattle.cache_replay.proofs.Order.{order_same}
-use Rattle.run_promise.specs.Story.{refusals}
+use Rattle.run_promise.specs.Story.{refusals_around}
 use Rattle.cache_tool.proofs.Halts.{plays_reach}
 use Rattle.cache_tool.proofs.Stories.{passed_more, read_more}
 use Rattle.cache_tool.proofs.Ends.{done_ends, memory_ends, bad_ends, fault_ends, fault_failed, halt_failed, read_through, step_goes, step_ends, ending_of-begun, last_of-begun}
@@ -20,7 +20,7 @@ returns-in-End-clause-ends g c =
     let more = next.draws.more in
     let unread = text_after (held c.args.reader.now) more in
     λ first told back story. done_ends first new told _ back _ unread given _ _ (λ harms. AreReached harms (return_in c.args.session.now)) (devices_of c.args.session.now) (λ o is. is) (plays_reach c.args.session.now c.requires.session) (read_more first old new more (held c.args.reader.now) given _ _ _ _ next.draws.grew story)
-    (refusals [] []) (read_through given more old new unread (held c.next_reading.new.reader) next.draws.grew next.answers)
+    (refusals_around [] []) (read_through given more old new unread (held c.next_reading.new.reader) next.draws.grew next.answers)
 
 pub returns-in-Fault-clause-ends : goal.returns-in-Fault-clause-ends
 returns-in-Fault-clause-ends g c =
@@ -30,7 +30,7 @@ returns-in-Fault-clause-ends g c =
     let next = c.in-Fault.ensures in
     let more = next.draws.more in
     let unread = text_after (held c.args.reader.now) more in
-    let bay = refusals (refusals_of (g.B.Bay.past c.args.bay.now)) (refusals_of (g.B.Bay.past c.args.bay.now)) in
+    let bay = refusals_around (refusals_of (g.B.Bay.past c.args.bay.now)) (refusals_of (g.B.Bay.past c.args.bay.now)) in
     rw c.last_of.ensures
     (λ first told back story. fault_ends first new told _ back _ unread given _ _ (λ harms. AreReached harms (return_in c.args.session.now)) (devices_of c.args.session.now) (λ o is. is) (plays_reach c.args.session.now c.requires.session) (read_more first old new more (held c.args.reader.now) given _ _ _ _ next.draws.grew story)
     (held c.args.reader.now) old more (held c.next_reading.new.reader) bay c.in-Fault.fault refl next.draws.grew next.needed next.failed next.answers)
@@ -50,7 +50,7 @@ returns-in-Memory-clause-ends g c =
     let more = next.draws.more in
     let unread = text_after (held c.args.reader.now) more in
     λ first told back story. memory_ends first new told _ back _ unread given _ _ (λ harms. AreReached harms (return_in c.args.session.now)) (devices_of c.args.session.now) (λ o is. is) (plays_reach c.args.session.now c.requires.session) (read_more first old new more (held c.args.reader.now) given _ _ _ _ next.draws.grew story)
-    (refusals [] [])
+    (refusals_around [] [])
 
 pub returns-in-Line-Nothing-clause-goes : goal.returns-in-Line-Nothing-clause-goes
 returns-in-Line-Nothing-clause-goes g c =
@@ -72,7 +72,7 @@ returns-in-Line-Bad-clause-ends g c =
     let next = read.2 in
     let more = next.draws.more in
     let unread = text_after (held c.args.reader.now) more in
-    let bay = refusals (refusals_of (g.B.Bay.past c.args.bay.now)) (refusals_of (g.B.Bay.past c.args.bay.now)) in
+    let bay = refusals_around (refusals_of (g.B.Bay.past c.args.bay.now)) (refusals_of (g.B.Bay.past c.args.bay.now)) in
     rw c.lines_given.ensures
     (λ first told back story. bad_ends first new told _ back _ unread given _ _ (λ harms. AreReached harms (return_in c.args.session.now)) (devices_of c.args.session.now) (λ o is. is) (plays_reach c.args.session.now c.requires.session) (read_more first old new more (held c.args.reader.now) given _ _ _ _ next.draws.grew story)
     read.0 (held c.next_reading.new.reader) (lines_given c.next_reading.new.reader) next.answers next.given bay c.in-Line-Bad.fault (sym read.1 ∙ c.in-Line-Bad.field-0-is))

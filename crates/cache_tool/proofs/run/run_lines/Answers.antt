@@ -4,7 +4,7 @@ use Rattle.edge_io.proofs.Draws.{draws_more, draws_nothing}
 use Rattle.script_run.specs.Ledger.{ledger_of}
 use Rattle.device_bay.specs.Calls.{refusals_of}
 use Rattle.cache_replay.proofs.Order.{order_same, order_then}
-use Rattle.run_promise.specs.Story.{refusals}
+use Rattle.run_promise.specs.Story.{refusals_around}
 use Rattle.cache_tool.proofs.Ends.{begins, failed_earlier, Ends-earlier}
 use Rattle.cache_tool.proofs.Halts.{grows_more}
 use Rattle.cache_tool.proofs.run.run_lines.Goals as goal
@@ -42,8 +42,8 @@ lines-preserved g c =
 pub returns-in-Err-clause-ends : goal.returns-in-Err-clause-ends
 returns-in-Err-clause-ends g c =
     let before = c.lines.invariant in
-    let bay = refusals (refusals_of (g.B.Bay.past c.lines.bay)) (refusals_of (g.B.Bay.past c.line.new.bay)) in
-    let bay' = refusals (refusals_of (g.B.Bay.past c.args.bay.now)) (refusals_of (g.B.Bay.past c.line.new.bay)) in
+    let bay = refusals_around (refusals_of (g.B.Bay.past c.lines.bay)) (refusals_of (g.B.Bay.past c.line.new.bay)) in
+    let bay' = refusals_around (refusals_of (g.B.Bay.past c.args.bay.now)) (refusals_of (g.B.Bay.past c.line.new.bay)) in
     Ends-earlier bay bay' before.refusals refl _ _ _ _ _ _ c.in-Err.ending (c.in-Err.ensures.ends _ _ _ before.goes)
 
 pub returns-in-Err-clause-reads : goal.returns-in-Err-clause-reads

@@ -4,9 +4,9 @@ use Rattle.edge_io.specs.LineReader.{source_of}
 use Rattle.device_bay.specs.Calls.{gifts_of, refusals_of}
 use Rattle.cache_replay.specs.Session.{return_in}
 use Rattle.cache_replay.proofs.Order.{none_back, none_out, order_closed, order_then}
-use Rattle.logged_disk.specs.Device.{State as Device}
+use Rattle.logged_disk.specs.Device.{DeviceState as Device}
 use Rattle.script_run.specs.Ledger.{AreLast, AreReached, ledger_of}
-use Rattle.run_promise.specs.Story.{Owes, Told, refusals}
+use Rattle.run_promise.specs.Story.{Owes, Told, refusals_around}
 use Rattle.run_promise.specs.Top.{EachBack, EachBackOrMore}
 use Rattle.cache_tool.proofs.Stories.{Deals-settled}
 use Rattle.cache_tool.proofs.Ends.{nothing_back, none_own, nothing_ends, Ends-settled, gave_settled, wants_settled}
@@ -17,7 +17,7 @@ pub returns-in_default-clause-ends : goal.returns-in_default-clause-ends
 returns-in_default-clause-ends g c =
     let ledger = ledger_of g.B.Bay c.args.bay.now in
     nothing_ends (g.S.Source.reads c.args.source.now) (g.K.Sink.writes c.args.sink.now) (EachBack ledger ledger) (EachBackOrMore ledger ledger)
-    (λ t none own names. inl (nothing_back ledger t none own names)) (refusals [] [])
+    (λ t none own names. inl (nothing_back ledger t none own names)) (refusals_around [] [])
 
 pub returns-clause-ends : goal.returns-clause-ends
 returns-clause-ends g c =
@@ -25,7 +25,7 @@ returns-clause-ends g c =
     let after = c.run_lines-ending.new.reader in
     let back : c.source-1.given.0 ≡ (source_of after).now =
     c.source-1.given.1 (sym c.with_buffer-reader.ensures.source ∙ sym c.run_lines-ending.ensures.source ∙ sym c.into_source-source.ensures.source) ∙ c.into_source-source.ensures.now in
-    let bay = refusals (refusals_of (g.B.Bay.past c.args.bay.now)) (refusals_of (g.B.Bay.past c.run_lines-ending.new.bay)) in
+    let bay = refusals_around (refusals_of (g.B.Bay.past c.args.bay.now)) (refusals_of (g.B.Bay.past c.run_lines-ending.new.bay)) in
     let ledger = ledger_of g.B.Bay c.args.bay.now in
     let closed = ledger_of g.B.Bay c.close.new.bay in
     let settle : (t : Told) → Owes ledger (ledger_of g.B.Bay c.run_lines-ending.new.bay) (λ harms. AreReached harms (return_in c.run_lines-ending.new.session)) t → EachBack ledger closed t =

@@ -1,6 +1,6 @@
 use Rattle.std.proofs.Common.{◌+◌, ◌++◌, length, take, drop, sym, ap, ◌∙◌, subst}
 use Rattle.doc_header.specs.Document.{IsDocument}
-use Rattle.doc_header.specs.Moving.{doc_at}
+use Rattle.doc_header.specs.Moving.{doc_moved_to}
 use Rattle.doc_header.proofs.MovingLaws.{moved_in_two, moved_document}
 use Rattle.doc_header.proofs.moving.move_document.Goals as goal
 
@@ -12,5 +12,5 @@ returns-clause-moved c =
 
 pub returns-clause-document : goal.returns-clause-document
 returns-clause-document c generation before doc payload d =
-    subst (λ bytes. IsDocument bytes generation c.args.place (doc_at c.args.place doc) payload) (sym (returns-clause-moved c))
+    subst (λ bytes. IsDocument bytes generation c.args.place (doc_moved_to c.args.place doc) payload) (sym (returns-clause-moved c))
     (moved_document c.args.place c.args.bytes.now generation before doc payload c.ranges.place.fits d)

@@ -2,16 +2,16 @@ use Rattle.std.proofs.Common.{◌≡◌, ◌+◌, ◌-◌, ◌*◌, ◌∙◌, �
 use Rattle.std.proofs.lemmas.Slice.{take-put_mid}
 use Rattle.device_log.specs.Image.{span}
 use Rattle.device_log.proofs.Spans.{span_none, span_push}
-use Rattle.logged_disk.specs.Blocks.{seen_in}
+use Rattle.logged_disk.specs.Blocks.{written_image}
 use Rattle.logged_disk.proofs.blocks.read_blocks.Goals as goal
 
 pub loop-k-init : goal.loop-k-init
-loop-k-init c = sym (span_none (seen_in c.args.written.now) c.args.first)
+loop-k-init c = sym (span_none (written_image c.args.written.now) c.args.first)
 
 pub loop-k-preserved : goal.loop-k-preserved
 loop-k-preserved c =
     let k = c.loop-k.k in
-    let image = seen_in c.args.written.now in
+    let image = written_image c.args.written.now in
     let new = c.read_block.new.into in
     let part = simp (length-take, length-drop) at (c.read_block.auto.into) in
     let len : length new ≡ 512 = omega (arith, part, c.loop-k.auto.into) in

@@ -3,7 +3,7 @@ use Rattle.std.specs.Prelude.{All}
 use Rattle.std.proofs.lemmas.Bool.{cases_eq}
 use Rattle.std.proofs.lemmas.List.Elements.{All-push}
 use Rattle.dir_segment.specs.Lists.{Lists}
-use Rattle.dir_segment.specs.Image.{image_lists, image_walk, IsSound}
+use Rattle.dir_segment.specs.Image.{image_lists, image_walk, WalkIsSound}
 use Rattle.packed_directory.specs.PackedImage.{segment_image}
 use Rattle.packed_directory.proofs.Spelling.{range_more}
 use Rattle.packed_directory.proofs.image.read_segments.Goals as goal
@@ -18,7 +18,7 @@ loop-number-preserved c =
     record {
       segments = c.in_ok-push.ensures ∙ (λ i. c.loop-number.invariant.segments i ++ c.in_ok-segment.ensures.lists i ∷ []) ∙ range_more f k;
       sound = λ n lt. elim (cases_eq n k) [
-        | inl e ↦ subst (λ m. IsSound (image_walk g.buckets (segment_image g m bytes))) (sym e) c.in_ok-segment.ensures.sound
+        | inl e ↦ subst (λ m. WalkIsSound (image_walk g.buckets (segment_image g m bytes))) (sym e) c.in_ok-segment.ensures.sound
         | inr ne ↦ c.loop-number.invariant.sound n (omega (arith, lt, ne))
       ];
       widths = subst (All (λ (s : Lists). length s.chains ≡ g.buckets)) (sym c.in_ok-push.ensures) (All-push (λ (s : Lists). length s.chains ≡ g.buckets) old c.in_ok-segment.segment c.loop-number.invariant.widths c.in_ok-segment.ensures.width);

@@ -3,7 +3,7 @@ use Rattle.std.proofs.lemmas.Bool.{cases_eq}
 use Rattle.std.proofs.lemmas.List.{get_or_default}
 use Rattle.std.proofs.lemmas.List.Elements.{All-get_or}
 use Rattle.dir_segment.specs.Lists.{Lists}
-use Rattle.dir_segment.specs.Image.{image_lists, image_walk, IsSound}
+use Rattle.dir_segment.specs.Image.{image_lists, image_walk, WalkIsSound}
 use Rattle.packed_directory.specs.Packed.{segment_at}
 use Rattle.packed_directory.specs.PackedImage.{segment_length, segment_image}
 use Rattle.packed_directory.proofs.Spelling.{part_ends, image_same, all_spelled}
@@ -24,7 +24,7 @@ loop-i-preserved c =
     let before : take (i * segment_length g) new ≡ take (i * segment_length g) old = rw len-is at c.put.ensures.before in
     let kept : (n : ℕ) → n < i → segment_image g n new ≡ segment_image g n old = λ n below. image_same g n (i * segment_length g) new old (part_ends n i (segment_length g) below) before in
     let lists : image_lists g.buckets (segment_image g i new) ≡ segment_at segments i = (rw (len-is, wide) at c.put.ensures.lists) ∙ same in
-    let sound : IsSound (image_walk g.buckets (segment_image g i new)) = rw (len-is, wide) at c.put.ensures.sound in
+    let sound : WalkIsSound (image_walk g.buckets (segment_image g i new)) = rw (len-is, wide) at c.put.ensures.sound in
     record {
       size = c.put.ensures.len ∙ c.loop-i.invariant.size;
       lists = λ n below. elim (cases_eq n i) [
@@ -32,8 +32,8 @@ loop-i-preserved c =
         | inr ne ↦ let less : n < i = omega (arith, below, ne) in ap (image_lists g.buckets) (kept n less) ∙ c.loop-i.invariant.lists n less
       ];
       sound = λ n below. elim (cases_eq n i) [
-        | inl e ↦ subst (λ m. IsSound (image_walk g.buckets (segment_image g m new))) (sym e) sound
-        | inr ne ↦ let less : n < i = omega (arith, below, ne) in subst (λ (b : List ℕ). IsSound (image_walk g.buckets b)) (sym (kept n less)) (c.loop-i.invariant.sound n less)
+        | inl e ↦ subst (λ m. WalkIsSound (image_walk g.buckets (segment_image g m new))) (sym e) sound
+        | inr ne ↦ let less : n < i = omega (arith, below, ne) in subst (λ (b : List ℕ). WalkIsSound (image_walk g.buckets b)) (sym (kept n less)) (c.loop-i.invariant.sound n less)
       ];
     }
 
@@ -61,4 +61,4 @@ returns-clause-sound c = λ n below.
     let before : take (length segments * segment_length g) new ≡ take (length segments * segment_length g) old = rw len-is at c.clear_from.ensures.before in
     let less : n < length segments = omega (arith, below, c.requires.count) in
     let done : n < c.loop-i.i = omega (arith, less, c.loop-i-test.false) in
-    subst (λ (b : List ℕ). IsSound (image_walk g.buckets b)) (sym (image_same g n (length segments * segment_length g) new old (part_ends n (length segments) (segment_length g) less) before)) (c.loop-i.invariant.sound n done)
+    subst (λ (b : List ℕ). WalkIsSound (image_walk g.buckets b)) (sym (image_same g n (length segments * segment_length g) new old (part_ends n (length segments) (segment_length g) less) before)) (c.loop-i.invariant.sound n done)

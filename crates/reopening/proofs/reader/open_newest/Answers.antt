@@ -2,7 +2,7 @@ use Rattle.std.proofs.Common.{◌-◌, List, length, sym, ap, subst, ◌∙◌}
 use Rattle.std.specs.Prelude.{Some}
 use Rattle.std.specs.List.Sorted.{IsPermutation}
 use Rattle.dir_table.specs.declared.rows.StoredRow.{StoredRow}
-use Rattle.packed_directory.specs.PackedImage.{IsImage}
+use Rattle.packed_directory.specs.PackedImage.{IsImageOfSegments}
 use Rattle.reopening.specs.Slices.{image_of}
 use Rattle.reopening.specs.Newest.{directory_at}
 use Rattle.reopening.specs.Opens.{found_of, opening_with, rows_at, rows_told, dropped_at}
@@ -18,7 +18,7 @@ returns-in_ok-open_with-in-Ok-clause-opened c =
     let rows = c.in-Ok.rows.items in
     let bytes = c.directory_at-bytes.ensures.bytes in
     let same : IsPermutation (rows_at a image n) rows = subst (λ b. IsPermutation (rows_told g n.told b) rows) bytes c.in-Ok.ensures.rows in
-    let sound = image_is_sound g (directory_at a image n.side) (subst (IsImage g) bytes c.in-Ok.ensures.sound) in
+    let sound = image_is_sound g (directory_at a image n.side) (subst (IsImageOfSegments g) bytes c.in-Ok.ensures.sound) in
     let found = found_same (rows_at a image n) rows same a n.told image ∙ ap (λ l. found_of a n.told l image) (sym c.deref.ensures.value) in
     opens_newest a image n c.requires.newest sound
     ∙ ap Some (ap (opening_with g n.told) found ∙ sym c.in_ok-open_with-in-Ok.ensures.opened)

@@ -1,7 +1,7 @@
 -- What was passed is brought, and what is left is due from the place on.
 use Rattle.std.proofs.Common.{◌≡◌, ◌≤◌, ◌+◌, ◌-◌, ◌++◌, vec_len, vec_capacity}
 use Rattle.cache_model.specs.Kept.{state_of}
-use Rattle.stripe_due.specs.Finding.{candidates_of}
+use Rattle.stripe_due.specs.Finding.{due_candidates}
 use Rattle.stripe_due.specs.Walk.{candidates_from}
 use Rattle.stripe_due.proofs.finding.find_due.Given as goal
 
@@ -9,7 +9,7 @@ abbrev pub invariant-walk : goal.invariant-walk
 invariant-walk g l =
     let s = state_of (g.C.Chronicle.kept l.chronicle) in
     record {
-      due : l.into.items ++ candidates_from s l.now l.place l.next ≡ candidates_of s l.now;
+      due : l.into.items ++ candidates_from s l.now l.place l.next ≡ due_candidates s l.now;
       few : vec_len l.into + l.floor ≤ l.place;
       room : vec_capacity l.initial.into ≤ vec_capacity l.into;
     }

@@ -4,8 +4,8 @@ use Rattle.cache_model.specs.Kept.{Kept, state_of}
 use Rattle.stripe_core.specs.Stripe.{kept_in, seen_in, state_in}
 use Rattle.stripe_core.proofs.Between.{between-trans}
 use Rattle.stripe_core.proofs.Stills.{still_then}
-use Rattle.stripe_read.specs.Readers.{IsReaderOf}
-use Rattle.stripe_read.specs.Nexts.{IsOtherNext}
+use Rattle.stripe_read.specs.Readers.{IsStripeReaderOf}
+use Rattle.stripe_read.specs.Nexts.{NextIsOther}
 use Rattle.stripe_read.specs.Others.{AddsOfReader}
 use Rattle.stripe_read.proofs.Giving.{given_prepared, reads_prepared}
 use Rattle.stripe_read.proofs.Harmless.{behind_unharmed}
@@ -29,7 +29,7 @@ pub returns-in-Some-clause-unharmed : goal.returns-in-Some-clause-unharmed
 returns-in-Some-clause-unharmed g c =
     behind_unharmed (seen_in c.args.stripe.now).device (seen_in c.prepare.new.self).device (seen_in c.give.new.stripe).device
     (kept_in c.args.stripe.now) (kept_in c.prepare.new.self) (kept_in c.give.new.stripe)
-    (λ (x : IsOtherNext (state_in c.prepare.new.self) c.args.reader.now). subst (λ (k : Kept). IsOtherNext (state_of k) c.args.reader.now) c.prepare.ensures.records x)
+    (λ (x : NextIsOther (state_in c.prepare.new.self) c.args.reader.now). subst (λ (k : Kept). NextIsOther (state_of k) c.args.reader.now) c.prepare.ensures.records x)
     c.prepare.ensures.continues.between c.give.ensures.unharmed
 
 pub returns-in-Some-clause-own : goal.returns-in-Some-clause-own
@@ -38,13 +38,13 @@ returns-in-Some-clause-own g c =
     (owns_read_or_none (kept_in c.prepare.new.self) (kept_in c.give.new.stripe) c.args.reader.now c.give.result c.give.ensures.adds c.give.ensures.err)
 
 pub returns-in-Some-clause-keeps : goal.returns-in-Some-clause-keeps
-returns-in-Some-clause-keeps g c = λ own. c.give.ensures.keeps (subst (λ (k : Kept). IsReaderOf (state_of k) c.args.reader.now) (sym c.prepare.ensures.records) own)
+returns-in-Some-clause-keeps g c = λ own. c.give.ensures.keeps (subst (λ (k : Kept). IsStripeReaderOf (state_of k) c.args.reader.now) (sym c.prepare.ensures.records) own)
 
 pub returns-in-Some-clause-proceeds : goal.returns-in-Some-clause-proceeds
 returns-in-Some-clause-proceeds g c = proceeds_then _ _ _ (continues_proceeds _ _ c.prepare.ensures.continues) c.give.ensures.proceeds
 
 pub returns-in-None-clause-keeps : goal.returns-in-None-clause-keeps
-returns-in-None-clause-keeps g c = λ own. c.stop.ensures.keeps (subst (λ (k : Kept). IsReaderOf (state_of k) c.args.reader.now) (sym c.prepare.ensures.records) own)
+returns-in-None-clause-keeps g c = λ own. c.stop.ensures.keeps (subst (λ (k : Kept). IsStripeReaderOf (state_of k) c.args.reader.now) (sym c.prepare.ensures.records) own)
 
 pub returns-in-None-clause-proceeds : goal.returns-in-None-clause-proceeds
 returns-in-None-clause-proceeds g c = proceeds_then _ _ _ (continues_proceeds _ _ c.prepare.ensures.continues) (rests_proceeds _ _ c.stop.ensures.rests)

@@ -1,13 +1,13 @@
 use Rattle.std.proofs.Common.{Bool, Err, sym, subst, refl, inl}
 use Rattle.stripe_core.specs.Stripe.{kept_in, seen_in, state_in}
 use Rattle.stripe_write.specs.declared.writer.Writer.{Writer}
-use Rattle.stripe_write.specs.Writers.{IsWriterOf}
-use Rattle.stripe_write.specs.Closes.{SealsWhere}
+use Rattle.stripe_write.specs.Writers.{IsStripeWriterOf}
+use Rattle.stripe_write.specs.Closes.{SealsInStripeWhere}
 use Rattle.stripe_write.specs.Closing.{AreSpelled}
 use Rattle.stripe_write.proofs.Owning.{then_owns}
 use Rattle.stripe_write.proofs.LastSteps.{ended_leaves, ended_seals, ended_wants, refused_closes, refused_leaves, refused_own, refused_seals, refused_where, weighed_closes}
 use Rattle.stripe_core.proofs.Continuing.{rests_with}
-use Rattle.stripe_write.specs.Closes.{IsToldClosed}
+use Rattle.stripe_write.specs.Closes.{IsToldClosedInStripe}
 use Rattle.stripe_write.proofs.ToldPieces.{rests_behind}
 use Rattle.stripe_write.proofs.closing.close_open.Goals as goal
 
@@ -33,12 +33,12 @@ used w sealed = record { put = w.put; key = w.key; request = w.request; response
 
 pub returns-in-Err-clause-writer : goal.returns-in-Err-clause-writer
 returns-in-Err-clause-writer g c =
-    subst (λ b. IsWriterOf (state_in c.weigh.new.stripe) (used c.args.writer.now b)) (sym c.is_sealed_by-writer.ensures)
+    subst (λ b. IsStripeWriterOf (state_in c.weigh.new.stripe) (used c.args.writer.now b)) (sym c.is_sealed_by-writer.ensures)
     (refused_own (state_in c.weigh.new.stripe) (state_in c.args.stripe.now) c.args.writer.now c.in-Err.why c.in-Err.ensures.weighs c.weigh.ensures.writer)
 
 pub returns-in-Err-clause-seals : goal.returns-in-Err-clause-seals
 returns-in-Err-clause-seals g c =
-    subst (λ b. SealsWhere c.args.writer.now (used c.args.writer.now b) (Err c.in-Err.why)) (sym c.is_sealed_by-writer.ensures)
+    subst (λ b. SealsInStripeWhere c.args.writer.now (used c.args.writer.now b) (Err c.in-Err.why)) (sym c.is_sealed_by-writer.ensures)
     (refused_seals (state_in c.args.stripe.now) c.args.writer.now c.in-Err.why c.in-Err.ensures.weighs)
 
 pub returns-in-Ok-clause-own : goal.returns-in-Ok-clause-own
@@ -50,7 +50,7 @@ returns-in-Err-clause-rested g c = inl (record { put = refl; gathered = refl; ro
 
 pub returns-in-Ok-clause-rests : goal.returns-in-Ok-clause-rests
 returns-in-Ok-clause-rests g c =
-    let told = IsToldClosed (state_in c.end.new.stripe) c.args.writer.now in
+    let told = IsToldClosedInStripe (state_in c.end.new.stripe) c.args.writer.now in
     rests_behind told told _ _ _ (λ contents tells h. h) c.weigh.ensures.rests c.end.ensures.rests
 
 pub returns-in-Err-clause-rests : goal.returns-in-Err-clause-rests

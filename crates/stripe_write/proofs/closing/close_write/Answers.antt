@@ -3,13 +3,13 @@ use Rattle.cache_model.specs.Kept.{state_of}
 use Rattle.stripe_core.specs.declared.refusal.Refusal.TheVariants as refusal
 use Rattle.stripe_core.specs.Stripe.{kept_in, seen_in, state_in}
 use Rattle.stripe_core.proofs.Stills.{still_shows}
-use Rattle.stripe_write.specs.Writers.{IsWriterOf}
+use Rattle.stripe_write.specs.Writers.{IsStripeWriterOf}
 use Rattle.stripe_write.specs.Others.{AddsOfPut}
 use Rattle.stripe_write.proofs.Owning.{owns_none}
 use Rattle.stripe_write.proofs.Gathering.{same_writer}
 use Rattle.stripe_write.proofs.LastSteps.{closes_same, prepared_leaves, rested_same, seals_same, wanting_closes, wanting_map}
 use Rattle.stripe_core.proofs.Continuing.{continues_still, rests_same, rests_with, still_resting}
-use Rattle.stripe_write.specs.Closes.{IsToldClosed}
+use Rattle.stripe_write.specs.Closes.{IsToldClosedInStripe}
 use Rattle.stripe_write.proofs.ToldClosed.{closed_same}
 use Rattle.stripe_write.proofs.ToldPieces.{rests_behind}
 use Rattle.stripe_write.proofs.closing.close_write.Goals as goal
@@ -17,12 +17,12 @@ use Rattle.stripe_write.proofs.closing.close_write.Goals as goal
 pub close_open-requires-clause-writer : goal.close_open-requires-clause-writer
 close_open-requires-clause-writer g c =
     same_writer (state_in c.make_memory.new.stripe) c.args.writer.now c.make_memory.new.writer c.make_memory.ensures.same
-    (subst (λ k. IsWriterOf (state_of k) c.args.writer.now) (sym c.make_memory.ensures.records) c.requires.writer)
+    (subst (λ k. IsStripeWriterOf (state_of k) c.args.writer.now) (sym c.make_memory.ensures.records) c.requires.writer)
 
 pub returns-in-Err-clause-writer : goal.returns-in-Err-clause-writer
 returns-in-Err-clause-writer g c =
     same_writer (state_in c.make_memory.new.stripe) c.args.writer.now c.make_memory.new.writer c.make_memory.ensures.same
-    (subst (λ k. IsWriterOf (state_of k) c.args.writer.now) (sym c.make_memory.ensures.records) c.requires.writer)
+    (subst (λ k. IsStripeWriterOf (state_of k) c.args.writer.now) (sym c.make_memory.ensures.records) c.requires.writer)
 
 pub returns-in-Err-clause-does : goal.returns-in-Err-clause-does
 returns-in-Err-clause-does g c =
@@ -59,7 +59,7 @@ returns-in-Ok-clause-rests g c =
     let t = state_in c.close_open.new.stripe in
     let w = c.args.writer.now in
     let made = c.make_memory.new.writer in
-    rests_behind (IsToldClosed t made) (IsToldClosed t w) _ _ _
+    rests_behind (IsToldClosedInStripe t made) (IsToldClosedInStripe t w) _ _ _
     (λ contents tells told. closed_same t w made contents c.make_memory.ensures.same told)
     (continues_still _ _ c.make_memory.ensures.continues c.make_memory.ensures.records c.requires.resting) c.close_open.ensures.rests
 

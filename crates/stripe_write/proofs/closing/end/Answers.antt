@@ -16,8 +16,8 @@ use Rattle.call_laws.specs.Contents.{TellsVectors}
 use Rattle.cache_model.specs.Verdict.{cuts_of}
 use Rattle.stripe_core.proofs.Continuing.{rests_with, rests_with_then}
 use Rattle.stripe_write.specs.Closing.{IsReadFor}
-use Rattle.stripe_write.specs.Closes.{IsToldClosed}
-use Rattle.stripe_write.specs.Writes.{IsToldNext}
+use Rattle.stripe_write.specs.Closes.{IsToldClosedInStripe}
+use Rattle.stripe_write.specs.Writes.{IsToldNextInStripe}
 use Rattle.stripe_write.proofs.CutsStay.{finished_cuts}
 use Rattle.stripe_write.proofs.ToldClosed.{more_cut}
 use Rattle.stripe_write.proofs.ToldPieces.{told_same}
@@ -104,7 +104,7 @@ returns-in-Ok-clause-rests g c =
     let cuts : TellsAll last → cuts_of (state_in new) w.put ≡ cuts_of (state_in mid) w.put = λ tells.
     finished_cuts c.args.now (kept_in mid) (kept_in new) between.past last.past c.cut_rest.new.writer c.args.vectors c.finish.result c.finish.ensures.does
     c.cut_rest.ensures.rests.resting.stripe.none (read (told_before between last c.finish.ensures.rests.between.goes tells)) w.put in
-    rests_with_then (IsToldClosed (state_in new) w) (λ contents. 0 < length w.gathered.items → IsToldNext sealed w.gathered.items contents) TellsVectors _ _ _
+    rests_with_then (IsToldClosedInStripe (state_in new) w) (λ contents. 0 < length w.gathered.items → IsToldNextInStripe sealed w.gathered.items contents) TellsVectors _ _ _
     (λ contents tells told. (
       λ some. told_same contents w sealed w.gathered.items refl refl refl
           (told.rest (more_cut (state_in mid) (state_in new) w c.cut_rest.new.writer c.cut_rest.ensures.rest.put c.in-Ok.ensures.rows c.in-Ok.ensures.open

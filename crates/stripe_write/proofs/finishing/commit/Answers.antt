@@ -5,7 +5,7 @@ use Rattle.cache_model.specs.Verdict.{cuts_of}
 use Rattle.cache_model.proofs.Steps.{after_all-append}
 use Rattle.stripe_core.specs.Acts.{committed_record}
 use Rattle.stripe_core.specs.Stripe.{kept_in, state_in}
-use Rattle.stripe_write.specs.Writers.{IsWriterOf}
+use Rattle.stripe_write.specs.Writers.{IsStripeWriterOf}
 use Rattle.stripe_write.proofs.Completing.{closed_writer}
 use Rattle.std.proofs.lemmas.Grind.{common_steps}
 use Rattle.stripe_core.proofs.Continuing.{continues_rests}
@@ -16,7 +16,7 @@ returns-clause-writer g c =
     let kept = kept_in c.args.stripe.now in
     let s = state_in c.args.stripe.now in
     let w = c.args.writer.now in
-    subst (λ t. IsWriterOf t w) (sym (ap state_of c.commit.ensures.adds ∙ after_all-append kept.base kept.since (committed_record s w.put w.key c.args.alternates ∷ [])))
+    subst (λ t. IsStripeWriterOf t w) (sym (ap state_of c.commit.ensures.adds ∙ after_all-append kept.base kept.since (committed_record s w.put w.key c.args.alternates ∷ [])))
     (closed_writer s w w.key (total_length (cuts_of s w.put)) c.args.alternates)
 
 pub returns-clause-rests : goal.returns-clause-rests

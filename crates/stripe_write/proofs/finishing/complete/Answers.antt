@@ -9,7 +9,7 @@ use Rattle.stripe_pieces.specs.declared.answer.Placed.{Placed}
 use Rattle.stripe_write.specs.declared.writer.Writer.{Writer}
 use Rattle.stripe_write.proofs.Pushed.{pushed_by}
 use Rattle.stripe_write.proofs.Spending.{state_behind}
-use Rattle.logged_disk.specs.Device.{State as Device}
+use Rattle.logged_disk.specs.Device.{DeviceState as Device}
 use Rattle.logged_disk.proofs.GoingOn.{told_before}
 use Rattle.call_laws.specs.Contents.{TellsVectors, contents_of_vectors}
 use Rattle.stripe_pieces.specs.Standing.{IsToldPlaced}

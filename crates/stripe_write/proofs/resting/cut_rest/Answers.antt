@@ -1,6 +1,6 @@
 use Rattle.std.proofs.Common.{◌≡◌, ◌<◌, length, sym, subst, arith}
 use Rattle.stripe_core.specs.Stripe.{kept_in, state_in}
-use Rattle.stripe_write.specs.Writers.{IsWriterOf}
+use Rattle.stripe_write.specs.Writers.{IsStripeWriterOf}
 use Rattle.stripe_write.specs.Writes.{IsReady, next_id, next_start}
 use Rattle.stripe_core.proofs.Continuing.{rests_same, rests_with}
 use Rattle.stripe_write.proofs.Gathering.{failed_leaves, left_writer}
@@ -36,7 +36,7 @@ returns-in-Ok-clause-does g c =
 pub returns-in-Err-clause-writer : goal.returns-in-Err-clause-writer
 returns-in-Err-clause-writer g c =
     let w = c.args.writer.now in
-    subst (IsWriterOf (state_in c.cut.new.stripe)) (sym c.in-Err.ensures.same)
+    subst (IsStripeWriterOf (state_in c.cut.new.stripe)) (sym c.in-Err.ensures.same)
     (left_writer (state_in c.args.stripe.now) (state_in c.cut.new.stripe) w
     (failed_leaves g.R.Directory.purges c.args.now (kept_in c.args.stripe.now) (kept_in c.cut.new.stripe) _ _ (next_id w) w.pin (next_start w) w.gathered.items c.in-Err.refusal c.in-Err.ensures.does) c.requires.writer)
 

@@ -2,8 +2,8 @@ use Rattle.std.proofs.Common.{◌≡◌, Result, Ok, OnOk, Err, refl, sym, ◌�
 use Rattle.std.proofs.lemmas.Result.{err_from_is_err_and}
 use Rattle.cache_model.specs.Kept.{state_of}
 use Rattle.stripe_core.specs.Stripe.{kept_in, seen_in, state_in}
-use Rattle.stripe_write.specs.Writers.{IsWriterOf}
-use Rattle.stripe_write.specs.Weighing.{FitsWhere, IsOwnOf}
+use Rattle.stripe_write.specs.Writers.{IsStripeWriterOf}
+use Rattle.stripe_write.specs.Weighing.{FitsWhere, IsOwnAlternateOf}
 use Rattle.stripe_write.proofs.Counted.{read_counted}
 use Rattle.stripe_write.proofs.Owning.{owns_fit, owns_none, owns_read, then_owns}
 use Rattle.stripe_vectors.proofs.Seeing.{seen_none}
@@ -23,7 +23,7 @@ spell_own-requires-clause-more g c = more_gathered (state_in c.args.stripe.now) 
 
 pub fit-requires-clause-own : goal.fit-requires-clause-own
 fit-requires-clause-own g c =
-    subst (λ x. IsOwnOf x c.args.writer.now c.in_ok-own.own)
+    subst (λ x. IsOwnAlternateOf x c.args.writer.now c.in_ok-own.own)
     (c.geometry.ensures ∙ sym (same_puts (kept_in c.args.stripe.now) (kept_in c.read_vector.new.stripe) c.args.writer.now.key c.in_ok-found.found c.in_ok-found.ensures.adds).geometry)
     c.in_ok-own.ensures
 
@@ -55,7 +55,7 @@ returns-in_err-found-clause-does g c =
     (seen_in c.read_vector.new.stripe).device c.args.writer.now c.in_err-found.field-0.0 _ (wanting.1 ∙ ap Err wanting.2) c.in_err-found.ensures.err c.read_vector.ensures.seen
 
 pub returns-in_err-found-clause-writer : goal.returns-in_err-found-clause-writer
-returns-in_err-found-clause-writer g c = subst (λ k. IsWriterOf (state_of k) c.args.writer.now) (sym c.in_err-found.ensures.err) c.requires.writer
+returns-in_err-found-clause-writer g c = subst (λ k. IsStripeWriterOf (state_of k) c.args.writer.now) (sym c.in_err-found.ensures.err) c.requires.writer
 
 pub fit-requires-clause-writer : goal.fit-requires-clause-writer
 fit-requires-clause-writer g c =

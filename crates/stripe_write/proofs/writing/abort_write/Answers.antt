@@ -6,7 +6,7 @@ use Rattle.cache_model.specs.Legal.{IsQuiet, is_writing}
 use Rattle.stripe_core.specs.Acts.{GivesUpAsAsked}
 use Rattle.stripe_core.specs.declared.refusal.Refusal.{Refusal}
 use Rattle.stripe_core.specs.Stripe.{kept_in, state_in}
-use Rattle.stripe_write.specs.Writers.{IsWriterOf}
+use Rattle.stripe_write.specs.Writers.{IsStripeWriterOf}
 use Rattle.stripe_write.specs.Writes.{abort_adds}
 use Rattle.stripe_write.proofs.Spending.{nothing_more}
 use Rattle.stripe_write.proofs.Ended.{giving_up, no_writer, over}
@@ -19,20 +19,20 @@ pub returns-then-not-is_open-clause-does : goal.returns-then-not-is_open-clause-
 returns-then-not-is_open-clause-does g c = λ p. over p (state_in c.args.stripe.now) c.args.writer.now.put c.requires.resting.quiet (sym c.is_open.ensures ∙ c.if-not-is_open.true)
 
 pub returns-in_err-prepare-clause-writer : goal.returns-in_err-prepare-clause-writer
-returns-in_err-prepare-clause-writer g c = subst (λ k. IsWriterOf (state_of k) c.args.writer.now) (sym c.prepare.ensures.records) c.requires.writer
+returns-in_err-prepare-clause-writer g c = subst (λ k. IsStripeWriterOf (state_of k) c.args.writer.now) (sym c.prepare.ensures.records) c.requires.writer
 
 pub give_up-requires-clause-writing : goal.give_up-requires-clause-writing
 give_up-requires-clause-writing g c =
     giving_up (state_in c.prepare.new.self) c.args.writer.now (subst (λ k. IsQuiet (state_of k)) (sym c.prepare.ensures.records) c.requires.resting.quiet)
     (ap (λ k. is_writing (state_of k) c.args.writer.now.put) c.prepare.ensures.records ∙ (sym c.is_open.ensures ∙ c.if-not-is_open.false))
-    (subst (λ k. IsWriterOf (state_of k) c.args.writer.now) (sym c.prepare.ensures.records) c.requires.writer)
+    (subst (λ k. IsStripeWriterOf (state_of k) c.args.writer.now) (sym c.prepare.ensures.records) c.requires.writer)
 
 pub returns-clause-does : goal.returns-clause-does
 returns-clause-does g c = subst (λ t. GivesUpAsAsked t c.args.writer.now.put c.args.writer.now.key) (ap state_of c.prepare.ensures.records) c.give_up.ensures.does
 
 pub returns-clause-writer : goal.returns-clause-writer
 returns-clause-writer g c =
-    subst (λ t. IsWriterOf t c.args.writer.now)
+    subst (λ t. IsStripeWriterOf t c.args.writer.now)
     (sym (ap state_of c.give_up.ensures.adds ∙ Rattle.cache_model.proofs.Steps.after_all-append (kept_in c.prepare.new.self).base (kept_in c.prepare.new.self).since (rec.Aborted c.args.writer.now.put c.args.writer.now.key ∷ [])))
     (no_writer (state_in c.prepare.new.self) c.args.writer.now c.args.writer.now.key)
 

@@ -1,8 +1,8 @@
 use Rattle.std.proofs.Common.{[], ◌∷◌, false, sym, subst, refl, arith}
-use Rattle.stripe_core.specs.Acts.{opened_record}
+use Rattle.stripe_core.specs.Acts.{write_opened_record}
 use Rattle.stripe_core.specs.Stripe.{kept_in, state_in}
 use Rattle.stripe_write.specs.declared.writer.Writer.{Writer}
-use Rattle.stripe_write.specs.Writers.{IsWriterOf}
+use Rattle.stripe_write.specs.Writers.{IsStripeWriterOf}
 use Rattle.stripe_write.proofs.Ended.{new_writer}
 use Rattle.stripe_write.proofs.Spending.{state_behind}
 use Rattle.std.proofs.lemmas.Grind.{common_steps}
@@ -22,8 +22,8 @@ returns-clause-writer g c =
       table = c.new-2.result;
       sealed = false;
     } in
-    subst (λ t. IsWriterOf t w)
-    (sym (state_behind (kept_in c.args.stripe.now) (kept_in c.start_put.new.self) (opened_record s c.args.actor c.args.key c.args.request c.args.response c.args.pin ∷ []) c.in_ok-put.ensures.adds))
+    subst (λ t. IsStripeWriterOf t w)
+    (sym (state_behind (kept_in c.args.stripe.now) (kept_in c.start_put.new.self) (write_opened_record s c.args.actor c.args.key c.args.request c.args.response c.args.pin ∷ []) c.in_ok-put.ensures.adds))
     (new_writer s c.args.actor c.args.key c.args.request c.args.response c.args.pin w c.in_ok-put.ensures.does.0 refl c.in_ok-kept_request.ensures.copy c.in_ok-kept_response.ensures.copy refl c.new-2.ensures c.new.ensures.items)
 
 pub returns-clause-rests : goal.returns-clause-rests

@@ -6,7 +6,7 @@ use Rattle.cache_model.specs.Legal.{IsQuiet}
 use Rattle.stripe_pieces.specs.Place.{CutsAsAsked, IsFragmentOf, IsPlacing, IsVectorFor}
 use Rattle.stripe_core.specs.Stripe.{kept_in, seen_in, state_in}
 use Rattle.stripe_core.proofs.Stills.{wanting_unstopped}
-use Rattle.stripe_write.specs.Writes.{next_id, next_start, IsToldNext}
+use Rattle.stripe_write.specs.Writes.{next_id, next_start, IsToldNextInStripe}
 use Rattle.stripe_write.proofs.Cutting.{cut_quiet, cut_stops, cut_writer, cuts_behind, next_no_vector, ready_fragment, rows_behind}
 use Rattle.stripe_write.proofs.Gathering.{failed_leaves}
 use Rattle.stripe_write.proofs.Spending.{state_behind}
@@ -49,7 +49,7 @@ returns-clause-rests g c =
     let cuts : CutsAsAsked g.R.Directory.purges c.args.now old new (seen_in c.args.stripe.now).device.past (seen_in c.place_piece.new.self).device (next_id w) w.pin (next_start w) w.gathered.items
     (Ok c.in_ok-placed.placed) = returns-clause-does g c in
     let id : PieceId = record { first = w.key; put = w.put; index = c.len.result + 1 } in
-    let told : (contents : Contents) → IsToldNext w w.gathered.items contents
+    let told : (contents : Contents) → IsToldNextInStripe w w.gathered.items contents
     → IsToldPlaced (seen_in c.place_piece.new.self).device s id c.total.result c.deref-payload.result.now contents = λ contents next tells.
     rw (c.len.ensures.len, c.total.ensures, c.deref-payload.ensures.value)
     (told_of_next contents s (next_id w) (next_start w) w.gathered.items (next_no_vector w) next) in

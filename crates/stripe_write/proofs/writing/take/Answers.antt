@@ -5,14 +5,14 @@ use Rattle.cache_model.specs.Legal.{is_writing}
 use Rattle.stripe_core.proofs.Stills.{still_then, unstopped, unstopped_map}
 use Rattle.stripe_core.specs.declared.refusal.Refusal.{Refusal}
 use Rattle.stripe_core.specs.Stripe.{kept_in, state_in}
-use Rattle.stripe_write.specs.Writers.{IsWriterOf}
+use Rattle.stripe_write.specs.Writers.{IsStripeWriterOf}
 use Rattle.stripe_write.specs.declared.writer.Writer.{Writer}
-use Rattle.stripe_write.specs.Writes.{gathered_with, next_id, next_start, taken_of}
-use Rattle.stripe_write.specs.Numbers.{StopsAtLimit}
+use Rattle.stripe_write.specs.Writes.{gathered_behind, next_id, next_start, taken_up_to_cut}
+use Rattle.stripe_write.specs.Numbers.{StopsExhausted}
 use Rattle.tape_base.specs.declared.geometries.Geometry.{Geometry}
 use Rattle.stripe_write.proofs.Gathering.{cut_now, few_gathered, gathered_length, is_ready, left_cut, more_writer, not_cut, same_writer, SameButGathered, back, failed_leaves, left_writer, refused_where, taken_back, writes_cut, writes_few, writes_refused, writes_wanting}
 use Rattle.stripe_core.proofs.Continuing.{continues_still, rests_with, still_resting, then_rests}
-use Rattle.stripe_write.specs.Writes.{IsToldNext, IsToldWritten}
+use Rattle.stripe_write.specs.Writes.{IsToldNextInStripe, IsToldWrittenInStripe}
 use Rattle.stripe_write.proofs.ToldPieces.{rests_behind, told_same}
 use Rattle.stripe_write.proofs.writing.take.Goals as goal
 
@@ -22,18 +22,18 @@ overflow_sub-room g c =
     rw c.geometry.ensures (omega (arith, few, c.len-before.ensures))
 
 pub returns-in_err-prepare-clause-writer : goal.returns-in_err-prepare-clause-writer
-returns-in_err-prepare-clause-writer g c = subst (λ k. IsWriterOf (state_of k) c.args.writer.now) (sym c.prepare.ensures.records) c.requires.writer
+returns-in_err-prepare-clause-writer g c = subst (λ k. IsStripeWriterOf (state_of k) c.args.writer.now) (sym c.prepare.ensures.records) c.requires.writer
 
 pub returns-in_err-reserve-clause-writer : goal.returns-in_err-reserve-clause-writer
 returns-in_err-reserve-clause-writer g c =
     same_writer (state_in c.prepare.new.self) c.args.writer.now _ (record { put = refl; key = refl; request = refl; response = refl; pin = refl; gathered = refl; rows = c.reserve.ensures.rows; sealed = refl })
-    (subst (λ k. IsWriterOf (state_of k) c.args.writer.now) (sym c.prepare.ensures.records) c.requires.writer)
+    (subst (λ k. IsStripeWriterOf (state_of k) c.args.writer.now) (sym c.prepare.ensures.records) c.requires.writer)
 
 pub returns-in_err-extend_from_slice-clause-writer : goal.returns-in_err-extend_from_slice-clause-writer
 returns-in_err-extend_from_slice-clause-writer g c =
     same_writer (state_in c.prepare.new.self) c.args.writer.now _
     (record { put = refl; key = refl; request = refl; response = refl; pin = refl; gathered = c.in_err-extend_from_slice.ensures.items; rows = c.reserve.ensures.rows; sealed = refl })
-    (subst (λ k. IsWriterOf (state_of k) c.args.writer.now) (sym c.prepare.ensures.records) c.requires.writer)
+    (subst (λ k. IsStripeWriterOf (state_of k) c.args.writer.now) (sym c.prepare.ensures.records) c.requires.writer)
 
 pub returns-then-taken-room-clause-writer : goal.returns-then-taken-room-clause-writer
 returns-then-taken-room-clause-writer g c =
@@ -47,7 +47,7 @@ returns-then-taken-room-clause-writer g c =
     let less : length c.extend_from_slice.new.self.items < s.geometry.fragment = omega (arith, size, few, fragment, c.len-before.ensures, c.if-taken-room.true) in
     more_writer (state_in c.prepare.new.self) w _ (record { put = refl; key = refl; request = refl; response = refl; pin = refl; rows = c.reserve.ensures.rows; sealed = refl })
     c.requires.unsealed c.requires.few (rw (ap state_of c.prepare.ensures.records) less)
-    (subst (λ k. IsWriterOf (state_of k) w) (sym c.prepare.ensures.records) c.requires.writer)
+    (subst (λ k. IsStripeWriterOf (state_of k) w) (sym c.prepare.ensures.records) c.requires.writer)
 
 pub cut-requires-clause-ready : goal.cut-requires-clause-ready
 cut-requires-clause-ready g c =
@@ -60,7 +60,7 @@ cut-requires-clause-ready g c =
     let fragment = ap (λ (x : Geometry). x.fragment) c.geometry.ensures in
     let whole : length c.extend_from_slice.new.self.items ≡ s.geometry.fragment = omega (arith, size, few, fragment, c.len-before.ensures, c.min-taken.ensures, c.if-taken-room.false) in
     is_ready (state_in c.prepare.new.self) w _ (ap (λ k. is_writing (state_of k) w.put) c.prepare.ensures.records ∙ c.requires.open) c.requires.unsealed
-    (subst (λ k. IsWriterOf (state_of k) w) (sym c.prepare.ensures.records) c.requires.writer)
+    (subst (λ k. IsStripeWriterOf (state_of k) w) (sym c.prepare.ensures.records) c.requires.writer)
     (record { put = refl; key = refl; request = refl; response = refl; pin = refl; rows = c.reserve.ensures.rows; sealed = refl }) c.requires.few (rw (ap state_of c.prepare.ensures.records) whole) c.in_ok-reserve.ensures.room
 
 pub returns-in-Ok-clause-does : goal.returns-in-Ok-clause-does
@@ -100,10 +100,10 @@ returns-in-Ok-clause-rests g c =
     let fragment = ap (λ (x : Geometry). x.fragment) c.geometry.ensures in
     let held : Writer = record { put = w.put; key = w.key; request = w.request; response = w.response; pin = w.pin; gathered = c.extend_from_slice.new.self; table = c.reserve.new.self; sealed = w.sealed } in
     let cuts = cut_now s.geometry w n (omega (arith, few, fragment, c.len-before.ensures, c.min-taken.ensures, c.if-taken-room.false)) in
-    rests_behind (IsToldNext held held.gathered.items) (IsToldWritten s w c.args.bytes.now (Ok n)) _ _ _
+    rests_behind (IsToldNextInStripe held held.gathered.items) (IsToldWrittenInStripe s w c.args.bytes.now (Ok n)) _ _ _
     (λ contents tells told.
-    subst (λ bytes. IsToldNext held bytes contents) (sym c.in_ok-extend_from_slice.ensures.items)
-    (told_same contents w held (gathered_with w c.args.bytes.now n) refl refl c.reserve.ensures.rows (told cuts)))
+    subst (λ bytes. IsToldNextInStripe held bytes contents) (sym c.in_ok-extend_from_slice.ensures.items)
+    (told_same contents w held (gathered_behind w c.args.bytes.now n) refl refl c.reserve.ensures.rows (told cuts)))
     (continues_still _ _ c.prepare.ensures.continues c.prepare.ensures.records c.requires.resting) c.in-Ok.ensures.rests
 
 pub returns-in-Err-clause-rests : goal.returns-in-Err-clause-rests
@@ -142,7 +142,7 @@ returns-in-Err-clause-writer g c =
       rows = ap (λ (x : Writer). x.table.rows) same;
       sealed = ap (λ (x : Writer). x.sealed) same;
     }) gathered)
-    (subst (λ k. IsWriterOf (state_of k) w) (sym c.prepare.ensures.records) c.requires.writer))
+    (subst (λ k. IsStripeWriterOf (state_of k) w) (sym c.prepare.ensures.records) c.requires.writer))
 
 pub returns-in-Ok-clause-gathers : goal.returns-in-Ok-clause-gathers
 returns-in-Ok-clause-gathers g c =
@@ -166,7 +166,7 @@ returns-in-Err-clause-writes g c =
     refused_where s w c.args.bytes.now c.in-Err.refusal _ _ c.in-Err.ensures.does (record {
       taking = (c.requires.open, c.requires.unsealed);
       few = c.requires.few;
-      full = cut_now s.geometry w (taken_of s.geometry w c.args.bytes.now) (omega (arith, few, fragment, c.len-before.ensures, c.min-taken.ensures, c.if-taken-room.false));
+      full = cut_now s.geometry w (taken_up_to_cut s.geometry w c.args.bytes.now) (omega (arith, few, fragment, c.len-before.ensures, c.min-taken.ensures, c.if-taken-room.false));
     })
 
 pub returns-in-Err-clause-does : goal.returns-in-Err-clause-does
@@ -175,11 +175,11 @@ returns-in-Err-clause-does g c =
     let w = c.args.writer.now in
     let held : Writer = record { put = w.put; key = w.key; request = w.request; response = w.response; pin = w.pin; gathered = c.extend_from_slice.new.self; table = c.reserve.new.self; sealed = w.sealed } in
     let fragment = ap (λ (x : Geometry). x.fragment) c.geometry.ensures in
-    let taken : c.min-taken.result ≡ taken_of s.geometry w c.args.bytes.now = omega (arith, fragment, c.len-before.ensures, c.min-taken.ensures) in
+    let taken : c.min-taken.result ≡ taken_up_to_cut s.geometry w c.args.bytes.now = omega (arith, fragment, c.len-before.ensures, c.min-taken.ensures) in
     writes_refused c.args.now (kept_in c.args.stripe.now) (kept_in c.prepare.new.self) (kept_in c.cut.new.stripe) _ _ _ w held c.args.bytes.now c.in-Err.refusal
     c.prepare.ensures.records c.prepare.ensures.still.past
     (record { put = refl; key = refl; request = refl; response = refl; pin = refl; rows = c.reserve.ensures.rows; sealed = refl })
-    (c.in_ok-extend_from_slice.ensures.items ∙ ap (gathered_with w c.args.bytes.now) taken) c.in-Err.ensures.does
+    (c.in_ok-extend_from_slice.ensures.items ∙ ap (gathered_behind w c.args.bytes.now) taken) c.in-Err.ensures.does
 
 pub returns-in-Err-clause-number : goal.returns-in-Err-clause-number
 returns-in-Err-clause-number g c =
@@ -191,7 +191,7 @@ returns-in-Err-clause-number g c =
     ap length c.in_ok-extend_from_slice.ensures.items ∙ gathered_length w c.args.bytes.now n (omega (arith, c.min-taken.ensures)) in
     let fragment = ap (λ (x : Geometry). x.fragment) c.geometry.ensures in
     let whole : length c.extend_from_slice.new.self.items ≡ s.geometry.fragment = omega (arith, size, few, fragment, c.len-before.ensures, c.min-taken.ensures, c.if-taken-room.false) in
-    subst (λ k. StopsAtLimit (state_in c.cut.new.stripe) k c.in-Err.refusal) whole c.in-Err.ensures.number
+    subst (λ k. StopsExhausted (state_in c.cut.new.stripe) k c.in-Err.refusal) whole c.in-Err.ensures.number
 
 pub returns-in_err-prepare-clause-rests : goal.returns-in_err-prepare-clause-rests
 returns-in_err-prepare-clause-rests g c =

@@ -2,13 +2,13 @@ use Rattle.std.proofs.Common.{rules, ◌≡◌, refl, length, ◌+◌, ◌++◌,
 use Rattle.std.specs.Map.{lookup}
 use lib.Pointwise.{pointwise}
 use Rattle.actor_table.proofs.Numbers.{distinct_entered, index_entered}
-use Rattle.actor_table.specs.Index.{known_from, texts_of}
+use Rattle.actor_table.specs.Index.{known_from, texts_of_names}
 use Rattle.actor_table.proofs.table.Actors.add.Goals as goal
 
 pub invariant_of-self-2 : goal.invariant_of-self-2
 invariant_of-self-2 g c =
     let names = c.self.inside.names.items in
-    let new : known_from 1 (texts_of names) c.args.name.now ≡ None = search rules in
+    let new : known_from 1 (texts_of_names names) c.args.name.now ≡ None = search rules in
     let key_is : c.in_ok-key.key.items ≡ c.args.name.now = c.in_ok-key.ensures.items_if_clones_equal (λ x y e. e) in
     let kept_is : c.in_ok-kept.kept.items ≡ c.args.name.now = c.in_ok-kept.ensures.items_if_clones_equal (λ x y e. e) in
     let more : c.push_reserved.new.self.items ≡ names ++ c.in_ok-kept.kept ∷ [] = search rules in

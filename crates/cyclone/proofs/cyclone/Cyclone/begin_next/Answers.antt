@@ -6,7 +6,7 @@ use Rattle.dir_table.specs.declared.window.Window.{Window}
 use Rattle.dir_table.specs.Wrap.{stored_from}
 use Rattle.dir_table.proofs.Plainly.{plain_from}
 use Rattle.write_cursor.specs.Plan.{FitsInLap}
-use Rattle.cyclone.specs.Cyclone.{cursor_next, seen}
+use Rattle.cyclone.specs.Cyclone.{next_buffer_cursor, seen_cyclone}
 use Rattle.cyclone.proofs.Turning.{next_turns, stored_below}
 use Rattle.cyclone.proofs.cyclone.Cyclone.begin_next.Goals as goal
 
@@ -20,19 +20,20 @@ wrap-requires-clause-above g c =
 pub returns-clause-begins : goal.returns-clause-begins
 returns-clause-begins g c =
     let geometry = c.args.self.now.geometry in
-    let old = seen c.args.self.now in
+    let old = seen_cyclone c.args.self.now in
     let before = g.R.Directory.rows c.args.self.now.directory in
     let after = g.R.Directory.rows c.wrap.new.self in
-    let next : c.plan-next.result.cursor ≡ cursor_next old =
+    let next : c.plan-next.result.cursor ≡ next_buffer_cursor old =
     c.plan-next.ensures.cursor ∙ (ap (λ n. next_cursor_of geometry n c.filled.result) c.cursor-cursor.ensures ∙ ap (λ n. next_cursor_of geometry c.args.self.now.buffer.cursor n) c.filled.ensures.filled) in
-    let floor : c.plan-next.result.floor ≡ floor_of geometry (cursor_next old) = c.plan-next.ensures.floor ∙ ap (floor_of geometry) next in
+    let floor : c.plan-next.result.floor ≡ floor_of geometry (next_buffer_cursor old) = c.plan-next.ensures.floor
+    ∙ ap (floor_of geometry) next in
     let stored = subst (λ (n : ℕ). IsPermutation (stored_from n before) after) floor c.wrap.ensures.rows in
     record {
       geometry = refl;
       buffer = c.begin.ensures ∙ ap (λ n. empty_buffer n c.args.self.now.buffer.reserved) next;
       window = c.wrap.ensures.window
           ∙ (λ i. let w : Window = record old.window { cursor = next i; floor = floor i; end = next i } in w);
-      rows = plain_from (floor_of geometry (cursor_next old)) before after stored;
+      rows = plain_from (floor_of geometry (next_buffer_cursor old)) before after stored;
       stored = stored;
       displaced = c.wrap.ensures.displaced;
       spare = c.wrap.ensures.spare;
@@ -42,7 +43,7 @@ returns-clause-begins g c =
 pub returns-clause-turns : goal.returns-clause-turns
 returns-clause-turns g c =
     let geometry = c.args.self.now.geometry in
-    let next : c.plan-next.result.cursor ≡ cursor_next (seen c.args.self.now) =
+    let next : c.plan-next.result.cursor ≡ next_buffer_cursor (seen_cyclone c.args.self.now) =
     c.plan-next.ensures.cursor ∙ (ap (λ n. next_cursor_of geometry n c.filled.result) c.cursor-cursor.ensures ∙ ap (λ n. next_cursor_of geometry c.args.self.now.buffer.cursor n) c.filled.ensures.filled) in
     let here : FitsInLap geometry c.cursor-cursor.result = rw c.cursor-cursor.ensures c.requires.turns.lap in
     next_turns _ _ c.requires.turns (returns-clause-begins g c)

@@ -7,13 +7,13 @@ use Rattle.dir_table.specs.Rows.{row_of_key, plain_row, plain_rows}
 use Rattle.dir_table.specs.Displacement.{Displaces}
 use Rattle.dir_table.specs.Entering.{TakesRow}
 use Rattle.dir_table.proofs.Plainly.{plain_takes, plain_gone, plain_none}
-use Rattle.cyclone.specs.Cyclone.{row_of_piece, seen}
+use Rattle.cyclone.specs.Cyclone.{row_of_piece, seen_cyclone}
 use Rattle.cyclone.proofs.Turning.{takes_out, takes_out_stored, moved_turns}
 use Rattle.cyclone.proofs.cyclone.Cyclone.move_piece.Goals as goal
 
 pub returns-clause-moved : goal.returns-clause-moved
 returns-clause-moved g c =
-    let old = seen c.args.self.now in
+    let old = seen_cyclone c.args.self.now in
     let before = g.R.Directory.window c.args.self.now.directory in
     let after = g.R.Directory.window c.delete.new.self in
     let stored = g.R.Directory.rows c.args.self.now.directory in
@@ -52,7 +52,7 @@ returns-clause-moved g c =
 
 pub returns-clause-entered : goal.returns-clause-entered
 returns-clause-entered g c =
-    let old = seen c.args.self.now in
+    let old = seen_cyclone c.args.self.now in
     let stored = g.R.Directory.rows c.args.self.now.directory in
     let left = g.R.Directory.rows c.delete.new.self in
     record {
@@ -66,6 +66,6 @@ returns-clause-entered g c =
 
 pub returns-clause-turns : goal.returns-clause-turns
 returns-clause-turns g c =
-    let old = seen c.args.self.now in
+    let old = seen_cyclone c.args.self.now in
     moved_turns g.R.Directory.purges old _ c.args.id c.args.from c.args.bytes.now c.requires.turns (returns-clause-moved g c)
     (omega (arith, c.put_moved.ensures.size, c.requires.whole.some, c.requires.whole.whole))

@@ -9,7 +9,7 @@ use Rattle.dir_table.specs.Displacement.{Displaces}
 use Rattle.dir_table.specs.Entering.{TakesRow}
 use Rattle.dir_table.specs.Rows.{row_of_key, plain_row, plain_rows}
 use Rattle.dir_table.proofs.Plainly.{plain_takes}
-use Rattle.cyclone.specs.Cyclone.{seen}
+use Rattle.cyclone.specs.Cyclone.{seen_cyclone}
 use Rattle.cyclone.proofs.Turning.{put_turns}
 use Rattle.cyclone.proofs.cyclone.Cyclone.put.Goals as goal
 
@@ -37,7 +37,7 @@ returns-clause-put g c =
     let before = g.R.Directory.window c.args.self.now.directory in
     let ends : c.args.doc.now.place + c.blocks_of-blocks.result ≡ next_place_of c.put_document-payload.new.self =
     omega (arith, c.requires.place, c.blocks_of-blocks.ensures, c.put_document-payload.ensures.size, c.put_document-payload.ensures.added.next) in
-    let old = seen c.args.self.now in
+    let old = seen_cyclone c.args.self.now in
     let enters = c.insert.ensures.rows in
     let stored = g.R.Directory.rows c.args.self.now.directory in
     let after = g.R.Directory.rows c.insert.new.self in

@@ -27,7 +27,7 @@ use denote.Triple.Spec.{Meets, triple_of}
 use denote.Triple.Table.{entered}
 use denote.Triple.Walked.{says, Stays, stay_ref, walk_of, AllGo, Goes-ref, Walks, ends_at, walked, walk_Meets}
 use Rattle.device_log.specs.declared.rows.GhostRows.{GhostRows}
-use Rattle.device_log.specs.Row.{row_of}
+use Rattle.device_log.specs.Row.{call_row}
 use Rattle.device_log.specs.contracts.rows.GhostRows as T
 use Rattle.device_log.specs.contracts.rows.GhostRows.note.Key.{name as #it}
 use Rattle.device_log.specs.contracts.rows.GhostRows.note as it
@@ -53,7 +53,7 @@ module _ {M : Type 1} {𝓤 : Ura M} (𝓛 : Logic 𝓤) (at_mem : Memory → SP
   x = (record { ref_ptr = (b, o); ghost_name = γ; now = h }, (k, (s, tt)))
 
   abbrev h' : GhostRows
-  h' = record { marker = h.marker; rows = row_of k.now s.now ∷ h.rows }
+  h' = record { marker = h.marker; rows = call_row k.now s.now ∷ h.rows }
 
   abbrev at : List Val × (List Val × (List Val × Unit {0}))
   at = (vptr b o ∷ [], (slice_val k.ref_ptr (length k.now) ∷ [], (slice_val s.ref_ptr (length s.now) ∷ [], tt)))

@@ -1,7 +1,7 @@
 use Rattle.std.proofs.Common.{◌≡◌, ◌*◌, ◌∙◌, List, length, refl, sym, ap, subst, arith}
 use Rattle.std.proofs.lemmas.Result.{err_from_is_err_and}
 use Rattle.dir_entry.specs.declared.entry.Entry.{Entry}
-use Rattle.dir_segment.specs.Image.{image_slots, IsFault, IsSound}
+use Rattle.dir_segment.specs.Image.{image_slots, IsFault, WalkIsSound}
 use Rattle.dir_segment.proofs.Bytes.{read_head, read_count, read_slots, length-image, same_walk}
 use Rattle.dir_segment.proofs.Marking.{accepted}
 use Rattle.dir_segment.proofs.Walks.{own_lists, length-lists_of}
@@ -58,7 +58,7 @@ returns-clause-sound c =
     let slots-are : slots ≡ image_slots c.args.buckets bytes = c.in_ok-slots.ensures ∙ read_slots bytes _ c.args.buckets c.requires.len refl in
     let size : length slots ≡ 4 * c.args.buckets = ap (λ (q : List Entry). length q) slots-are ∙ length-image c.args.buckets bytes in
     let same = same_walk slots c.from_le_bytes-free.result c.from_le_bytes-kept.result c.args.buckets bytes slots-are (c.from_le_bytes-free.ensures ∙ read_head bytes) (c.from_le_bytes-kept.ensures ∙ read_count bytes) in
-    subst IsSound (sym c.in_ok-walk_all.ensures ∙ same) tt
+    subst WalkIsSound (sym c.in_ok-walk_all.ensures ∙ same) tt
 
 pub returns-clause-width : goal.returns-clause-width
 returns-clause-width c = length-lists_of c.in_ok-slots.slots c.from_le_bytes-free.result c.args.buckets

@@ -1,7 +1,7 @@
 use Rattle.std.proofs.Common.{◌≡◌, ◌-◌, ◌*◌, ◌<◌, ℕ, List, Bool, length, sym, ap, ◌∙◌, arith}
 use Rattle.std.proofs.lemmas.List.{length-map}
 use Rattle.dir_entry.specs.declared.entry.Entry.{Entry}
-use Rattle.dir_segment.specs.Lists.{Row, Lists}
+use Rattle.dir_segment.specs.Lists.{SlotRow, Lists}
 use Rattle.dir_segment.specs.Cleaning.{each_bucket}
 use Rattle.dir_segment.specs.Purging.{purged, after_purge, is_unmarked, thin_bucket}
 use Rattle.dir_segment.proofs.Purging.{purge_entries, purge_left, purge_frees}
@@ -26,7 +26,7 @@ returns-clause-lists c =
     let long : length c.clear.new.self.marks ≡ 4 * length lists.chains = omega (arith, c.clear.ensures.size, c.clear.ensures.buckets, c.requires.made) in
     let step = thin_bucket (is_unmarked c.offer_all.new.out.marks) in
     sym (ap (λ m. each_bucket step c.loop-bucket.bucket m c.loop-bucket.self) end) ∙ c.loop-bucket.invariant.lists
-    ∙ ap (λ (test : Row → Bool). each_bucket (thin_bucket test) 0 n lists)
+    ∙ ap (λ (test : SlotRow → Bool). each_bucket (thin_bucket test) 0 n lists)
     (purge_left lists c.clear.new.self c.offer_all.new.out c.clear.ensures.empty c.clear.ensures.skip c.offer_all.ensures.offered long c.clear.ensures.marks)
 
 pub returns-clause-entries : goal.returns-clause-entries
@@ -34,7 +34,7 @@ returns-clause-entries c = purge_entries c.args.self.now c.clear.new.self c.offe
 
 pub returns-clause-tenth : goal.returns-clause-tenth
 returns-clause-tenth c = λ full.
-    ap (λ (q : List Entry). length q) (returns-clause-entries c) ∙ length-map (purged c.args.self.now) (λ (r : Row). r.entry) ∙ c.bucket_count-bucket-end.ensures.tenth full
+    ap (λ (q : List Entry). length q) (returns-clause-entries c) ∙ length-map (purged c.args.self.now) (λ (r : SlotRow). r.entry) ∙ c.bucket_count-bucket-end.ensures.tenth full
 
 pub returns-clause-room : goal.returns-clause-room
 returns-clause-room c = λ full none.

@@ -1,6 +1,6 @@
 use Rattle.std.proofs.Common.{◌≡◌, None, ◌+◌, ◌<◌, ◌^◌, cond, length, sym, ap, ◌∙◌, refl, zero-add, arith}
 use Rattle.open_directory.specs.declared.kept.Reader.{Reader}
-use Rattle.open_directory.specs.Directory.{followers_of, is_done_put, is_number, is_open, is_open_put, kept_put, with_followers}
+use Rattle.open_directory.specs.Directory.{followers_of, is_done_put, is_kept_open, is_number, is_open_put, kept_put, with_followers}
 use Rattle.open_directory.proofs.Followers.{followers_added, followers_few, is_follower_so, is_no_follower}
 use Rattle.open_directory.proofs.Standing.{more_is_not_done, seen_changed}
 use Rattle.open_directory.proofs.Indexed.{indexed_added}
@@ -22,7 +22,7 @@ invariant_of-self c =
       index = indexed_added c.args.reader reader c.self.inside.index.trees.entries c.add.new.self.trees.entries c.self.inside.readers.entries c.add-2.new.self.entries c.self.invariant.index c.add.ensures.least c.add.ensures.next none c.add-2.ensures.finds;
       held = record {
         few = c.self.invariant.held.few;
-        writing = λ q. c.self.invariant.held.writing q ∙ sym (ap (λ b. cond b 1 0) (ap (λ es. is_open q es) c.add_follower.ensures.more ∙ seen_changed is_open_put (λ kept. with_followers (kept.followers + 1) kept) (λ kept. refl) q c.args.put c.self.inside.puts.entries));
+        writing = λ q. c.self.invariant.held.writing q ∙ sym (ap (λ b. cond b 1 0) (ap (λ es. is_kept_open q es) c.add_follower.ensures.more ∙ seen_changed is_open_put (λ kept. with_followers (kept.followers + 1) kept) (λ kept. refl) q c.args.put c.self.inside.puts.entries));
         followed = λ q. ap (λ es. is_done_put (kept_put q es)) c.add_follower.ensures.more ∙ more_is_not_done q c.args.put c.self.inside.puts.entries (c.self.invariant.held.followed q);
         followers = λ p.
             let added = followers_added p c.args.reader reader c.self.inside.readers.entries (grind arith) in

@@ -4,7 +4,7 @@ use Rattle.cache_model.specs.State.{vector_piece}
 use Rattle.cache_model.specs.Kept.{state_of}
 use Rattle.call_laws.specs.Contents.{contents_of_vectors}
 use Rattle.stripe_actors.specs.Actors.{AreActors}
-use Rattle.stripe_pieces.specs.Pieces.{seen_of}
+use Rattle.stripe_pieces.specs.Pieces.{seen_now}
 use Rattle.stripe_core.specs.Stripe.{kept_in, seen_in, state_in}
 use Rattle.stripe_pieces.proofs.Flushes.{state_of-with_records}
 use Rattle.stripe_core.proofs.Doings.{commits, one_less, reader_behind}
@@ -26,7 +26,7 @@ returns-clause-continues g c =
       stripe = record {
         pieces = c.commit.ensures.pieces.held;
         actors = subst (λ t. AreActors t c.close.new.self) (sym (ap state_of c.commit.ensures.adds ∙ state_of-with_records kept (told ∷ []))) (c.close.ensures.commits c.args.key c.length-length.result c.args.alternates s c.requires.stripe.actors);
-        spared = one_less c.args.self.now.units c.args.self.now.flushes _ _ (seen_in c.args.self.now) (seen_of c.commit.new.self) c.requires.unit c.requires.stripe.spared c.commit.ensures.uses;
+        spared = one_less c.args.self.now.units c.args.self.now.flushes _ _ (seen_in c.args.self.now) (seen_now c.commit.new.self) c.requires.unit c.requires.stripe.spared c.commit.ensures.uses;
         named = named_behind kept _ told c.commit.ensures.adds
             (named_committed s c.args.put c.length-length.result c.args.key c.args.alternates (c.requires.committing.pending ∙ ap (λ k. Some (vector_piece k c.args.put)) c.requires.committing.key_is) c.requires.stripe.named);
         readers = omega (arith, c.requires.stripe.readers, c.close.ensures.readers);

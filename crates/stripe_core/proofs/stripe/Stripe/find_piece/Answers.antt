@@ -5,7 +5,7 @@ use Rattle.stripe_pieces.specs.Covers.{Covers}
 use Rattle.stripe_pieces.specs.Faults.{HasEffects}
 use Rattle.cache_model.specs.Kept.{state_of}
 use Rattle.stripe_pieces.specs.Find.{Finds, find_adds}
-use Rattle.stripe_pieces.specs.Pieces.{seen_of}
+use Rattle.stripe_pieces.specs.Pieces.{seen_now}
 use Rattle.stripe_pieces.specs.Standing.{AreStanding}
 use Rattle.stripe_core.specs.Stripe.{flushes_in, kept_in, seen_in, state_in, units_in}
 use Rattle.stripe_core.proofs.Sparing.{actors_with, find_are_others, made_still, numbered_others, spent_calm}
@@ -24,11 +24,11 @@ returns-clause-continues g c =
       stripe = record {
         pieces = c.find.ensures.pieces.held;
         actors = actors_with kept _ c.take_unit.new.self.actors adds c.find.ensures.adds (find_are_others taken c.args.id c.find.result) c.take_unit.ensures.continues.stripe.actors;
-        spared = spent_calm (units_in c.take_unit.new.self) (flushes_in c.take_unit.new.self) _ _ 1 0 (seen_in c.take_unit.new.self) (seen_of c.find.new.self)
+        spared = spent_calm (units_in c.take_unit.new.self) (flushes_in c.take_unit.new.self) _ _ 1 0 (seen_in c.take_unit.new.self) (seen_now c.find.new.self)
             c.in_ok-take_unit.ensures.spared c.find.ensures.uses (omega arith) (omega arith);
         named = named_with kept _ adds c.find.ensures.adds (find_leaves taken c.args.id c.find.result) c.take_unit.ensures.continues.stripe.named;
         readers = c.take_unit.ensures.continues.stripe.readers;
-        ahead = made_still taken _ (seen_in c.take_unit.new.self) (seen_of c.find.new.self) c.take_unit.new.self.ahead
+        ahead = made_still taken _ (seen_in c.take_unit.new.self) (seen_now c.find.new.self) c.take_unit.new.self.ahead
             c.take_unit.ensures.continues.stripe.pieces c.find.ensures.pieces.held c.find.ensures.uses.same c.take_unit.ensures.continues.stripe.ahead;
         none = none_with kept _ adds c.find.ensures.adds (find_displaces taken c.args.id c.find.result) c.take_unit.ensures.continues.stripe.none;
         vectors = c.find.ensures.pieces.contents contents_of_vectors tt c.take_unit.ensures.continues.stripe.vectors;
@@ -46,16 +46,16 @@ returns-clause-finds g c =
     let s = state_in c.args.self.now in
     let finds = c.find.ensures.finds in
     let taken = seen_in c.take_unit.new.self in
-    let moved : Finds s taken (seen_of c.find.new.self) c.args.id c.find.result c.find.new.into =
-    subst (λ t. Finds t taken (seen_of c.find.new.self) c.args.id c.find.result c.find.new.into) (ap state_of c.take_unit.ensures.records) finds in
+    let moved : Finds s taken (seen_now c.find.new.self) c.args.id c.find.result c.find.new.into =
+    subst (λ t. Finds t taken (seen_now c.find.new.self) c.args.id c.find.result c.find.new.into) (ap state_of c.take_unit.ensures.records) finds in
     record {
       seen = λ made is. moved.seen made (is ∙ ap (λ calls. made ++ calls) (sym c.take_unit.ensures.still.past));
-      faults = subst (λ calls. HasEffects calls (seen_of c.find.new.self).device.past (effects_told (find_adds s c.args.id c.find.result))) c.take_unit.ensures.still.past moved.faults;
+      faults = subst (λ calls. HasEffects calls (seen_now c.find.new.self).device.past (effects_told (find_adds s c.args.id c.find.result))) c.take_unit.ensures.still.past moved.faults;
       counted = moved.counted;
       contents = λ tells contents stands.
           moved.contents tells contents
           (subst (λ t. AreStanding contents t taken) (ap state_of c.take_unit.ensures.records) (c.take_unit.ensures.continues.contents contents tt stands));
-      answers = λ p covers. moved.answers p (subst (λ calls. Covers p calls (seen_of c.find.new.self).device.past) (sym c.take_unit.ensures.still.past) covers);
+      answers = λ p covers. moved.answers p (subst (λ calls. Covers p calls (seen_now c.find.new.self).device.past) (sym c.take_unit.ensures.still.past) covers);
     }
 
 pub returns-clause-unwritten : goal.returns-clause-unwritten

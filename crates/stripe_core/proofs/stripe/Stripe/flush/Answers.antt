@@ -4,8 +4,8 @@ use Rattle.cache_model.specs.Kept.{state_of}
 use Rattle.call_laws.specs.Contents.{contents_of_vectors}
 use Rattle.stripe_pieces.specs.declared.answer.Flushed.{Flushed}
 use Rattle.stripe_pieces.specs.Flush.{FlushesAsAsked, StopsWith}
-use Rattle.stripe_pieces.specs.Pieces.{kept_of, seen_of}
-use Rattle.stripe_core.specs.Stripe.{Answers, HasMemory, flushes_in, kept_in, seen_in, state_in, units_in}
+use Rattle.stripe_pieces.specs.Pieces.{kept_now, seen_now}
+use Rattle.stripe_core.specs.Stripe.{AnswersOrWants, HasMemory, flushes_in, kept_in, seen_in, state_in, units_in}
 use Rattle.stripe_core.proofs.Asked.{behind_unit, stop_has_memory}
 use Rattle.stripe_core.proofs.Naming.{flush_leaves, named_with}
 use Rattle.stripe_core.proofs.Sparing.{actors_with, answers_stop, flush_is_others, made_still, nothing_in_buffer, numbered_others, spent_by}
@@ -19,10 +19,10 @@ returns-in-Err-clause-does g c =
     let taken = kept_in c.take_unit.new.self in
     let first = (seen_in c.args.self.now).device.past in
     let before = (seen_in c.take_unit.new.self).device.past in
-    let new = kept_of c.flush.new.self in
-    let device = (seen_of c.flush.new.self).device in
+    let new = kept_now c.flush.new.self in
+    let device = (seen_now c.flush.new.self).device in
     let asked = FlushesAsAsked c.args.now kept new first device in
-    subst (λ r. Answers (Err r) asked (new ≡ kept)) (sym c.from.ensures)
+    subst (λ r. AnswersOrWants (Err r) asked (new ≡ kept)) (sym c.from.ensures)
     (answers_stop c.in-Err.stop asked _
     (behind_unit (λ k n. FlushesAsAsked c.args.now k new n device (Err c.in-Err.stop)) taken kept before first c.take_unit.ensures.records c.take_unit.ensures.still.past c.in-Err.ensures.does))
 
@@ -31,7 +31,7 @@ returns-in-Ok-clause-continues g c =
     let taken = state_in c.take_unit.new.self in
     let kept = kept_in c.take_unit.new.self in
     let before = seen_in c.take_unit.new.self in
-    let after = seen_of c.flush.new.self in
+    let after = seen_now c.flush.new.self in
     let does = c.in-Ok.ensures.does in
     let others = flush_is_others does.added does.kinds in
     record {
@@ -60,7 +60,7 @@ returns-in-Err-clause-continues g c =
     let taken = state_in c.take_unit.new.self in
     let kept = kept_in c.take_unit.new.self in
     let before = seen_in c.take_unit.new.self in
-    let after = seen_of c.flush.new.self in
+    let after = seen_now c.flush.new.self in
     let does = c.in-Err.ensures.does in
     let others = flush_is_others does.added does.kinds in
     record {
@@ -87,8 +87,8 @@ returns-in-Err-clause-continues g c =
 pub returns-in-Err-clause-stops : goal.returns-in-Err-clause-stops
 returns-in-Err-clause-stops g c =
     let s = state_in c.args.self.now in
-    let faults = (seen_of c.flush.new.self).device.faults in
-    subst (λ r. Answers {X = Flushed} (Err r) (λ x. IfErr x (StopsWith s faults)) (Unit {0})) (sym c.from.ensures)
+    let faults = (seen_now c.flush.new.self).device.faults in
+    subst (λ r. AnswersOrWants {X = Flushed} (Err r) (λ x. IfErr x (StopsWith s faults)) (Unit {0})) (sym c.from.ensures)
     (answers_stop c.in-Err.stop (λ x. IfErr x (StopsWith s faults)) (Unit {0}) (subst (λ t. StopsWith t faults c.in-Err.stop) (ap state_of c.take_unit.ensures.records) c.in-Err.ensures.stops))
 
 pub returns-in-Err-clause-memory : goal.returns-in-Err-clause-memory

@@ -1,7 +1,7 @@
 use Rattle.std.proofs.Common.{arith, refl, [], ◌∷◌}
 use Rattle.cache_model.specs.declared.record.Rec.TheVariants as rec
 use Rattle.call_laws.specs.Contents.{contents_of_vectors}
-use Rattle.stripe_pieces.specs.Pieces.{seen_of}
+use Rattle.stripe_pieces.specs.Pieces.{seen_now}
 use Rattle.stripe_core.specs.Stripe.{kept_in, seen_in, state_in}
 use Rattle.stripe_core.proofs.Doings.{marks, one_less}
 use Rattle.stripe_core.proofs.Naming.{name_left, named_behind}
@@ -17,7 +17,7 @@ returns-clause-stripe g c =
     record {
       pieces = c.damage.ensures.pieces.held;
       actors = actors_with kept _ c.args.self.now.actors (told ∷ []) c.damage.ensures.adds (refl, tt) c.requires.stripe.actors;
-      spared = one_less c.args.self.now.units c.args.self.now.flushes _ _ (seen_in c.args.self.now) (seen_of c.damage.new.self) c.requires.unit c.requires.stripe.spared c.damage.ensures.uses;
+      spared = one_less c.args.self.now.units c.args.self.now.flushes _ _ (seen_in c.args.self.now) (seen_now c.damage.new.self) c.requires.unit c.requires.stripe.spared c.damage.ensures.uses;
       named = named_behind kept _ told c.damage.ensures.adds (name_left s told refl c.requires.stripe.named);
       readers = omega (arith, c.requires.stripe.readers);
       ahead = made_behind kept _ told c.args.self.now.ahead c.damage.ensures.adds refl c.requires.stripe.ahead;

@@ -7,8 +7,8 @@ use Rattle.call_laws.specs.Contents.{contents_of_vectors}
 use Rattle.stripe_actors.specs.Actors.{AreActors}
 use Rattle.stripe_pieces.specs.declared.answer.Placed.{Placed}
 use Rattle.stripe_pieces.specs.Place.{CutsAsAsked, IsCutAs, IsStoppedAs}
-use Rattle.stripe_pieces.specs.Pieces.{kept_of, seen_of}
-use Rattle.stripe_core.specs.Stripe.{Answers, HasMemory, flushes_in, kept_in, seen_in, state_in, units_in}
+use Rattle.stripe_pieces.specs.Pieces.{kept_now, seen_now}
+use Rattle.stripe_core.specs.Stripe.{AnswersOrWants, HasMemory, flushes_in, kept_in, seen_in, state_in, units_in}
 use Rattle.stripe_core.proofs.Asked.{stop_has_memory}
 use Rattle.stripe_pieces.proofs.Flushes.{state_of-with_records}
 use Rattle.stripe_pieces.proofs.Displacing.{displaced_puts, pushed_kinds}
@@ -23,9 +23,9 @@ returns-in-Ok-clause-continues g c =
     let purges = g.R.Directory.purges in
     let s = state_in c.args.self.now in
     let kept = kept_in c.args.self.now in
-    let new = kept_of c.place_fragment.new.self in
+    let new = kept_now c.place_fragment.new.self in
     let before = seen_in c.args.self.now in
-    let after = seen_of c.place_fragment.new.self in
+    let after = seen_now c.place_fragment.new.self in
     let id = c.args.id in
     let payload = c.args.payload.now in
     let kind = no_vector_id s id c.args.pin c.args.start payload c.requires.fragment in
@@ -69,7 +69,7 @@ returns-in-Err-clause-continues g c =
     let s = state_in c.args.self.now in
     let kept = kept_in c.args.self.now in
     let before = seen_in c.args.self.now in
-    let after = seen_of c.place_fragment.new.self in
+    let after = seen_now c.place_fragment.new.self in
     let payload = c.args.payload.now in
     let does = c.in-Err.ensures.does in
     let shape : IsStoppedAs s after.device.faults payload does.added c.in-Err.stop = does.shape in
@@ -96,11 +96,12 @@ returns-in-Err-clause-continues g c =
 pub returns-in-Err-clause-does : goal.returns-in-Err-clause-does
 returns-in-Err-clause-does g c =
     let kept = kept_in c.args.self.now in
-    let new = kept_of c.place_fragment.new.self in
+    let new = kept_now c.place_fragment.new.self in
     let before = (seen_in c.args.self.now).device.past in
-    let after = (seen_of c.place_fragment.new.self).device in
+    let after = (seen_now c.place_fragment.new.self).device in
     let cuts = CutsAsAsked g.R.Directory.purges c.args.now kept new before after c.args.id c.args.pin c.args.start c.args.payload.now in
-    subst (λ r. Answers (Err r) cuts (new ≡ kept)) (sym c.from.ensures) (answers_stop c.in-Err.stop cuts (new ≡ kept) c.in-Err.ensures.does)
+    subst (λ r. AnswersOrWants (Err r) cuts (new ≡ kept)) (sym c.from.ensures)
+    (answers_stop c.in-Err.stop cuts (new ≡ kept) c.in-Err.ensures.does)
 
 pub returns-in-Err-clause-memory : goal.returns-in-Err-clause-memory
 returns-in-Err-clause-memory g c = λ some. subst (λ r. HasMemory {X = Placed} (Err r)) (sym c.from.ensures) (stop_has_memory Placed c.in-Err.stop)

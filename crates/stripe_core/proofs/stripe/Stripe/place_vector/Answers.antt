@@ -6,9 +6,9 @@ use Rattle.cache_model.specs.Kept.{state_of}
 use Rattle.dir_table.specs.Displacement.{purge_of}
 use Rattle.tape_base.specs.Piece.{is_vector}
 use Rattle.call_laws.specs.Contents.{contents_of_vectors}
-use Rattle.stripe_pieces.specs.Place.{IsPlacedAs, PlacesVector}
-use Rattle.stripe_pieces.specs.Pieces.{kept_of, seen_of}
-use Rattle.stripe_core.specs.Stripe.{Answers, flushes_in, kept_in, seen_in, state_in, units_in}
+use Rattle.stripe_pieces.specs.Place.{AreOfPlace, PlacesVector}
+use Rattle.stripe_pieces.specs.Pieces.{kept_now, seen_now}
+use Rattle.stripe_core.specs.Stripe.{AnswersOrWants, flushes_in, kept_in, seen_in, state_in, units_in}
 use Rattle.stripe_core.proofs.Between.{between-tells}
 use Rattle.stripe_pieces.proofs.Groups.{no_damage_adds, place_quiet, vector_group}
 use Rattle.stripe_pieces.proofs.Displacing.{displaced_puts, pushed_kinds}
@@ -28,7 +28,7 @@ returns-in-Ok-clause-continues g c =
     let payload = c.args.payload.now in
     let kind : is_vector id ≡ true = eq-eqb id.index 0 c.requires.kind in
     let places = c.in-Ok.ensures.places in
-    let are : IsPlacedAs purges s id c.args.pin c.args.start payload places.added = places.are in
+    let are : AreOfPlace purges s id c.args.pin c.args.start payload places.added = places.are in
     let gone = pushed_kinds purges s id are.displaced are.pushed in
     let others = vector_others purges s id c.args.pin c.args.start payload (Ok c.in-Ok.placed) places.added kind are in
     record {
@@ -36,13 +36,13 @@ returns-in-Ok-clause-continues g c =
         pieces = c.place.ensures.pieces.held;
         actors = actors_with kept _ c.args.self.now.actors places.added places.adds others c.requires.stripe.actors;
         spared = spent_calm (units_in c.args.self.now) (flushes_in c.args.self.now) _ _
-            (2 + purge_of (seen_in c.args.self.now).geometry) 1 (seen_in c.args.self.now) (seen_of c.place.new.self) c.requires.spared c.place.ensures.uses (omega arith) (omega arith);
+            (2 + purge_of (seen_in c.args.self.now).geometry) 1 (seen_in c.args.self.now) (seen_now c.place.new.self) c.requires.spared c.place.ensures.uses (omega arith) (omega arith);
         named = vector_named s _ id _ _ c.args.pin _ c.requires.vector.w are.displaced (displaced_leaves are.displaced gone) (displaced_puts s are.displaced gone)
             c.requires.stripe.named c.requires.vector.writing.quiet (begun_put s c.args.self.now.actors id.put c.requires.vector.w c.requires.stripe.actors c.requires.vector.writing.found)
             c.requires.vector.writing.found (rw c.requires.kind (omega arith))
             (ap state_of places.adds ∙ (state_of-with_records kept places.added ∙ vector_state purges s id c.args.pin c.args.start payload places.added are kind));
         readers = c.requires.stripe.readers;
-        ahead = made_still s _ (seen_in c.args.self.now) (seen_of c.place.new.self) c.args.self.now.ahead c.requires.stripe.pieces c.place.ensures.pieces.held
+        ahead = made_still s _ (seen_in c.args.self.now) (seen_now c.place.new.self) c.args.self.now.ahead c.requires.stripe.pieces c.place.ensures.pieces.held
             c.place.ensures.uses.same c.requires.stripe.ahead;
         none = ap (λ (t : State). t.displaced) (ap state_of places.adds ∙ state_of-with_records kept places.added)
             ∙ none_placed purges s id c.args.pin c.args.start payload places.added are;
@@ -69,10 +69,10 @@ pub returns-in-Err-clause-does : goal.returns-in-Err-clause-does
 returns-in-Err-clause-does g c =
     let s = state_in c.args.self.now in
     let before = (seen_in c.args.self.now).device.past in
-    let after = (seen_of c.place.new.self).device.past in
-    let asked = PlacesVector g.R.Directory.purges (kept_in c.args.self.now) (kept_of c.place.new.self) before after c.args.id c.args.pin c.args.start c.args.payload.now in
+    let after = (seen_now c.place.new.self).device.past in
+    let asked = PlacesVector g.R.Directory.purges (kept_in c.args.self.now) (kept_now c.place.new.self) before after c.args.id c.args.pin c.args.start c.args.payload.now in
     let places = c.in-Err.ensures.places in
-    subst (λ r. Answers (Err r) asked ⊥) (sym c.from.ensures)
+    subst (λ r. AnswersOrWants (Err r) asked ⊥) (sym c.from.ensures)
     (answers_stop c.in-Err.stop asked ⊥ (record {
       places = places;
       does = λ lists p packs covers.

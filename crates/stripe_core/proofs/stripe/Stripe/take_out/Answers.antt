@@ -1,7 +1,7 @@
 use Rattle.std.proofs.Common.{arith, refl, [], ◌∷◌}
 use Rattle.cache_model.specs.declared.record.Rec.TheVariants as rec
 use Rattle.call_laws.specs.Contents.{contents_of_vectors}
-use Rattle.stripe_pieces.specs.Pieces.{seen_of}
+use Rattle.stripe_pieces.specs.Pieces.{seen_now}
 use Rattle.stripe_core.specs.Stripe.{kept_in, seen_in, state_in}
 use Rattle.stripe_core.proofs.Doings.{one_less, removes}
 use Rattle.stripe_core.proofs.Naming.{name_left, named_behind}
@@ -20,7 +20,7 @@ returns-clause-continues g c =
       stripe = record {
         pieces = c.remove-put.ensures.pieces.held;
         actors = actors_with kept _ c.args.self.now.actors (told ∷ []) c.remove-put.ensures.adds (refl, tt) c.requires.resting.stripe.actors;
-        spared = one_less c.args.self.now.units c.args.self.now.flushes _ _ (seen_in c.args.self.now) (seen_of c.remove-put.new.self) c.requires.unit c.requires.resting.stripe.spared c.remove-put.ensures.uses;
+        spared = one_less c.args.self.now.units c.args.self.now.flushes _ _ (seen_in c.args.self.now) (seen_now c.remove-put.new.self) c.requires.unit c.requires.resting.stripe.spared c.remove-put.ensures.uses;
         named = named_behind kept _ told c.remove-put.ensures.adds (name_left s told refl c.requires.resting.stripe.named);
         readers = omega (arith, c.requires.resting.stripe.readers);
         ahead = made_behind kept _ told c.args.self.now.ahead c.remove-put.ensures.adds refl c.requires.resting.stripe.ahead;

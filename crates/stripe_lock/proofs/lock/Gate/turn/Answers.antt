@@ -2,7 +2,7 @@ use Rattle.std.proofs.Common.{rules, ◌≡◌, ◌%◌, ap, sym, ◌∙◌, sub
 use Rattle.stripe_lock.specs.declared.view.View.{View}
 use Rattle.stripe_lock.specs.Rule.{outside, weight}
 use Rattle.stripe_lock.specs.Steps.{at_stage}
-use Rattle.stripe_lock.specs.Passes.{view_of, Rests}
+use Rattle.stripe_lock.specs.Passes.{view_of, PassRests}
 use Rattle.stripe_lock.specs.Working.{InHand, published}
 use Rattle.stripe_lock.proofs.Turning.{rests, turned}
 use Rattle.stripe_lock.proofs.lock.Gate.turn.Goals as goal
@@ -22,7 +22,7 @@ returns-in-Ok-clause-rests g c = let v = view_of c.args.badge.views in let h = c
     let r = rests g.T.KeptState (g.J.Job.number c.args.job.now) (g.J.Job.fits c.args.job.now c.work.new.job) c.args.number v c.enter.new.seat.me c.work.new.seat.me h.0 d.0 c.in-Ok.field-0.answer c.in-Ok.field-0.count c.in-Ok.field-0.floor (view_of c.into_badge.result.views)
     (hand g c) (behind g c) c.requires.rests.number_is c.requires.rests.some_weight in
     let views = c.into_badge.ensures.2 in
-    subst (λ (vs : List (View _)). Rests c.args.number (weight v % 4294967296) vs) (ap (λ (w : View _). w ∷ []) (ap view_of views) ∙ sym views) r
+    subst (λ (vs : List (View _)). PassRests c.args.number (weight v % 4294967296) vs) (ap (λ (w : View _). w ∷ []) (ap view_of views) ∙ sym views) r
 
 pub returns-in-Ok-clause-done : goal.returns-in-Ok-clause-done
 returns-in-Ok-clause-done g c = let v = view_of c.args.badge.views in let h = c.enter.ensures.hand in let d = c.in-Ok.ensures.done h.0 h.1.carried in

@@ -3,8 +3,8 @@ use Rattle.std.proofs.Common.{arith, [], ◌∷◌}
 use Rattle.cache_model.specs.declared.record.Rec.TheVariants as rec
 use Rattle.cache_model.specs.State.{cursor_next, floor_next}
 use Rattle.logged_disk.proofs.Moments.{seen_image}
-use Rattle.cyclone.specs.Cyclone.{seen}
-use Rattle.stripe_pieces.specs.Pieces.{kept_of, seen_of, state_now}
+use Rattle.cyclone.specs.Cyclone.{seen_cyclone}
+use Rattle.stripe_pieces.specs.Pieces.{kept_now, seen_now, state_now}
 use Rattle.stripe_pieces.specs.Records.{IsWrittenOut}
 use Rattle.stripe_pieces.proofs.Beginning.{begun_is_held}
 use Rattle.stripe_pieces.proofs.Standing.{standing_begun}
@@ -18,9 +18,9 @@ pub returns-clause-pieces : goal.returns-clause-pieces
 returns-clause-pieces g c =
     let s = state_now c.args.self.now in
     let disk = c.args.self.now.cyclone.disk in
-    let old = seen_of c.args.self.now in
-    let after = seen c.begin_next.new.self in
-    let kept = kept_of c.args.self.now in
+    let old = seen_now c.args.self.now in
+    let after = seen_cyclone c.begin_next.new.self in
+    let kept = kept_now c.args.self.now in
     let new = g.C.Chronicle.kept c.began.new.chronicle in
     let recs = rec.Began (cursor_next s) (floor_next s) ∷ [] in
     let adds = returns-clause-adds g c in

@@ -1,12 +1,12 @@
 use Rattle.std.proofs.Common.{◌≡◌, ◌+◌, ◌<◌, arith, length}
 use Rattle.stripe_pieces.specs.Copying.{blocks_for}
-use Rattle.stripe_pieces.specs.Pieces.{kept_of, seen_of}
+use Rattle.stripe_pieces.specs.Pieces.{kept_now, seen_now}
 use Rattle.stripe_pieces.proofs.Copied.{bytes_taken, copied_more, nothing_copied, taken_twice}
 use Rattle.stripe_pieces.proofs.pieces.Pieces.copy.Goals as goal
 
 pub loop-i-init : goal.loop-i-init
 loop-i-init g c =
-    nothing_copied g.R.Directory.purges (kept_of c.args.self.now) (seen_of c.args.self.now) (g.C.Chronicle.room c.args.self.now.chronicle)
+    nothing_copied g.R.Directory.purges (kept_now c.args.self.now) (seen_now c.args.self.now) (g.C.Chronicle.room c.args.self.now.chronicle)
     c.args.ahead.now.due.items c.args.ahead.now.fates.items c.args.ahead.now.bytes.items c.requires.pieces c.requires.copied
 
 pub loop-i-preserved : goal.loop-i-preserved
@@ -20,8 +20,8 @@ loop-i-preserved g c =
     let within : c.loop-i.i < length ahead.due.items = omega (arith, c.loop-i-test.true, c.len-i-end.ensures) in
     let taken : c.taken_by.result ≡ blocks_for x f =
     taken_twice ahead.fates.items c.loop-i.i c.taken_by.result x f c.index.result.now (omega (arith, within, inv.many)) c.index-in-loop-i.ensures c.index.ensures c.taken_by.ensures in
-    copied_more g.R.Directory.purges (kept_of c.args.self.now) (kept_of c.loop-i.self) (kept_of c.copy_one.new.self)
-    (seen_of c.args.self.now) (seen_of c.loop-i.self) (seen_of c.copy_one.new.self)
+    copied_more g.R.Directory.purges (kept_now c.args.self.now) (kept_now c.loop-i.self) (kept_now c.copy_one.new.self)
+    (seen_now c.args.self.now) (seen_now c.loop-i.self) (seen_now c.copy_one.new.self)
     (room c.args.self.now.chronicle) (room c.loop-i.self.chronicle) (room c.copy_one.new.self.chronicle) ahead.due.items ahead.fates.items ahead.bytes.items
     c.loop-i.i at (at + c.taken_by.result) x f _ within c.index-candidate.ensures c.index-in-loop-i.ensures
     (bytes_taken at c.taken_by.result x f c.deref.result.now ahead.bytes.items taken c.deref.ensures.value) (omega (arith, taken)) inv

@@ -1,7 +1,7 @@
 use Rattle.std.proofs.Common.{[], ◌∷◌}
 use Rattle.cache_model.specs.declared.record.Rec.TheVariants as rec
-use Rattle.cyclone.specs.Cyclone.{seen}
-use Rattle.stripe_pieces.specs.Pieces.{kept_of, seen_of, state_now}
+use Rattle.cyclone.specs.Cyclone.{seen_cyclone}
+use Rattle.stripe_pieces.specs.Pieces.{kept_now, seen_now, state_now}
 use Rattle.stripe_pieces.proofs.Standing.{standing_damaged}
 use Rattle.stripe_pieces.proofs.Takings.{damaged_is_held}
 use Rattle.stripe_pieces.proofs.Telling.{held_behind, stands_behind}
@@ -10,11 +10,11 @@ use Rattle.stripe_pieces.proofs.pieces.Pieces.damage.Goals as goal
 pub returns-clause-pieces : goal.returns-clause-pieces
 returns-clause-pieces g c =
     let s = state_now c.args.self.now in
-    let old = seen_of c.args.self.now in
-    let after = seen c.take_out.new.self in
+    let old = seen_now c.args.self.now in
+    let after = seen_cyclone c.take_out.new.self in
     let id = c.args.id in
     let place = c.args.place in
-    let kept = kept_of c.args.self.now in
+    let kept = kept_now c.args.self.now in
     let new = g.C.Chronicle.kept c.damaged.new.chronicle in
     let recs = rec.Damaged id place c.args.kept c.args.found ∷ [] in
     record {

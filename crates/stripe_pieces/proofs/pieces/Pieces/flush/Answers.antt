@@ -1,9 +1,9 @@
 use Rattle.std.proofs.Common.{◌≡◌, ◌+◌, ◌*◌, ◌≤◌, ◌∷◌, ◌++◌, refl, sym, ◌∙◌, ap, subst, arith, true, false, [], Err, length}
 use Rattle.tape_base.specs.declared.geometries.Geometry.{Geometry}
 use Rattle.tape_base.specs.Geometry.{budget_of}
-use Rattle.logged_disk.specs.Device.{State as Device, TellsAll}
+use Rattle.logged_disk.specs.Device.{DeviceState as Device, TellsAll}
 use Rattle.logged_disk.proofs.GoingOn.{told_before}
-use Rattle.cyclone.specs.Cyclone.{Seen, seen}
+use Rattle.cyclone.specs.Cyclone.{Seen, seen_cyclone}
 use Rattle.cyclone.proofs.Calls.{write_goes_on}
 use Rattle.cache_model.specs.declared.record.Rec.TheVariants as rec
 use Rattle.cache_model.specs.State.{State, after_all}
@@ -11,12 +11,12 @@ use Rattle.cache_model.specs.Kept.{state_of, with_records}
 use Rattle.cache_model.specs.Slots.{AllFit}
 use Rattle.stripe_due.specs.Finding.{most_passed}
 use Rattle.stripe_pieces.specs.declared.answer.Stop.TheVariants as stop
-use Rattle.stripe_pieces.specs.Copying.{AreCopyable, AreTellable, AreToldCopied, begun_behind, copies_among, done_records, told_of}
+use Rattle.stripe_pieces.specs.Copying.{AreCopyable, AreTellable, AreToldCopied, begun_behind, copies_among, done_records, told_of_pieces}
 use Rattle.stripe_pieces.specs.Covers.{Uses}
 use Rattle.stripe_pieces.specs.Flush.{FlushesAsAsked}
 use Rattle.stripe_pieces.specs.Held.{IsHeld}
 use Rattle.stripe_pieces.specs.Standing.{AreStanding}
-use Rattle.stripe_pieces.specs.Pieces.{kept_of, seen_of, state_now}
+use Rattle.stripe_pieces.specs.Pieces.{kept_now, seen_now, state_now}
 use Rattle.stripe_pieces.proofs.Flushes.{can, empty_does, exhausted_does, some_filled, write_spares, with_records-nil, state_of-with_records}
 use Rattle.stripe_pieces.proofs.Going.{device_may_change}
 use Rattle.stripe_pieces.proofs.Holding.{copies_end_fits, copies_end_is}
@@ -30,7 +30,7 @@ use Rattle.stripe_pieces.proofs.pieces.Pieces.flush.Goals as goal
 pub returns-then-blocks-eq0-clause-does : goal.returns-then-blocks-eq0-clause-does
 returns-then-blocks-eq0-clause-does g c = record {
   added = [];
-  adds = sym (with_records-nil (kept_of c.args.self.now));
+  adds = sym (with_records-nil (kept_now c.args.self.now));
   kinds = tt;
   live = live_same (state_now c.args.self.now);
   unharmed = λ told. tt;
@@ -41,7 +41,7 @@ returns-then-blocks-eq0-clause-does g c = record {
 
 pub overflow_add-end : goal.overflow_add-end
 overflow_add-end g c =
-    let before = seen_of c.args.self.now in
+    let before = seen_now c.args.self.now in
     let fits = copies_end_fits before c.requires.pieces.turning in
     let agg = ap (λ (x : Geometry). x.agg) c.geometry.ensures in
     omega (arith, c.next_cursor-next.ensures, agg, fits)
@@ -49,11 +49,11 @@ overflow_add-end g c =
 pub returns-then-end-ge-LIMIT-clause-does : goal.returns-then-end-ge-LIMIT-clause-does
 returns-then-end-ge-LIMIT-clause-does g c =
     let s = state_now c.args.self.now in
-    let before = seen_of c.args.self.now in
+    let before = seen_now c.args.self.now in
     let end = ap (λ n. n + budget_of c.geometry.result.now) c.next_cursor-next.ensures ∙ copies_end_is s before c.geometry.result.now c.requires.pieces c.geometry.ensures in
     record {
       added = [];
-      adds = sym (with_records-nil (kept_of c.args.self.now));
+      adds = sym (with_records-nil (kept_now c.args.self.now));
       kinds = tt;
       live = live_same s;
       unharmed = λ told. tt;
@@ -65,12 +65,12 @@ returns-then-end-ge-LIMIT-clause-does g c =
 
 pub go_on-requires-clause-pieces : goal.go_on-requires-clause-pieces
 go_on-requires-clause-pieces g c =
-    device_may_change (state_now c.look_ahead.new.self) (seen_of c.look_ahead.new.self) (seen c.write_out.new.self) c.look_ahead.ensures.pieces
+    device_may_change (state_now c.look_ahead.new.self) (seen_now c.look_ahead.new.self) (seen_cyclone c.write_out.new.self) c.look_ahead.ensures.pieces
     c.write_out.ensures.same c.write_out.ensures.turns (write_spares _ _ c.write_out.result c.write_out.ensures.device)
 
 pub go_on-requires-clause-told : goal.go_on-requires-clause-told
 go_on-requires-clause-told g c =
-    let out = (seen c.write_out.new.self).device in
+    let out = (seen_cyclone c.write_out.new.self).device in
     let a = c.look_ahead.new.ahead in
     subst (λ x. AreTellable true (state_of (g.C.Chronicle.kept x)) out.faults a.due.items a.fates.items) (sym c.look_ahead.ensures.chronicle)
     (tellable c.args.now (state_now c.args.self.now) _ _ a c.requires.pieces.sound c.look_ahead.ensures.looks true out.faults c.write_out.ensures.device.cause.later)
@@ -81,8 +81,8 @@ go_on-requires-clause-copied g c =
     let packed = g.R.Directory.purges in
     let fit : packed ≡ true → AllFit (state_now c.args.self.now) = λ on.
     subst (λ x. AllFit (state_of (g.C.Chronicle.kept x))) c.look_ahead.ensures.chronicle
-    (held_fit (state_now c.look_ahead.new.self) (seen_of c.look_ahead.new.self) c.look_ahead.ensures.pieces (c.rows_fit.ensures on)) in
-    subst (λ x. AreCopyable packed (begun_behind (state_of (g.C.Chronicle.kept x)) (told_of true a.due.items a.fates.items)) 0 a.due.items a.fates.items a.bytes.items)
+    (held_fit (state_now c.look_ahead.new.self) (seen_now c.look_ahead.new.self) c.look_ahead.ensures.pieces (c.rows_fit.ensures on)) in
+    subst (λ x. AreCopyable packed (begun_behind (state_of (g.C.Chronicle.kept x)) (told_of_pieces true a.due.items a.fates.items)) 0 a.due.items a.fates.items a.bytes.items)
     (sym c.look_ahead.ensures.chronicle)
     (copyable c.args.now (state_now c.args.self.now) _ _ a c.requires.pieces.sound c.look_ahead.ensures.looks packed fit c.look_ahead.ensures.ahead.bytes)
 
@@ -102,12 +102,12 @@ go_on-requires-clause-entries g c =
 
 pub stop-requires-clause-pieces : goal.stop-requires-clause-pieces
 stop-requires-clause-pieces g c =
-    device_may_change (state_now c.look_ahead.new.self) (seen_of c.look_ahead.new.self) (seen c.write_out.new.self) c.look_ahead.ensures.pieces
+    device_may_change (state_now c.look_ahead.new.self) (seen_now c.look_ahead.new.self) (seen_cyclone c.write_out.new.self) c.look_ahead.ensures.pieces
     c.write_out.ensures.same c.write_out.ensures.turns (write_spares _ _ c.write_out.result c.write_out.ensures.device)
 
 pub stop-requires-clause-told : goal.stop-requires-clause-told
 stop-requires-clause-told g c =
-    let out = (seen c.write_out.new.self).device in
+    let out = (seen_cyclone c.write_out.new.self).device in
     let a = c.look_ahead.new.ahead in
     subst (λ x. AreTellable false (state_of (g.C.Chronicle.kept x)) out.faults a.due.items a.fates.items) (sym c.look_ahead.ensures.chronicle)
     (tellable c.args.now (state_now c.args.self.now) _ _ a c.requires.pieces.sound c.look_ahead.ensures.looks false out.faults c.write_out.ensures.device.cause.later)
@@ -122,9 +122,9 @@ stop-requires-clause-records g c =
 pub returns-in-Ok-clause-pieces : goal.returns-in-Ok-clause-pieces
 returns-in-Ok-clause-pieces g c =
     let s = state_now c.args.self.now in
-    let before = seen_of c.args.self.now in
-    let mid = seen_of c.look_ahead.new.self in
-    let out = seen c.write_out.new.self in
+    let before = seen_now c.args.self.now in
+    let mid = seen_now c.look_ahead.new.self in
+    let out = seen_cyclone c.write_out.new.self in
     let a = c.look_ahead.new.ahead in
     let e = c.look_ahead.ensures in
     record {
@@ -133,7 +133,7 @@ returns-in-Ok-clause-pieces g c =
           c.go_on.ensures.pieces.contents contents
           (λ told.
           let then : TellsAll mid.device = told_before mid.device out.device (write_goes_on mid out c.write_out.result c.write_out.ensures.device) told in
-          subst (λ x. AreToldCopied contents (begun_behind (state_of (g.C.Chronicle.kept x)) (told_of true a.due.items a.fates.items)) 0 a.due.items a.fates.items a.bytes.items)
+          subst (λ x. AreToldCopied contents (begun_behind (state_of (g.C.Chronicle.kept x)) (told_of_pieces true a.due.items a.fates.items)) 0 a.due.items a.fates.items a.bytes.items)
           (sym e.chronicle)
           (told_copied c.args.now s before.device mid.device a c.requires.pieces.sound e.looks contents then (stands.written (told_before before.device mid.device e.asked.goes then))))
           (subst (λ x. AreStanding contents (state_of (g.C.Chronicle.kept x)) out) (sym e.chronicle)
@@ -144,9 +144,9 @@ returns-in-Ok-clause-pieces g c =
 pub returns-in-Err-clause-pieces : goal.returns-in-Err-clause-pieces
 returns-in-Err-clause-pieces g c =
     let s = state_now c.args.self.now in
-    let before = seen_of c.args.self.now in
-    let mid = seen_of c.look_ahead.new.self in
-    let out = seen c.write_out.new.self in
+    let before = seen_now c.args.self.now in
+    let mid = seen_now c.look_ahead.new.self in
+    let out = seen_cyclone c.write_out.new.self in
     let a = c.look_ahead.new.ahead in
     let e = c.look_ahead.ensures in
     record {
@@ -161,45 +161,45 @@ returns-in-Err-clause-pieces g c =
 pub returns-in-Ok-clause-does : goal.returns-in-Ok-clause-does
 returns-in-Ok-clause-does g c =
     let s = state_now c.args.self.now in
-    let before = seen_of c.args.self.now in
-    let after = (seen_of c.go_on.new.self).device in
+    let before = seen_now c.args.self.now in
+    let after = (seen_now c.go_on.new.self).device in
     let a = c.look_ahead.new.ahead in
     let end = ap (λ n. n + budget_of c.geometry.result.now) c.next_cursor-next.ensures ∙ copies_end_is s before c.geometry.result.now c.requires.pieces c.geometry.ensures in
     let some = some_filled s before c.next_place.result c.cursor.result c.requires.pieces c.next_place.ensures c.cursor.ensures c.if-blocks-eq0.false in
-    let mid = seen_of c.look_ahead.new.self in
-    flush_asked c.args.now (kept_of c.args.self.now) (kept_of c.go_on.new.self) before.device mid.device after a
+    let mid = seen_now c.look_ahead.new.self in
+    flush_asked c.args.now (kept_now c.args.self.now) (kept_now c.go_on.new.self) before.device mid.device after a
     c.flushed-in-Ok.result c.requires.pieces.sound (can s c.requires.quiet some (omega (arith, end, c.if-end-ge-LIMIT.false))) c.look_ahead.ensures.looks
-    (taken_by_write s before mid (seen c.write_out.new.self) after c.requires.pieces c.look_ahead.ensures.same c.in-Ok.ensures.device c.go_on.ensures.still)
-    (subst (λ x. kept_of c.go_on.new.self ≡ with_records (g.C.Chronicle.kept x) (done_records (state_of (g.C.Chronicle.kept x)) a.due.items a.fates.items a.bytes.items))
+    (taken_by_write s before mid (seen_cyclone c.write_out.new.self) after c.requires.pieces c.look_ahead.ensures.same c.in-Ok.ensures.device c.go_on.ensures.still)
+    (subst (λ x. kept_now c.go_on.new.self ≡ with_records (g.C.Chronicle.kept x) (done_records (state_of (g.C.Chronicle.kept x)) a.due.items a.fates.items a.bytes.items))
     c.look_ahead.ensures.chronicle c.go_on.ensures.adds)
 
 pub returns-in-Ok-clause-uses : goal.returns-in-Ok-clause-uses
 returns-in-Ok-clause-uses g c =
     let s = state_now c.args.self.now in
-    let before = seen_of c.args.self.now in
-    let after = seen_of c.go_on.new.self in
+    let before = seen_now c.args.self.now in
+    let after = seen_now c.go_on.new.self in
     let a = c.look_ahead.new.ahead in
     let agg : before.geometry.agg ≡ s.geometry.agg = ap (λ (g : Geometry). g.agg) c.requires.pieces.geometry in
     let records = few_records c.args.now s _ _ a c.requires.pieces.sound c.look_ahead.ensures.looks true in
     let entries = few_entries c.args.now s _ _ a c.requires.pieces.sound c.look_ahead.ensures.looks in
-    let fits : length (told_of true a.due.items a.fates.items) + 1 + copies_among a.fates.items ≤ 2 * most_passed before.geometry + 1 = omega (arith, records, agg) in
+    let fits : length (told_of_pieces true a.due.items a.fates.items) + 1 + copies_among a.fates.items ≤ 2 * most_passed before.geometry + 1 = omega (arith, records, agg) in
     let enters : copies_among a.fates.items ≤ budget_of before.geometry = omega (arith, entries, agg) in
     subst (λ n. Uses (2 * most_passed before.geometry + 1) (budget_of before.geometry) 1 before.geometry.agg n (g.C.Chronicle.room c.go_on.new.self.chronicle) before after)
     (ap (λ x. g.C.Chronicle.room x) c.look_ahead.ensures.chronicle)
-    (flush_uses _ _ _ _ _ _ before (seen_of c.look_ahead.new.self) (seen c.write_out.new.self) after c.write_out.result
+    (flush_uses _ _ _ _ _ _ before (seen_now c.look_ahead.new.self) (seen_cyclone c.write_out.new.self) after c.write_out.result
     c.look_ahead.ensures.same c.look_ahead.ensures.asked c.write_out.ensures.same c.write_out.ensures.device c.requires.pieces.turning.few c.go_on.ensures.uses fits enters)
 
 pub returns-in-Ok-clause-room : goal.returns-in-Ok-clause-room
 returns-in-Ok-clause-room g c =
     let s = state_now c.args.self.now in
-    let after = seen_of c.go_on.new.self in
+    let after = seen_now c.go_on.new.self in
     let a = c.look_ahead.new.ahead in
     let recs = done_records s a.due.items a.fates.items a.bytes.items in
-    let adds = subst (λ x. kept_of c.go_on.new.self ≡ with_records (g.C.Chronicle.kept x) (done_records (state_of (g.C.Chronicle.kept x)) a.due.items a.fates.items a.bytes.items))
+    let adds = subst (λ x. kept_now c.go_on.new.self ≡ with_records (g.C.Chronicle.kept x) (done_records (state_of (g.C.Chronicle.kept x)) a.due.items a.fates.items a.bytes.items))
     c.look_ahead.ensures.chronicle c.go_on.ensures.adds in
-    let state : state_now c.go_on.new.self ≡ after_all s recs = ap state_of adds ∙ state_of-with_records (kept_of c.args.self.now) recs in
+    let state : state_now c.go_on.new.self ≡ after_all s recs = ap state_of adds ∙ state_of-with_records (kept_now c.args.self.now) recs in
     let filled = half_is_free c.args.now s _ _ a c.requires.pieces.sound c.look_ahead.ensures.looks in
-    let out : (seen c.write_out.new.self).geometry ≡ c.args.self.now.cyclone.geometry =
+    let out : (seen_cyclone c.write_out.new.self).geometry ≡ c.args.self.now.cyclone.geometry =
     ap (λ (y : Seen). y.geometry) c.write_out.ensures.same ∙ ap (λ (y : Seen). y.geometry) c.look_ahead.ensures.same in
     let geometry : (state_now c.go_on.new.self).geometry ≡ s.geometry = sym c.go_on.ensures.pieces.held.geometry ∙ (c.go_on.ensures.uses.same ∙ (out ∙ c.requires.pieces.geometry)) in
     let same : (state_now c.go_on.new.self).filled ≡ (after_all s recs).filled = ap (λ (t : State). t.filled) state in
@@ -208,34 +208,35 @@ returns-in-Ok-clause-room g c =
 pub returns-in-Err-clause-does : goal.returns-in-Err-clause-does
 returns-in-Err-clause-does g c =
     let s = state_now c.args.self.now in
-    let before = seen_of c.args.self.now in
-    let after = (seen_of c.stop.new.self).device in
-    let out = (seen c.write_out.new.self).device in
+    let before = seen_now c.args.self.now in
+    let after = (seen_now c.stop.new.self).device in
+    let out = (seen_cyclone c.write_out.new.self).device in
     let a = c.look_ahead.new.ahead in
     let end = ap (λ n. n + budget_of c.geometry.result.now) c.next_cursor-next.ensures ∙ copies_end_is s before c.geometry.result.now c.requires.pieces c.geometry.ensures in
     let some = some_filled s before c.next_place.result c.cursor.result c.requires.pieces c.next_place.ensures c.cursor.ensures c.if-blocks-eq0.false in
     let faults : after.faults ≡ out.faults = ap (λ (d : Device). d.faults) c.stop.ensures.still in
-    let mid = seen_of c.look_ahead.new.self in
-    let adds = subst (λ x. kept_of c.stop.new.self ≡ with_records (g.C.Chronicle.kept x) (told_of false a.due.items a.fates.items ++ rec.Fault out.faults ∷ []))
+    let mid = seen_now c.look_ahead.new.self in
+    let adds = subst (λ x. kept_now c.stop.new.self ≡ with_records (g.C.Chronicle.kept x) (told_of_pieces false a.due.items a.fates.items ++ rec.Fault out.faults ∷ []))
     c.look_ahead.ensures.chronicle c.stop.ensures.adds in
-    subst (λ why. FlushesAsAsked c.args.now (kept_of c.args.self.now) (kept_of c.stop.new.self) before.device.past after (Err why))
+    subst (λ why. FlushesAsAsked c.args.now (kept_now c.args.self.now) (kept_now c.stop.new.self) before.device.past after (Err why))
     (ap (λ n. stop.DeviceFault n) faults ∙ sym c.stop.ensures.why)
-    (stop_asked c.args.now (kept_of c.args.self.now) (kept_of c.stop.new.self) before.device mid.device after a
+    (stop_asked c.args.now (kept_now c.args.self.now) (kept_now c.stop.new.self) before.device mid.device after a
     c.requires.pieces.sound (can s c.requires.quiet some (omega (arith, end, c.if-end-ge-LIMIT.false))) c.requires.pieces.faults c.look_ahead.ensures.asked.later c.look_ahead.ensures.looks
-    (left_by_write s before mid (seen c.write_out.new.self) after c.in-Err.field-0 c.requires.pieces c.look_ahead.ensures.same c.in-Err.ensures.device c.stop.ensures.still)
+    (left_by_write s before mid (seen_cyclone c.write_out.new.self) after c.in-Err.field-0 c.requires.pieces c.look_ahead.ensures.same c.in-Err.ensures.device c.stop.ensures.still)
     (omega (arith, faults, c.in-Err.ensures.device.cause.failed))
-    (subst (λ n. kept_of c.stop.new.self ≡ with_records (kept_of c.args.self.now) (told_of false a.due.items a.fates.items ++ rec.Fault n ∷ [])) (sym faults) adds))
+    (subst (λ n. kept_now c.stop.new.self ≡ with_records (kept_now c.args.self.now) (told_of_pieces false a.due.items a.fates.items ++ rec.Fault n ∷ [])) (sym faults) adds))
 
 pub returns-in-Err-clause-uses : goal.returns-in-Err-clause-uses
 returns-in-Err-clause-uses g c =
     let s = state_now c.args.self.now in
-    let before = seen_of c.args.self.now in
-    let after = seen_of c.stop.new.self in
+    let before = seen_now c.args.self.now in
+    let after = seen_now c.stop.new.self in
     let a = c.look_ahead.new.ahead in
     let agg : before.geometry.agg ≡ s.geometry.agg = ap (λ (g : Geometry). g.agg) c.requires.pieces.geometry in
     let records = few_records c.args.now s _ _ a c.requires.pieces.sound c.look_ahead.ensures.looks false in
-    let fits : length (told_of false a.due.items a.fates.items) + 1 ≤ 2 * most_passed before.geometry + 1 = omega (arith, records, agg) in
+    let fits : length (told_of_pieces false a.due.items a.fates.items) + 1 ≤ 2 * most_passed before.geometry + 1 =
+    omega (arith, records, agg) in
     subst (λ n. Uses (2 * most_passed before.geometry + 1) (budget_of before.geometry) 1 before.geometry.agg n (g.C.Chronicle.room c.stop.new.self.chronicle) before after)
     (ap (λ x. g.C.Chronicle.room x) c.look_ahead.ensures.chronicle)
-    (flush_uses _ _ _ _ _ _ before (seen_of c.look_ahead.new.self) (seen c.write_out.new.self) after c.write_out.result
+    (flush_uses _ _ _ _ _ _ before (seen_now c.look_ahead.new.self) (seen_cyclone c.write_out.new.self) after c.write_out.result
     c.look_ahead.ensures.same c.look_ahead.ensures.asked c.write_out.ensures.same c.write_out.ensures.device c.requires.pieces.turning.few c.stop.ensures.uses fits (omega arith))

@@ -1,6 +1,6 @@
 use Rattle.std.proofs.Common.{[], ◌∷◌}
 use Rattle.cache_model.specs.declared.record.Rec.TheVariants as rec
-use Rattle.stripe_pieces.specs.Pieces.{kept_of, seen_of, state_now}
+use Rattle.stripe_pieces.specs.Pieces.{kept_now, seen_now, state_now}
 use Rattle.stripe_pieces.proofs.Standing.{standing_unsaved}
 use Rattle.stripe_pieces.proofs.Telling.{held_behind, stands_behind, unsaved_is_held}
 use Rattle.stripe_pieces.proofs.pieces.Pieces.leave.Goals as goal
@@ -8,10 +8,10 @@ use Rattle.stripe_pieces.proofs.pieces.Pieces.leave.Goals as goal
 pub returns-then-done-clause-pieces : goal.returns-then-done-clause-pieces
 returns-then-done-clause-pieces g c =
     let s = state_now c.args.self.now in
-    let seen = seen_of c.args.self.now in
+    let seen = seen_now c.args.self.now in
     let id = c.args.candidate.id in
     let place = c.args.candidate.place in
-    let kept = kept_of c.args.self.now in
+    let kept = kept_now c.args.self.now in
     let new = g.C.Chronicle.kept c.unsaved.new.chronicle in
     let recs = rec.Unsaved id place c.args.fault ∷ [] in
     record {

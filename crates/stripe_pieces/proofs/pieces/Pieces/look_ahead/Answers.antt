@@ -1,7 +1,7 @@
 use Rattle.std.proofs.Common.{◌≤◌, ◌∙◌, arith, length}
 use Rattle.cache_model.specs.Due.{due_pieces}
 use Rattle.stripe_due.specs.Finding.{most_passed}
-use Rattle.stripe_pieces.specs.Pieces.{seen_of, state_now}
+use Rattle.stripe_pieces.specs.Pieces.{seen_now, state_now}
 use Rattle.stripe_pieces.proofs.Due.{due_are_few, due_in_order, due_rows, looks_by}
 use Rattle.stripe_pieces.proofs.pieces.Pieces.look_ahead.Goals as goal
 
@@ -24,5 +24,5 @@ pub returns-clause-looks : goal.returns-clause-looks
 returns-clause-looks g c =
     let s = state_now c.args.self.now in
     let looked = c.read_kept.ensures.looked (due_pieces s c.args.now) (due_rows s c.args.now c.find_due.new.into.items c.requires.pieces.sound c.find_due.ensures.due) in
-    looks_by c.args.now s (seen_of c.args.self.now).device (seen_of c.read_kept.new.self).device looked.0 c.read_kept.new.ahead c.requires.pieces.sound
+    looks_by c.args.now s (seen_now c.args.self.now).device (seen_now c.read_kept.new.self).device looked.0 c.read_kept.new.ahead c.requires.pieces.sound
     (c.read_kept.ensures.due ∙ c.find_due.ensures.due) looked.1

@@ -2,7 +2,7 @@ use Rattle.std.proofs.Common.{◌≡◌, ◌+◌, ◌*◌, ◌<◌, ◌≤◌, r
 use Rattle.std.specs.Prelude.{Some, slice_get}
 use Rattle.tape_base.specs.Geometry.{budget_of}
 use Rattle.stripe_due.specs.Finding.{candidate_of}
-use Rattle.stripe_pieces.specs.Pieces.{seen_of, state_now}
+use Rattle.stripe_pieces.specs.Pieces.{seen_now, state_now}
 use Rattle.stripe_pieces.proofs.Noting.{kept_fits, kept_taken, left_out, none_taken, notes_none, notes_read, read_at, row_of_candidate, vector_written}
 use Rattle.stripe_pieces.proofs.pieces.Pieces.look_at.Goals as goal
 
@@ -35,13 +35,13 @@ returns-clause-looks g c row at may =
     kept_fits due c.args.ahead.now.kept.items c.args.i c.args.at (budget_of s.geometry) d c.index.result.now here c.index.ensures c.if-not-index.false c.requires.choice in
     let long : 512 * (c.args.at + d.blocks) ≤ length memory = omega (arith, fits, c.requires.ahead.bytes) in
     let written = vector_written c.args.ahead.now.bytes c.deref_mut.result.now c.read_ahead-fate.new.into c.args.at d.blocks c.deref_mut.ensures.value long c.read_ahead-fate.auto.into in
-    notes_read s (seen_of c.args.self.now).device (seen_of c.read_ahead-fate.new.self).device d row c.args.at c.read_ahead-fate.result c.args.ahead.now _
+    notes_read s (seen_now c.args.self.now).device (seen_now c.read_ahead-fate.new.self).device d row c.args.at c.read_ahead-fate.result c.args.ahead.now _
     c.read_ahead-fate.new.into is fits (c.read_ahead-fate.ensures.comes row is may) (rw c.unwrap-2.ensures at c.push-2.ensures.items) written
 
 pub returns-then-not-index-clause-looks : goal.returns-then-not-index-clause-looks
 returns-then-not-index-clause-looks g c row at may =
     let s = state_now c.args.self.now in
-    notes_none s (seen_of c.args.self.now).device row c.args.at c.args.ahead.now _ c.requires.room
+    notes_none s (seen_now c.args.self.now).device row c.args.at c.args.ahead.now _ c.requires.room
     (left_out c.args.ahead.now.due.items c.args.ahead.now.kept.items c.args.i c.args.at (budget_of s.geometry) (candidate_of row) c.index.result.now at c.index.ensures c.if-not-index.true c.requires.choice)
     (rw c.unwrap.ensures at c.push.ensures.items) refl
 

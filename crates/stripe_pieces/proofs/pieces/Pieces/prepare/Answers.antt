@@ -1,8 +1,8 @@
 use Rattle.std.proofs.Common.{sym, subst}
 use Rattle.cache_model.specs.Kept.{state_of}
-use Rattle.cyclone.specs.Cyclone.{seen}
+use Rattle.cyclone.specs.Cyclone.{seen_cyclone}
 use Rattle.stripe_pieces.specs.Held.{IsHeld}
-use Rattle.stripe_pieces.specs.Pieces.{seen_of, state_now}
+use Rattle.stripe_pieces.specs.Pieces.{seen_now, state_now}
 use Rattle.stripe_pieces.specs.Standing.{AreStanding}
 use Rattle.stripe_pieces.proofs.Going.{room_may_grow, steady}
 use Rattle.stripe_pieces.proofs.Standing.{standing_grown}
@@ -11,8 +11,8 @@ use Rattle.stripe_pieces.proofs.pieces.Pieces.prepare.Goals as goal
 pub returns-clause-pieces : goal.returns-clause-pieces
 returns-clause-pieces g c =
     let s = state_now c.args.self.now in
-    let old = seen_of c.args.self.now in
-    let new = seen c.prepare.new.self in
+    let old = seen_now c.args.self.now in
+    let new = seen_cyclone c.prepare.new.self in
     let spares = steady c.prepare.result _ _ old _ c.prepare.ensures.keeps c.prepare.ensures.device c.prepare.ensures.none in
     record {
       held = subst (λ k. IsHeld (state_of k) new) (sym c.reserve.ensures.kept)

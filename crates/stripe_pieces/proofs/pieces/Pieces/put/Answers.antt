@@ -1,12 +1,12 @@
 use Rattle.std.proofs.Common.{◌+◌, ap, arith, length}
-use Rattle.cyclone.specs.Cyclone.{seen}
+use Rattle.cyclone.specs.Cyclone.{seen_cyclone}
 use Rattle.dir_table.specs.Displacement.{Displacement, purge_of}
-use Rattle.stripe_pieces.specs.Pieces.{kept_of, seen_of}
+use Rattle.stripe_pieces.specs.Pieces.{kept_now, seen_now}
 use Rattle.stripe_pieces.proofs.Puts.{IsPutAs, IsToldOf, few_displaced, put_adds, put_is_held, put_stands, put_uses}
 use Rattle.stripe_pieces.proofs.pieces.Pieces.put.Goals as goal
 
 put_as : (g : _) (c : goal.After-result-1 g)
-    → IsPutAs g.R.Directory.purges (seen_of c.args.self.now) (seen c.put-put.new.self) c.args.doc.now c.args.payload.now c.put-put.result.payload c.put-put.result.document
+    → IsPutAs g.R.Directory.purges (seen_now c.args.self.now) (seen_cyclone c.put-put.new.self) c.args.doc.now c.args.payload.now c.put-put.result.payload c.put-put.result.document
 put_as g c = record {
   put = c.put-put.ensures.put;
   turning = c.put-put.ensures.turns;
@@ -18,8 +18,8 @@ put_as g c = record {
 }
 
 told_of : (g : _) (c : goal.After-result-1 g)
-    → IsToldOf (kept_of c.args.self.now) (g.C.Chronicle.kept c.cut.new.chronicle) (g.C.Chronicle.kept c.displaced-2.new.chronicle) (g.C.Chronicle.kept c.placed.new.chronicle)
-    (seen c.put-put.new.self) c.args.doc.now c.args.payload.now c.put-put.result.payload c.put-put.result.document
+    → IsToldOf (kept_now c.args.self.now) (g.C.Chronicle.kept c.cut.new.chronicle) (g.C.Chronicle.kept c.displaced-2.new.chronicle) (g.C.Chronicle.kept c.placed.new.chronicle)
+    (seen_cyclone c.put-put.new.self) c.args.doc.now c.args.payload.now c.put-put.result.payload c.put-put.result.document
 told_of g c = record {
   told = c.displaced.result.now.told;
   told_is = c.displaced.ensures;
@@ -33,12 +33,12 @@ told_of g c = record {
 pub returns-clause-pieces : goal.returns-clause-pieces
 returns-clause-pieces g c =
     let purges = g.R.Directory.purges in
-    let old = kept_of c.args.self.now in
+    let old = kept_now c.args.self.now in
     let cut = g.C.Chronicle.kept c.cut.new.chronicle in
     let displaced = g.C.Chronicle.kept c.displaced-2.new.chronicle in
     let last = g.C.Chronicle.kept c.placed.new.chronicle in
-    let before = seen_of c.args.self.now in
-    let after = seen c.put-put.new.self in
+    let before = seen_now c.args.self.now in
+    let after = seen_cyclone c.put-put.new.self in
     record {
       held = put_is_held purges old cut displaced last before after c.args.doc.now c.args.payload.now c.put-put.result.payload c.put-put.result.document c.requires.pieces
           c.requires.new c.requires.doc c.requires.room (put_as g c) (told_of g c);
@@ -49,14 +49,14 @@ returns-clause-pieces g c =
 
 pub returns-clause-puts : goal.returns-clause-puts
 returns-clause-puts g c =
-    put_adds g.R.Directory.purges (kept_of c.args.self.now) (g.C.Chronicle.kept c.cut.new.chronicle) (g.C.Chronicle.kept c.displaced-2.new.chronicle)
-    (g.C.Chronicle.kept c.placed.new.chronicle) (seen_of c.args.self.now) (seen c.put-put.new.self) c.args.doc.now c.args.payload.now c.put-put.result.payload
+    put_adds g.R.Directory.purges (kept_now c.args.self.now) (g.C.Chronicle.kept c.cut.new.chronicle) (g.C.Chronicle.kept c.displaced-2.new.chronicle)
+    (g.C.Chronicle.kept c.placed.new.chronicle) (seen_now c.args.self.now) (seen_cyclone c.put-put.new.self) c.args.doc.now c.args.payload.now c.put-put.result.payload
     c.put-put.result.document c.requires.pieces c.requires.new c.requires.doc c.requires.room (put_as g c) (told_of g c)
 
 pub returns-clause-uses : goal.returns-clause-uses
 returns-clause-uses g c =
-    let before = seen_of c.args.self.now in
-    let after = seen c.put-put.new.self in
+    let before = seen_now c.args.self.now in
+    let after = seen_cyclone c.put-put.new.self in
     let few = few_displaced g.R.Directory.purges before after c.args.doc.now c.args.payload.now c.requires.pieces.turning c.put-put.ensures.put in
     let told = ap (λ (x : Displacement). length x.places) c.displaced.ensures in
     put_uses g.R.Directory.purges before after c.args.doc.now c.args.payload.now (2 + purge_of before.geometry) (g.C.Chronicle.room c.args.self.now.chronicle)

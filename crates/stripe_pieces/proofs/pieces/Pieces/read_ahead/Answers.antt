@@ -1,7 +1,7 @@
 use Rattle.std.proofs.Common.{◌<◌, ◌∙◌, ap, arith}
-use Rattle.logged_disk.specs.Device.{State as Device}
-use Rattle.cyclone.specs.Cyclone.{seen}
-use Rattle.stripe_pieces.specs.Pieces.{seen_of, state_now}
+use Rattle.logged_disk.specs.Device.{DeviceState as Device}
+use Rattle.cyclone.specs.Cyclone.{seen_cyclone}
+use Rattle.stripe_pieces.specs.Pieces.{seen_now, state_now}
 use Rattle.stripe_pieces.proofs.Flushes.{read_spares}
 use Rattle.stripe_pieces.proofs.Going.{device_may_change}
 use Rattle.stripe_pieces.proofs.ReadAhead.{comes_of, comes_refused, has_blocks, is_stored, reads_row}
@@ -10,39 +10,39 @@ use Rattle.stripe_pieces.proofs.pieces.Pieces.read_ahead.Goals as goal
 
 pub load-requires-clause-some : goal.load-requires-clause-some
 load-requires-clause-some g c =
-    has_blocks (state_now c.args.self.now) (seen_of c.args.self.now) c.args.candidate c.requires.row.row c.requires.pieces c.requires.row.may c.requires.row.is
+    has_blocks (state_now c.args.self.now) (seen_now c.args.self.now) c.args.candidate c.requires.row.row c.requires.pieces c.requires.row.may c.requires.row.is
 
 pub load-requires-clause-stored : goal.load-requires-clause-stored
 load-requires-clause-stored g c =
-    is_stored (state_now c.args.self.now) (seen_of c.args.self.now) c.args.candidate c.requires.row.row c.requires.pieces c.requires.row.may c.requires.row.is
+    is_stored (state_now c.args.self.now) (seen_now c.args.self.now) c.args.candidate c.requires.row.row c.requires.pieces c.requires.row.may c.requires.row.is
 
 pub compare-requires-clause-some : goal.compare-requires-clause-some
 compare-requires-clause-some g c =
     let some : 0 < c.args.candidate.blocks =
-    has_blocks (state_now c.args.self.now) (seen_of c.args.self.now) c.args.candidate c.requires.row.row c.requires.pieces c.requires.row.may c.requires.row.is in
+    has_blocks (state_now c.args.self.now) (seen_now c.args.self.now) c.args.candidate c.requires.row.row c.requires.pieces c.requires.row.may c.requires.row.is in
     omega (arith, c.load.ensures.length, c.requires.into)
 
 pub returns-in-Ok-clause-pieces : goal.returns-in-Ok-clause-pieces
 returns-in-Ok-clause-pieces g c =
-    device_may_change (state_now c.args.self.now) (seen_of c.args.self.now) (seen c.load.new.cyclone) c.requires.pieces
+    device_may_change (state_now c.args.self.now) (seen_now c.args.self.now) (seen_cyclone c.load.new.cyclone) c.requires.pieces
     c.load.ensures.same c.load.ensures.turns (read_spares _ _ _ _ _ _ c.load.ensures.reads)
 
 pub returns-in-Ok-clause-comes : goal.returns-in-Ok-clause-comes
 returns-in-Ok-clause-comes g c row is may =
-    let before = seen_of c.args.self.now in
-    let after = seen c.load.new.cyclone in
+    let before = seen_now c.args.self.now in
+    let after = seen_cyclone c.load.new.cyclone in
     comes_of (state_now c.args.self.now) before after row c.load.new.into c.requires.pieces may c.compare.result
     (reads_row before after c.args.candidate row _ c.load.new.into is (c.load.ensures.length ∙ c.requires.into) c.in-Ok.ensures.reads) (c.compare.ensures row is may)
 
 pub returns-in-Err-clause-pieces : goal.returns-in-Err-clause-pieces
 returns-in-Err-clause-pieces g c =
-    device_may_change (state_now c.args.self.now) (seen_of c.args.self.now) (seen c.load.new.cyclone) c.requires.pieces
+    device_may_change (state_now c.args.self.now) (seen_now c.args.self.now) (seen_cyclone c.load.new.cyclone) c.requires.pieces
     c.load.ensures.same c.load.ensures.turns (read_spares _ _ _ _ _ _ c.load.ensures.reads)
 
 pub returns-in-Err-clause-comes : goal.returns-in-Err-clause-comes
 returns-in-Err-clause-comes g c row is may =
-    let before = seen_of c.args.self.now in
-    let after = seen c.load.new.cyclone in
+    let before = seen_now c.args.self.now in
+    let after = seen_cyclone c.load.new.cyclone in
     comes_refused (state_now c.args.self.now) before after row c.load.new.into c.requires.pieces may c.faults.result c.in-Err.field-0
     (reads_row before after c.args.candidate row _ c.load.new.into is (c.load.ensures.length ∙ c.requires.into) c.in-Err.ensures.reads)
     (c.faults.ensures ∙ ap (λ (d : Device). d.faults) c.disk.ensures)

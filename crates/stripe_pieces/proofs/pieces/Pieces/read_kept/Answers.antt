@@ -6,7 +6,7 @@ use Rattle.cache_model.specs.State.{Row, State}
 use Rattle.stripe_due.specs.Finding.{candidate_of}
 use Rattle.stripe_pieces.specs.Ahead.{IsMadeFor}
 use Rattle.stripe_pieces.specs.Looks.{Looked, LooksOn, MayBeCopied, blocks_kept}
-use Rattle.stripe_pieces.specs.Pieces.{seen_of, state_now}
+use Rattle.stripe_pieces.specs.Pieces.{seen_now, state_now}
 use Rattle.stripe_pieces.proofs.Kept.{IsNext, choice_there, next_row, tape_on, taken_on}
 use Rattle.logged_disk.proofs.GoingOn.{asked_further, asked_nothing}
 use Rattle.stripe_pieces.proofs.OneMore.{looked_more, looked_none}
@@ -15,7 +15,7 @@ use Rattle.stripe_pieces.proofs.pieces.Pieces.read_kept.Goals as goal
 pub loop-i-init : goal.loop-i-init
 loop-i-init g c =
     let s = state_now c.args.self.now in
-    let before = seen_of c.args.self.now in
+    let before = seen_now c.args.self.now in
     record {
       pieces = c.requires.pieces;
       chronicle = refl;
@@ -44,9 +44,9 @@ pub loop-i-preserved : goal.loop-i-preserved
 loop-i-preserved g c =
     let s = state_now c.args.self.now in
     let inv = c.loop-i.invariant in
-    let before = seen_of c.args.self.now in
-    let mid = seen_of c.loop-i.self in
-    let after = seen_of c.look_at-at.new.self in
+    let before = seen_now c.args.self.now in
+    let mid = seen_now c.loop-i.self in
+    let after = seen_now c.look_at-at.new.self in
     let due = c.args.ahead.now.due.items in
     let marks = c.args.ahead.now.kept.items in
     let e = c.look_at-at.ensures in

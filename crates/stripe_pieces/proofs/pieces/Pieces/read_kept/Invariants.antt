@@ -6,14 +6,14 @@ use Rattle.evacuator.specs.Choice.{blocks_of_all, kept_blocks}
 use Rattle.cache_model.specs.State.{Row}
 use Rattle.stripe_pieces.specs.Ahead.{IsMadeFor}
 use Rattle.stripe_pieces.specs.Looks.{AreOfRows, Looked}
-use Rattle.stripe_pieces.specs.Pieces.{ArePieces, seen_of, state_now}
+use Rattle.stripe_pieces.specs.Pieces.{ArePieces, seen_now, state_now}
 use Rattle.stripe_pieces.proofs.pieces.Pieces.read_kept.Given as goal
 
 abbrev pub invariant-loop-i : goal.invariant-loop-i
 invariant-loop-i g l =
     let s = state_now l.fn.self in
-    let before = seen_of l.fn.self in
-    let after = seen_of l.self in
+    let before = seen_now l.fn.self in
+    let after = seen_now l.self in
     record {
       pieces : ArePieces l.self;
       chronicle : l.self.chronicle ≡ l.fn.self.chronicle;

@@ -1,5 +1,5 @@
 use Rattle.std.proofs.Common.{sym}
-use Rattle.stripe_pieces.specs.Pieces.{seen_of, state_now}
+use Rattle.stripe_pieces.specs.Pieces.{seen_now, state_now}
 use Rattle.stripe_pieces.proofs.Takings.{committed_is_held, committed_without, none_earlier, other_put, own_earlier}
 use Rattle.stripe_pieces.proofs.pieces.Pieces.take_earlier.Goals as goal
 
@@ -11,10 +11,10 @@ returns-in-Some-clause-held g c = λ length list.
 pub returns-else-earlier-put-clause-held : goal.returns-else-earlier-put-clause-held
 returns-else-earlier-put-clause-held g c = λ length list.
     let s = state_now c.args.self.now in
-    committed_is_held s (seen_of c.args.self.now) c.args.put length c.args.key list c.requires.pieces
+    committed_is_held s (seen_now c.args.self.now) c.args.put length c.args.key list c.requires.pieces
     (own_earlier s c.args.key c.args.put c.in-Some.earlier c.in-Some.ensures c.if-earlier-put.false)
 
 pub returns-in-None-clause-held : goal.returns-in-None-clause-held
 returns-in-None-clause-held g c = λ length list.
     let s = state_now c.args.self.now in
-    committed_is_held s (seen_of c.args.self.now) c.args.put length c.args.key list c.requires.pieces (none_earlier s c.args.key c.args.put c.in-None.ensures)
+    committed_is_held s (seen_now c.args.self.now) c.args.put length c.args.key list c.requires.pieces (none_earlier s c.args.key c.args.put c.in-None.ensures)

@@ -5,7 +5,7 @@ use Rattle.dir_table.specs.Rows.{plain_rows}
 use Rattle.cache_model.specs.State.{Row, live_row_of}
 use Rattle.cache_model.specs.Verdict.{piece_at}
 use Rattle.cache_model.proofs.Known.{live_is_known}
-use Rattle.stripe_pieces.specs.Pieces.{state_now, seen_of}
+use Rattle.stripe_pieces.specs.Pieces.{state_now, seen_now}
 use Rattle.stripe_pieces.proofs.Candidates.{live_is_candidate, not_this, beyond_first}
 use Rattle.stripe_pieces.proofs.pieces.Pieces.whereabouts.Goals as goal
 
@@ -14,7 +14,7 @@ walks-init g c =
     let s = state_now c.args.self.now in
     let d = c.directory-directory.result.now in
     let there : (row : Row) → live_row_of s c.args.id ≡ Some row → Contains (candidates_of (g.R.Directory.window d) c.of_piece.result (plain_rows (g.R.Directory.rows d))) row.place =
-    λ row live. rw (c.directory-directory.ensures.rows, c.directory-directory.ensures.window, c.of_piece.ensures) (live_is_candidate s (seen_of c.args.self.now) c.args.id row c.requires live) in
+    λ row live. rw (c.directory-directory.ensures.rows, c.directory-directory.ensures.window, c.of_piece.ensures) (live_is_candidate s (seen_now c.args.self.now) c.args.id row c.requires live) in
     record {
       walks = c.candidates-walk.ensures.walks;
       ahead = λ row live. subst (λ ps. Contains ps row.place) (sym c.candidates-walk.ensures.rest) (there row live);
