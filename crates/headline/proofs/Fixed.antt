@@ -20,7 +20,7 @@ use Rattle.script_laws.proofs.Among.{among_right}
 use Rattle.run_promise.specs.declared.status.Status.TheVariants as status
 use Rattle.headline.specs.Account.{AllTell, IsConcluded, RunLogs}
 use Rattle.headline.specs.Fixed.{AreSteady, BothDisplaced, GiveSame, HasDisplaced, HasHistory, IsSteady, TakeSame}
-use Rattle.headline.specs.Parting.{ComesToLine, RefusesCall, RunsAgreeBeforeTrouble, each_displaces, one_refuses, other_refuses}
+use Rattle.headline.specs.Parting.{ComesToLine, MeetsRefusal, RunsAgreeBeforeTrouble, each_displaces, one_refuses, other_refuses}
 
 -- ---- steady devices
 
@@ -42,7 +42,7 @@ none_faulted (h ∷ hs) (d ∷ ds) r s = All-cons (λ harm. harm.fault ≡ 0) h 
 module _ (faultless : FaultlessTurns) (l : RunLogs) (steady : AreSteady l) (before : List (List ℕ)) (bytes : List ℕ) (after : List (List ℕ))
     (r : ComesToLine l before bytes after) where
   -- no call was refused
-  none_refused : RefusesCall r.did.turn → ⊥
+  none_refused : MeetsRefusal r.did.turn → ⊥
   none_refused refuses =
       let h : HasHistory l (before ++ bytes ∷ after) = r.history in
       let back = h.back.back in

@@ -32,7 +32,7 @@ use Rattle.run_promise.specs.Story.{IsReadThrough, Recorded, ShownAlong, Taken, 
 use Rattle.run_promise.specs.Top.{EachBack}
 use Rattle.headline.specs.Account.{Account, AllTell, IsConcluded, RunLogs}
 use Rattle.headline.specs.Fixed.{GiveSame, HasHistory, TakeSame}
-use Rattle.headline.specs.Parting.{BeginAlike, ComesToLine, HistoryBegins, RefusesCall, RunsPart, each_displaces, one_refuses, other_refuses}
+use Rattle.headline.specs.Parting.{BeginAlike, ComesToLine, HistoryBegins, MeetsRefusal, RunsPart, each_displaces, one_refuses, other_refuses}
 use Rattle.headline.proofs.Devices.{come_back}
 use Rattle.headline.proofs.Honest.{no_line_shows}
 use Rattle.headline.proofs.Outlines.{shown_made}
@@ -111,7 +111,7 @@ none_damaged (h ∷ hs) (d ∷ ds) r tell = All-cons (λ harm. harm.damaged ≡ 
 
 -- trouble of a device that is no damage
 refused : (turn : Turn) (told : Rec) → TellsRefusals turn → tells_damage told ≡ false → IsAmong told turn.added
-    → is_device_trouble told ≡ true → RefusesCall turn
+    → is_device_trouble told ≡ true → MeetsRefusal turn
 refused turn (rec.Fault count) refusals undamaged among trouble =
     let call = refusals count among in
     record { asked = call.0; count = count; refused = call.1; recorded = among }
@@ -120,7 +120,7 @@ refused turn _ refusals undamaged among trouble = no_truth (sym trouble)
 
 module _ (refusals : TurnsTellRefusals) (undamaged : UndamagedTurns) (l : RunLogs) (tell : AllTell l) (lines before : List (List ℕ))
     (h : HasHistory l lines) (f : IsUntroubledUpTo fresh before h.turns) where
-  meets : MeetsDeviceTrouble f.turn → RefusesCall f.turn
+  meets : MeetsDeviceTrouble f.turn → MeetsRefusal f.turn
   meets t =
       let back = h.back.back in
       let none : AllByRecursion (λ (turn : Turn). TellNoDamage turn.added) h.turns =

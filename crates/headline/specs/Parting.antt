@@ -22,7 +22,7 @@ use Rattle.headline.specs.Reads.{DidBefore}
 -- ---- runs that were read to their end
 
 -- the device refused a call of the turn, which recorded that
-pub record RefusesCall (turn : Turn) : Type 0 where
+pub record MeetsRefusal (turn : Turn) : Type 0 where
   pub asked : Asked
   pub count : ℕ
   pub refused : IsAmong (RefusedCall asked count) turn.device.events
@@ -30,8 +30,8 @@ pub record RefusesCall (turn : Turn) : Type 0 where
 
 -- the device of the one turn or of the other refused a call, or both displaced a piece
 pub data MeetTrouble (one other : Turn) : Type 0 where
-  one_refuses : RefusesCall one → MeetTrouble one other
-  other_refuses : RefusesCall other → MeetTrouble one other
+  one_refuses : MeetsRefusal one → MeetTrouble one other
+  other_refuses : MeetsRefusal other → MeetTrouble one other
   each_displaces : DisplacesPiece one → DisplacesPiece other → MeetTrouble one other
 
 -- a run comes to this line: none of the lines before it recorded trouble, and what they print the sink took first, behind what
