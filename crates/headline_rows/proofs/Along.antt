@@ -1,6 +1,6 @@
 -- What is said of lines is said of the steps as which they are read.
-use Rattle.std.proofs.Common.{◌≡◌, ◌∙◌, ℕ, ◌+◌, ◌<◌, List, [], ◌∷◌, refl, sym, ap, subst}
-use Rattle.std.specs.Prelude.{if◌then◌else◌, Option, Some, ⊤}
+use Rattle.std.proofs.Common.{◌≡◌, ◌∙◌, ℕ, zero, suc, ◌+◌, ◌<◌, List, [], ◌∷◌, refl, sym, ap, subst}
+use Rattle.std.specs.Prelude.{take, if◌then◌else◌, Option, Some, ⊤}
 use Rattle.script_lang.specs.declared.line.LineAnswer.{LineAnswer}
 use Rattle.script_lang.specs.declared.line.LineAnswer.TheVariants as line
 use Rattle.script_lang.specs.declared.answer.StepAnswer.{StepAnswer}
@@ -24,10 +24,26 @@ AreRead [] [] = ⊤
 AreRead (bytes ∷ lines) (asks ∷ steps) = (reading_of bytes ≡ line.Step asks) × AreRead lines steps
 AreRead _ _ = ⊥
 
+-- so it is of the first ones
+pub reads_front : (n : ℕ) (lines : List (List ℕ)) (steps : List Step) → AreRead lines steps → AreRead (take n lines) (take n steps)
+reads_front zero lines steps reads = tt
+reads_front (suc n) [] [] reads = tt
+reads_front (suc n) [] (asks ∷ steps) reads = absurd reads
+reads_front (suc n) (bytes ∷ lines) [] reads = absurd reads
+reads_front (suc n) (bytes ∷ lines) (asks ∷ steps) reads = (reads.0, reads_front n lines steps reads.1)
+
 abbrev pub StepsTake : Run → List Step → List Turn → Type 0
 StepsTake run [] [] = ⊤
 StepsTake run (asks ∷ steps) (turn ∷ turns) = StepTakes run turn asks × StepsTake (after_step run turn asks) steps turns
 StepsTake run _ _ = ⊥
+
+pub takes_front : (n : ℕ) (run : Run) (steps : List Step) (turns : List Turn) → StepsTake run steps turns
+    → StepsTake run (take n steps) (take n turns)
+takes_front zero run steps turns takes = tt
+takes_front (suc n) run [] [] takes = tt
+takes_front (suc n) run [] (turn ∷ turns) takes = absurd takes
+takes_front (suc n) run (asks ∷ steps) [] takes = absurd takes
+takes_front (suc n) run (asks ∷ steps) (turn ∷ turns) takes = (takes.0, takes_front n (after_step run turn asks) steps turns takes.1)
 
 pub are_run : (run : Run) (lines : List (List ℕ)) (steps : List Step) (turns : List Turn) → AreRead lines steps
     → StepsTake run steps turns → IsRun run lines turns
@@ -125,7 +141,7 @@ outline_is o (bytes ∷ lines) (asks ∷ steps) (said ∷ answers) reads =
     ∙ outline_is (outline_after o asks said) lines steps answers reads.1
 
 -- how many sessions a step begins
-abbrev begun_by_step : Step → ℕ
+abbrev pub begun_by_step : Step → ℕ
 begun_by_step asks = if begins_session asks then 1 else 0
 
 abbrev pub AreTakeableBy : ℕ → List Step → Type 0

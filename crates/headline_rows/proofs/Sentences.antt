@@ -13,6 +13,7 @@ use Rattle.script_lang.specs.declared.answer.StepAnswer.{StepAnswer}
 use Rattle.script_lang.specs.declared.answer.StepAnswer.TheVariants as answer
 use Rattle.script_lang.specs.Grammar.{reading_of}
 use Rattle.script_run.specs.Run.{fresh}
+use Rattle.script_run.specs.Takes.{IsRun}
 use Rattle.cache_model.specs.declared.cause.Cause.TheVariants as cause
 use Rattle.cache_model.specs.declared.record.Rec.TheVariants as rec
 use Rattle.headline.specs.Account.{Account, AllTell, HistoryTells, HonestRunsAreWhole}
@@ -21,18 +22,19 @@ use Rattle.headline.specs.Endings.{DoneWhereFine, IsFine}
 use Rattle.headline.specs.Fixed.{AreSteady, IsSteady, SourceFixesSink}
 use Rattle.headline.specs.Misses
 use Rattle.headline.specs.Misses.{NeverPutWasNone}
+use Rattle.headline.specs.Readers.{EndIsRead}
 use Rattle.headline.specs.Reads
-use Rattle.headline.specs.Reads.{GotIsWhole}
+use Rattle.headline.specs.Reads.{GotIsWhole, HitIsWhole}
 use Rattle.headline.specs.Standing
 use Rattle.headline.specs.Standing.{FoundIsListed, RemovedWasRecorded}
 use Rattle.headline.specs.Verdicts.{MissesAreCaused}
 use Rattle.headline_rows.specs.History.{TheScriptIsAnswered, script_answers, script_output}
-use Rattle.headline_rows.specs.Script.{alternate_of_a, body_of_a, key_of_a, line_to_put, line_to_remove, script_lines, script_turns, turn_of_put, turn_of_removal}
-use Rattle.headline_rows.specs.Sentences.{EachRunIsDone, EachRunPrintsIt, ItWasRemoved, NothingWasPut, TheGetIsWhole, TheHistoryIsWhole, TheMissIsCaused, ThePutIsListed, ThePutWasAnswered, TheRemovalWasAnswered}
+use Rattle.headline_rows.specs.Script.{alternate_of_a, body_of_a, key_of_a, line_to_put, line_to_remove, name_of_reader, script_lines, script_turns, turn_of_put, turn_of_removal}
+use Rattle.headline_rows.specs.Sentences.{EachRunIsDone, EachRunPrintsIt, ItWasRemoved, NothingWasPut, TheEndIsRead, TheGetIsWhole, TheHistoryIsWhole, TheHitIsWhole, TheMissIsCaused, ThePutIsListed, ThePutWasAnswered, TheRemovalWasAnswered}
 use Rattle.headline_rows.specs.Told.{TellsScript, TheScriptIsConcluded, script_device, script_logs, script_writes}
-use Rattle.headline_rows.proofs.Along.{are_run}
+use Rattle.headline_rows.proofs.Along.{are_run, reads_front, takes_front}
 use Rattle.headline_rows.proofs.Fine.{is_fine}
-use Rattle.headline_rows.proofs.Readings.{get_is_read}
+use Rattle.headline_rows.proofs.Readings.{get_is_read, next_is_read, opening_is_read}
 use Rattle.headline_rows.proofs.Script.{are_read, are_taken, steps_with}
 use Rattle.headline_rows.proofs.Tells.{lines_are_takeable, taken_lines}
 
@@ -57,18 +59,30 @@ module _ (said : TheScriptIsAnswered) (a : Account script_logs) (tells : TellsSc
   first_get : HistoryTells a (take 1 script_lines) (step.Get key_of_a []) (answer.Miss cause.NeverPut)
   first_get = history _ _ (drop 2 script_lines) (take 1 script_answers) (drop 2 script_answers) _ _ get_is_read refl refl refl
 
-  second_get : HistoryTells a (take 3 script_lines) (step.Get key_of_a []) (answer.Got 1 1 body_of_a)
-  second_get = history _ _ (drop 4 script_lines) (take 3 script_answers) (drop 4 script_answers) _ _ get_is_read refl refl refl
+  second_get : HistoryTells a (take 6 script_lines) (step.Get key_of_a []) (answer.Got 1 1 body_of_a)
+  second_get = history _ _ (drop 7 script_lines) (take 6 script_answers) (drop 7 script_answers) _ _ get_is_read refl refl refl
 
-  last_get : HistoryTells a (take 5 script_lines) (step.Get key_of_a []) (answer.Miss cause.Removed)
-  last_get = history _ _ [] (take 5 script_answers) [] _ _ get_is_read refl refl refl
+  opening : HistoryTells a (take 3 script_lines) (step.OpenRead name_of_reader key_of_a []) (answer.Hit 1 1)
+  opening = history _ _ (drop 4 script_lines) (take 3 script_answers) (drop 4 script_answers) _ _ opening_is_read refl refl refl
+
+  ending : HistoryTells a (take 5 script_lines) (step.Next name_of_reader) (answer.End 1)
+  ending = history _ _ (drop 6 script_lines) (take 5 script_answers) (drop 6 script_answers) _ _ next_is_read refl refl refl
+
+  last_get : HistoryTells a (take 8 script_lines) (step.Get key_of_a []) (answer.Miss cause.Removed)
+  last_get = history _ _ [] (take 8 script_answers) [] _ _ get_is_read refl refl refl
 
 pub get_is_whole : GotIsWhole → TheScriptIsAnswered → TheGetIsWhole
-get_is_whole law said a tells = law script_logs a (take 3 script_lines) key_of_a [] 1 1 body_of_a (second_get said a tells)
+get_is_whole law said a tells = law script_logs a (take 6 script_lines) key_of_a [] 1 1 body_of_a (second_get said a tells)
+
+pub hit_is_whole : HitIsWhole → TheScriptIsAnswered → TheHitIsWhole
+hit_is_whole law said a tells = law script_logs a (take 3 script_lines) name_of_reader key_of_a [] 1 1 (opening said a tells)
+
+pub end_is_read : EndIsRead → TheScriptIsAnswered → TheEndIsRead
+end_is_read law said a tells = law script_logs a (take 5 script_lines) name_of_reader 1 (ending said a tells)
 
 pub put_is_listed : FoundIsListed → TheScriptIsAnswered → ThePutIsListed
 put_is_listed law said a tells =
-    law script_logs a (take 3 script_lines) (step.Get key_of_a []) (answer.Got 1 1 body_of_a) key_of_a [] 1
+    law script_logs a (take 6 script_lines) (step.Get key_of_a []) (answer.Got 1 1 body_of_a) key_of_a [] 1
     (Standing.FindsPut.gets 1 body_of_a) (second_get said a tells)
 
 pub nothing_was_put : NeverPutWasNone → TheScriptIsAnswered → NothingWasPut
@@ -82,10 +96,16 @@ miss_is_caused law said a tells =
 
 pub it_was_removed : RemovedWasRecorded → TheScriptIsAnswered → ItWasRemoved
 it_was_removed law said a tells =
-    law script_logs a (take 5 script_lines) (step.Get key_of_a []) (answer.Miss cause.Removed) key_of_a
+    law script_logs a (take 8 script_lines) (step.Get key_of_a []) (answer.Miss cause.Removed) key_of_a
     (Misses.MissesKey.gets []) (last_get said a tells)
 
 -- ---- from records to answers
+
+front_is_run : (n : ℕ) → IsRun fresh (take n script_lines) (take n script_turns)
+front_is_run n =
+    are_run fresh (take n script_lines) (take n (steps_with key_of_a)) (take n script_turns)
+    (reads_front n script_lines (steps_with key_of_a) are_read)
+    (takes_front n fresh (steps_with key_of_a) script_turns (are_taken key_of_a))
 
 -- what these turns did of the script
 module _ (a : Account script_logs) (tells : TellsScript a) where
@@ -99,25 +119,22 @@ module _ (a : Account script_logs) (tells : TellsScript a) where
       turn = turn_of_put key_of_a;
       later = drop 3 script_turns;
       turns_are = tells.turns_are;
-      legal = are_run fresh (take 2 script_lines) (take 2 (steps_with key_of_a)) (take 2 script_turns)
-          (are_read.0, (are_read.1.0, tt)) ((are_taken key_of_a).0, ((are_taken key_of_a).1.0, tt));
+      legal = front_is_run 2;
     };
     among = inr (inr (inr (inr (inl refl))));
   }
 
-  removal_recorded : RecordsBehind a (take 4 script_lines) (rec.Removed 1 key_of_a)
+  removal_recorded : RecordsBehind a (take 7 script_lines) (rec.Removed 1 key_of_a)
   removal_recorded = record {
     bytes = line_to_remove;
-    later = drop 5 script_lines;
+    later = drop 8 script_lines;
     lines_are = tells.told_are;
     did = record {
-      earlier = take 4 script_turns;
+      earlier = take 7 script_turns;
       turn = turn_of_removal key_of_a;
-      later = drop 5 script_turns;
+      later = drop 8 script_turns;
       turns_are = tells.turns_are;
-      legal = are_run fresh (take 4 script_lines) (take 4 (steps_with key_of_a)) (take 4 script_turns)
-          (are_read.0, (are_read.1.0, (are_read.1.1.0, (are_read.1.1.1.0, tt))))
-          ((are_taken key_of_a).0, ((are_taken key_of_a).1.0, ((are_taken key_of_a).1.1.0, ((are_taken key_of_a).1.1.1.0, tt))));
+      legal = front_is_run 7;
     };
     among = inl refl;
   }
@@ -127,7 +144,7 @@ unfolding put_recorded
 put_was_answered law a tells = law script_logs a (take 2 script_lines) 1 key_of_a 1 (alternate_of_a ∷ []) (put_recorded a tells)
 
 pub removal_was_answered : RemovalWasAnswered → TheRemovalWasAnswered
-removal_was_answered law a tells = law script_logs a (take 4 script_lines) 1 key_of_a (removal_recorded a tells)
+removal_was_answered law a tells = law script_logs a (take 7 script_lines) 1 key_of_a (removal_recorded a tells)
 
 -- ---- the device
 

@@ -1,6 +1,6 @@
 -- The account of the script, and what is concluded of it.
-use Rattle.std.proofs.Common.{◌≡◌, ℕ, ◌<◌, List, [], ◌∷◌, refl, sym, subst, lit<, lit≤, inl, Contains, false, true}
-use Rattle.std.specs.Prelude.{nat_eq}
+use Rattle.std.proofs.Common.{◌≡◌, ℕ, ◌+◌, arith, ◌<◌, List, [], ◌∷◌, refl, sym, subst, lit<, lit≤, inl, Contains, false, true}
+use Rattle.std.specs.Prelude.{drop, nat_eq}
 use Rattle.std.specs.Fmt.{digits}
 use Rattle.std.specs.List.{list_any}
 use Rattle.std.proofs.lemmas.Cmp.{nat_eq_equiv}
@@ -10,9 +10,10 @@ use Rattle.tape_base.specs.declared.keys.Key.{Key}
 use Rattle.device_log.specs.Streams.{refused_writes, taken_by}
 use Rattle.edge_io.specs.Lines.{IsLine}
 use Rattle.edge_io.specs.Text.{text_read}
+use Rattle.script_lang.specs.declared.step.Step.{Step}
 use Rattle.script_lang.specs.declared.answer.StepAnswer.{StepAnswer}
 use Rattle.script_lang.specs.declared.answer.StepAnswer.TheVariants as answer
-use Rattle.script_lang.specs.Texts.{cause_line, formatted_line, got_line, number_line, put_line, shown}
+use Rattle.script_lang.specs.Texts.{cause_line, formatted_line, got_line, hit_line, number_line, piece_line, put_line, shown}
 use Rattle.cache_model.specs.declared.cause.Cause.TheVariants as cause
 use Rattle.script_run.specs.Run.{Run, fresh}
 use Rattle.script_run.specs.Behind.{harms_of}
@@ -23,10 +24,10 @@ use Rattle.run_promise.specs.Story.{Taken, Took, told_by, told_by_records}
 use Rattle.run_promise.specs.Top.{EachBack}
 use Rattle.headline.specs.Account.{ComeBackFrom}
 use Rattle.headline.specs.Endings.{AreTakeable}
-use Rattle.headline_rows.specs.Script.{body_of_a, key_of_a, line_to_format, line_to_get, line_to_put, line_to_remove, script_lines, script_turns}
+use Rattle.headline_rows.specs.Script.{body_of_a, key_of_a, line_to_format, line_to_get, line_to_open, line_to_put, line_to_read_on, line_to_remove, script_lines, script_turns}
 use Rattle.headline_rows.specs.History.{TheScriptIsAnswered, TheScriptIsARun, script_answers}
 use Rattle.headline_rows.specs.Told.{TheScriptHasAnAccount, TheScriptIsConcluded, script_device, script_logs, script_reads, script_writes}
-use Rattle.headline_rows.proofs.Along.{AreAnsweredBy, AreTakeableBy, are_answered, are_takeable, outline_by, outline_is, run_by, run_is}
+use Rattle.headline_rows.proofs.Along.{AreAnsweredBy, AreTakeableBy, begun_by_step, are_answered, are_takeable, outline_by, outline_is, run_by, run_is}
 use Rattle.headline_rows.proofs.Script.{are_read, steps_with}
 
 no_newline : (bytes : List ℕ) → list_any (nat_eq 10) bytes ≡ false → Contains bytes 10 → ⊥
@@ -36,6 +37,9 @@ no_newline bytes none has =
 
 is_line_to_get : IsLine line_to_get
 is_line_to_get = record { short = lit≤ tt; clear = no_newline line_to_get refl }
+
+is_line_to_read_on : IsLine line_to_read_on
+is_line_to_read_on = record { short = lit≤ tt; clear = no_newline line_to_read_on refl }
 
 pub taken_lines : Taken (text_read script_reads) script_lines []
 taken_lines = record {
@@ -47,10 +51,19 @@ taken_lines = record {
       (
         record { short = lit≤ tt; clear = no_newline line_to_put refl },
         (
-          is_line_to_get,
+          record { short = lit≤ tt; clear = no_newline line_to_open refl },
           (
-            record { short = lit≤ tt; clear = no_newline line_to_remove refl },
-            (is_line_to_get, tt),
+            is_line_to_read_on,
+            (
+              is_line_to_read_on,
+              (
+                is_line_to_get,
+                (
+                  record { short = lit≤ tt; clear = no_newline line_to_remove refl },
+                  (is_line_to_get, tt),
+                ),
+              ),
+            ),
           ),
         ),
       ),
@@ -64,6 +77,9 @@ what_was_said =
     answer.Formatted 1 64 8
     ∷ answer.Miss cause.NeverPut
     ∷ answer.Put 1 1 1
+    ∷ answer.Hit 1 1
+    ∷ answer.Piece 1 1 body_of_a
+    ∷ answer.End 1
     ∷ answer.Got 1 1 body_of_a
     ∷ answer.Removed 1
     ∷ answer.Miss cause.Removed
@@ -80,7 +96,16 @@ each_is_answered key = (
         record { session = λ needs. refl; none = λ h. refl; fixed = tt },
         (
           record { session = λ needs. refl; none = λ h. refl; fixed = tt },
-          (record { session = λ needs. refl; none = λ h. refl; fixed = tt }, tt),
+          (
+            record { session = λ needs. refl; none = λ h. refl; fixed = tt },
+            (
+              record { session = λ needs. refl; none = λ h. refl; fixed = tt },
+              (
+                record { session = λ needs. refl; none = λ h. refl; fixed = tt },
+                (record { session = λ needs. refl; none = λ h. refl; fixed = tt }, tt),
+              ),
+            ),
+          ),
         ),
       ),
     ),
@@ -135,13 +160,16 @@ back_by_records = subst (λ (run : Run). EachBack script_logs.before script_logs
 -- ---- what was written
 
 went_out : Took [] script_writes (texts_of script_answers)
-unfolding cause_line formatted_line got_line number_line put_line shown encode_with digits taken_by refused_writes
+unfolding cause_line formatted_line got_line hit_line number_line piece_line put_line shown encode_with digits taken_by refused_writes
 went_out = record { taken = refl; unfailed = refl }
 
+-- any step may, once a session was begun
+all_takeable : (sessions : ℕ) (steps : List Step) → 0 < sessions → AreTakeableBy sessions steps
+all_takeable sessions [] some = tt
+all_takeable sessions (asks ∷ steps) some = ((λ needs. some), all_takeable (sessions + begun_by_step asks) steps (omega (arith, some)))
+
 takeable : (key : Key) → AreTakeableBy 0 (steps_with key)
-takeable key =
-    let some : 0 < 1 = lit< tt in
-    ((λ needs. absurd needs), ((λ needs. some), ((λ needs. some), ((λ needs. some), ((λ needs. some), ((λ needs. some), tt))))))
+takeable key = ((λ needs. absurd needs), all_takeable 1 (drop 1 (steps_with key)) (lit< tt))
 
 pub lines_are_takeable : AreTakeable 0 script_lines
 lines_are_takeable = are_takeable 0 script_lines (steps_with key_of_a) are_read (takeable key_of_a)
@@ -176,7 +204,7 @@ has_account legal said = (
 pub is_concluded : TheScriptIsARun → TheScriptIsAnswered → TheScriptIsConcluded
 is_concluded legal said = record {
   held = [];
-  given = 6;
+  given = 9;
   story = record {
     reads = script_reads;
     since = refl;

@@ -18,6 +18,9 @@ script_answers =
     Some (answer.Formatted 1 64 8)
     ∷ Some (answer.Miss cause.NeverPut)
     ∷ Some (answer.Put 1 1 1)
+    ∷ Some (answer.Hit 1 1)
+    ∷ Some (answer.Piece 1 1 body_of_a)
+    ∷ Some (answer.End 1)
     ∷ Some (answer.Got 1 1 body_of_a)
     ∷ Some (answer.Removed 1)
     ∷ Some (answer.Miss cause.Removed)
@@ -33,15 +36,18 @@ script_output =
     codes "formatted serial 1 cursor 64 floor 8\n"
     ++ (codes "miss never-put\n"
     ++ (codes "put 1 length 1 fragments 1\n"
+    ++ (codes "hit 1 length 1\n"
+    ++ (codes "piece 1 1 61\n"
+    ++ (codes "end 1\n"
     ++ (codes "got 1 length 1 61\n"
     ++ (codes "removed 1\n"
-    ++ codes "miss removed\n"))))
+    ++ codes "miss removed\n")))))))
 
 -- and that is printed
 abbrev pub TheScriptPrints : Type 0
 TheScriptPrints = output_of fresh script_lines script_turns ≡ script_output
 
--- behind the format, a miss and the put, the get gives the body of the put and no other bytes
+-- behind these lines the get gives the body of the put and no other bytes
 abbrev pub OnlyTheBodyIsGiven : Type 0
 OnlyTheBodyIsGiven = (bytes : List ℕ)
-    → IsRun fresh (take 4 script_lines) (take 3 script_turns ++ silent_turn (get_records key_of_a) bytes ∷ []) → bytes ≡ body_of_a
+    → IsRun fresh (take 7 script_lines) (take 6 script_turns ++ silent_turn (get_records key_of_a) bytes ∷ []) → bytes ≡ body_of_a

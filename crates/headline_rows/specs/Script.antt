@@ -1,4 +1,4 @@
--- A script of six lines on a device in memory of 64 blocks, and what each line did. All pieces stay in the buffer, so no
+-- A script of nine lines on a device in memory of 64 blocks, and what each line did. All pieces stay in the buffer, so no
 -- call of the device is made. Keys and digests stay names: no SHA-256 is computed.
 use Rattle.std.specs.Prelude.{ℕ, true, false, refl, List, [], ◌∷◌, codes, None}
 use Rattle.std.proofs.Math.Dec.{lit≤, lit<}
@@ -35,13 +35,35 @@ line_to_get = codes "get /a"
 abbrev pub line_to_put : List ℕ
 line_to_put = codes "put /a 61"
 
+-- an actor opens a reader
+abbrev pub line_to_open : List ℕ
+line_to_open = codes "open-read r /a"
+
+-- and reads on
+abbrev pub line_to_read_on : List ℕ
+line_to_read_on = codes "next r"
+
 -- what was put
 abbrev pub line_to_remove : List ℕ
 line_to_remove = codes "remove /a"
 
--- the object is looked for before it is put, behind that, and behind its removal
+-- the object is looked for before it is put; behind that an actor reads it, it is got and removed, and is looked for again
 abbrev pub script_lines : List (List ℕ)
-script_lines = line_to_format ∷ line_to_get ∷ line_to_put ∷ line_to_get ∷ line_to_remove ∷ line_to_get ∷ []
+script_lines =
+    line_to_format
+    ∷ line_to_get
+    ∷ line_to_put
+    ∷ line_to_open
+    ∷ line_to_read_on
+    ∷ line_to_read_on
+    ∷ line_to_get
+    ∷ line_to_remove
+    ∷ line_to_get
+    ∷ []
+
+-- the actor
+abbrev pub name_of_reader : List ℕ
+name_of_reader = codes "r"
 
 -- the key of the object
 abbrev pub key_of_a : Key
@@ -107,9 +129,21 @@ put_records key =
     ∷ rec.Committed 1 key 1 (alternate_of_a ∷ [])
     ∷ []
 
--- it is read to its end
+-- the first actor opens a reader of it
+abbrev pub hit_records : Key → List Rec
+hit_records key = rec.ReadOpened 2 (record { 0 = 1 }) key [] (read.Hit 1) ∷ []
+
+-- which is given the one fragment
+abbrev pub piece_records : List Rec
+piece_records = rec.Gave 2 1 1 ∷ []
+
+-- and comes to the end
+abbrev pub end_records : List Rec
+end_records = rec.Ended 2 1 ∷ []
+
+-- it is read to its end by no actor
 abbrev pub get_records : Key → List Rec
-get_records key = rec.ReadOpened 2 (record { 0 = 0 }) key [] (read.Hit 1) ∷ rec.Gave 2 1 1 ∷ rec.Ended 2 1 ∷ rec.ReadClosed 2 ∷ []
+get_records key = rec.ReadOpened 3 (record { 0 = 0 }) key [] (read.Hit 1) ∷ rec.Gave 3 1 1 ∷ rec.Ended 3 1 ∷ rec.ReadClosed 3 ∷ []
 
 -- and then removed
 abbrev pub removal_records : Key → List Rec
@@ -137,6 +171,18 @@ turn_of_miss key = silent_turn (miss_records 1 key cause.NeverPut) []
 abbrev pub turn_of_put : Key → Turn
 turn_of_put key = silent_turn (put_records key) []
 
+-- the line that opens the reader
+abbrev pub turn_of_hit : Key → Turn
+turn_of_hit key = silent_turn (hit_records key) []
+
+-- the first that reads on
+abbrev pub turn_of_piece : Turn
+turn_of_piece = silent_turn piece_records body_of_a
+
+-- the second
+abbrev pub turn_of_end : Turn
+turn_of_end = silent_turn end_records []
+
 -- the get of what was put
 abbrev pub turn_of_get : Key → Turn
 turn_of_get key = silent_turn (get_records key) body_of_a
@@ -147,11 +193,21 @@ turn_of_removal key = silent_turn (removal_records key) []
 
 -- the get behind the removal
 abbrev pub turn_at_last : Key → Turn
-turn_at_last key = silent_turn (miss_records 3 key cause.Removed) []
+turn_at_last key = silent_turn (miss_records 4 key cause.Removed) []
 
 -- what each line did, under any key
 abbrev pub turns_with : Key → List Turn
-turns_with key = turn_of_format ∷ turn_of_miss key ∷ turn_of_put key ∷ turn_of_get key ∷ turn_of_removal key ∷ turn_at_last key ∷ []
+turns_with key =
+    turn_of_format
+    ∷ turn_of_miss key
+    ∷ turn_of_put key
+    ∷ turn_of_hit key
+    ∷ turn_of_piece
+    ∷ turn_of_end
+    ∷ turn_of_get key
+    ∷ turn_of_removal key
+    ∷ turn_at_last key
+    ∷ []
 
 -- under the key of the object
 abbrev pub script_turns : List Turn

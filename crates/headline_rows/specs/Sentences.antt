@@ -16,20 +16,29 @@ use Rattle.headline.specs.Account.{Account, HistoryTells, IsConcluded, RunLogs}
 use Rattle.headline.specs.Answered.{WasCompleted}
 use Rattle.headline.specs.Fixed.{AreSteady, GiveSame, BothDisplaced}
 use Rattle.headline.specs.Misses.{HasEndedNone}
-use Rattle.headline.specs.Reads.{IsWholePut}
+use Rattle.headline.specs.Readers.{IsReadToEnd}
+use Rattle.headline.specs.Reads.{IsStoredPut, IsWholePut}
 use Rattle.headline.specs.Standing.{IsListedPut, WasRemoved}
 use Rattle.headline.specs.Verdicts.{MissIsCaused}
 use Rattle.headline_rows.specs.History.{script_output}
-use Rattle.headline_rows.specs.Script.{body_of_a, key_of_a, script_lines, script_turns}
+use Rattle.headline_rows.specs.Script.{body_of_a, key_of_a, name_of_reader, script_lines, script_turns}
 use Rattle.headline_rows.specs.Told.{TellsScript, script_logs}
 
 -- the get behind the put gave all that the writer of put 1 took, which an earlier line opened under the key
 abbrev pub TheGetIsWhole : Type 0
-TheGetIsWhole = (a : Account script_logs) → TellsScript a → IsWholePut a.turns (take 3 script_lines) key_of_a [] 1 1 body_of_a
+TheGetIsWhole = (a : Account script_logs) → TellsScript a → IsWholePut a.turns (take 6 script_lines) key_of_a [] 1 1 body_of_a
+
+-- the reader's put is that one too, and its length is told
+abbrev pub TheHitIsWhole : Type 0
+TheHitIsWhole = (a : Account script_logs) → TellsScript a → IsStoredPut a.turns (take 3 script_lines) key_of_a [] 1 1
+
+-- the pieces that the actor was told since it opened its reader are, joined, all that the writer of that put took
+abbrev pub TheEndIsRead : Type 0
+TheEndIsRead = (a : Account script_logs) → TellsScript a → IsReadToEnd a (take 5 script_lines) name_of_reader 1
 
 -- an earlier line recorded that put 1 was completed, and was answered so; the key's live vector lists it
 abbrev pub ThePutIsListed : Type 0
-ThePutIsListed = (a : Account script_logs) → TellsScript a → IsListedPut a (take 3 script_lines) key_of_a [] 1
+ThePutIsListed = (a : Account script_logs) → TellsScript a → IsListedPut a (take 6 script_lines) key_of_a [] 1
 
 -- before the get that was answered never-put no line completed, gave up or removed a put of the key
 abbrev pub NothingWasPut : Type 0
@@ -41,7 +50,7 @@ TheMissIsCaused = (a : Account script_logs) → TellsScript a → MissIsCaused a
 
 -- before the get that was answered removed a line recorded that, and was answered so
 abbrev pub ItWasRemoved : Type 0
-ItWasRemoved = (a : Account script_logs) → TellsScript a → WasRemoved a (take 5 script_lines) key_of_a
+ItWasRemoved = (a : Account script_logs) → TellsScript a → WasRemoved a (take 8 script_lines) key_of_a
 
 -- the line that recorded that put 1 was completed is a `put` of the key, and was answered so
 abbrev pub ThePutWasAnswered : Type 0
@@ -51,7 +60,7 @@ ThePutWasAnswered = (a : Account script_logs) → TellsScript a
 -- and the one that recorded its removal is `remove` of it
 abbrev pub TheRemovalWasAnswered : Type 0
 TheRemovalWasAnswered = (a : Account script_logs) → TellsScript a
-    → HistoryTells a (take 4 script_lines) (step.Remove key_of_a) (answer.Removed 1)
+    → HistoryTells a (take 7 script_lines) (step.Remove key_of_a) (answer.Removed 1)
 
 -- the device told its content to the end: each account of these logs has a legal history of all its lines
 abbrev pub TheHistoryIsWhole : Type 0

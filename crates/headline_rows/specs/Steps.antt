@@ -4,10 +4,10 @@ use Rattle.tape_base.specs.declared.keys.Key.{Key}
 use Rattle.cache_model.specs.declared.cause.Cause.TheVariants as cause
 use Rattle.cache_model.specs.declared.record.Rec.{Rec}
 use Rattle.cache_model.specs.Legal.{IsStep, format_records}
-use Rattle.cache_model.specs.Permit.{Remove}
+use Rattle.cache_model.specs.Permit.{Look, ReadOn, Remove}
 use Rattle.cache_model.specs.State.{State, Row, Closed, Complete, after_all, fragment_piece, nothing_yet, vector_piece}
 use Rattle.script_run.specs.Asked.{get_intents, put_intents}
-use Rattle.headline_rows.specs.Script.{alternate_of_a, body_of_a, fragment_digest, get_records, miss_records, put_records, removal_records, row_of_a, script_geometry, silent, vector_digest}
+use Rattle.headline_rows.specs.Script.{alternate_of_a, body_of_a, end_records, fragment_digest, get_records, hit_records, miss_records, piece_records, put_records, removal_records, row_of_a, script_geometry, silent, vector_digest}
 
 -- behind the format, and these records
 abbrev pub behind_script : List Rec → State
@@ -62,9 +62,21 @@ held_state key = record (state_of_miss key) {
 abbrev pub ThePutHolds : Type 0
 ThePutHolds = (key : Key) → state_of_put key ≡ held_state key
 
+-- behind the line that opens a reader
+abbrev pub state_of_hit : Key → State
+state_of_hit key = after_all (state_of_put key) (hit_records key)
+
+-- behind the one that reads the fragment
+abbrev pub state_of_piece : Key → State
+state_of_piece key = after_all (state_of_hit key) piece_records
+
+-- behind the one that comes to the end
+abbrev pub state_of_end : Key → State
+state_of_end key = after_all (state_of_piece key) end_records
+
 -- behind the get of what was put
 abbrev pub state_of_get : Key → State
-state_of_get key = after_all (state_of_put key) (get_records key)
+state_of_get key = after_all (state_of_end key) (get_records key)
 
 -- behind the removal
 abbrev pub state_of_removal : Key → State
@@ -79,9 +91,21 @@ AMissIsAStep = (key : Key)
 abbrev pub APutIsAStep : Type 0
 APutIsAStep = (key : Key) → IsStep silent (state_of_miss key) (put_intents (state_of_miss key) key body_of_a [] []) (put_records key) None
 
--- it is found and given
+-- the first actor opens a reader of it
+abbrev pub AHitIsAStep : Type 0
+AHitIsAStep = (key : Key) → IsStep silent (state_of_put key) (Look 1 key [] ∷ []) (hit_records key) None
+
+-- and is given the fragment
+abbrev pub APieceIsAStep : Type 0
+APieceIsAStep = (key : Key) → IsStep silent (state_of_hit key) (ReadOn 2 ∷ []) piece_records None
+
+-- and comes to the end
+abbrev pub AnEndIsAStep : Type 0
+AnEndIsAStep = (key : Key) → IsStep silent (state_of_piece key) (ReadOn 2 ∷ []) end_records None
+
+-- it is found and given whole
 abbrev pub AGetIsAStep : Type 0
-AGetIsAStep = (key : Key) → IsStep silent (state_of_put key) (get_intents (state_of_put key) key []) (get_records key) None
+AGetIsAStep = (key : Key) → IsStep silent (state_of_end key) (get_intents (state_of_end key) key []) (get_records key) None
 
 -- it is removed
 abbrev pub ARemovalIsAStep : Type 0
@@ -90,4 +114,4 @@ ARemovalIsAStep = (key : Key) → IsStep silent (state_of_get key) (Remove key �
 -- and not found any more
 abbrev pub AMissBehindItIsAStep : Type 0
 AMissBehindItIsAStep = (key : Key)
-    → IsStep silent (state_of_removal key) (get_intents (state_of_removal key) key []) (miss_records 3 key cause.Removed) None
+    → IsStep silent (state_of_removal key) (get_intents (state_of_removal key) key []) (miss_records 4 key cause.Removed) None

@@ -1,16 +1,16 @@
-//! A run of six lines, worked by hand, and what the laws of `headline` say of it.
+//! A run of nine lines, worked by hand, and what the laws of `headline` say of it.
 #![tactic(auto)]
 
-ghost use Rattle.headline_rows.specs.Steps.{AMissIsAStep, APutIsAStep, AGetIsAStep, ARemovalIsAStep, AMissBehindItIsAStep, ThePutHolds};
+ghost use Rattle.headline_rows.specs.Steps.{AHitIsAStep, AMissIsAStep, APieceIsAStep, AnEndIsAStep, APutIsAStep, AGetIsAStep, ARemovalIsAStep, AMissBehindItIsAStep, ThePutHolds};
 ghost use Rattle.headline_rows.specs.History.{OnlyTheBodyIsGiven, TheScriptIsARun, TheScriptIsAnswered, TheScriptPrints};
 ghost use Rattle.headline_rows.specs.Told.{TheScriptHasAnAccount, TheScriptIsConcluded};
-ghost use Rattle.headline_rows.specs.Sentences.{EachRunIsDone, EachRunPrintsIt, ItWasRemoved, NothingWasPut, TheGetIsWhole, TheHistoryIsWhole, TheMissIsCaused, ThePutIsListed, ThePutWasAnswered, TheRemovalWasAnswered};
+ghost use Rattle.headline_rows.specs.Sentences.{EachRunIsDone, EachRunPrintsIt, ItWasRemoved, NothingWasPut, TheEndIsRead, TheGetIsWhole, TheHistoryIsWhole, TheHitIsWhole, TheMissIsCaused, ThePutIsListed, ThePutWasAnswered, TheRemovalWasAnswered};
 
 use edge_io::texts_have_lines;
 use headline::{
-    completed_was_answered, done_where_fine, found_is_listed, got_is_whole, honest_runs_are_whole,
-    misses_are_caused, never_put_was_none, removal_was_answered, removed_was_recorded,
-    source_fixes_sink,
+    completed_was_answered, done_where_fine, end_is_read, found_is_listed, got_is_whole,
+    hit_is_whole, honest_runs_are_whole, misses_are_caused, never_put_was_none,
+    removal_was_answered, removed_was_recorded, source_fixes_sink,
 };
 use run_promise::texts_are_output;
 
@@ -29,7 +29,22 @@ pub fn the_put_holds()
     ensures { ThePutHolds }
 {}
 
-/// It is given.
+/// An actor opens a reader of it.
+pub fn a_hit_is_a_step()
+    ensures { AHitIsAStep }
+{}
+
+/// The reader is given it.
+pub fn a_piece_is_a_step()
+    ensures { APieceIsAStep }
+{}
+
+/// And comes to the end.
+pub fn an_end_is_a_step()
+    ensures { AnEndIsAStep }
+{}
+
+/// It is got whole.
 pub fn a_get_is_a_step()
     ensures { AGetIsAStep }
 {}
@@ -88,6 +103,22 @@ pub fn the_get_is_whole()
     ensures { TheGetIsWhole }
 {
     got_is_whole();
+    the_script_is_answered();
+}
+
+/// The hit told the length of what the writer of put 1 took.
+pub fn the_hit_is_whole()
+    ensures { TheHitIsWhole }
+{
+    hit_is_whole();
+    the_script_is_answered();
+}
+
+/// What the actor was told up to the end is all that this writer took.
+pub fn the_end_is_read()
+    ensures { TheEndIsRead }
+{
+    end_is_read();
     the_script_is_answered();
 }
 

@@ -1,7 +1,7 @@
 use Rattle.std.proofs.Common.{◌≡◌, ◌∙◌, ap, sym, refl}
 use Rattle.std.specs.Fmt.{digits}
 use Rattle.hex.specs.Hex.{encode_with}
-use Rattle.script_lang.specs.Texts.{cause_line, formatted_line, got_line, number_line, put_line, shown}
+use Rattle.script_lang.specs.Texts.{cause_line, formatted_line, got_line, hit_line, number_line, piece_line, put_line, shown}
 use Rattle.script_run.specs.Run.{fresh}
 use Rattle.run_promise.specs.Lines.{texts_of}
 use Rattle.headline_rows.specs.History.{script_answers, script_output}
@@ -9,7 +9,7 @@ use Rattle.headline_rows.specs.Script.{script_lines, script_turns}
 use Rattle.headline_rows.proofs.the_script_prints.Goals as goal
 
 are_printed : texts_of script_answers ≡ script_output
-unfolding cause_line formatted_line got_line number_line put_line shown encode_with digits
+unfolding cause_line formatted_line got_line hit_line number_line piece_line put_line shown encode_with digits
 are_printed = refl
 
 pub returns : goal.returns
