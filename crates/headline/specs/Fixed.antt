@@ -1,4 +1,4 @@
--- Determinism: what the source gave fixes what the sink took, where nothing was displaced.
+-- Determinism: what the source gave fixes what the sink took, where not both runs displaced a piece.
 use Rattle.std.specs.Prelude.{◌≡◌, ℕ, List, [], ◌++◌, ◌⊎◌}
 use Rattle.std.specs.List.{AllByRecursion}
 use Rattle.device_log.specs.Streams.{SourceRead, taken_by}

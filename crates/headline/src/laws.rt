@@ -285,8 +285,8 @@ pub fn ends_are_caused()
     ensures { EndsAreCaused }
 {}
 
-/// Over devices that tell their content, two runs of one source write the same up to the first line in which a device
-/// refused a call, or both displaced a piece.
+/// Over devices that tell their content, two runs of one source that were read to its end write the same up to the
+/// first line in which a device refused a call, or both displaced a piece.
 pub fn runs_agree_before_trouble()
     ensures { RunsAgreeBeforeTrouble }
 {
@@ -305,8 +305,8 @@ pub fn histories_agree_before_trouble()
     lines_agree_before_trouble();
 }
 
-/// Over devices that tell their content and refuse nothing, and where nothing was displaced, what the source gave
-/// fixes what the sink took.
+/// Over devices that tell their content and refuse nothing, and where not both runs displaced a piece, what the source
+/// gave fixes what the sink took.
 pub fn source_fixes_sink()
     ensures { SourceFixesSink }
 {

@@ -175,7 +175,7 @@ pub fn the_removal_was_answered()
     removal_was_answered();
 }
 
-/// Each other run over that text and steady devices printed the same, or displaced a piece.
+/// Each other run over that text and steady devices printed the same, or both displaced a piece.
 pub fn each_run_prints_it()
     ensures { EachRunPrintsIt }
 {
