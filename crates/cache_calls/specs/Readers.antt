@@ -20,7 +20,7 @@ use Rattle.cache_model.specs.Verdict.{cause_of_miss, cause_of_piece, live_vector
 use Rattle.cache_model.specs.Permit.{Permit}
 use Rattle.cache_model.specs.Given.{IsDocumentOf}
 use Rattle.cache_model.specs.Legal.{IsAsListed, IsUnlike, answer_record, live_next}
-use Rattle.call_laws.specs.Moments.{At, Both, Encloses, Facts, IsToldAt, OfState}
+use Rattle.call_laws.specs.Moments.{At, BothFacts, Encloses, Facts, IsToldAt, OfState}
 use Rattle.cache_calls.specs.declared.calls.NextPiece.{NextPiece}
 use Rattle.cache_calls.specs.declared.calls.NextPiece.TheVariants as piece
 use Rattle.cache_calls.specs.declared.calls.Opened.{Opened}
@@ -106,7 +106,7 @@ HasItsTable seen result = OfState (λ t. IfOk result (IfReader (λ r. IsReaderOf
 
 -- vectors list their alternates, and the reader has the fragments of the records
 abbrev pub IsToldTo : ReaderSeen → Facts
-IsToldTo r = Both IsToldAt (OfState (λ s. IsReaderOf s r))
+IsToldTo r = BothFacts IsToldAt (OfState (λ s. IsReaderOf s r))
 
 -- an answer as it is recorded, where the fragment is listed with that length
 abbrev pub noted : ℕ → NextPiece → NextAnswer

@@ -19,7 +19,7 @@ use Rattle.cache_model.proofs.Steps.{after_all-append, all_append}
 use Rattle.cache_model.proofs.Aside.{AllAside, IsAside, aside_leaves, one_aside}
 use Rattle.cache_model.proofs.Sound.{AllLeaveTape, IsLater, buffer_left, least_left, later_began, later_leaves, later_trans}
 use Rattle.cache_model.specs.Due.{due_pieces}
-use Rattle.cache_model.specs.Outcomes.{AreOutcomes, Copied, Copy, NoRoom, Outcome, Refused, Spoiled, began_record, copies_of, flush_records, front_of, moved_records, records_of, stopped_front_of, stopped_records, stopped_records_of}
+use Rattle.cache_model.specs.Outcomes.{AreOutcomes, Copied, Copy, NoRoom, Outcome, ReadRefused, Spoiled, began_record, copies_of, flush_records, front_of, moved_records, records_of, stopped_front_of, stopped_records, stopped_records_of}
 use Rattle.cache_model.proofs.Walks.{all_among, among_found}
 use Rattle.cache_model.proofs.Copies.{AreReady, IsFilled, IsReady, all_copied, blocks_of_copies, rows_of, still_ready}
 
@@ -29,7 +29,7 @@ pub aside_of : (row : Row) (o : Outcome) → AllAside (records_of row o)
 aside_of row NoRoom = one_aside
 aside_of row (Copied bytes) = tt
 aside_of row (Spoiled found) = one_aside
-aside_of row (Refused count) = ((tt, tt), one_aside)
+aside_of row (ReadRefused count) = ((tt, tt), one_aside)
 
 pub front_aside : (rows : List Row) (outcomes : List Outcome) → AllAside (front_of rows outcomes)
 front_aside [] outcomes = tt
@@ -44,7 +44,7 @@ others_left : (s : State) (row : Row) (o : Outcome) (x : PieceId) → same_piece
 others_left s row NoRoom x h = refl
 others_left s row (Copied bytes) x h = refl
 others_left s row (Spoiled found) x h = row_in-without row.id x s.rows ∙ ap (λ b. if b then None else row_in s.rows x) h
-others_left s row (Refused count) x h = refl
+others_left s row (ReadRefused count) x h = refl
 
 differ_back : (a b : PieceId) (t : Bool) → same_piece b a ≡ t → same_piece a b ≡ false → t ≡ false
 differ_back a b false e h = refl
@@ -71,8 +71,8 @@ copies_ready s (row ∷ rows) (NoRoom ∷ outcomes) apart ready =
 copies_ready s (row ∷ rows) (Spoiled found ∷ outcomes) apart ready =
     copies_ready (after_all s (records_of row (Spoiled found))) rows outcomes apart.1
     (still_ready s.rows (after_all s (records_of row (Spoiled found))).rows row.id (others_left s row (Spoiled found)) rows apart.0 ready.1)
-copies_ready s (row ∷ rows) (Refused count ∷ outcomes) apart ready =
-    copies_ready (after_all s (records_of row (Refused count))) rows outcomes apart.1 ready.1
+copies_ready s (row ∷ rows) (ReadRefused count ∷ outcomes) apart ready =
+    copies_ready (after_all s (records_of row (ReadRefused count))) rows outcomes apart.1 ready.1
 
 pub copies_part : (rows : List Row) (outcomes : List Outcome) → ArePart (rows_of (copies_of rows outcomes)) rows
 copies_part [] outcomes = done
@@ -84,7 +84,7 @@ copies_part (row ∷ rows) [] = none_part (row ∷ rows)
 copies_part (row ∷ rows) (Copied bytes ∷ outcomes) = keep (copies_part rows outcomes)
 copies_part (row ∷ rows) (NoRoom ∷ outcomes) = skip (copies_part rows outcomes)
 copies_part (row ∷ rows) (Spoiled found ∷ outcomes) = skip (copies_part rows outcomes)
-copies_part (row ∷ rows) (Refused count ∷ outcomes) = skip (copies_part rows outcomes)
+copies_part (row ∷ rows) (ReadRefused count ∷ outcomes) = skip (copies_part rows outcomes)
 
 pub copies_within : (p : Permit) (s : State) (left : ℕ) (rows : List Row) (outcomes : List Outcome) → AreOutcomes p s left rows outcomes → blocks_of_copies (copies_of rows outcomes) ≤ left
 copies_within p s left [] outcomes h = omega arith
@@ -97,8 +97,8 @@ copies_within p s left (row ∷ rows) (Copied bytes ∷ outcomes) h =
 copies_within p s left (row ∷ rows) (Spoiled found ∷ outcomes) h =
     let rest : blocks_of_copies (copies_of rows outcomes) ≤ left - row.blocks = copies_within p (after_all s (records_of row (Spoiled found))) (left - row.blocks) rows outcomes h.1 in
     omega arith
-copies_within p s left (row ∷ rows) (Refused count ∷ outcomes) h =
-    let rest : blocks_of_copies (copies_of rows outcomes) ≤ left - row.blocks = copies_within p (after_all s (records_of row (Refused count))) (left - row.blocks) rows outcomes h.1 in
+copies_within p s left (row ∷ rows) (ReadRefused count ∷ outcomes) h =
+    let rest : blocks_of_copies (copies_of rows outcomes) ≤ left - row.blocks = copies_within p (after_all s (records_of row (ReadRefused count))) (left - row.blocks) rows outcomes h.1 in
     omega arith
 
 -- ---- the flush
@@ -174,7 +174,7 @@ stopped_aside_of : (row : Row) (o : Outcome) → AllAside (stopped_records_of ro
 stopped_aside_of row NoRoom = tt
 stopped_aside_of row (Copied bytes) = tt
 stopped_aside_of row (Spoiled found) = one_aside
-stopped_aside_of row (Refused count) = one_aside
+stopped_aside_of row (ReadRefused count) = one_aside
 
 pub stopped_front_aside : (rows : List Row) (outcomes : List Outcome) → AllAside (stopped_front_of rows outcomes)
 stopped_front_aside [] outcomes = tt

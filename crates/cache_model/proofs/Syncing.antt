@@ -8,7 +8,7 @@ use Rattle.cache_model.specs.declared.record.Rec.TheVariants as rec
 use Rattle.cache_model.specs.State.{State, Row, after_all, cursor_next, state_after}
 use Rattle.cache_model.specs.Permit.{Permit, End}
 use Rattle.cache_model.specs.Due.{due_pieces}
-use Rattle.cache_model.specs.Outcomes.{Copied, Copy, NoRoom, Outcome, Refused, Spoiled, began_record, copies_of, flush_records, flush_tail, front_of, moved_record, moved_records, records_of, stopped_front_of}
+use Rattle.cache_model.specs.Outcomes.{Copied, Copy, NoRoom, Outcome, ReadRefused, Spoiled, began_record, copies_of, flush_records, flush_tail, front_of, moved_record, moved_records, records_of, stopped_front_of}
 use Rattle.cache_model.specs.Syncing
 use Rattle.cache_model.specs.Syncing.{CannotEnd, DoesCleanSync, DoesSync, DoesSyncStep, MaySyncBehind, StopsBehind, Syncing, Unmarks, at_first, behind_records, begun_record, ended_records, ends_first, first_records, is_in_parts, needs_sync, needs_whole, next_serial, once_ended, sync_records, unmark_records}
 use Rattle.cache_model.specs.Legal
@@ -131,7 +131,7 @@ front_of_one : (row : Row) (o : Outcome) → AllLeaveSyncs (records_of row o)
 front_of_one row NoRoom = (tt, tt)
 front_of_one row (Copied bytes) = tt
 front_of_one row (Spoiled found) = (tt, tt)
-front_of_one row (Refused count) = (tt, (tt, tt))
+front_of_one row (ReadRefused count) = (tt, (tt, tt))
 
 pub front_leaves_syncs : (rows : List Row) (outcomes : List Outcome) → AllLeaveSyncs (front_of rows outcomes)
 front_leaves_syncs [] outcomes = tt

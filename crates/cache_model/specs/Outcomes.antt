@@ -19,7 +19,7 @@ pub data Outcome : Type 0 where
   -- the device gave bytes with this digest, which is another
   Spoiled : (found : Digest) → Outcome
   -- the device refused, and its count then stood here
-  Refused : (count : ℕ) → Outcome
+  ReadRefused : (count : ℕ) → Outcome
 
 -- ---- the walk
 
@@ -37,14 +37,14 @@ abbrev pub records_of : Row → Outcome → List Rec
 records_of row NoRoom = unsaved_record row false ∷ []
 records_of row (Copied bytes) = []
 records_of row (Spoiled found) = damage_record row row.digest found ∷ []
-records_of row (Refused count) = rec.Fault count ∷ unsaved_record row true ∷ []
+records_of row (ReadRefused count) = rec.Fault count ∷ unsaved_record row true ∷ []
 
 -- a piece that is within the budget is read
 abbrev pub IsOutcome : Permit → State → ℕ → Row → Outcome → Type 0
 IsOutcome p s left row NoRoom = left < row.blocks
 IsOutcome p s left row (Copied bytes) = (row.blocks ≤ left) × IsGiven p s row bytes × (row.digest ≡ document_digest bytes)
 IsOutcome p s left row (Spoiled found) = (row.blocks ≤ left) × IsDamaged p s row found
-IsOutcome p s left row (Refused count) = (row.blocks ≤ left) × IsWritten s row × CountsRead p s row count
+IsOutcome p s left row (ReadRefused count) = (row.blocks ≤ left) × IsWritten s row × CountsRead p s row count
 
 -- one behind the other, each behind the records of those before it
 abbrev pub AreOutcomes : Permit → State → ℕ → List Row → List Outcome → Type 0
@@ -67,7 +67,7 @@ abbrev pub stopped_records_of : Row → Outcome → List Rec
 stopped_records_of row NoRoom = []
 stopped_records_of row (Copied bytes) = []
 stopped_records_of row (Spoiled found) = damage_record row row.digest found ∷ []
-stopped_records_of row (Refused count) = rec.Fault count ∷ []
+stopped_records_of row (ReadRefused count) = rec.Fault count ∷ []
 
 -- what the reads before the stop showed: damage and faults, in the order of the pieces
 abbrev pub stopped_front_of : List Row → List Outcome → List Rec

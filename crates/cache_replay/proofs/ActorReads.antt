@@ -9,7 +9,7 @@ use Rattle.cache_calls.specs.Actors.{IsReaderOf, ReaderSeen}
 use Rattle.cache_calls.specs.Keeping.{IsAtRest}
 use Rattle.script_lang.specs.declared.step.Step.TheVariants as step
 use Rattle.script_lang.specs.declared.answer.StepAnswer.{StepAnswer}
-use Rattle.script_run.specs.Run.{Run, Reads, held_by}
+use Rattle.script_run.specs.Run.{Run, HoldsReader, held_by}
 use Rattle.script_run.specs.Turn.{told_in}
 use Rattle.script_run.specs.Asked as asks
 use Rattle.script_run.specs.Answers as says
@@ -29,11 +29,11 @@ use Rattle.cache_replay.proofs.ReaderLines.{Took, Turns, apart_else, held_reader
 use Rattle.cache_replay.proofs.Stood.{IsLawful}
 
 -- the actor still has it
-next_has : (run : Run) (t : State) (name : List ℕ) (r later : ReaderSeen) → held_by run name ≡ Some (Reads r.reader) → later.reader ≡ r.reader → IsReaderOf t later
-    → still_open t (held_by run name) ≡ Some (Reads later.reader)
+next_has : (run : Run) (t : State) (name : List ℕ) (r later : ReaderSeen) → held_by run name ≡ Some (HoldsReader r.reader) → later.reader ≡ r.reader → IsReaderOf t later
+    → still_open t (held_by run name) ≡ Some (HoldsReader later.reader)
 next_has run t name r later by same keeps =
-    ap (still_open t) (by ∙ ap (λ n. Some (Reads n)) (sym same))
-    ∙ ap (λ (o : Option ReaderRow). if is_some o then Some (Reads later.reader) else None) keeps.found
+    ap (still_open t) (by ∙ ap (λ n. Some (HoldsReader n)) (sym same))
+    ∙ ap (λ (o : Option ReaderRow). if is_some o then Some (HoldsReader later.reader) else None) keeps.found
 
 -- what follows of an answer
 if_then : {X E : Type 0} {P Q : X → Type 0} (result : Result X E) → ((x : X) → P x → Q x) → IfOk result P → IfOk result Q

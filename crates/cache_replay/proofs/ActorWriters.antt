@@ -16,7 +16,7 @@ use Rattle.cache_calls.specs.Standing.{IsToldClosed, StaysStanding}
 use Rattle.script_lang.specs.declared.answer.StepAnswer.{StepAnswer}
 use Rattle.script_lang.specs.declared.answer.StepAnswer.TheVariants as answer
 use Rattle.script_lang.specs.declared.step.Step.TheVariants as step
-use Rattle.script_run.specs.Run.{Run, Reads, Stream, Writes, actor_of, held_by, no_stream, put_in, with_value, put_written_by}
+use Rattle.script_run.specs.Run.{Run, HoldsReader, Stream, HoldsWriter, actor_of, held_by, no_stream, put_in, with_value, put_written_by}
 use Rattle.script_run.specs.Run.{Holding as Held}
 use Rattle.script_run.specs.Answers as says
 use Rattle.script_run.specs.Answers.{busy, idle}
@@ -36,7 +36,7 @@ use Rattle.cache_replay.specs.Plays.{IsHeldAs, IsStreamOf, PartEnds, PlaysIn, Pl
 use Rattle.cache_replay.specs.Session.{ActorsAreApart, AnswerTellsCount, AreHeld, Differ, HoldingSeen, IsActive, IsHeldByActor, IsOpenWriter, LeavesBut, ReaderHeld, WriterHeld, at_in, slots_of}
 use Rattle.cache_replay.specs.Session.{state_in_part}
 use Rattle.cache_replay.specs.Standing.{IsToldFrom, OwnStands, TellsOwn}
-use Rattle.cache_replay.specs.WriterLines.{Closes, Feeds, GivesUp, HasNoWriter, IsPlayed, IsWriterLeft, LeavesWriter, OpenDoes, Opens, TakesWriter, WriterDoes, WriterEnds, WriterLine}
+use Rattle.cache_replay.specs.WriterLines.{ClosesLine, FeedsLine, GivesUpLine, HasNoWriter, IsPlayed, IsWriterLeft, LeavesWriter, OpenDoes, OpensLine, TakesWriter, WriterDoes, WriterEnds, WriterLine}
 use Rattle.cache_replay.specs.WriterLines.{WriterMoves, held_in, step_of_writer, writes_in}
 use Rattle.cache_replay.proofs.ActorLines.{DoesNothing, changed_from, held_is, names_are, names_within, seen_same, still_line, with_here, with_other}
 use Rattle.cache_replay.proofs.Frames.{Changed, IsElse, IsMine, OthersElse, SameStreams, all_apart, all_held, all_held_as, part_behind, put_leaves}
@@ -73,10 +73,10 @@ mine_left t put (Some w) left h is =
 
 -- it is a line of that actor
 pub actor_is : (line : WriterLine) (name : List ℕ) → actor_of (step_of_writer line name) ≡ Some name
-actor_is (Feeds body) name = refl
-actor_is Closes name = refl
-actor_is GivesUp name = refl
-actor_is (Opens key pin request response) name = refl
+actor_is (FeedsLine body) name = refl
+actor_is ClosesLine name = refl
+actor_is GivesUpLine name = refl
+actor_is (OpensLine key pin request response) name = refl
 
 -- what the actor has behind it, and what the others have
 held_here : (line : WriterLine) (run : Run) (s t : State) (turn : Turn) (name : List ℕ) (n : ℕ) → n ≡ number_of_name run.actors name
@@ -107,19 +107,19 @@ writes o = option_and_then put_in o
 
 -- the put of a line: that of the actor's writer, or the next one
 abbrev pub IsPutOf : Run → State → WriterLine → List ℕ → ℕ → Type 0
-IsPutOf run s (Feeds body) name put = held_by run name ≡ Some (Writes put)
-IsPutOf run s Closes name put = held_by run name ≡ Some (Writes put)
-IsPutOf run s GivesUp name put = held_by run name ≡ Some (Writes put)
-IsPutOf run s (Opens key pin request response) name put = (held_by run name ≡ None) × (s.next_put ≡ put)
+IsPutOf run s (FeedsLine body) name put = held_by run name ≡ Some (HoldsWriter put)
+IsPutOf run s ClosesLine name put = held_by run name ≡ Some (HoldsWriter put)
+IsPutOf run s GivesUpLine name put = held_by run name ≡ Some (HoldsWriter put)
+IsPutOf run s (OpensLine key pin request response) name put = (held_by run name ≡ None) × (s.next_put ≡ put)
 
 same_streams : (line : WriterLine) (run : Run) (s t : State) (turn : Turn) (name : List ℕ) (put : ℕ) → IsPutOf run s line name put
     → SameStreams (Some put) run (in_session run s t turn (step_of_writer line name))
-same_streams (Feeds body) run s t turn name put held = λ q other.
+same_streams (FeedsLine body) run s t turn name put held = λ q other.
     subst (λ o. of_put run (writes o) (streams_fed run t body turn.refused) q ≡ run.streams q) (sym held) (same_fed run.streams put q _ (run.streams put).sealed other)
-same_streams Closes run s t turn name put held = λ q other.
+same_streams ClosesLine run s t turn name put held = λ q other.
     subst (λ o. of_put run (writes o) (streams_closed run turn.refused) q ≡ run.streams q) (sym held) (same_with run.streams put q _ other)
-same_streams GivesUp run s t turn name put held = λ q other. refl
-same_streams (Opens key pin request response) run s t turn name put held = λ q other.
+same_streams GivesUpLine run s t turn name put held = λ q other. refl
+same_streams (OpensLine key pin request response) run s t turn name put held = λ q other.
     subst (λ o. streams_opened run s o q ≡ run.streams q) (sym held.0) (same_with run.streams s.next_put q no_stream (λ e. other (ap (λ (n : ℕ). Some n) (sym held.1) ∙ e)))
 
 -- ---- the run behind a line on a writer
@@ -140,23 +140,23 @@ is_played run name s slots n w is mine plays =
 
 -- what is told of the fragments that a line cuts, where it cuts any
 abbrev pub ToldBy : WriterLine → State → WriterSeen → Contents → Type 0
-ToldBy (Feeds body) t w = IsToldFrom t w body
-ToldBy Closes t w = IsToldClosed t w
-ToldBy GivesUp t w = AnyContents
-ToldBy (Opens key pin request response) t w = AnyContents
+ToldBy (FeedsLine body) t w = IsToldFrom t w body
+ToldBy ClosesLine t w = IsToldClosed t w
+ToldBy GivesUpLine t w = AnyContents
+ToldBy (OpensLine key pin request response) t w = AnyContents
 
 -- a line on a writer that is there
 abbrev pub IsOnWriter : WriterLine → Type 0
-IsOnWriter (Opens key pin request response) = ⊥
-IsOnWriter (Feeds body) = Unit {0}
-IsOnWriter Closes = Unit {0}
-IsOnWriter GivesUp = Unit {0}
+IsOnWriter (OpensLine key pin request response) = ⊥
+IsOnWriter (FeedsLine body) = Unit {0}
+IsOnWriter ClosesLine = Unit {0}
+IsOnWriter GivesUpLine = Unit {0}
 
 put_played : (line : WriterLine) (run : Run) (name : List ℕ) (s : State) (w : WriterSeen) → IsOnWriter line → IsPlayed run name s w → IsPutOf run s line name w.put
-put_played (Feeds body) run name s w on played = played.held
-put_played Closes run name s w on played = played.held
-put_played GivesUp run name s w on played = played.held
-put_played (Opens key pin request response) run name s w on played = absurd on
+put_played (FeedsLine body) run name s w on played = played.held
+put_played ClosesLine run name s w on played = played.held
+put_played GivesUpLine run name s w on played = played.held
+put_played (OpensLine key pin request response) run name s w on played = absurd on
 
 -- what a reader, or nothing, is in the run
 none_written : (run : Run) (s : State) (n : ℕ) (o : Option HoldingSeen) → HasNoWriter o → IsHeldAs run s n o
@@ -164,26 +164,26 @@ none_written : (run : Run) (s : State) (n : ℕ) (o : Option HoldingSeen) → Ha
 none_written run s n None nope h = (ap writes h, ap (still_open s) h ∙ sym h)
 none_written run s n (Some (WriterHeld w)) nope h = absurd nope
 none_written run s n (Some (ReaderHeld r)) nope h =
-    (ap writes h.0, ap (still_open s) h.0 ∙ (ap (λ o. if is_some o then Some (Reads r.reader) else None) h.1.found ∙ sym h.0))
+    (ap writes h.0, ap (still_open s) h.0 ∙ (ap (λ o. if is_some o then Some (HoldsReader r.reader) else None) h.1.found ∙ sym h.0))
 
 idles : (line : WriterLine) (run : Run) (s : State) (name : List ℕ) → IsOnWriter line → put_written_by run name ≡ None → still_open s (held_by run name) ≡ held_by run name
     → DoesNothing run s (step_of_writer line name) name idle
-idles (Opens key pin request response) run s name on none held = absurd on
-idles (Feeds body) run s name on none held = record {
+idles (OpensLine key pin request response) run s name on none held = absurd on
+idles (FeedsLine body) run s name on none held = record {
   asks = ap (λ o. asks.asks_if_has o (asks.feeding run s body)) none;
   holds = held;
   streams = λ turn. ap (λ o. of_put run o (streams_fed run s body turn.refused)) none;
   own = λ turn given. given;
   says = λ turn. ap (λ o. says.if_has o (says.feed_said run s body turn.refused)) none;
 }
-idles Closes run s name on none held = record {
+idles ClosesLine run s name on none held = record {
   asks = ap (λ o. asks.asks_if_has o (asks.closing run s)) none;
   holds = held;
   streams = λ turn. ap (λ o. of_put run o (streams_closed run turn.refused)) none;
   own = λ turn given. given;
   says = λ turn. ap (λ o. says.if_has o (λ put. says.said s None turn.refused (says.put_said s put))) none;
 }
-idles GivesUp run s name on none held = record {
+idles GivesUpLine run s name on none held = record {
   asks = ap (λ o. asks.asks_if_has o (λ put. GiveUp put ∷ [])) none;
   holds = held;
   streams = λ turn. refl;
@@ -193,8 +193,8 @@ idles GivesUp run s name on none held = record {
 
 -- an actor that has something opens none
 some_in_run : (run : Run) (s : State) (n : ℕ) (h : HoldingSeen) → IsHeldAs run s n (Some h) → (x : Held) × (run.held n ≡ Some x)
-some_in_run run s n (WriterHeld w) held = (Writes w.put, held.0)
-some_in_run run s n (ReaderHeld r) held = (Reads r.reader, held.0)
+some_in_run run s n (WriterHeld w) held = (HoldsWriter w.put, held.0)
+some_in_run run s n (ReaderHeld r) held = (HoldsReader r.reader, held.0)
 
 is_busy : (run : Run) (s : State) (name : List ℕ) (key : Key) (pin : ℕ) (request response : List Field) (x : Held) → held_by run name ≡ Some x
     → DoesNothing run s (step.OpenWrite name key pin request response) name busy
@@ -338,13 +338,13 @@ module _ {S W R : Type 0} {c : CallsGhosts S W R} where
         → StaysStanding c.stands (ToldBy line (state_in_part new) w) part.cache new.cache → OwnStands run.streams (state_in_part part) (c.stands part.cache)
         → OwnStands (streams_behind run (state_in_part part) (state_in_part new) m.turn (step_of_writer line name)) (state_in_part new)
         (c.stands new.cache)
-    writer_stands (Feeds body) on m w played at_hand rest own writing grows stays stands =
+    writer_stands (FeedsLine body) on m w played at_hand rest own writing grows stays stands =
         stands_then run (step.Feed name body) part new said m (IsToldFrom (state_in_part new) w body) grows
         (fed_cut run (state_in_part part) name w.put own.puts (has_put run name (state_in_part part) w played) at_hand.writing
         (state_in_part new) body
         m.turn.refused)
         (fed_told body m w played at_hand rest own (grows w.put).geometry) stays stands
-    writer_stands Closes on m w played at_hand rest own writing grows stays stands =
+    writer_stands ClosesLine on m w played at_hand rest own writing grows stays stands =
         let has = has_put run name (state_in_part part) w played in
         let later : IsLater (state_in_part part) (state_in_part new) w =
         later_of (state_in_part part) (state_in_part new) w at_hand.writing at_hand.writer (grows w.put) in
@@ -356,9 +356,9 @@ module _ {S W R : Type 0} {c : CallsGhosts S W R} where
         (closed_bytes run (state_in_part part) name w.put own.puts has m.turn.refused)
         (gathered_few (state_in_part part) (state_in_part new) w later.geometry at_hand))
         stays stands
-    writer_stands GivesUp on m w played at_hand rest own writing grows stays stands =
+    writer_stands GivesUpLine on m w played at_hand rest own writing grows stays stands =
         stands_on run (step.Abort name) part new said m refl grows stays stands
-    writer_stands (Opens key pin request response) on m w played at_hand rest own writing grows stays stands = absurd on
+    writer_stands (OpensLine key pin request response) on m w played at_hand rest own writing grows stays stands = absurd on
 
   -- a line on the writer that an actor has
   pub writer_answers : (now : ℕ) (line : WriterLine) → IsOnWriter line → (part new : Part S W R c) (actors numbered taken last : TableSeen (Holding W R)) (name : List ℕ) (n : ℕ)
@@ -415,11 +415,11 @@ module _ {S W R : Type 0} {c : CallsGhosts S W R} where
       → new.page ≡ part.page → IsLawful c
       → LeavesWriter c part.cache new.cache (state_in_part part).next_put left given
       → StaysStanding c.stands AnyContents part.cache new.cache
-      → OpenDoes (at_in part) (at_in new) n (Opens key pin request response) (option_map c.written left) given
+      → OpenDoes (at_in part) (at_in new) n (OpensLine key pin request response) (option_map c.written left) given
       → IfOk result (λ said. given ≡ Some said) → IfErr result (λ why. why ≡ Memory)
       → AnswersActor now (step.OpenWrite name key pin request response) part new actors last result
   open_answers now part new actors numbered last name key pin request response n left given result number same names active free back page lawful leaves stays does said stop =
-      let line : WriterLine = Opens key pin request response in
+      let line : WriterLine = OpensLine key pin request response in
       let none : slots_of c actors n ≡ None = ap (option_map (Rattle.cache_replay.specs.Session.holding_seen c)) (sym (same n) ∙ free) in
       answers now line part new actors last name n (state_in_part part).next_put left given number names active
       (others_write_older (at_in part) active.part_is.rest (slots_of c actors) active.held n)

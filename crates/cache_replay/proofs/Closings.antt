@@ -26,7 +26,7 @@ use Rattle.cache_calls.specs.declared.calls.Refusal.TheVariants as refusal
 use Rattle.cache_calls.specs.Actors.{WriterSeen}
 use Rattle.cache_calls.specs.Asked.{close_asks, ending_asks, progress_at, rest_asks, rest_rows, rows_at_close}
 use Rattle.cache_calls.specs.Keeping.{plain_setting, state_at}
-use Rattle.cache_calls.specs.Writers.{Closes as ClosesAs, ClosesOpen, CutsRest, KeepsRest, SealsWhere, TellsComplete}
+use Rattle.cache_calls.specs.Writers.{ClosesLine as ClosesAs, ClosesOpen, CutsRest, KeepsRest, SealsWhere, TellsComplete}
 use Rattle.script_lang.specs.declared.step.Step.TheVariants as step
 use Rattle.script_lang.specs.declared.answer.Refused.TheVariants as refused
 use Rattle.script_lang.specs.declared.answer.StepAnswer.{StepAnswer}
@@ -42,7 +42,7 @@ use Rattle.run_promise.specs.Outline.{count_in, count_of_cause}
 use Rattle.cache_replay.specs.Plays.{IsStreamOf}
 use Rattle.cache_replay.specs.Replies.{closed_answer, receipt_answer}
 use Rattle.cache_replay.specs.Session.{IsOpenWriter}
-use Rattle.cache_replay.specs.WriterLines.{Closes, IsPlayed, WriterDoes}
+use Rattle.cache_replay.specs.WriterLines.{ClosesLine, IsPlayed, WriterDoes}
 use Rattle.cache_replay.proofs.Counts.{at_most, loss_counts}
 use Rattle.cache_replay.proofs.Endings.{AreClosing, EndsInCommit, IsEnded, ended_along, key_of, rows_then}
 use Rattle.cache_replay.proofs.Whole.{serves_whole}
@@ -167,14 +167,14 @@ module _ (now : ℕ) (a b : At) (plain : a.setting ≡ plain_setting) (quiet : I
       → ServesFrom (Untold b.device IsVectorAs) now a b (ending_asks w) o IsToldAt known
       → (Ended why → (stream : Stream) → IsStreamOf stream w → is_writing t w.put ≡ true → IsStreamOf (sealed_by why stream) last)
       → (Ended why → said t None why (put_said t w.put) ≡ said_)
-      → WriterDoes now a b Closes w left (Some said_)
+      → WriterDoes now a b ClosesLine w left (Some said_)
   closed_moves {known = known} why said_ ends serves stream is_said = λ run name moment played.
       let has = has_put run name s w played in
       let put_is = rested_put w last rested in
       let x : Stream = sealed_by why (run.streams w.put) in
       let at : of_put run (Rattle.script_run.specs.Run.put_written_by run name) (streams_closed run why) last.put ≡ x =
       ap (λ o. of_put run o (streams_closed run why) last.put) has ∙ ap (λ (b : Bool). if b then x else run.streams last.put) (eq-eqb last.put w.put put_is) in
-      writer_ends run name a b now plain moment Closes (ending_asks w) why left said_ (closing_asks run name played)
+      writer_ends run name a b now plain moment ClosesLine (ending_asks w) why left said_ (closing_asks run name played)
       (serves_whole why ends plain quiet played.told serves)
       (λ legal there behind.
       let end_ : Ended why = subst (λ x. IsEnded why x w.put (rows_at_close w) (key_of s w.put)) (sym there) (closing_ended _ s w _ why own legal.grows) in
@@ -188,7 +188,7 @@ module _ (now : ℕ) (a b : At) (plain : a.setting ≡ plain_setting) (quiet : I
   -- each answer
   closes_open : {known : Facts} (result : Result Receipt Refusal) → ClosesOpen a b w result
       → ServesFrom (Untold b.device IsVectorAs) now a b (ending_asks w) (progress_at w.put (ending_asks w) result) IsToldAt known → SealsWhere w last result
-      → WriterDoes now a b Closes w left (closed_answer result)
+      → WriterDoes now a b ClosesLine w left (closed_answer result)
   closes_open (Ok receipt) how serves seals = closed_moves None (answer.Put receipt.put receipt.length receipt.fragments) progress.EndsWith.in_full serves
       (λ end_ stream of o. clashes (is_writing t w.put) end_.0 o) (λ end_. complete_said t w receipt (key_of s w.put) how end_)
   closes_open (Err (refusal.VectorTooLarge size)) how serves seals = closed_moves (Some (TooLarge w.put size)) _ (progress.EndsWith.refused (TooLarge w.put size)) serves
@@ -223,7 +223,7 @@ pub closes_line : {known : Facts} (now : ℕ) (a b : At) → a.setting ≡ plain
     → IsOpenWriter (state_at a) w
     → KeepsRest w last ⊎ CutsRest w last → LeftOpen (state_at b) last left → (result : Result Receipt Refusal) → ClosesAs a b w result
     → ServesFrom (Untold b.device IsVectorAs) now a b (close_asks (state_at a) w) (progress_at w.put (close_asks (state_at a) w) result) IsToldAt known → SealsWhere w last result
-    → WriterDoes now a b Closes w left (closed_answer result)
+    → WriterDoes now a b ClosesLine w left (closed_answer result)
 closes_line {known} now a b plain quiet w last left own rested open_left result how serves seals =
     closes_open now a b plain quiet w last left own rested open_left result (closes_as_open a b w result own.writing how)
     (subst (λ is. ServesFrom (Untold b.device IsVectorAs) now a b is (progress_at w.put is result) IsToldAt known) (asks_ending (state_at a) w own.writing) serves) seals

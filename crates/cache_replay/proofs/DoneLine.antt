@@ -19,7 +19,7 @@ use Rattle.cache_calls.specs.Standing.{StaysStanding}
 use Rattle.script_lang.specs.declared.step.Step.TheVariants as step
 use Rattle.script_lang.specs.declared.answer.StepAnswer.{StepAnswer}
 use Rattle.script_lang.specs.declared.answer.StepAnswer.TheVariants as answer
-use Rattle.script_run.specs.Run.{Run, Reads, held_by}
+use Rattle.script_run.specs.Run.{Run, HoldsReader, held_by}
 use Rattle.script_run.specs.Asked as asks
 use Rattle.script_run.specs.Answers as says
 use Rattle.script_run.specs.Behind.{still_open}
@@ -41,10 +41,10 @@ closed_is_none : (s : State) (reader : ℕ) → reader_of (state_after s (rec.Re
 closed_is_none s reader =
     find-without (λ (x : ReaderRow). x.reader) reader reader s.readers ∙ ap (λ (b : Bool). cond b None (reader_of s reader)) (eq-eqb reader reader refl)
 
-closed_has : (run : Run) (s : State) (name : List ℕ) (reader : ℕ) → held_by run name ≡ Some (Reads reader)
+closed_has : (run : Run) (s : State) (name : List ℕ) (reader : ℕ) → held_by run name ≡ Some (HoldsReader reader)
     → still_open (state_after s (rec.ReadClosed reader)) (held_by run name) ≡ None
 closed_has run s name reader by =
-    ap (still_open (state_after s (rec.ReadClosed reader))) by ∙ ap (λ (o : Option ReaderRow). if is_some o then Some (Reads reader) else None) (closed_is_none s reader)
+    ap (still_open (state_after s (rec.ReadClosed reader))) by ∙ ap (λ (o : Option ReaderRow). if is_some o then Some (HoldsReader reader) else None) (closed_is_none s reader)
 
 module _ {S W R : Type 0} {c : CallsGhosts S W R} where
   module _ (laws : IsLawful c) (old new : Part S W R c) (before after : TableSeen (Holding W R)) (name : List ℕ) (n : ℕ) (r : ReaderSeen)

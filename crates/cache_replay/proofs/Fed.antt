@@ -32,7 +32,7 @@ use Rattle.run_promise.specs.Outline.{count_in}
 use Rattle.cache_replay.specs.Replies.{count_of_refusal, fed_answer, refusal_answer, refused_answer}
 use Rattle.cache_replay.specs.Plays.{IsStreamOf}
 use Rattle.cache_replay.specs.Session.{IsOpenWriter}
-use Rattle.cache_replay.specs.WriterLines.{Feeds, IsPlayed, WriterDoes}
+use Rattle.cache_replay.specs.WriterLines.{FeedsLine, IsPlayed, WriterDoes}
 use Rattle.cache_replay.proofs.Whole.{serves_whole}
 use Rattle.cache_replay.proofs.WriterSteps.{LeftOpen, cuts_at, feeding_asks, has_put, held_open, of_left, writer_ends}
 
@@ -76,7 +76,7 @@ module _ (now : ℕ) (a b : At) (plain : a.setting ≡ plain_setting) (quiet : I
   fed_moves : {o : Progress} (why : Option Reason) (said_ : StepAnswer) → EndsWith o why → w.sealed ≡ false → Serves now a b (feed_asks s w body) o
       → ((run : Run) → took_of run t w.put ≡ cut_since → behind.taken_in_line run t body why w.put ≡ taken)
       → ((run : Run) → took_of run t w.put ≡ cut_since → said t (Some (took_of run t w.put)) why (answer.Took (length body)) ≡ said_)
-      → WriterDoes now a b (Feeds body) w left (Some said_)
+      → WriterDoes now a b (FeedsLine body) w left (Some said_)
   fed_moves why said_ ends unsealed serves takes is_said = λ run name moment played.
       let nope : (run.streams w.put).sealed ≡ false = sym played.stream.sealed ∙ unsealed in
       let has = has_put run name s w played in
@@ -86,7 +86,7 @@ module _ (now : ℕ) (a b : At) (plain : a.setting ≡ plain_setting) (quiet : I
       ap (λ o. of_put run o (streams_fed run t body why) last.put) has
       ∙ (ap (λ (b : Bool). (if b then run.streams else with_value run.streams w.put x) last.put) nope
       ∙ (ap (λ (b : Bool). if b then x else run.streams last.put) (eq-eqb last.put w.put fed_.put) ∙ ap (fed (run.streams w.put) body) (takes run took))) in
-      writer_ends run name a b now plain moment (Feeds body) (feed_asks s w body) why left said_
+      writer_ends run name a b now plain moment (FeedsLine body) (feed_asks s w body) why left said_
       (feeding_asks run name s w body played own ∙ ap (λ (b : Bool). if b then [] else feed_asks s w body) nope)
       (serves_whole why ends plain quiet played.told serves)
       (λ legal there known. record {
@@ -105,7 +105,7 @@ module _ (now : ℕ) (a b : At) (plain : a.setting ≡ plain_setting) (quiet : I
 
   -- a sealed writer takes nothing
   sealed_moves : w.sealed ≡ true → Serves now a b [] AllDone → IsAsItWas a b → taken ≡ cut_since
-      → WriterDoes now a b (Feeds body) w left (Some (refusal_answer refusal.Sealed (Some taken)))
+      → WriterDoes now a b (FeedsLine body) w left (Some (refusal_answer refusal.Sealed (Some taken)))
   sealed_moves sealed serves same is = λ run name moment played.
       let yea : (run.streams w.put).sealed ≡ true = sym played.stream.sealed ∙ sealed in
       let zero : taken ≡ 0 = is ∙ none_taken same in
@@ -117,7 +117,7 @@ module _ (now : ℕ) (a b : At) (plain : a.setting ≡ plain_setting) (quiet : I
       let at : of_put run (put_written_by run name) (streams_fed run t body None) last.put ≡ run.streams w.put =
       ap (λ o. of_put run o (streams_fed run t body None) last.put) has
       ∙ (ap (λ (b : Bool). (if b then run.streams else with_value run.streams w.put (fed (run.streams w.put) body (length body))) last.put) yea ∙ ap run.streams fed_.put) in
-      writer_ends run name a b now plain moment (Feeds body) [] None left (refusal_answer refusal.Sealed (Some taken))
+      writer_ends run name a b now plain moment (FeedsLine body) [] None left (refusal_answer refusal.Sealed (Some taken))
       (feeding_asks run name s w body played own ∙ ap (λ (b : Bool). if b then [] else feed_asks s w body) yea)
       (serves_whole None progress.EndsWith.in_full plain quiet played.told serves)
       (λ legal there known. record {
@@ -132,7 +132,7 @@ module _ (now : ℕ) (a b : At) (plain : a.setting ≡ plain_setting) (quiet : I
 
   -- each answer
   pub feeds_line : (why : Option Refusal) → FeedsWhere now a b w body why → taken ≡ taken_by_feed t w body why
-      → WriterDoes now a b (Feeds body) w left (fed_answer (length body) taken why)
+      → WriterDoes now a b (FeedsLine body) w left (fed_answer (length body) taken why)
   feeds_line None h is = fed_moves None _ progress.EndsWith.in_full h.open_still h.serves (λ run took. sym is) (λ run took. refl)
   feeds_line (Some refusal.TooManyFragments) h is = fed_moves (Some (ManyFragments w.put)) _ (progress.EndsWith.refused (ManyFragments w.put)) h.open_still h.serves
       (λ run took. took ∙ sym is)

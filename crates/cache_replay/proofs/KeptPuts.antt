@@ -18,7 +18,7 @@ use Rattle.cache_model.specs.Permit.{ReadOn, Remove, StopReading, Sync, SyncBegi
 use Rattle.cache_model.specs.Due.{due_pieces}
 use Rattle.cache_model.specs.Legal
 use Rattle.cache_model.specs.Legal.{Advances, MayGrow, more, nothing}
-use Rattle.cache_model.specs.Outcomes.{Copied, Copy, NoRoom, Outcome, Refused, Spoiled}
+use Rattle.cache_model.specs.Outcomes.{Copied, Copy, NoRoom, Outcome, ReadRefused, Spoiled}
 use Rattle.cache_model.specs.Outcomes.{began_record, copies_of, flush_records, front_of, moved_record, moved_records, records_of}
 use Rattle.cache_model.specs.Room.{MayDisplace}
 use Rattle.cache_model.specs.Syncing.{AtOnce, InParts, MaySyncBehind, Syncing, WhereDue}
@@ -78,7 +78,7 @@ one_outcome : (s : State) (row : Row) (o : Outcome) → (after_all s (records_of
 one_outcome s row NoRoom = refl
 one_outcome s row (Copied bytes) = refl
 one_outcome s row (Spoiled found) = refl
-one_outcome s row (Refused count) = refl
+one_outcome s row (ReadRefused count) = refl
 
 front : (s : State) (rows : List Row) (outcomes : List Outcome) → (after_all s (front_of rows outcomes)).puts ≡ s.puts
 front s [] outcomes = refl

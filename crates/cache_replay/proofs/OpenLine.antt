@@ -26,7 +26,7 @@ use Rattle.cache_calls.specs.Standing.{StaysStanding}
 use Rattle.script_lang.specs.declared.step.Step.TheVariants as step
 use Rattle.script_lang.specs.declared.answer.StepAnswer.{StepAnswer}
 use Rattle.script_lang.specs.declared.answer.StepAnswer.TheVariants as answer
-use Rattle.script_run.specs.Run.{Run, Reads, Writes, held_by}
+use Rattle.script_run.specs.Run.{Run, HoldsReader, HoldsWriter, held_by}
 use Rattle.script_run.specs.Run as running
 use Rattle.script_run.specs.Turn.{lookup_in}
 use Rattle.script_run.specs.Asked as asks
@@ -66,9 +66,9 @@ module _ {R : Type 0} (reading : R → ReaderSeen) where
   if_opened P (opened.Miss why) h = tt
 
   -- the reader that stands behind the records
-  reader_stands : (t : State) (number : ℕ) (r : ReaderSeen) → r.reader ≡ number → IsReaderOf t r → open_reader_at t number ≡ Some (Reads r.reader)
+  reader_stands : (t : State) (number : ℕ) (r : ReaderSeen) → r.reader ≡ number → IsReaderOf t r → open_reader_at t number ≡ Some (HoldsReader r.reader)
   reader_stands t number r is own =
-      ap (open_reader_at t) (sym is) ∙ ap (λ (o : Option ReaderRow). if is_some o then Some (Reads r.reader) else None) own.found
+      ap (open_reader_at t) (sym is) ∙ ap (λ (o : Option ReaderRow). if is_some o then Some (HoldsReader r.reader) else None) own.found
 
   opened_has : (s t : State) (who : Actor) (key : Key) (request : List Field) (given : Opened R) → t ≡ after_all s (open_adds s who key request (answer_in given))
       → reader_of s s.next_reader ≡ None → TellsReader reading s.next_reader given → IfReader (λ r. IsReaderOf t (reading r)) given
@@ -76,7 +76,7 @@ module _ {R : Type 0} (reading : R → ReaderSeen) where
   opened_has s t who key request (opened.Hit reader put length) behind free tells own = reader_stands t s.next_reader (reading reader) tells.0 own
   opened_has s t who key request (opened.Follow reader put) behind free tells own = reader_stands t s.next_reader (reading reader) tells.0 own
   opened_has s t who key request (opened.Miss why) behind free tells own =
-      ap (λ (o : Option ReaderRow). if is_some o then Some (Reads s.next_reader) else None)
+      ap (λ (o : Option ReaderRow). if is_some o then Some (HoldsReader s.next_reader) else None)
       (ap (find (λ (x : ReaderRow). x.reader == s.next_reader))
       (ap (λ (u : State). u.readers) behind ∙ miss_reads s who key request why) ∙ free)
 
@@ -104,8 +104,8 @@ none_there (Some h) e = let no : true ≡ false = e in cc
 -- an actor that has something
 some_held : (run : Run) (s : State) (n : ℕ) (o : Option HoldingSeen) → is_some o ≡ true → IsHeldAs run s n o → (h : running.Holding) × (run.held n ≡ Some h)
 some_held run s n None some own = let no : false ≡ true = some in cc
-some_held run s n (Some (WriterHeld w)) some own = (Writes w.put, own.0)
-some_held run s n (Some (ReaderHeld r)) some own = (Reads r.reader, own.0)
+some_held run s n (Some (WriterHeld w)) some own = (HoldsWriter w.put, own.0)
+some_held run s n (Some (ReaderHeld r)) some own = (HoldsReader r.reader, own.0)
 
 -- ---- the line
 

@@ -28,7 +28,7 @@ use Rattle.cache_calls.specs.Writers.{HasBegun, OpensNone, opened_writer_record}
 use Rattle.script_lang.specs.declared.step.Step.TheVariants as step
 use Rattle.script_lang.specs.declared.answer.StepAnswer.{StepAnswer}
 use Rattle.script_lang.specs.declared.answer.StepAnswer.TheVariants as answer
-use Rattle.script_run.specs.Run.{Run, Writes, held_by, no_stream}
+use Rattle.script_run.specs.Run.{Run, HoldsWriter, held_by, no_stream}
 use Rattle.script_run.specs.Run.{Holding as Held}
 use Rattle.script_run.specs.Answers as says
 use Rattle.script_run.specs.Asked as asks
@@ -36,7 +36,7 @@ use Rattle.script_run.specs.Asked.{asked}
 use Rattle.script_run.specs.Behind.{or_else, streams_opened, writer_at}
 use Rattle.cache_replay.specs.Plays.{IsStreamOf}
 use Rattle.cache_replay.specs.Replies.{refused_answer}
-use Rattle.cache_replay.specs.WriterLines.{OpenDoes, Opens}
+use Rattle.cache_replay.specs.WriterLines.{OpenDoes, OpensLine}
 use Rattle.cache_replay.proofs.Free.{next_is_free}
 use Rattle.cache_replay.proofs.Whole.{serves_whole}
 use Rattle.cache_replay.proofs.WriterSteps.{writer_ends}
@@ -82,7 +82,7 @@ module _ (a b : At) (plain : a.setting ≡ plain_setting) (quiet : IsQuiet (stat
 
   -- it opens
   pub opens : (w : WriterSeen) → HasBegun a b (opened_writer_record (state_at a) who key request response pin) w → ((now : ℕ) → ServesTold now a b is AllDone)
-      → OpenDoes a b who.0 (Opens key pin request response) (Some w) (Some (answer.Writer w.put))
+      → OpenDoes a b who.0 (OpensLine key pin request response) (Some w) (Some (answer.Writer w.put))
   opens w begun serves = λ run name free whose told.
       let s : State = state_at a in
       let t : State = state_at b in
@@ -91,12 +91,12 @@ module _ (a b : At) (plain : a.setting ≡ plain_setting) (quiet : IsQuiet (stat
       let rows : w.cuts ≡ [] = nothing_cut s who key request response pin w begun.put (subst (λ x. IsWriterOf x w) there begun.writer) in
       let at : streams_opened run s (held_by run name) w.put ≡ no_stream =
       ap (λ o. streams_opened run s o w.put) free ∙ ap (λ (b : Bool). if b then no_stream else run.streams w.put) (eq-eqb w.put s.next_put begun.put) in
-      writer_ends run name a b run.now plain refl (Opens key pin request response) is None (Some w) (answer.Writer w.put)
+      writer_ends run name a b run.now plain refl (OpensLine key pin request response) is None (Some w) (answer.Writer w.put)
       (opening_asks run name s who key request response pin free whose)
       (serves_whole None progress.EndsWith.in_full plain quiet told (serves run.now))
       (λ legal behind known. record {
         held = ap (λ o. or_else o (writer_at t s.next_put)) free
-            ∙ (ap (λ (b : Bool). if b then Some (Writes s.next_put) else None) writing ∙ ap (λ (n : ℕ). Some (Writes n)) (sym begun.put));
+            ∙ (ap (λ (b : Bool). if b then Some (HoldsWriter s.next_put) else None) writing ∙ ap (λ (n : ℕ). Some (HoldsWriter n)) (sym begun.put));
         stream = subst (λ x. IsStreamOf x w) (sym at) (new_stream w rows begun.empty begun.unsealed);
         says = ap (λ o. says.if_free o (answer.Writer s.next_put)) free ∙ ap answer.Writer (sym begun.put);
       })
@@ -104,23 +104,23 @@ module _ (a b : At) (plain : a.setting ≡ plain_setting) (quiet : IsQuiet (stat
   -- it is refused
   refused_by : (why : Reason) (said : StepAnswer) → IsAtRest a → IsAsItWas a b
       → ((now : ℕ) → ServesTold now a b is (Stops why)) → says.refusal_said (state_at b) None why ≡ said
-      → OpenDoes a b who.0 (Opens key pin request response) None (Some said)
+      → OpenDoes a b who.0 (OpensLine key pin request response) None (Some said)
   refused_by why said rest same serves is_said = λ run name free whose told.
       let s : State = state_at a in
       let t : State = state_at b in
       let none : is_writing t s.next_put ≡ false = ap (λ k. is_writing (Rattle.cache_model.specs.Kept.state_of k) s.next_put) same ∙ next_is_free a rest in
-      writer_ends run name a b run.now plain refl (Opens key pin request response) is (Some why) None said
+      writer_ends run name a b run.now plain refl (OpensLine key pin request response) is (Some why) None said
       (opening_asks run name s who key request response pin free whose)
       (serves_whole (Some why) (progress.EndsWith.refused why) plain quiet told (serves run.now))
       (λ legal behind known. record {
-        held = ap (λ o. or_else o (writer_at t s.next_put)) free ∙ ap (λ (b : Bool). if b then Some (Writes s.next_put) else None) none;
+        held = ap (λ o. or_else o (writer_at t s.next_put)) free ∙ ap (λ (b : Bool). if b then Some (HoldsWriter s.next_put) else None) none;
         stream = tt;
         says = ap (λ o. says.if_free o (says.refusal_said t None why)) free ∙ is_said;
       })
 
   pub not_opened : (why : Refusal) → IsAtRest a → IsAsItWas a b → OpensNone (state_at a) why
       → ((now : ℕ) → ServesTold now a b is (refused_at (state_at a).next_put is why))
-      → OpenDoes a b who.0 (Opens key pin request response) None (refused_answer why None)
+      → OpenDoes a b who.0 (OpensLine key pin request response) None (refused_answer why None)
   not_opened refusal.TooManyWriters rest same none serves = refused_by ManyWriters _ rest same serves refl
   not_opened (refusal.Exhausted number) rest same none serves = refused_by Exhausted _ rest same serves refl
   not_opened (refusal.Memory e) rest same none serves = tt

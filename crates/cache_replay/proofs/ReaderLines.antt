@@ -11,7 +11,7 @@ use Rattle.cache_calls.specs.Actors.{IsOpenReader, IsReaderOf, ReaderSeen}
 use Rattle.cache_calls.specs.Standing.{StaysStanding}
 use Rattle.script_lang.specs.declared.step.Step.{Step}
 use Rattle.script_lang.specs.declared.answer.StepAnswer.{StepAnswer}
-use Rattle.script_run.specs.Run.{Run, Reads, Writes, Stream, actor_of, held_by, reader_by, reader_in, with_value, Holding as Held}
+use Rattle.script_run.specs.Run.{Run, HoldsReader, HoldsWriter, Stream, actor_of, held_by, reader_by, reader_in, with_value, Holding as Held}
 use Rattle.script_run.specs.Turn.{Turn}
 use Rattle.script_run.specs.Behind.{holds_behind, in_session, still_open, streams_behind}
 use Rattle.cache_replay.specs.declared.session.Holding.{Holding}
@@ -58,7 +58,7 @@ open_held t (Some r) h = h
 -- ---- and for the run
 
 abbrev pub as_run : Option ReaderSeen → Option Held
-as_run has = option_map (λ (r : ReaderSeen). Reads r.reader) has
+as_run has = option_map (λ (r : ReaderSeen). HoldsReader r.reader) has
 
 has_as : (later : Run) (t : State) (n : ℕ) (has : Option ReaderSeen) → later.held n ≡ as_run has → IfSome has (IsReaderOf t) → IsHeldAs later t n (as_held has)
 has_as later t n None held own = held
@@ -154,17 +154,17 @@ not_taken before mid after n same left none = λ m.
 
 no_reader : (run : Run) (s : State) (n : ℕ) (o : Option HoldingSeen) → None ≡ reader_held o → IsHeldAs run s n o → option_and_then reader_in (run.held n) ≡ None
 no_reader run s n None e own = rw own refl
-no_reader run s n (Some (WriterHeld w)) e own = let held : run.held n ≡ Some (Writes w.put) = own.0 in rw held refl
+no_reader run s n (Some (WriterHeld w)) e own = let held : run.held n ≡ Some (HoldsWriter w.put) = own.0 in rw held refl
 no_reader run s n (Some (ReaderHeld r)) e own = absurd (none_some r e)
 
 open_still : (run : Run) (s : State) (n : ℕ) (o : Option HoldingSeen) → IsHeldAs run s n o → IfSome o (IsHeldByActor s) → still_open s (run.held n) ≡ run.held n
 open_still run s n None own held = rw own refl
 open_still run s n (Some (WriterHeld w)) own held =
-    let is : run.held n ≡ Some (Writes w.put) = own.0 in
+    let is : run.held n ≡ Some (HoldsWriter w.put) = own.0 in
     let open_yet : is_writing s w.put ≡ true = held.writing in
     rw is (rw open_yet refl)
 open_still run s n (Some (ReaderHeld r)) own held =
-    let is : run.held n ≡ Some (Reads r.reader) = own.0 in
+    let is : run.held n ≡ Some (HoldsReader r.reader) = own.0 in
     let found : reader_of s r.reader ≡ Some held.row = held.found in
     rw is (rw found refl)
 
@@ -175,7 +175,7 @@ module _ {S W R : Type 0} {c : CallsGhosts S W R} (run : Run) (part : Part S W R
   held_there = ap run.held (ap (λ all. number_of_name all name) plays.names ∙ sym number)
 
   -- the run says of an actor what it has
-  pub held_reader : (r : ReaderSeen) → slots_of c actors n ≡ Some (ReaderHeld r) → (held_by run name ≡ Some (Reads r.reader)) × IsReaderOf (state_in_part part) r
+  pub held_reader : (r : ReaderSeen) → slots_of c actors n ≡ Some (ReaderHeld r) → (held_by run name ≡ Some (HoldsReader r.reader)) × IsReaderOf (state_in_part part) r
   held_reader r is =
       let own : IsHeldAs run (state_in_part part) n (Some (ReaderHeld r)) =
       subst (IsHeldAs run (state_in_part part) n) is (plays.at.held n) in

@@ -24,14 +24,14 @@ use Rattle.script_run.specs.Answers.{session_said}
 use Rattle.script_run.specs.Asked as asks
 use Rattle.script_run.specs.Asked.{asked, feed_intents}
 use Rattle.script_run.specs.Behind.{holds_behind, still_open, streams_behind}
-use Rattle.script_run.specs.Run.{Run, Writes, gathered_of, put_in, put_written_by}
+use Rattle.script_run.specs.Run.{Run, HoldsWriter, gathered_of, put_in, put_written_by}
 use Rattle.script_run.specs.Takes.{GivesOwn, streams_with}
 use Rattle.script_run.specs.Turn.{Turn}
 use Rattle.script_run.proofs.Ended.{IsFoundOpen, open_row}
 use Rattle.cache_replay.specs.Feeding.{feed_asks}
 use Rattle.cache_replay.specs.Plays.{IsStreamOf}
 use Rattle.cache_replay.specs.Session.{IsOpenWriter}
-use Rattle.cache_replay.specs.WriterLines.{Closes, Feeds, GivesUp, IsPlayed, IsWriterLeft, Opens, WriterDoes, WriterEnds, WriterLine, step_of_writer, writes_in}
+use Rattle.cache_replay.specs.WriterLines.{ClosesLine, FeedsLine, GivesUpLine, IsPlayed, IsWriterLeft, OpensLine, WriterDoes, WriterEnds, WriterLine, step_of_writer, writes_in}
 use Rattle.cache_replay.proofs.Owned.{writer_is_ended}
 use Rattle.cache_replay.proofs.Whole.{serves_whole, shows_line, shows_piece, takes_line, turn_by}
 
@@ -56,7 +56,7 @@ gathered_at run name s w played own =
 
 -- a writer that is not sealed is asked for the whole fragments among what it has gathered with these bytes
 pub feeding_asks : (run : Run) (name : List ℕ) (s : State) (w : WriterSeen) (body : List ℕ) → IsPlayed run name s w → IsOpenWriter s w
-    → asked run s (step_of_writer (Feeds body) name) ≡ (if (run.streams w.put).sealed then [] else feed_asks s w body)
+    → asked run s (step_of_writer (FeedsLine body) name) ≡ (if (run.streams w.put).sealed then [] else feed_asks s w body)
 feeding_asks run name s w body played own =
     ap (λ o. asks.asks_if_has o (asks.feeding run s body)) (has_put run name s w played)
     ∙ (ap (λ (rows : List TableRow). if (run.streams w.put).sealed then [] else feed_intents s.geometry.fragment w.put (length rows) (gathered_of run s w.put ++ body))
@@ -73,10 +73,10 @@ pub record IsBehind (run : Run) (name : List ℕ) (a b : At) (line : WriterLine)
   pub says : session_said run (state_at a) (state_at b) turn (step_of_writer line name) ≡ said
 
 pub given_none : (line : WriterLine) (run : Run) (s : State) (name : List ℕ) (turn : Turn) → turn.given ≡ [] → GivesOwn run s turn (step_of_writer line name)
-given_none (Feeds body) run s name turn h = h
-given_none Closes run s name turn h = h
-given_none GivesUp run s name turn h = h
-given_none (Opens key pin request response) run s name turn h = h
+given_none (FeedsLine body) run s name turn h = h
+given_none ClosesLine run s name turn h = h
+given_none GivesUpLine run s name turn h = h
+given_none (OpensLine key pin request response) run s name turn h = h
 
 module _ (run : Run) (name : List ℕ) (a b : At) (now : ℕ) (plain : a.setting ≡ plain_setting) (moment : run.now ≡ now) (line : WriterLine) where
   pub writer_ends : {known : Facts} (is : List Intent) (why : Option Reason) (left : Option WriterSeen) (said : StepAnswer)
@@ -109,17 +109,17 @@ module _ (run : Run) (name : List ℕ) (a b : At) (now : ℕ) (plain : a.setting
 
 -- ---- a put is given up
 
-ended_at : (t : State) (put : ℕ) → is_writing t put ≡ false → still_open t (Some (Writes put)) ≡ None
-ended_at t put none = ap (λ (b : Bool). if b then Some (Writes put) else None) none
+ended_at : (t : State) (put : ℕ) → is_writing t put ≡ false → still_open t (Some (HoldsWriter put)) ≡ None
+ended_at t put none = ap (λ (b : Bool). if b then Some (HoldsWriter put) else None) none
 
 pub gives_up : (a b : At) (w : WriterSeen) (put : ℕ) → a.setting ≡ plain_setting → IsQuiet (state_at b) → put ≡ w.put
     → ((now : ℕ) → ServesTold now a b (GiveUp w.put ∷ []) AllDone)
-    → (now : ℕ) → WriterDoes now a b GivesUp w None (Some (answer.Aborted put))
+    → (now : ℕ) → WriterDoes now a b GivesUpLine w None (Some (answer.Aborted put))
 gives_up a b w put plain quiet is serves now = λ run name moment played.
     let s : State = state_at a in
     let t : State = state_at b in
     let has = has_put run name s w played in
-    writer_ends run name a b now plain moment GivesUp (GiveUp w.put ∷ []) None None (answer.Aborted put)
+    writer_ends run name a b now plain moment GivesUpLine (GiveUp w.put ∷ []) None None (answer.Aborted put)
     (ap (λ o. asks.asks_if_has o (λ n. GiveUp n ∷ [])) has)
     (serves_whole None progress.EndsWith.in_full plain quiet played.told (serves now))
     (λ legal there known. record {
@@ -135,11 +135,11 @@ abbrev pub LeftOpen : State → WriterSeen → Option WriterSeen → Type 0
 LeftOpen t w left = left ≡ (if is_writing t w.put then Some w else None)
 
 held_by_open : (t : State) (put : ℕ) (w : WriterSeen) (left : Option WriterSeen) (b : Bool) → w.put ≡ put → is_writing t put ≡ b → left ≡ (if b then Some w else None)
-    → (if b then Some (Writes put) else None) ≡ writes_in left
-held_by_open t put w left true is e l = ap (λ (n : ℕ). Some (Writes n)) (sym is) ∙ ap writes_in (sym l)
+    → (if b then Some (HoldsWriter put) else None) ≡ writes_in left
+held_by_open t put w left true is e l = ap (λ (n : ℕ). Some (HoldsWriter n)) (sym is) ∙ ap writes_in (sym l)
 held_by_open t put w left false is e l = ap writes_in (sym l)
 
-pub held_open : (t : State) (put : ℕ) (w : WriterSeen) (left : Option WriterSeen) → w.put ≡ put → LeftOpen t w left → still_open t (Some (Writes put)) ≡ writes_in left
+pub held_open : (t : State) (put : ℕ) (w : WriterSeen) (left : Option WriterSeen) → w.put ≡ put → LeftOpen t w left → still_open t (Some (HoldsWriter put)) ≡ writes_in left
 held_open t put w left is l =
     held_by_open t put w left (is_writing t put) is refl (l ∙ ap (λ n. if is_writing t n then Some w else None) is)
 

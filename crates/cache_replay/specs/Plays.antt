@@ -10,7 +10,7 @@ use Rattle.cache_calls.specs.Keeping.{IsUnharmed}
 use Rattle.actor_table.specs.Table.{TableSeen}
 use Rattle.script_lang.specs.declared.answer.StepAnswer.{StepAnswer}
 use Rattle.script_lang.specs.declared.step.Step.{Step}
-use Rattle.script_run.specs.Run.{Harm, Run, Stream, Writes, Reads, loosened, no_harm}
+use Rattle.script_run.specs.Run.{Harm, Run, Stream, HoldsWriter, HoldsReader, loosened, no_harm}
 use Rattle.script_run.specs.Turn.{Turn}
 use Rattle.script_run.specs.Answers.{step_answer}
 use Rattle.script_run.specs.Behind.{after_step, harm_of, in_session}
@@ -39,8 +39,8 @@ pub record IsStreamOf (stream : Stream) (w : WriterSeen) : Type 0 where
 -- an actor has what the run says
 abbrev pub IsHeldAs : Run → State → ℕ → Option HoldingSeen → Type 0
 IsHeldAs run s n None = run.held n ≡ None
-IsHeldAs run s n (Some (WriterHeld w)) = (run.held n ≡ Some (Writes w.put)) × IsStreamOf (run.streams w.put) w
-IsHeldAs run s n (Some (ReaderHeld r)) = (run.held n ≡ Some (Reads r.reader)) × IsReaderOf s r
+IsHeldAs run s n (Some (WriterHeld w)) = (run.held n ≡ Some (HoldsWriter w.put)) × IsStreamOf (run.streams w.put) w
+IsHeldAs run s n (Some (ReaderHeld r)) = (run.held n ≡ Some (HoldsReader r.reader)) × IsReaderOf s r
 
 -- the records are those of a legal history, and what stands belongs to what writers took
 pub record PlaysIn (run : Run) (s : State) (slots : ℕ → Option HoldingSeen) : Type 0 where

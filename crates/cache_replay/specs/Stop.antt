@@ -1,6 +1,6 @@
 -- When each reason to end the run comes.
 use Rattle.std.specs.Prelude.{ℕ, ◌≡◌, Bool, true, false, List, None, Result, MatchResult, ⊤}
-use Rattle.device_bay.specs.Calls.{BayCall, Refusal, refusals_of}
+use Rattle.device_bay.specs.Calls.{BayCall, AttachRefusal, refusals_of}
 use Rattle.device_bay.specs.Bay.{Refuses}
 use Rattle.cache_calls.specs.declared.calls.Calls.{Ghosts as CallsGhosts}
 use Rattle.script_lang.specs.declared.step.Step.{Step}
@@ -11,7 +11,7 @@ use Rattle.cache_replay.specs.declared.stop.Stop.TheVariants.{NoCache, BayFault,
 
 -- the attach that a step asks for is noted as refused, and nothing else is noted
 pub record RefusesStep (step : Step) (old new : List BayCall) : Type 0 where
-  pub refusal : Refusal
+  pub refusal : AttachRefusal
   pub attaches : AttachesWith refusal.name refusal.blocks step
   pub refuses : Refuses refusal.name refusal.blocks refusal.count old new
 

@@ -13,7 +13,7 @@ use Rattle.actor_table.specs.Table.{TableSeen, number_of_name}
 use Rattle.script_lang.specs.declared.step.Step.{Step}
 use Rattle.script_lang.specs.declared.step.Step.TheVariants as step
 use Rattle.script_lang.specs.declared.answer.StepAnswer.{StepAnswer}
-use Rattle.script_run.specs.Run.{Run, Writes, held_by}
+use Rattle.script_run.specs.Run.{Run, HoldsWriter, held_by}
 use Rattle.script_run.specs.Behind.{holds_behind, streams_behind}
 use Rattle.script_run.specs.Losses.{NoLossIsAFault}
 use Rattle.cache_replay.specs.declared.session.Holding.{Holding}
@@ -26,23 +26,23 @@ use Rattle.cache_replay.specs.Session.{HoldingSeen, IsOpenWriter, ReaderHeld, Wr
 
 -- what is asked of a writer, or for one
 pub data WriterLine : Type 0 where
-  Feeds : (body : List ℕ) → WriterLine
-  Closes : WriterLine
-  GivesUp : WriterLine
-  Opens : (key : Key) (pin : ℕ) (request response : List Field) → WriterLine
+  FeedsLine : (body : List ℕ) → WriterLine
+  ClosesLine : WriterLine
+  GivesUpLine : WriterLine
+  OpensLine : (key : Key) (pin : ℕ) (request response : List Field) → WriterLine
 
 -- the step of the script that asks so of the actor of this name
 abbrev pub step_of_writer : WriterLine → List ℕ → Step
-step_of_writer (Feeds body) name = step.Feed name body
-step_of_writer Closes name = step.Close name
-step_of_writer GivesUp name = step.Abort name
-step_of_writer (Opens key pin request response) name = step.OpenWrite name key pin request response
+step_of_writer (FeedsLine body) name = step.Feed name body
+step_of_writer ClosesLine name = step.Close name
+step_of_writer GivesUpLine name = step.Abort name
+step_of_writer (OpensLine key pin request response) name = step.OpenWrite name key pin request response
 
 -- ---- a writer
 
 -- it is what the run says that the actor has
 pub record IsPlayed (run : Run) (name : List ℕ) (s : State) (w : WriterSeen) : Type 0 where
-  pub held : held_by run name ≡ Some (Writes w.put)
+  pub held : held_by run name ≡ Some (HoldsWriter w.put)
   pub stream : IsStreamOf (run.streams w.put) w
   pub told : AreTold s
 
@@ -53,7 +53,7 @@ held_in left = option_map (λ (w : WriterSeen). WriterHeld w) left
 -- the same as a run tells it: by the number of the put
 abbrev pub writes_in : Option WriterSeen → Option Rattle.script_run.specs.Run.Holding
 writes_in None = None
-writes_in (Some w) = Some (Writes w.put)
+writes_in (Some w) = Some (HoldsWriter w.put)
 
 -- a writer that is left writes the same put, which is open
 abbrev pub IsWriterLeft : State → ℕ → Option WriterSeen → Type 0

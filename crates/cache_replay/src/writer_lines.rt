@@ -11,7 +11,7 @@ ghost use Rattle.cache_replay.specs.Replies.{fed_answer};
 ghost use Rattle.cache_replay.specs.Session.{IsActive, IsOpenWriter, IsSession, names_in, slots_of};
 ghost use Rattle.cache_replay.specs.declared.stop.Stop.TheVariants as stop;
 ghost use Rattle.cache_replay.specs.Standing.{IsToldFrom};
-ghost use Rattle.cache_replay.specs.WriterLines.{Closes, Feeds, GivesUp, LeavesWriter, OpenDoes, Opens, TakesWriter, WriterDoes, held_in};
+ghost use Rattle.cache_replay.specs.WriterLines.{ClosesLine, FeedsLine, GivesUpLine, LeavesWriter, OpenDoes, OpensLine, TakesWriter, WriterDoes, held_in};
 
 use crate::answers::{answer_unless_memory, closed_answer};
 use crate::feeding::{Fed, feed};
@@ -196,7 +196,7 @@ fn begin<S: Calls>(
         LeavesWriter S.Calls cache.old cache.new put result.left result.answer }
     ensures stands { StaysStanding S.stands AnyContents cache.old cache.new }
     ensures does { OpenDoes (S.at cache.old) (S.at cache.new) actor.0
-        (Opens key pin request response) (option_map S.written result.left) result.answer }
+        (OpensLine key pin request response) (option_map S.written result.left) result.answer }
 {
     match cache.open_write(actor, key, request, response, pin) {
         Ok(writer) => {
@@ -270,7 +270,7 @@ fn give_bytes<S: Calls>(
         result.left result.answer }
     ensures stands { StaysStanding S.stands (IsToldFrom (state_at (S.at cache.new))
         (S.written writer) body.now) cache.old cache.new }
-    ensures does { WriterDoes now (S.at cache.old) (S.at cache.new) (Feeds body.now)
+    ensures does { WriterDoes now (S.at cache.old) (S.at cache.new) (FeedsLine body.now)
         (S.written writer) (option_map S.written result.left) result.answer }
 {
     let Fed { taken, refused } = feed(cache, &mut writer, body, now);
@@ -339,7 +339,7 @@ fn finish<S: Calls>(cache: &mut S, mut writer: S::Writer, now: u64) -> Outcome<S
         result.left result.answer }
     ensures stands { StaysStanding S.stands (IsToldClosed (state_at (S.at cache.new))
         (S.written writer)) cache.old cache.new }
-    ensures does { WriterDoes now (S.at cache.old) (S.at cache.new) Closes
+    ensures does { WriterDoes now (S.at cache.old) (S.at cache.new) ClosesLine
         (S.written writer) (option_map S.written result.left) result.answer }
 {
     let result = cache.close_write(&mut writer, now);
@@ -398,7 +398,7 @@ fn give_up<S: Calls>(cache: &mut S, mut writer: S::Writer) -> Outcome<S::Writer>
     ensures leaves { LeavesWriter S.Calls cache.old cache.new (S.written writer).put
         result.left result.answer }
     ensures stands { StaysStanding S.stands AnyContents cache.old cache.new }
-    ensures does { (now : ℕ) → WriterDoes now (S.at cache.old) (S.at cache.new) GivesUp
+    ensures does { (now : ℕ) → WriterDoes now (S.at cache.old) (S.at cache.new) GivesUpLine
         (S.written writer) (option_map S.written result.left) result.answer }
 {
     match cache.abort_write(&mut writer) {

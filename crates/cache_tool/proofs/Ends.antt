@@ -5,7 +5,7 @@ use Rattle.device_log.specs.Streams.{SourceRead, SinkWrite, GaveBytes, CameToEnd
 use Rattle.edge_io.specs.Lines.{GivesLine}
 use Rattle.edge_io.specs.Source.{LastReadFailed, NoReadFailed}
 use Rattle.edge_io.specs.Text.{text_after}
-use Rattle.edge_io.specs.LineReader.{Answers, AreNeeded, Fails, IsDecided}
+use Rattle.edge_io.specs.LineReader.{Answers, AreNeeded, FailsAsRead, IsDecided}
 use Rattle.edge_io.specs.declared.reader.LineFault.{LineFault}
 use Rattle.edge_io.specs.declared.reader.LineFault.TheVariants as fault
 use Rattle.cache_calls.specs.declared.calls.Calls.{Ghosts as CallsGhosts}
@@ -33,7 +33,7 @@ use Rattle.cache_tool.specs.declared.run.Ending.{Ending}
 use Rattle.cache_tool.specs.declared.run.Ending.TheVariants as ending
 use Rattle.cache_tool.specs.declared.run.Halt.{Halt}
 use Rattle.cache_tool.specs.declared.run.Halt.TheVariants.{Stop, WriteFault, Memory}
-use Rattle.run_promise.specs.Story.{Story, Told, Taken, Took, Recorded, ShownAlong, GoesOn, GaveBack, IsReadThrough, Owes, OwesOrGave, SendsAll, SendsBefore, SendsFront, CutsLast, WantsInLine, Refusals, refusals_around, Because, all_in, own_loosened, told_by, told_by_records}
+use Rattle.run_promise.specs.Story.{Story, DevicesTold, Taken, SinkTook, Recorded, ShownAlong, GoesOn, GaveBack, IsReadThrough, Owes, OwesOrGave, SendsAll, SendsBefore, SendsFront, CutsLast, WantsInLine, Refusals, refusals_around, Because, all_in, own_loosened, told_by, told_by_records}
 use Rattle.cache_tool.specs.Ending.{EndsRun, FailedReads, IsOfRun}
 use Rattle.cache_tool.specs.Halt.{AnswerIsWritten, StepHalts, StepLeaves, ending_of, last_of}
 use Rattle.cache_tool.proofs.Stories.{step_more, Deals-nothing, Deals-trans, Deals-settled, answered_with, along_with, story_with}
@@ -62,7 +62,7 @@ module _ (first now : List SourceRead) (taken_first taken : List SinkWrite) (led
     (Reached : List Harm → Type 0) (devices : ℕ) (reach : (o : Outline) → Outlined o → Reached (told_of o.session)) (reach_run : (run : Run) → Plays' run → Reached (harm_of run.calls run.state))
     (story : GoesOn first taken_first ledger_first now unread given taken ledger Outlined Plays') where
   -- what the records are worth as they stand
-  still_recorded : (Devices : Told → Type 0) (Behind : Outline → Type 0) → ((t : Told) → Deals ledger_first ledger t.ended t.names → Reached t.own → Devices t) → ((o : Outline) → Outlined o → Behind o)
+  still_recorded : (Devices : DevicesTold → Type 0) (Behind : Outline → Type 0) → ((t : DevicesTold) → Deals ledger_first ledger t.ended t.names → Reached t.own → Devices t) → ((o : Outline) → Outlined o → Behind o)
       → Recorded story.lines story.answers (λ t. Deals ledger_first ledger t.ended t.names) Plays' ⊎ ShownAlong story.lines story.answers (λ t. Deals ledger_first ledger t.ended t.names) Outlined
       → Recorded story.lines story.answers Devices (λ run. Unit {0}) ⊎ ShownAlong story.lines story.answers Devices Behind
   still_recorded Devices Behind settle behind (inl r) = inl (record { turns = r.turns; legal = r.legal; says = r.says; devices = settle _ r.devices (reach_run _ r.known); known = tt })
@@ -70,8 +70,8 @@ module _ (first now : List SourceRead) (taken_first taken : List SinkWrite) (led
       inr (along_with story.lines story.answers (λ t. Deals ledger_first ledger t.ended t.names) Devices Outlined Behind (λ o deals is. settle (told_by o) deals (reach o is)) behind along)
 
   -- the story as it stands
-  still : (Text : (before all : List ℕ) → Type 0) (Devices : Told → Type 0) (Behind : Outline → Type 0) → Text (texts_before story.answers) (texts_of story.answers)
-      → ((t : Told) → Deals ledger_first ledger t.ended t.names → Reached t.own → Devices t) → ((o : Outline) → Outlined o → Behind o) → Story first now unread given Text Devices Behind (λ run. Unit {0})
+  still : (Text : (before all : List ℕ) → Type 0) (Devices : DevicesTold → Type 0) (Behind : Outline → Type 0) → Text (texts_before story.answers) (texts_of story.answers)
+      → ((t : DevicesTold) → Deals ledger_first ledger t.ended t.names → Reached t.own → Devices t) → ((o : Outline) → Outlined o → Behind o) → Story first now unread given Text Devices Behind (λ run. Unit {0})
   still Text Devices Behind text settle behind = record {
     reads = story.reads;
     since = story.since;
@@ -84,10 +84,10 @@ module _ (first now : List SourceRead) (taken_first taken : List SinkWrite) (led
     records = still_recorded Devices Behind settle behind story.records;
   }
 
-  owes : (t : Told) → Deals ledger_first ledger t.ended t.names → Reached t.own → Owes ledger_first ledger Reached t
+  owes : (t : DevicesTold) → Deals ledger_first ledger t.ended t.names → Reached t.own → Owes ledger_first ledger Reached t
   owes t deals reached = record { deals = deals; reached = reached }
 
-  abbrev Wants : List ℕ → ℕ → Told → Type 0
+  abbrev Wants : List ℕ → ℕ → DevicesTold → Type 0
   Wants = OwesOrGave ledger_first ledger devices Reached
 
   -- the script was read to its end
@@ -101,7 +101,7 @@ module _ (first now : List SourceRead) (taken_first taken : List SinkWrite) (led
   stopped bay why because = record { held = unread; given = given; story = still (SendsAll taken_first taken) _ _ story.text owes because }
 
   -- the reader met a fault
-  pub fault_ends : (before : List ℕ) (old more : List SourceRead) (unread' : List ℕ) (bay : Refusals) (f : LineFault) → unread ≡ text_after before more → now ≡ more ++ old → AreNeeded given before more → Fails old now (Err f)
+  pub fault_ends : (before : List ℕ) (old more : List SourceRead) (unread' : List ℕ) (bay : Refusals) (f : LineFault) → unread ≡ text_after before more → now ≡ more ++ old → AreNeeded given before more → FailsAsRead old now (Err f)
       → Answers given more unread unread' (Err f) → EndsRun first now taken_first taken bay (Owes ledger_first ledger Reached) Wants (ending.Stopped (last_of f))
   fault_ends before old more unread' bay (fault.LineTooLong number) is grew needed failed known = stopped bay (last.LineTooLong number) (λ o out. (known.0, known.1))
   fault_ends before old more unread' bay fault.TooManyLines is grew needed failed known = stopped bay last.TooManyLines (λ o out. known.0)
@@ -128,11 +128,11 @@ module _ {S W R : Type 0} {c : CallsGhosts S W R} (old : Session S W R c) (first
   abbrev Reaches : List Harm → Type 0
   Reaches = λ harms. AreReached harms (return_in session)
 
-  abbrev Wanting : List ℕ → ℕ → Told → Type 0
+  abbrev Wanting : List ℕ → ℕ → DevicesTold → Type 0
   Wanting = OwesOrGave ledger_first ledger' (devices_of session) Reaches
 
   -- the run goes on behind it
-  pub step_goes : IsSession old → AnswerIsWritten old step session ledger ledger' (Took taken taken')
+  pub step_goes : IsSession old → AnswerIsWritten old step session ledger ledger' (SinkTook taken taken')
       → GoesOn first taken_first ledger_first now unread' given' taken' ledger' (λ o. IsOutlined o session) (λ run. Plays run session)
   step_goes was w =
       step_more first now taken_first taken ledger_first ledger unread unread' given given' _ _ story bytes known counted step asks w.said ledger' session
@@ -145,8 +145,8 @@ module _ {S W R : Type 0} {c : CallsGhosts S W R} (old : Session S W R c) (first
     abbrev bay : Refusals
     bay = refusals_around (refusals_of bay_old) (refusals_of bay_new)
 
-    written_ends : (Text : List ℕ → Type 0) (Sent : (before all : List ℕ) → Type 0) (Devices : Told → Type 0) (Behind : Outline → Type 0) (w : AnswerIsWritten old step session ledger ledger' Text)
-        → ((out : List ℕ) → Took taken_first taken out → Sent out (out ++ answer_line w.said)) → ((t : Told) → Owes ledger_first ledger' Reaches t → Devices t) → ((o : Outline) → Behind o)
+    written_ends : (Text : List ℕ → Type 0) (Sent : (before all : List ℕ) → Type 0) (Devices : DevicesTold → Type 0) (Behind : Outline → Type 0) (w : AnswerIsWritten old step session ledger ledger' Text)
+        → ((out : List ℕ) → SinkTook taken_first taken out → Sent out (out ++ answer_line w.said)) → ((t : DevicesTold) → Owes ledger_first ledger' Reaches t → Devices t) → ((o : Outline) → Behind o)
         → Story first now unread' given' Sent Devices Behind (λ run. Unit {0})
     written_ends Text Sent Devices Behind w sent owed behind =
         step_more first now taken_first taken ledger_first ledger unread unread' given given' _ _ story bytes known counted step asks w.said ledger' session
@@ -154,7 +154,7 @@ module _ {S W R : Type 0} {c : CallsGhosts S W R} (old : Session S W R c) (first
         (λ run plays deals. owed (told_by_records run) (record { deals = deals; reached = plays_reach session is run plays })) (λ o reached. behind o) (λ run plays. tt)
 
     -- what a line leaves that was not done
-    left_ends : (why : Stopped) (Devices : Told → Type 0) → ((t : Told) → Deals ledger_first ledger t.ended t.names → IsLeftAtEnd t.own step session ledger ledger' why → Devices t)
+    left_ends : (why : Stopped) (Devices : DevicesTold → Type 0) → ((t : DevicesTold) → Deals ledger_first ledger t.ended t.names → IsLeftAtEnd t.own step session ledger ledger' why → Devices t)
         → StepLeaves old step session ledger ledger' why → (Text : (before all : List ℕ) → Type 0) (Behind : Outline → Type 0) → Text (texts_before story.answers) (texts_of story.answers)
         → ((o : Outline) → Before o → Behind o) → Story first now unread given Text Devices Behind (λ run. Unit {0})
     left_ends why Devices settle leaves Text Behind text behind =
@@ -176,10 +176,10 @@ module _ {S W R : Type 0} {c : CallsGhosts S W R} (old : Session S W R c) (first
           ];
         }
 
-    stays_owes : (t : Told) → Deals ledger_first ledger t.ended t.names → AreReached t.own (return_in session) → ledger' ≡ ledger → Owes ledger_first ledger' Reaches t
+    stays_owes : (t : DevicesTold) → Deals ledger_first ledger t.ended t.names → AreReached t.own (return_in session) → ledger' ≡ ledger → Owes ledger_first ledger' Reaches t
     stays_owes t deals reached same = record { deals = rw same deals; reached = reached }
 
-    not_ended : (by : Stopped) → (by ≡ stop.Memory → ⊥) → (t : Told) → Deals ledger_first ledger t.ended t.names → IsLeftAtEnd t.own step session ledger ledger' by → Owes ledger_first ledger' Reaches t
+    not_ended : (by : Stopped) → (by ≡ stop.Memory → ⊥) → (t : DevicesTold) → Deals ledger_first ledger t.ended t.names → IsLeftAtEnd t.own step session ledger ledger' by → Owes ledger_first ledger' Reaches t
     not_ended stop.Memory other t deals left = absurd (other refl)
     not_ended stop.NoCache other t deals (stays reached same) = stays_owes t deals reached same
     not_ended stop.NoCache other t deals (tried needs wanting reached same) = absurd (other wanting)
@@ -197,7 +197,7 @@ module _ {S W R : Type 0} {c : CallsGhosts S W R} (old : Session S W R c) (first
     }
 
     -- what is owed where memory was wanting
-    wants : (t : Told) → Deals ledger_first ledger t.ended t.names → IsLeftAtEnd t.own step session ledger ledger' stop.Memory → Wanting unread given t
+    wants : (t : DevicesTold) → Deals ledger_first ledger t.ended t.names → IsLeftAtEnd t.own step session ledger ledger' stop.Memory → Wanting unread given t
     wants t deals (stays reached same) = inl (stays_owes t deals reached same)
     wants t deals (tried needs wanting reached same) =
         inr (inl (record { bytes = bytes; next = (unread', known); step = step; asks = asks; needs = needs; devices = stays_owes (own_loosened t) deals reached same }))
@@ -276,7 +276,7 @@ module _ (bay bay' : Refusals) (bay_from : bay.before ≡ bay'.before) (bay_to :
   because_earlier held given o last.TooManyLines b = b
   because_earlier held given o (last.NoCache number) b = b
 
-  pub Ends-earlier : (first now : List SourceRead) (old new : List SinkWrite) (Devices : Told → Type 0) (Wanting : List ℕ → ℕ → Told → Type 0) (e : Ending) → EndsRun first now old new bay Devices Wanting e → EndsRun first now old new bay' Devices Wanting e
+  pub Ends-earlier : (first now : List SourceRead) (old new : List SinkWrite) (Devices : DevicesTold → Type 0) (Wanting : List ℕ → ℕ → DevicesTold → Type 0) (e : Ending) → EndsRun first now old new bay Devices Wanting e → EndsRun first now old new bay' Devices Wanting e
   Ends-earlier first now old new Devices Wanting ending.Done h = h
   Ends-earlier first now old new Devices Wanting (ending.Stopped why) h = record { held = h.held; given = h.given; story = story_with first now h.held h.given (SendsAll old new) (SendsAll old new) Devices Devices _ _ _ (λ out all text. text) (λ t d. d) (λ o b. because_earlier h.held h.given o why b) h.story }
   Ends-earlier first now old new Devices Wanting ending.WriteFault h = h
@@ -304,7 +304,7 @@ failed_earlier first before now (ending.Stopped last.ReadFault) none h = (
 )
 
 -- a fault of the reader is the last read where it is one of a read
-pub fault_failed : (old new : List SourceRead) (f : LineFault) → Fails old new (Err f) → FailedReads old new (ending.Stopped (last_of f))
+pub fault_failed : (old new : List SourceRead) (f : LineFault) → FailsAsRead old new (Err f) → FailedReads old new (ending.Stopped (last_of f))
 fault_failed old new (fault.LineTooLong number) h = h
 fault_failed old new fault.TooManyLines h = h
 fault_failed old new (fault.ReadFault count) h = (count, h)
@@ -336,9 +336,9 @@ begins now taken ledger held given Outlined Plays' empty none outlined plays = r
 
 -- ---- once the run has ended
 
-module _ (bay : Refusals) (first now : List SourceRead) (old new : List SinkWrite) (Devices Devices' : Told → Type 0) (Wanting Wanting' : List ℕ → ℕ → Told → Type 0)
-    (settle : (t : Told) → Devices t → Devices' t) (settle_wanting : (held : List ℕ) (given : ℕ) (t : Told) → Wanting held given t → Wanting' held given t) where
-  settled : (held : List ℕ) (given : ℕ) (Text : (before all : List ℕ) → Type 0) (From To : Told → Type 0) (Behind : Outline → Type 0) (Known : Run → Type 0) → ((t : Told) → From t → To t)
+module _ (bay : Refusals) (first now : List SourceRead) (old new : List SinkWrite) (Devices Devices' : DevicesTold → Type 0) (Wanting Wanting' : List ℕ → ℕ → DevicesTold → Type 0)
+    (settle : (t : DevicesTold) → Devices t → Devices' t) (settle_wanting : (held : List ℕ) (given : ℕ) (t : DevicesTold) → Wanting held given t → Wanting' held given t) where
+  settled : (held : List ℕ) (given : ℕ) (Text : (before all : List ℕ) → Type 0) (From To : DevicesTold → Type 0) (Behind : Outline → Type 0) (Known : Run → Type 0) → ((t : DevicesTold) → From t → To t)
       → Story first now held given Text From Behind Known → Story first now held given Text To Behind Known
   settled held given Text From To Behind Known f s = story_with first now held given Text Text From To Behind Behind Known (λ out all text. text) f (λ o b. b) s
 
@@ -352,7 +352,7 @@ module _ (bay : Refusals) (first now : List SourceRead) (old new : List SinkWrit
   ]
 
 -- what is owed where memory was wanting, whatever comes of it
-pub wants_settled : (first ledger closed : Ledger) (devices : ℕ) (Reached : List Harm → Type 0) (held : List ℕ) (given : ℕ) (t : Told) → ((u : Told) → Owes first ledger Reached u → Deals first closed (all_in u) u.names)
+pub wants_settled : (first ledger closed : Ledger) (devices : ℕ) (Reached : List Harm → Type 0) (held : List ℕ) (given : ℕ) (t : DevicesTold) → ((u : DevicesTold) → Owes first ledger Reached u → Deals first closed (all_in u) u.names)
     → (devices ≡ 0 → GaveBack first ledger held given t → GaveBack first closed held given t) → OwesOrGave first ledger devices Reached held given t
     → Deals first closed (all_in t) t.names ⊎ WantsInLine held given (Deals first closed (all_in (own_loosened t)) (own_loosened t).names) ⊎ GaveBack first closed held given t
 wants_settled first ledger closed devices Reached held given t settle gave (inl owes) = inl (settle t owes)
@@ -361,11 +361,11 @@ wants_settled first ledger closed devices Reached held given t settle gave (inr 
 wants_settled first ledger closed devices Reached held given t settle gave (inr (inr g)) = inr (inr (gave g.0 g.1))
 
 -- no device was attached
-pub nothing_back : (ledger : Ledger) (t : Told) → t.ended ≡ [] → t.own ≡ [] → t.names ≡ [] → Deals ledger ledger (all_in t) t.names
+pub nothing_back : (ledger : Ledger) (t : DevicesTold) → t.ended ≡ [] → t.own ≡ [] → t.names ≡ [] → Deals ledger ledger (all_in t) t.names
 nothing_back ledger t none own names = rw (none, own, names) (Deals-nothing ledger)
 
 -- nothing was read for want of memory
-pub nothing_ends : (now : List SourceRead) (taken : List SinkWrite) (Devices : Told → Type 0) (Wanting : List ℕ → ℕ → Told → Type 0) → ((t : Told) → t.ended ≡ [] → t.own ≡ [] → t.names ≡ [] → Wanting [] 0 t) → (bay : Refusals)
+pub nothing_ends : (now : List SourceRead) (taken : List SinkWrite) (Devices : DevicesTold → Type 0) (Wanting : List ℕ → ℕ → DevicesTold → Type 0) → ((t : DevicesTold) → t.ended ≡ [] → t.own ≡ [] → t.names ≡ [] → Wanting [] 0 t) → (bay : Refusals)
     → EndsRun now now taken taken bay Devices Wanting ending.OutOfMemory
 nothing_ends now taken Devices Wanting back bay = inl (record {
   held = [];
@@ -396,7 +396,7 @@ none_own (d ∷ devices) e = absurd cc
 
 module _ {S W R : Type 0} {c : CallsGhosts S W R} where
   -- with no session nothing more comes back
-  pub gave_settled : (session : Session S W R c) (a b c : Ledger) (held : List ℕ) (given : ℕ) (t : Told) → ((harms : List Harm) → AreReached harms (return_in session) → ComeBack b.returned c.returned harms)
+  pub gave_settled : (session : Session S W R c) (a b c : Ledger) (held : List ℕ) (given : ℕ) (t : DevicesTold) → ((harms : List Harm) → AreReached harms (return_in session) → ComeBack b.returned c.returned harms)
       → c.names ≡ b.names → devices_of session ≡ 0 → GaveBack a b held given t → GaveBack a c held given t
   gave_settled session a b c held given t back same none gave = record {
     bytes = gave.bytes;

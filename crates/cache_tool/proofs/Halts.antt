@@ -18,7 +18,7 @@ use Rattle.script_run.specs.Ledger.{Ledger}
 use Rattle.cache_replay.proofs.Unharming.{plays_reached}
 use Rattle.cache_tool.specs.declared.run.Halt.{Halt}
 use Rattle.cache_tool.specs.declared.run.Halt.TheVariants.{Stop, WriteFault, Memory}
-use Rattle.run_promise.specs.Story.{SendsFront, CutsLast, Took}
+use Rattle.run_promise.specs.Story.{SendsFront, CutsLast, SinkTook}
 use Rattle.cache_tool.specs.Halt.{AnswerIsUnwritten, StepHalts}
 
 pub OnOk-map : {T E : Type 0} (r : Result T E) (P Q : Type 0) → (P → Q) → OnOk r P → OnOk r Q
@@ -52,20 +52,20 @@ module _ {S W R : Type 0} {c : CallsGhosts S W R} where
 
 -- ---- the text so far
 
-pub Took-nothing : (a : List SinkWrite) → Took a a []
+pub Took-nothing : (a : List SinkWrite) → SinkTook a a []
 Took-nothing a = record { taken = sym (append-nil (taken_by a)); unfailed = refl }
 
-pub Took-trans : (a b c : List SinkWrite) (bs cs : List ℕ) → Took a b bs → Took b c cs → Took a c (bs ++ cs)
+pub Took-trans : (a b c : List SinkWrite) (bs cs : List ℕ) → SinkTook a b bs → SinkTook b c cs → SinkTook a c (bs ++ cs)
 Took-trans a b c bs cs p q = record {
   taken = q.taken ∙ (ap (λ l. l ++ cs) p.taken ∙ append_assoc (taken_by a) bs cs);
   unfailed = q.unfailed ∙ p.unfailed;
 }
 
-pub Took-kept : (a b c : List SinkWrite) (bs : List ℕ) → Took a b bs → c ≡ b → Took a c bs
-Took-kept a b c bs p same = subst (λ (w : List SinkWrite). Took a w bs) (sym same) p
+pub Took-kept : (a b c : List SinkWrite) (bs : List ℕ) → SinkTook a b bs → c ≡ b → SinkTook a c bs
+Took-kept a b c bs p same = subst (λ (w : List SinkWrite). SinkTook a w bs) (sym same) p
 
 -- one write that went
-pub took_piece : (old new : List SinkWrite) (piece : List ℕ) → new ≡ TookBytes piece ∷ old → Took old new piece
+pub took_piece : (old new : List SinkWrite) (piece : List ℕ) → new ≡ TookBytes piece ∷ old → SinkTook old new piece
 unfolding taken_by refused_writes
 took_piece old new piece is = record { taken = ap taken_by is; unfailed = ap refused_writes is }
 
@@ -80,7 +80,7 @@ note_grows old new piece (Err e) notes = (RefusedWrite notes.front (next_count (
 pub grows_more : (a b c : List SinkWrite) → Grows a b → Grows b c → Grows a c
 grows_more a b c p q = (q.0 ++ p.0, q.1 ∙ (ap (λ l. q.0 ++ l) p.1 ∙ sym (append_assoc q.0 p.0 a)))
 
-pub front_more : (a b c : List SinkWrite) (bs text : List ℕ) → Took a b bs → SendsFront b c [] text → SendsFront a c bs text
+pub front_more : (a b c : List SinkWrite) (bs text : List ℕ) → SinkTook a b bs → SendsFront b c [] text → SendsFront a c bs text
 front_more a b c bs text p q = record {
   front = q.front;
   rest = q.rest;
@@ -90,5 +90,5 @@ front_more a b c bs text p q = record {
   failed = q.failed ∙ ap (λ failed. RefusedWrite q.front (next_count (min (length failed) (2 ^ 64 - 1))) ∷ q.older) p.unfailed;
 }
 
-pub cuts_last : (a b c : List SinkWrite) (bs : List ℕ) (said : StepAnswer) → Took a b bs → SendsFront b c [] (answer_line said) → CutsLast a c bs (bs ++ answer_line said)
+pub cuts_last : (a b c : List SinkWrite) (bs : List ℕ) (said : StepAnswer) → SinkTook a b bs → SendsFront b c [] (answer_line said) → CutsLast a c bs (bs ++ answer_line said)
 cuts_last a b c bs said p q = record { said = said; split = refl; cut = front_more a b c bs (answer_line said) p q }

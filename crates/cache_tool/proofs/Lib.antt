@@ -4,4 +4,4 @@ pub mod Halts
 pub mod Ends
 pub mod Tops
 mod Witnesses
-pub mod Unfailed
+pub mod Steady

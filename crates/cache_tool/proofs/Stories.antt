@@ -21,7 +21,7 @@ use Rattle.run_promise.specs.Lines.{AreAnswered, answers_of, outline_of, outline
 use Rattle.cache_replay.specs.Plays.{DeviceEnds, IsOutlined, Outlines}
 use Rattle.script_run.specs.Ledger.{ComeBack, Ledger, Deals}
 use Rattle.cache_replay.specs.Plays.{Plays as PlaysNow}
-use Rattle.run_promise.specs.Story.{AnsweredFrom, Story, Told, Taken, Took, Recorded, ShownAlong, GoesOn, SendsAll, told_by, told_by_records}
+use Rattle.run_promise.specs.Story.{AnsweredFrom, Story, DevicesTold, Taken, SinkTook, Recorded, ShownAlong, GoesOn, SendsAll, told_by, told_by_records}
 use Rattle.cache_tool.proofs.Runs.{AreAnswered-more, IsRun-more, answers_of-more, outline_of-more, run_after-more, texts_before-more, texts_of-more, AreReached-append}
 
 -- ---- the bytes of a line
@@ -48,7 +48,7 @@ Taken-read lines held reads more taken = record {
 }
 
 -- a story goes on through reads
-pub read_more : (first now now' more : List SourceRead) (held : List ℕ) (given : ℕ) (Text : (before all : List ℕ) → Type 0) (Devices : Told → Type 0) (Behind : Outline → Type 0) (Known : Run → Type 0)
+pub read_more : (first now now' more : List SourceRead) (held : List ℕ) (given : ℕ) (Text : (before all : List ℕ) → Type 0) (Devices : DevicesTold → Type 0) (Behind : Outline → Type 0) (Known : Run → Type 0)
     → now' ≡ more ++ now → Story first now held given Text Devices Behind Known → Story first now' (text_after held more) given Text Devices Behind Known
 read_more first now now' more held given Text Devices Behind Known grew s = record {
   reads = more ++ s.reads;
@@ -89,11 +89,11 @@ Deals-settled a b c harms more names first back same = record { back = ComeBack-
 
 -- ---- what is kept of an outline, in other words
 
-pub answered_with : (o : Outline) (lines : List (List ℕ)) (answers : List (Option StepAnswer)) (From To : Told → Type 0) (Behind Behind' : Outline → Type 0) → ((o : Outline) → From (told_by o) → Behind o → To (told_by o)) → ((o : Outline) → Behind o → Behind' o)
+pub answered_with : (o : Outline) (lines : List (List ℕ)) (answers : List (Option StepAnswer)) (From To : DevicesTold → Type 0) (Behind Behind' : Outline → Type 0) → ((o : Outline) → From (told_by o) → Behind o → To (told_by o)) → ((o : Outline) → Behind o → Behind' o)
     → AnsweredFrom o lines answers From Behind → AnsweredFrom o lines answers To Behind'
 answered_with o lines answers From To Behind Behind' settle behind a = record { each = a.each; devices = settle _ a.devices a.behind; behind = behind _ a.behind }
 
-pub along_with : (lines : List (List ℕ)) (answers : List (Option StepAnswer)) (From To : Told → Type 0) (Behind Behind' : Outline → Type 0) → ((o : Outline) → From (told_by o) → Behind o → To (told_by o)) → ((o : Outline) → Behind o → Behind' o)
+pub along_with : (lines : List (List ℕ)) (answers : List (Option StepAnswer)) (From To : DevicesTold → Type 0) (Behind Behind' : Outline → Type 0) → ((o : Outline) → From (told_by o) → Behind o → To (told_by o)) → ((o : Outline) → Behind o → Behind' o)
     → ShownAlong lines answers From Behind → ShownAlong lines answers To Behind'
 along_with lines answers From To Behind Behind' settle behind s = record {
   before = s.before;
@@ -110,8 +110,8 @@ along_with lines answers From To Behind Behind' settle behind s = record {
 }
 
 -- the story, where what is told of its text, its devices and its outline gives something else
-pub story_with : (first now : List SourceRead) (held : List ℕ) (given : ℕ) (Text Text' : (before all : List ℕ) → Type 0) (From To : Told → Type 0) (Behind Behind' : Outline → Type 0) (Known : Run → Type 0)
-    → ((out all : List ℕ) → Text out all → Text' out all) → ((t : Told) → From t → To t) → ((o : Outline) → Behind o → Behind' o)
+pub story_with : (first now : List SourceRead) (held : List ℕ) (given : ℕ) (Text Text' : (before all : List ℕ) → Type 0) (From To : DevicesTold → Type 0) (Behind Behind' : Outline → Type 0) (Known : Run → Type 0)
+    → ((out all : List ℕ) → Text out all → Text' out all) → ((t : DevicesTold) → From t → To t) → ((o : Outline) → Behind o → Behind' o)
     → Story first now held given Text From Behind Known → Story first now held given Text' To Behind' Known
 story_with first now held given Text Text' From To Behind Behind' Known text settle behind s = record {
   reads = s.reads;
@@ -131,7 +131,7 @@ story_with first now held given Text Text' From To Behind Behind' Known text set
 -- ---- a line more
 
 -- what is kept behind one line more
-answered_more : (o : Outline) (lines : List (List ℕ)) (answers : List (Option StepAnswer)) (bytes : List ℕ) (said : Option StepAnswer) (Devices : Told → Type 0) (Behind : Outline → Type 0)
+answered_more : (o : Outline) (lines : List (List ℕ)) (answers : List (Option StepAnswer)) (bytes : List ℕ) (said : Option StepAnswer) (Devices : DevicesTold → Type 0) (Behind : Outline → Type 0)
     → AreAnswered o lines answers → AnsweredFrom (outline_of o lines answers) (bytes ∷ []) (said ∷ []) Devices Behind → AnsweredFrom o (lines ++ bytes ∷ []) (answers ++ said ∷ []) Devices Behind
 answered_more o lines answers bytes said Devices Behind are last =
     let after : outline_of o (lines ++ bytes ∷ []) (answers ++ said ∷ []) ≡ outline_read (outline_of o lines answers) (reading_of bytes) said = outline_of-more bytes said o lines answers are in
@@ -142,7 +142,7 @@ answered_more o lines answers bytes said Devices Behind are last =
     }
 
 -- one that showed a pair still does
-along_more : (lines : List (List ℕ)) (answers : List (Option StepAnswer)) (bytes : List ℕ) (said : Option StepAnswer) (From To : Told → Type 0) (Behind Behind' : Outline → Type 0)
+along_more : (lines : List (List ℕ)) (answers : List (Option StepAnswer)) (bytes : List ℕ) (said : Option StepAnswer) (From To : DevicesTold → Type 0) (Behind Behind' : Outline → Type 0)
     → ((o : Outline) → From (told_by o) → Behind o → AnsweredFrom o (bytes ∷ []) (said ∷ []) To Behind') → ShownAlong lines answers From Behind → ShownAlong (lines ++ bytes ∷ []) (answers ++ said ∷ []) To Behind'
 along_more lines answers bytes said From To Behind Behind' follows s = record {
   before = s.before;
@@ -159,7 +159,7 @@ along_more lines answers bytes said From To Behind Behind' follows s = record {
 }
 
 -- or the last one shows one
-shown_last : (lines : List (List ℕ)) (answers : List (Option StepAnswer)) (From To : Told → Type 0) (Known : Run → Type 0) (Behind : Outline → Type 0) (bytes : List ℕ) (said : Option StepAnswer) (r : Recorded lines answers From Known) (turn : Turn)
+shown_last : (lines : List (List ℕ)) (answers : List (Option StepAnswer)) (From To : DevicesTold → Type 0) (Known : Run → Type 0) (Behind : Outline → Type 0) (bytes : List ℕ) (said : Option StepAnswer) (r : Recorded lines answers From Known) (turn : Turn)
     → LineShows (run_after fresh lines r.turns) turn bytes → AnsweredFrom (doubted (outline_in (with_calls_of (run_after fresh lines r.turns) turn))) (bytes ∷ []) (said ∷ []) To Behind → ShownAlong (lines ++ bytes ∷ []) (answers ++ said ∷ []) To Behind
 shown_last lines answers From To Known Behind bytes said r turn shows outline = record {
   before = lines;
@@ -178,10 +178,10 @@ shown_last lines answers From To Known Behind bytes said r turn shows outline = 
 module _ (first now : List SourceRead) (taken_first taken : List SinkWrite) (ledger_first ledger : Ledger) (unread unread' : List ℕ) (given given' : ℕ) (Outlined : Outline → Type 0) (Plays : Run → Type 0)
     (story : GoesOn first taken_first ledger_first now unread given taken ledger Outlined Plays) (bytes : List ℕ) (known : GivesLine given unread bytes unread') (counted : given' ≡ given + 1) where
   -- how the devices stand before the line
-  abbrev Dealt : Told → Type 0
+  abbrev Dealt : DevicesTold → Type 0
   Dealt = λ t. Deals ledger_first ledger t.ended t.names
 
-  module _ (said : Option StepAnswer) (Text : (before all : List ℕ) → Type 0) (Devices : Told → Type 0) (Behind : Outline → Type 0) (Known : Run → Type 0) where
+  module _ (said : Option StepAnswer) (Text : (before all : List ℕ) → Type 0) (Devices : DevicesTold → Type 0) (Behind : Outline → Type 0) (Known : Run → Type 0) where
     -- a line that did what it must
     recorded_more : (r : Recorded story.lines story.answers Dealt Plays) (turn : Turn) → LineTakes (run_after fresh story.lines r.turns) turn bytes
         → said ≡ reading_answer (run_after fresh story.lines r.turns) turn (reading_of bytes) → Devices (told_by_records (after_line (run_after fresh story.lines r.turns) turn bytes)) → Known (after_line (run_after fresh story.lines r.turns) turn bytes)
@@ -201,7 +201,7 @@ module _ (first now : List SourceRead) (taken_first taken : List SinkWrite) (led
     EndsRecords = (r : Recorded story.lines story.answers Dealt Plays)
         → Recorded (story.lines ++ bytes ∷ []) (story.answers ++ said ∷ []) Devices Known ⊎ ((turn : Turn) × LineShows (run_after fresh story.lines r.turns) turn bytes × AnsweredFrom (doubted (outline_in (with_calls_of (run_after fresh story.lines r.turns) turn))) (bytes ∷ []) (said ∷ []) Devices Behind)
 
-    pub line_more : ((o : Outline) → Dealt (told_by o) → Outlined o → AnsweredFrom o (bytes ∷ []) (said ∷ []) Devices Behind) → ((out : List ℕ) → Took taken_first taken out → Text out (out ++ text_of said))
+    pub line_more : ((o : Outline) → Dealt (told_by o) → Outlined o → AnsweredFrom o (bytes ∷ []) (said ∷ []) Devices Behind) → ((out : List ℕ) → SinkTook taken_first taken out → Text out (out ++ text_of said))
         → EndsRecords → Story first now unread' given' Text Devices Behind Known
     line_more follows text records = record {
       reads = story.reads;
@@ -238,7 +238,7 @@ module _ (first now : List SourceRead) (taken_first taken : List SinkWrite) (led
 
     module _ {S W R : Type 0} {c : CallsGhosts S W R} (new : Session S W R c) where
       -- an outline goes on by the answer
-      step_follows : (Devices : Told → Type 0) (Behind : Outline → Type 0) (o : Outline) → Outlines o step new said ledger ledger'
+      step_follows : (Devices : DevicesTold → Type 0) (Behind : Outline → Type 0) (o : Outline) → Outlines o step new said ledger ledger'
           → ((o : Outline) → IsOutlined o new → Deals ledger_first ledger' o.ended o.names → Devices (told_by o)) → ((o : Outline) → IsOutlined o new → Behind o)
           → Dealt (told_by o) → AnsweredFrom o (bytes ∷ []) (Some said ∷ []) Devices Behind
       step_follows Devices Behind o outlined settle behind deals = record {
@@ -247,10 +247,10 @@ module _ (first now : List SourceRead) (taken_first taken : List SinkWrite) (led
         behind = rw asks (behind (outline_after o step said) outlined.outlined);
       }
 
-      pub step_more : (Text : (before all : List ℕ) → Type 0) (Devices : Told → Type 0) (Behind : Outline → Type 0) (Known : Run → Type 0)
+      pub step_more : (Text : (before all : List ℕ) → Type 0) (Devices : DevicesTold → Type 0) (Behind : Outline → Type 0) (Known : Run → Type 0)
           → ((o : Outline) → Outlined o → Outlines o step new said ledger ledger')
           → ((run : Run) → Plays run → DeviceEnds run step new said ledger ledger')
-          → ((out : List ℕ) → Took taken_first taken out → Text out (out ++ answer_line said))
+          → ((out : List ℕ) → SinkTook taken_first taken out → Text out (out ++ answer_line said))
           → ((o : Outline) → IsOutlined o new → Deals ledger_first ledger' o.ended o.names → Devices (told_by o))
           → ((run : Run) → PlaysNow run new → Deals ledger_first ledger' run.ended run.names → Devices (told_by_records run))
           → ((o : Outline) → IsOutlined o new → Behind o) → ((run : Run) → PlaysNow run new → Known run)

@@ -8,14 +8,14 @@ use Rattle.script_run.specs.Ledger.{Ledger}
 use Rattle.run_promise.specs.declared.status.Status.{Status}
 use Rattle.run_promise.specs.declared.status.Status.TheVariants as status
 use Rattle.cache_tool.specs.declared.run.Ending.TheVariants as ending
-use Rattle.run_promise.specs.Story.{Because, MeetsBayFault, Refusals, SendsAll, StoryUpTo, Took}
+use Rattle.run_promise.specs.Story.{Because, MeetsBayFault, Refusals, SendsAll, StoryUpTo, SinkTook}
 use Rattle.cache_tool.specs.Ending.{FailedReads, IsOfRun, is_bay_ending}
 use Rattle.run_promise.specs.Top.{WentOut, EachBack, ReadsFailed, AttachesRefused, RefusedOne, status_of, EndsEarly, Concludes}
 use Rattle.cache_tool.proofs.Halts.{Took-kept, Took-trans, front_more}
 use Rattle.cache_tool.proofs.Stories.{story_with}
 
 module _ (first read : List SourceRead) (old mid new : List SinkWrite) (bay : Refusals) (before now : Ledger) where
-  went_out : (out text : List ℕ) → Took old mid out → WentOut mid new [] text → WentOut old new out text
+  went_out : (out text : List ℕ) → SinkTook old mid out → WentOut mid new [] text → WentOut old new out text
   went_out out text sent (inl all) = inl (Took-trans old mid new out text sent all)
   went_out out text sent (inr cut) = inr (front_more old mid new out text sent cut)
 

@@ -19,7 +19,7 @@ use Rattle.run_promise.specs.declared.status.Status.TheVariants as status
 use Rattle.run_promise.specs.Needs.{AttachesAs}
 use Rattle.script_lang.specs.declared.line.LineAnswer.TheVariants as line
 use Rattle.script_lang.specs.Grammar.{reading_of}
-use Rattle.run_promise.specs.Story.{Because, Refusals, GaveBack, HoldsNoLine, IsBadLine, Taken, Told}
+use Rattle.run_promise.specs.Story.{Because, Refusals, GaveBack, HoldsNoLine, IsBadLine, Taken, DevicesTold}
 use Rattle.run_promise.specs.Top.{EndsEarly, status_of}
 
 -- without a session no line shows a pair
@@ -72,7 +72,7 @@ one_name (step.Format called segments buckets content agg reach fragment generat
 one_name _ name other here there = absurd here
 
 -- the device more has the name that its line asks for, and no other
-other_name : (before now : Ledger) (held : List ℕ) (given : ℕ) (t : Told) (g : GaveBack before now held given t) (step : Step) (name : List ℕ)
+other_name : (before now : Ledger) (held : List ℕ) (given : ℕ) (t : DevicesTold) (g : GaveBack before now held given t) (step : Step) (name : List ℕ)
     → reading_of g.bytes ≡ line.Step step → AttachesAs name step → (g.name ≡ name → ⊥) → ⊥
 other_name before now held given t g step name asks attaches other =
     let same : g.step ≡ step = cc in

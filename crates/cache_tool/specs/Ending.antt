@@ -5,10 +5,10 @@ use Rattle.edge_io.specs.Source.{LastReadFailed, NoReadFailed}
 use Rattle.script_lang.specs.declared.last.LastLine.TheVariants as last
 use Rattle.cache_tool.specs.declared.run.Ending.{Ending}
 use Rattle.cache_tool.specs.declared.run.Ending.TheVariants.{Done, Stopped, WriteFault, OutOfMemory}
-use Rattle.run_promise.specs.Story.{StoryUpTo, Told, Because, IsReadThrough, Refusals, SendsAll, CutsLast, WantsMemory}
+use Rattle.run_promise.specs.Story.{StoryUpTo, DevicesTold, Because, IsReadThrough, Refusals, SendsAll, CutsLast, WantsMemory}
 
 -- what holds of the devices, and what does where memory was wanting for the next line
-abbrev pub EndsRun : (first now : List SourceRead) (taken_old taken_new : List SinkWrite) (bay : Refusals) (Devices : Told → Type 0) (Wanting : (held : List ℕ) → ℕ → Told → Type 0) → Ending → Type 0
+abbrev pub EndsRun : (first now : List SourceRead) (taken_old taken_new : List SinkWrite) (bay : Refusals) (Devices : DevicesTold → Type 0) (Wanting : (held : List ℕ) → ℕ → DevicesTold → Type 0) → Ending → Type 0
 EndsRun first now old new bay Devices Wanting Done = StoryUpTo first now (SendsAll old new) (λ held given. Devices) (λ held given o. IsReadThrough now held)
 EndsRun first now old new bay Devices Wanting (Stopped why) = StoryUpTo first now (SendsAll old new) (λ held given. Devices) (λ held given o. Because bay held given o why)
 EndsRun first now old new bay Devices Wanting WriteFault =

@@ -12,7 +12,7 @@ ghost use Rattle.cache_replay.specs.Session.{IsSession, devices_of, names_in, re
 ghost use Rattle.cache_replay.specs.Plays.{IsOutlined, Plays};
 ghost use Rattle.script_run.specs.Ledger.{AreReached, KeepsOrder, Ledger, ledger_of};
 ghost use Rattle.cache_replay.specs.Stop.{RefusesNone};
-ghost use Rattle.run_promise.specs.Story.{GoesOn, Owes, OwesOrGave, Took, refusals_around};
+ghost use Rattle.run_promise.specs.Story.{GoesOn, Owes, OwesOrGave, SinkTook, refusals_around};
 ghost use Rattle.cache_tool.specs.Halt.{AnswerIsUnwritten, AnswerIsWritten, StepHalts, is_bay_halt, last_of, ending_of};
 ghost use Rattle.cache_tool.specs.Ending.{EndsRun, FailedReads, IsOfRun, is_bay_ending};
 
@@ -45,7 +45,7 @@ pub(crate) enum Halt {
 
 /// Writes an answer out.
 fn write_answer<K: Sink>(alloc: Global, sink: &mut K, said: &StepAnswer) -> Result<(), Halt>
-    ensures written { OnOk result (Took (K.writes sink.old) (K.writes sink.new) (answer_line said.now)) }
+    ensures written { OnOk result (SinkTook (K.writes sink.old) (K.writes sink.new) (answer_line said.now)) }
     ensures failed { IfErr result (AnswerIsUnwritten (K.writes sink.old) (K.writes sink.new) (answer_line said.now)) }
     ensures grows { Grows (K.writes sink.old) (K.writes sink.new) }
 {
@@ -72,7 +72,7 @@ fn take_step<K: Sink, B: Bay, C: Formats<B::Dev>>(
     requires few { length (names_in session.old) ≤ MAX_LINES }
     ensures done { OnOk result
         (AnswerIsWritten session.old asked session.new (ledger_of B.Bay bay.old)
-        (ledger_of B.Bay bay.new) (Took (K.writes sink.old) (K.writes sink.new))) }
+        (ledger_of B.Bay bay.new) (SinkTook (K.writes sink.old) (K.writes sink.new))) }
     ensures halted { IfErr result (StepHalts session.old asked session.new
         (ledger_of B.Bay bay.old) (ledger_of B.Bay bay.new) (K.writes sink.old) (K.writes sink.new)
         (B.past bay.old) (B.past bay.new)) }

@@ -1,10 +1,12 @@
 // What no clause says: streams and devices that fail, and when an answer is out.
 ghost use Rattle.std.specs.Prelude.{◌≡◌, true, false};
-ghost use Rattle.std.proofs.Common.{arith};
 ghost use Rattle.std.proofs.Props.{props};
+ghost use Rattle.device_log.specs.Image.{blank};
 ghost use Rattle.device_log.specs.DeviceLog.{calls_of};
 ghost use Rattle.device_log.specs.Faults.{faults_of, obeys_switch};
 ghost use Rattle.device_log.proofs.ReadLaws.{reads_are_prop};
+ghost use Rattle.logged_disk.specs.Device.{IsTrusted};
+ghost use Rattle.logged_disk.specs.FileTrust.{file_trust, seen_is_trusted, trusted_reads};
 ghost use Rattle.logged_disk.specs.MemDisk.{mem_state};
 ghost use Rattle.device_bay.specs.Register.{IsRegister};
 
@@ -150,7 +152,7 @@ fn each_answer_is_out_before_the_next_line_is_read(rt: HostRuntime) -> Result<()
     Ok(())
 }
 
-/// A device in memory that tells nothing of its content, and may give another first byte than was written.
+/// A device in memory that may give another first byte than was written: it is trusted while its reads agree with its log.
 #[derive(Drop)]
 struct Faulty {
     memory: MemDisk,
@@ -159,12 +161,12 @@ struct Faulty {
     ghost counted: { (mem_state memory).faults ≡ faults_of (calls_of log) },
 }
 
-#[tactic(auto, unfolding(device_log::specs::Faults::faults_of))]
+#[tactic(auto, using(logged_disk::proofs::FileLemmas::file_trust_falls, logged_disk::proofs::FileLemmas::trusted_read), unfolding(device_log::specs::Faults::faults_of))]
 impl Disk for Faulty {
     ghost use Rattle.device_log.proofs.Puts.{blank_is_image};
     ghost use Rattle.logged_disk.specs.Switchless.{asks_none};
 
-    ghost state = { λ disk. record (mem_state disk.memory) { trust = 0; has_switch = false; past = calls_of disk.log } };
+    ghost state = { λ disk. record (mem_state disk.memory) { trust = file_trust blank (calls_of disk.log); has_switch = false; past = calls_of disk.log } };
 
     fn blocks(&self) -> u64 {
         self.memory.blocks()
@@ -231,7 +233,11 @@ impl Disk for Faulty {
 
     ghost obeys = { λ disk. asks_none (obeys_switch (calls_of disk.log) ≡ true) };
 
-    ghost reads = { λ disk trusted. absurd (Prim.omega (arith, trusted)) };
+    ghost reads = { λ disk trusted. trusted_reads blank (calls_of disk.log) trusted };
+
+    ghost tells = { λ disk seen. seen_is_trusted blank (calls_of disk.log) seen };
+
+    ghost switched = { λ disk. asks_none (IsTrusted (record (mem_state disk.memory) { trust = file_trust blank (calls_of disk.log); has_switch = false; past = calls_of disk.log })) };
 }
 
 /// A bay of such devices, whose call of this number fails, or none for 0.
@@ -240,7 +246,7 @@ struct FaultyBay {
     flips: bool,
     nth: u64,
     register: Register<Faulty>,
-    ghost is_register: { IsRegister (λ disk. record (mem_state disk.memory) { trust = 0; has_switch = false; past = calls_of disk.log }) register } by { Prim.hlevel (props, reads_are_prop) },
+    ghost is_register: { IsRegister (λ disk. record (mem_state disk.memory) { trust = file_trust blank (calls_of disk.log); has_switch = false; past = calls_of disk.log }) register } by { Prim.hlevel (props, reads_are_prop) },
 }
 
 impl FaultyBay {
@@ -274,7 +280,7 @@ impl Bay for FaultyBay {
 
     type Dev = Faulty;
 
-    ghost past = { λ bay. calls_in (λ disk. record (mem_state disk.memory) { trust = 0; has_switch = false; past = calls_of disk.log }) bay.register };
+    ghost past = { λ bay. calls_in (λ disk. record (mem_state disk.memory) { trust = file_trust blank (calls_of disk.log); has_switch = false; past = calls_of disk.log }) bay.register };
 
     fn attach(&mut self, alloc: Global, name: &[u8], blocks: u64) -> Result<Faulty, BayFault> {
         let number = self.register.number();

@@ -8,7 +8,7 @@ ghost use Rattle.script_run.specs.Ledger.{InOrder, ledger_of};
 ghost use Rattle.cache_replay.specs.Stop.{RefusesNone};
 ghost use Rattle.run_promise.specs.Story.{refusals_around};
 ghost use Rattle.cache_tool.specs.Ending.{EndsRun, FailedReads, IsOfRun, is_bay_ending};
-ghost use Rattle.run_promise.specs.Top.{IsReplay, WentOut, EachBack, EachBackOrMore, ReadsFailed, status_of, AttachesRefused, ComeBackUnfailed, Concludes};
+ghost use Rattle.run_promise.specs.Top.{IsReplay, WentOut, EachBack, EachBackOrMore, ReadsFailed, status_of, AttachesRefused, ComeBackSteady, Concludes};
 
 use crate::run::{Ending, run_lines};
 use cache_chronicle::FullChronicle;
@@ -86,7 +86,7 @@ fn replay<S: Source, K: Sink, B: Bay>(
     ensures sink { Grows (K.writes sink.old) (K.writes sink.new) }
     ensures order { InOrder (length (gifts_of (B.past bay.old))) [] (B.past bay.old) (B.past bay.new) }
     ensures refusals { is_bay_ending result ≡ false → RefusesNone (B.past bay.old) (B.past bay.new) }
-    ensures unfailed { ComeBackUnfailed (returned_by (B.past bay.old)) (returned_by (B.past bay.new)) }
+    ensures steady { ComeBackSteady (returned_by (B.past bay.old)) (returned_by (B.past bay.new)) }
 {
     let Ok(buffer) = LineBuffer::new(alloc) else {
         return Ending::OutOfMemory;
@@ -127,8 +127,8 @@ pub fn cache_main<S: Source, K: Sink, B: Bay>(
     // No attach was refused but the one that ended the run, if one did.
     ensures refusals { AttachesRefused (refusals_of (B.past bay.old)) (refusals_of (B.past bay.new)) result }
 
-    // No switch was told anything, so each device that has one came back with the count 0.
-    ensures unfailed { ComeBackUnfailed (returned_by (B.past bay.old)) (returned_by (B.past bay.new)) }
+    // No switch was told anything, so each device that has one refused nothing and told its content to the end.
+    ensures steady { ComeBackSteady (returned_by (B.past bay.old)) (returned_by (B.past bay.new)) }
 {
     if !is_replay(words) {
         send(sink, usage_text());

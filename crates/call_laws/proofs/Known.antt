@@ -5,7 +5,7 @@ use Rattle.cache_model.specs.State.{Row, State}
 use Rattle.cache_model.specs.Kept.{state_of}
 use Rattle.cache_model.specs.Permit.{Intent, Permit}
 use Rattle.cache_model.specs.Pair.{Documents, IsPairNext, IsPairOf}
-use Rattle.call_laws.specs.Moments.{At, Both, Facts, so_far}
+use Rattle.call_laws.specs.Moments.{At, BothFacts, Facts, so_far}
 use Rattle.call_laws.specs.Progress.{Progress}
 use Rattle.call_laws.specs.Serves.{ServesFrom}
 use Rattle.call_laws.proofs.Joined.{call_as, state_behind}
@@ -35,7 +35,7 @@ serves_known {a = a} {b = b} {known = known} other law f = call_as (λ p earlier
 -- what the call leaves as it was, by whatever else is known of it, is known behind too
 pub serves_carries : {P : Documents} {now : ℕ} {a b : At} {asked : List Intent} {o : Progress} {before known : Facts} (carried brought : Facts)
     → ((past made : List Call) → b.device.past ≡ made ++ a.device.past → carried past (state_of a.kept) → brought (made ++ past) (state_of b.kept))
-    → ServesFrom P now a b asked o before known → ServesFrom P now a b asked o (Both before carried) (Both known brought)
+    → ServesFrom P now a b asked o before known → ServesFrom P now a b asked o (BothFacts before carried) (BothFacts known brought)
 serves_carries {a = a} {b = b} carried brought law f = call_as (λ p earlier calls added step happens h. record {
   from = λ k. elim (h.from k.0) [
     | inl v ↦ inl (record {

@@ -11,7 +11,7 @@ use Rattle.cache_model.specs.Pair.{Documents, IsPair}
 use Rattle.cache_model.specs.Vectors.{IsVectorAs}
 use Rattle.logged_disk.specs.Device.{DeviceState as Device}
 use Rattle.call_laws.specs.Contents.{Untold}
-use Rattle.call_laws.specs.Moments.{NothingKnown, At, Both, Encloses, Facts, IsStillAt, IsToldAt, OfState, so_far}
+use Rattle.call_laws.specs.Moments.{NothingKnown, At, BothFacts, Encloses, Facts, IsStillAt, IsToldAt, OfState, so_far}
 use Rattle.call_laws.specs.Progress.{AllDone, EndsWith, FallsShort, Leaves, Progress, Stops, Wants, cleanups, left_with, progress_of, progress_of_group}
 use Rattle.call_laws.specs.Happens.{Happens, TellsSyncs}
 use Rattle.call_laws.specs.Serves.{Acts, Groups, IsCall, Serves, ServesFrom, Upshots}
@@ -161,7 +161,7 @@ IsBrought old new carried brought = (past made : List Call) → new.device.past 
 abbrev pub ServesCarries : Documents → (before known carried brought : Facts) → Type 0
 ServesCarries IsPlaced before known carried brought = (now : ℕ) (a b : At) (asked : List Intent) (o : Progress)
     → IsBrought a b carried brought
-    → ServesFrom IsPlaced now a b asked o before known → ServesFrom IsPlaced now a b asked o (Both before carried) (Both known brought)
+    → ServesFrom IsPlaced now a b asked o before known → ServesFrom IsPlaced now a b asked o (BothFacts before carried) (BothFacts known brought)
 
 -- a pair may be one of more documents
 abbrev pub ServesWider : (IsPlaced other : Documents) → (before known : Facts) → Type 0
@@ -173,7 +173,7 @@ ServesWider IsPlaced other before known = (now : ℕ) (a b : At) (asked : List I
 abbrev pub ServesKeeps : Documents → (before known : Facts) → (State → Type 0) → Type 0
 ServesKeeps IsPlaced before known IsSo = (now : ℕ) (a b : At) (asked : List Intent) (o : Progress) → GroupsKeep IsPlaced IsSo
     → ((past : List Call) → before past (state_of a.kept) → IsSo (state_of a.kept))
-    → ServesFrom IsPlaced now a b asked o before known → ServesFrom IsPlaced now a b asked o before (Both (OfState IsSo) known)
+    → ServesFrom IsPlaced now a b asked o before known → ServesFrom IsPlaced now a b asked o before (BothFacts (OfState IsSo) known)
 
 -- So a call that starts from vectors that list their alternates, on a sound tape, leaves them so, where a device that tells its
 -- content up to a moment leaves them so: on any other device a pair may be shown.
@@ -181,7 +181,7 @@ abbrev pub ServesWhereTold : (known : Facts) → Type 0
 ServesWhereTold known = (now : ℕ) (a b : At) (last : Device) (asked : List Intent) (o : Progress) → GroupsLeaveTold → GroupsLeavePuts
     → IsSound (state_of a.kept) → LeavesListed last (state_of b.kept)
     → ServesFrom (Untold last IsVectorAs) now a b asked o IsToldAt known
-    → ServesFrom (Untold last IsVectorAs) now a b asked o IsToldAt (Both IsToldAt known)
+    → ServesFrom (Untold last IsVectorAs) now a b asked o IsToldAt (BothFacts IsToldAt known)
 
 -- and serves
 abbrev pub ToldServes : (known : Facts) → Type 0

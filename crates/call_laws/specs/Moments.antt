@@ -39,8 +39,8 @@ abbrev pub IsToldAt : Facts
 IsToldAt = OfState AreTold
 
 -- the one and the other
-abbrev pub Both : Facts → Facts → Facts
-Both first second calls s = first calls s × second calls s
+abbrev pub BothFacts : Facts → Facts → Facts
+BothFacts first second calls s = first calls s × second calls s
 
 -- the calls of the session up to a moment in a step, which has made these until then
 abbrev pub so_far : Permit → List Call → List Call

@@ -10,11 +10,11 @@ use Rattle.device_log.proofs.FaultLaws.{untold_has_none}
 use Rattle.logged_disk.specs.Device.{DeviceState}
 use Rattle.logged_disk.specs.MemDisk.{mem_state}
 use Rattle.logged_disk.specs.declared.mem_disk.MemDisk.{MemDisk}
-use Rattle.device_bay.specs.Entry.{Entry}
+use Rattle.device_bay.specs.Entry.{BayEntry}
 use Rattle.device_bay.specs.Calls.{BayCall, Gave, RefusedAttach, TookBack, Gift, IsBayLog, IsDevice, are_bay_counts, bay_faults, gifts_of, number_behind, out_of, returned_by}
 use Rattle.device_bay.specs.Bay.{IsNewDevice}
 use Rattle.device_bay.specs.Register.{calls_of_entries}
-use Rattle.device_bay.specs.Returns.{IsMemReturn, has_refusal, ZeroHasNoRefusal, UntoldReturnsUnfailed}
+use Rattle.device_bay.specs.Returns.{IsMemReturn, has_refusal, ZeroHasNoRefusal, UntoldReturnsUnfailed, ReturnsTellByLog, UnturnedReturnsTell}
 
 -- ---- one more call
 
@@ -58,7 +58,7 @@ mem_return disk = record {
   untold = λ none. disk.is_memory.counted ∙ untold_has_none (calls_of disk.log) none disk.is_memory.obeys;
 }
 
-pub mem_returns : (entries : List (Entry MemDisk)) → All IsMemReturn (returned_by (calls_of_entries mem_state entries))
+pub mem_returns : (entries : List (BayEntry MemDisk)) → All IsMemReturn (returned_by (calls_of_entries mem_state entries))
 unfolding calls_of_entries
 mem_returns [] = All-nil IsMemReturn
 mem_returns ((numbers, (name, None)) ∷ entries) =
@@ -87,6 +87,14 @@ zero_has_no_refusal s is zero = none_refused s.past (sym is.counted ∙ zero)
 pub untold_has_no_fault : UntoldReturnsUnfailed
 untold_has_no_fault s is has none =
     is.counted ∙ untold_has_none s.past none (is.obeys has)
+
+-- ---- devices that tell their content
+
+pub told_by_log : ReturnsTellByLog
+told_by_log s is seen none = record { trusted = is.tells seen; unturned = none }
+
+pub unturned_tells : UnturnedReturnsTell
+unturned_tells s is has none = record { trusted = is.switched has; unturned = none }
 
 -- ---- a device as it is attached
 

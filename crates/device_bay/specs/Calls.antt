@@ -34,13 +34,13 @@ names_of (RefusedAttach name blocks count ∷ older) = names_of older
 names_of (TookBack device ∷ older) = names_of older
 
 -- an attach that failed, with the bay's count of faults behind it
-pub record Refusal : Type 0 where
+pub record AttachRefusal : Type 0 where
   pub name : List ℕ
   pub blocks : ℕ
   pub count : ℕ
 
 -- the attaches that failed, in order
-abbrev pub refusals_of : List BayCall → List Refusal
+abbrev pub refusals_of : List BayCall → List AttachRefusal
 refusals_of [] = []
 refusals_of (Gave name blocks ∷ older) = refusals_of older
 refusals_of (RefusedAttach name blocks count ∷ older) =
@@ -89,6 +89,9 @@ pub record IsDevice (s : DeviceState) : Type 0 where
   pub obeys : s.has_switch ≡ true → obeys_switch s.past ≡ true
   -- where it is trusted, each read of its log gave what was seen
   pub reads : IsTrusted s → ReadsAreSeen s.first s.past
+  -- and is trusted where they did, and where it has a switch
+  pub tells : ReadsAreSeen s.first s.past → IsTrusted s
+  pub switched : s.has_switch ≡ true → IsTrusted s
 
 -- what a bay can have done
 pub record IsBayLog (past : List BayCall) : Type 0 where

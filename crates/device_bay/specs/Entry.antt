@@ -2,8 +2,8 @@
 use Rattle.std.specs.Prelude.{ℕ, List, Option}
 
 -- the numbers of a call, its name, and the device that came back
-abbrev pub Entry : Type 0 → Type 0
-Entry D = List ℕ × (List ℕ × Option D)
+abbrev pub BayEntry : Type 0 → Type 0
+BayEntry D = List ℕ × (List ℕ × Option D)
 
-abbrev pub entry_of : {D : Type 0} → List ℕ → List ℕ → Option D → Entry D
+abbrev pub entry_of : {D : Type 0} → List ℕ → List ℕ → Option D → BayEntry D
 entry_of numbers name device = (numbers, (name, device))

@@ -5,8 +5,8 @@ use Rattle.device_log.specs.Seen.{ReadsAreSeen}
 use Rattle.device_log.specs.Faults.{IsLog, faults_of, obeys_switch}
 use Rattle.logged_disk.specs.Device.{DeviceState, IsTrusted}
 use Rattle.logged_disk.specs.MemDisk.{mem_state}
-use Rattle.logged_disk.specs.MemoryFacts.{memory_is_log, memory_was_image, memory_counted, memory_obeys, memory_reads}
-use Rattle.logged_disk.specs.FileDisk.{file_state, file_is_log, file_counted, file_obeys, file_reads}
+use Rattle.logged_disk.specs.MemoryFacts.{memory_is_log, memory_was_image, memory_counted, memory_obeys, memory_reads, memory_tells, memory_switched}
+use Rattle.logged_disk.specs.FileDisk.{file_state, file_is_log, file_counted, file_obeys, file_reads, file_tells, file_switched}
 use Rattle.device_bay.specs.declared.host_disk.HostDisk.{HostDisk}
 use Rattle.device_bay.specs.declared.host_disk.HostDisk.TheVariants.{Memory, File}
 
@@ -41,3 +41,14 @@ pub host_reads : {S : Type 0} (first : ℕ → Image) (disk : HostDisk S)
     → ReadsAreSeen (host_state first disk).first (host_state first disk).past
 host_reads first (Memory disk) = memory_reads disk
 host_reads first (File disk) = file_reads first disk
+
+pub host_tells : {S : Type 0} (first : ℕ → Image) (disk : HostDisk S)
+    → ReadsAreSeen (host_state first disk).first (host_state first disk).past
+    → IsTrusted (host_state first disk)
+host_tells first (Memory disk) = memory_tells disk
+host_tells first (File disk) = file_tells first disk
+
+pub host_switched : {S : Type 0} (first : ℕ → Image) (disk : HostDisk S)
+    → (host_state first disk).has_switch ≡ true → IsTrusted (host_state first disk)
+host_switched first (Memory disk) = memory_switched disk
+host_switched first (File disk) = file_switched first disk

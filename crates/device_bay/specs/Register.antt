@@ -1,7 +1,7 @@
 -- What a bay gave and got back, as its register has it.
 use Rattle.std.specs.Prelude.{◌≡◌, ℕ, ◌==◌, if◌then◌else◌, List, [], ◌∷◌, Option, None, Some, slice_index, length}
 use Rattle.logged_disk.specs.Device.{DeviceState}
-use Rattle.device_bay.specs.Entry.{Entry}
+use Rattle.device_bay.specs.Entry.{BayEntry}
 use Rattle.device_bay.specs.Calls.{BayCall, Gave, RefusedAttach, TookBack, IsBayLog, bay_faults, gifts_of, number_behind}
 use Rattle.device_bay.specs.declared.register.Register.{Register}
 
@@ -13,7 +13,7 @@ call_of_entry state numbers name None =
 call_of_entry state numbers name (Some device) = TookBack (state device)
 
 -- the calls of entries, both the newest first
-unfoldable pub calls_of_entries : {D : Type 0} → (D → DeviceState) → List (Entry D) → List BayCall
+unfoldable pub calls_of_entries : {D : Type 0} → (D → DeviceState) → List (BayEntry D) → List BayCall
 calls_of_entries state [] = []
 calls_of_entries state (entry ∷ entries) =
     call_of_entry state entry.0 entry.1.0 entry.1.1 ∷ calls_of_entries state entries

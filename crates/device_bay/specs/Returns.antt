@@ -1,8 +1,9 @@
 -- What a device tells that came back.
 use Rattle.std.specs.Prelude.{◌≡◌, Bool, true, false, List, [], ◌∷◌}
 use Rattle.device_log.specs.Calls.{Call, Read, Wrote, Synced, RefusedCall, Told, PowerCut, Flipped}
+use Rattle.device_log.specs.Seen.{ReadsAreSeen}
 use Rattle.device_log.specs.Faults.{is_untold, obeys_switch}
-use Rattle.logged_disk.specs.Device.{DeviceState}
+use Rattle.logged_disk.specs.Device.{DeviceState, TellsAll, has_flip}
 use Rattle.device_bay.specs.Calls.{IsDevice}
 
 -- a device in memory failed where its switch was told to, and so nowhere if it was told nothing
@@ -29,3 +30,11 @@ ZeroHasNoRefusal = (s : DeviceState) → IsDevice s → s.faults ≡ 0 → has_r
 abbrev pub UntoldReturnsUnfailed : Type 0
 UntoldReturnsUnfailed = (s : DeviceState) → IsDevice s
     → s.has_switch ≡ true → is_untold s.past ≡ true → s.faults ≡ 0
+
+-- a device told its content to the end where its log has that: each read gave what was seen, and no bit was turned
+abbrev pub ReturnsTellByLog : Type 0
+ReturnsTellByLog = (s : DeviceState) → IsDevice s → ReadsAreSeen s.first s.past → has_flip s.past ≡ false → TellsAll s
+
+-- one with a switch did where no bit was turned
+abbrev pub UnturnedReturnsTell : Type 0
+UnturnedReturnsTell = (s : DeviceState) → IsDevice s → s.has_switch ≡ true → has_flip s.past ≡ false → TellsAll s

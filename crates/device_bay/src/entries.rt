@@ -1,7 +1,7 @@
 // A list of what a bay did that has no bytes when a program runs.
 ghost use Rattle.std.specs.Prelude.{◌≡◌, List, [], ◌∷◌, None, Some};
 ghost use Rattle.std.specs.Borrow.{ftrue};
-ghost use Rattle.device_bay.specs.Entry.{Entry, entry_of};
+ghost use Rattle.device_bay.specs.Entry.{BayEntry, entry_of};
 
 use std::marker::{Model, PhantomData};
 
@@ -9,7 +9,7 @@ use std::marker::{Model, PhantomData};
 #[derive(Drop)]
 pub struct GhostEntries<D> {
     of: PhantomData<D>,
-    pub ghost entries: { List (Entry D) },
+    pub ghost entries: { List (BayEntry D) },
 }
 
 impl<D> Model for GhostEntries<D> {

@@ -18,7 +18,7 @@ pub enum HostDisk<S> {
 }
 
 impl<S: FileStart> Disk for HostDisk<S> {
-    ghost use Rattle.device_bay.specs.HostDisk.{host_state, host_is_log, host_was_image, host_counted, host_obeys, host_reads};
+    ghost use Rattle.device_bay.specs.HostDisk.{host_state, host_is_log, host_was_image, host_counted, host_obeys, host_reads, host_tells, host_switched};
 
     ghost state = { λ disk. host_state S.first disk };
 
@@ -73,6 +73,10 @@ impl<S: FileStart> Disk for HostDisk<S> {
     ghost obeys = { host_obeys S.first };
 
     ghost reads = { host_reads S.first };
+
+    ghost tells = { host_tells S.first };
+
+    ghost switched = { host_switched S.first };
 }
 
 // Each call but the first has a switch, so it is one of memory.

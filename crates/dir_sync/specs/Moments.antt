@@ -18,8 +18,8 @@ abbrev pub HasBody : Area → Side → List ℕ → Image → Type 0
 HasBody a side body c = span c (body_of a side) (body_blocks a) ≡ body
 
 -- the same but for this copy's gate and body
-abbrev pub Beside : Area → Side → Image → Image → Type 0
-Beside a side old new = (j : ℕ) → j ≢ gate_of side
+abbrev pub StandsBeside : Area → Side → Image → Image → Type 0
+StandsBeside a side old new = (j : ℕ) → j ≢ gate_of side
     → (body_of a side ≤ j → j < body_of a side + body_blocks a → ⊥) → new j ≡ old j
 
 -- the copy is shut, or whole; and all beside it is as in one of these
@@ -27,7 +27,7 @@ pub record IsReplaced (a : Area) (side : Side) (body : List ℕ) (P : Image → 
     : Type 0 where
   pub before : Image
   pub was : P before
-  pub beside : Beside a side before c
+  pub beside : StandsBeside a side before c
   pub copy : IsShut side c ⊎ HasBody a side body c
 
 -- the body stands whole, and no cut can take it
@@ -45,7 +45,7 @@ pub record IsBarred (side : Side) (settled : Bool) (first : Image) (past : List 
 -- beside this copy what is seen stays, and what was not pending is not
 pub record Spares (a : Area) (side : Side) (settled : Bool) (first : Image) (old new : List Call)
     : Type 0 where
-  pub seen : Beside a side (seen_of first old) (seen_of first new)
+  pub seen : StandsBeside a side (seen_of first old) (seen_of first new)
   pub still : (j : ℕ) → j ≢ gate_of side
       → (body_of a side ≤ j → j < body_of a side + body_blocks a → ⊥)
       → is_pending settled old j ≡ false → is_pending settled new j ≡ false

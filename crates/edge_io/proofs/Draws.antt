@@ -6,11 +6,11 @@ use Rattle.std.specs.Io.KnownBytes.{Consumes, IsAtEnd, Keeps, ReadConsumes}
 use Rattle.device_log.specs.Faults.{next_count}
 use Rattle.device_log.specs.Streams.{SourceRead, GaveBytes, CameToEnd, RefusedRead, given_by, has_ended, refused_reads, read_faults}
 use Rattle.device_log.proofs.StreamLaws.{given_more, ended_more}
-use Rattle.edge_io.specs.Source.{Draws, Leaves, NotesRead, Reads, ReadsOnce, gave}
+use Rattle.edge_io.specs.Source.{Draws, LeavesOver, NotesRead, ReadsSource, ReadsOnce, gave}
 
 -- ---- what is left
 
-pub leaves_nothing : (left : Option (List ℕ)) → Leaves left [] left
+pub leaves_nothing : (left : Option (List ℕ)) → LeavesOver left [] left
 unfolding given_by has_ended
 leaves_nothing None = tt
 leaves_nothing (Some bytes) = (refl, λ ended. absurd cc)
@@ -23,7 +23,7 @@ either_ended : (newer older : Bool) (bytes : List ℕ) → (newer || older) ≡ 
 either_ended true older bytes ended first second = first refl
 either_ended false older bytes ended first second = second ended
 
-pub leaves_more : (a b c : Option (List ℕ)) (newer older : List SourceRead) → Leaves a older b → Leaves b newer c → Leaves a (newer ++ older) c
+pub leaves_more : (a b c : Option (List ℕ)) (newer older : List SourceRead) → LeavesOver a older b → LeavesOver b newer c → LeavesOver a (newer ++ older) c
 leaves_more None b c newer older first second = tt
 leaves_more (Some x) None c newer older first second = absurd first
 leaves_more (Some x) (Some y) None newer older first second = absurd second
@@ -37,17 +37,17 @@ leaves_more (Some x) (Some y) (Some z) newer older first second = (
 take_none : (place : List ℕ) (n : ℕ) → n ≡ 0 → take n place ≡ []
 take_none place n none = ap (λ k. take k place) none
 
-gave_leaves : (before now : List ℕ) (n : ℕ) (bytes : List ℕ) (b : Bool) → (n == 0) ≡ b → (n ≡ 0 → bytes ≡ []) → before ≡ bytes ++ now → (n ≡ 0 → now ≡ []) → Leaves (Some before) (cond b CameToEnd (GaveBytes bytes) ∷ []) (Some now)
+gave_leaves : (before now : List ℕ) (n : ℕ) (bytes : List ℕ) (b : Bool) → (n == 0) ≡ b → (n ≡ 0 → bytes ≡ []) → before ≡ bytes ++ now → (n ≡ 0 → now ≡ []) → LeavesOver (Some before) (cond b CameToEnd (GaveBytes bytes) ∷ []) (Some now)
 unfolding given_by has_ended
 gave_leaves before now n bytes true e none split end = (split ∙ ap (λ l. l ++ now) (none (eqb-true n 0 e)), λ ended. end (eqb-true n 0 e))
 gave_leaves before now n bytes false e none split end = (split, λ ended. absurd cc)
 
-read_leaves : (a b : Option (List ℕ)) (n : ℕ) (place : List ℕ) → 0 < length place → Consumes a b (take n place) → (n ≡ 0 → 0 < length place → IsAtEnd b) → Leaves a (gave n (take n place) ∷ []) b
+read_leaves : (a b : Option (List ℕ)) (n : ℕ) (place : List ℕ) → 0 < length place → Consumes a b (take n place) → (n ≡ 0 → 0 < length place → IsAtEnd b) → LeavesOver a (gave n (take n place) ∷ []) b
 read_leaves None b n place some took end = tt
 read_leaves (Some x) None n place some took end = absurd took
 read_leaves (Some x) (Some y) n place some took end = gave_leaves x y n (take n place) (n == 0) refl (take_none place n) took (λ none. end none some)
 
-refused_leaves : (a b : Option (List ℕ)) (count : ℕ) → Keeps a b → Leaves a (RefusedRead count ∷ []) b
+refused_leaves : (a b : Option (List ℕ)) (count : ℕ) → Keeps a b → LeavesOver a (RefusedRead count ∷ []) b
 unfolding given_by has_ended
 refused_leaves None b count same = tt
 refused_leaves (Some x) None count same = absurd same
@@ -80,7 +80,7 @@ module _ {S : Type 0} (reads : S → List SourceRead) (left : S → Option (List
   abbrev pub draws_nothing : (s : S) → Draws reads left s s
   draws_nothing s = record { more = []; grew = refl; leaves = leaves_nothing (left s) }
 
-  abbrev pub draws_one : (read : SourceRead) (old new : S) → Reads reads left read old new → Draws reads left old new
+  abbrev pub draws_one : (read : SourceRead) (old new : S) → ReadsSource reads left read old new → Draws reads left old new
   draws_one read old new once = record { more = read ∷ []; grew = once.grew; leaves = once.leaves }
 
   abbrev pub draws_more : (a b c : S) → Draws reads left a b → Draws reads left b c → Draws reads left a c

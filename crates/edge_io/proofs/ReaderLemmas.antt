@@ -8,9 +8,9 @@ use Rattle.edge_io.specs.declared.reader.LineFault.TheVariants.{LineTooLong, Too
 use Rattle.edge_io.specs.declared.reader.LineReader.{LineReader}
 use Rattle.edge_io.specs.LineBuffer.{IsClear, IsNewline, Shown}
 use Rattle.edge_io.specs.Lines.{IsLine, IsTooLong, IsTooMany, first_line}
-use Rattle.edge_io.specs.Source.{NoReadFailed, Reads, gave}
+use Rattle.edge_io.specs.Source.{NoReadFailed, ReadsSource, gave}
 use Rattle.edge_io.specs.Text.{closed, text_after}
-use Rattle.edge_io.specs.LineReader.{Answer, AreNeeded, Answers, Ends, Fails, GivesRest, IsDecided, IsRest, Next, Waits, lines_given, held, given_after, answer_so}
+use Rattle.edge_io.specs.LineReader.{Answer, AreNeeded, Answers, Ends, FailsAsRead, GivesRest, IsDecided, IsRest, GivesNextLine, Waits, lines_given, held, given_after, answer_so}
 use Rattle.edge_io.proofs.Draws.{draws_more, draws_nothing, draws_one, failed_count, gave_some, gave_unfailed}
 use Rattle.edge_io.proofs.Newlines.{clear_apart}
 use Rattle.edge_io.proofs.Ranges.{is_none}
@@ -33,7 +33,7 @@ undecided_none given [] none = elim [
 ]
 undecided_none given (x ∷ xs) none = absurd (omega arith)
 
-fails_since : (first before now : List SourceRead) (answer : Answer) → NoReadFailed first before → Fails before now answer → Fails first now answer
+fails_since : (first before now : List SourceRead) (answer : Answer) → NoReadFailed first before → FailsAsRead before now answer → FailsAsRead first now answer
 fails_since first before now (Ok line) none h = h ∙ none
 fails_since first before now (Err (LineTooLong line)) none h = h ∙ none
 fails_since first before now (Err TooManyLines) none h = h ∙ none
@@ -99,7 +99,7 @@ module _ {S : Type 0} (reads : S → List SourceRead) (left : S → Option (List
       }
 
   -- reads, and then an answer
-  pub joins : (a b c : LineReader S) (answer : Answer) → Waits reads left a b → Next reads left b c answer → Next reads left a c answer
+  pub joins : (a b c : LineReader S) (answer : Answer) → Waits reads left a b → GivesNextLine reads left b c answer → GivesNextLine reads left a c answer
   joins a b c answer first second =
       let back = λ (h : IsDecided (lines_given a) (held a)). subst (λ (l : List ℕ). IsDecided (lines_given b) l) (sym (first.held_stays h)) (subst (λ (n : ℕ). IsDecided n (held a)) (sym first.given) h) in
       record {
@@ -126,10 +126,10 @@ module _ {S : Type 0} (reads : S → List SourceRead) (left : S → Option (List
 
   module _ (a b : LineReader S) (free : IsDecided (lines_given a) (held a) → ⊥) (same_source : b.source.ghost_name ≡ a.source.ghost_name) (given : lines_given b ≡ lines_given a) where
     -- it gave bytes
-    pub read_waits : (n : ℕ) → 0 < n → Reads reads left (gave n (drop (length (held a)) (held b))) a.source.now b.source.now → take (length (held a)) (held b) ≡ held a → Waits reads left a b
+    pub read_waits : (n : ℕ) → 0 < n → ReadsSource reads left (gave n (drop (length (held a)) (held b))) a.source.now b.source.now → take (length (held a)) (held b) ≡ held a → Waits reads left a b
     read_waits n some once front =
         let bytes = drop (length (held a)) (held b) in
-        let read = subst (λ (r : SourceRead). Reads reads left r a.source.now b.source.now) (gave_some n bytes some) once in
+        let read = subst (λ (r : SourceRead). ReadsSource reads left r a.source.now b.source.now) (gave_some n bytes some) once in
         record {
           same_source = same_source;
           draws = draws_one reads left (GaveBytes bytes) a.source.now b.source.now read;
@@ -142,13 +142,13 @@ module _ {S : Type 0} (reads : S → List SourceRead) (left : S → Option (List
         }
 
     -- it came to the end
-    pub read_ends : (n : ℕ) → n ≡ 0 → Reads reads left (gave n (drop (length (held a)) (held b))) a.source.now b.source.now → take (length (held a)) (held b) ≡ held a → length (held b) ≡ length (held a) + n → Ends reads left a b
+    pub read_ends : (n : ℕ) → n ≡ 0 → ReadsSource reads left (gave n (drop (length (held a)) (held b))) a.source.now b.source.now → take (length (held a)) (held b) ≡ held a → length (held b) ≡ length (held a) + n → Ends reads left a b
     read_ends n none once front longer =
-        let read = subst (λ (k : ℕ). Reads reads left (gave k (drop (length (held a)) (held b))) a.source.now b.source.now) none once in
+        let read = subst (λ (k : ℕ). ReadsSource reads left (gave k (drop (length (held a)) (held b))) a.source.now b.source.now) none once in
         record { same_source = same_source; read = read; given = given; held_is = same_length (held a) (held b) front (subst (λ (k : ℕ). length (held b) ≡ length (held a) + k) none longer) }
 
     -- it failed
-    pub read_fails : (count : ℕ) → Reads reads left (RefusedRead (next_count (read_faults (reads a.source.now)))) a.source.now b.source.now → held b ≡ held a → count ≡ read_faults (reads b.source.now) → Next reads left a b (Err (ReadFault count))
+    pub read_fails : (count : ℕ) → ReadsSource reads left (RefusedRead (next_count (read_faults (reads a.source.now)))) a.source.now b.source.now → held b ≡ held a → count ≡ read_faults (reads b.source.now) → GivesNextLine reads left a b (Err (ReadFault count))
     read_fails count once same counted =
         let is : count ≡ next_count (read_faults (reads a.source.now)) = counted ∙ (ap read_faults once.grew ∙ failed_count (reads a.source.now) (next_count (read_faults (reads a.source.now)))) in
         record {
@@ -167,7 +167,7 @@ module _ {S : Type 0} (reads : S → List SourceRead) (left : S → Option (List
 
   -- the line before a newline
   pub line_next : (r : LineReader S) (b : Shown) (n : ℕ) → lines_given r < MAX_LINES → IsNewline (held r) n → n ≤ MAX_LINE_BYTES → b.line ≡ take n (held r) → b.rest ≡ drop (n + 1) (held r)
-      → Next reads left r (record { source = r.source; buffer = b; given = r.given + 1 }) (Ok (Some b.line))
+      → GivesNextLine reads left r (record { source = r.source; buffer = b; given = r.given + 1 }) (Ok (Some b.line))
   line_next r b n within newline short line rest =
       let behind : b.rest ≡ drop (suc n) (held r) = rest ∙ ap (λ k. drop k (held r)) (add-one n) in
       record {
@@ -193,13 +193,13 @@ module _ {S : Type 0} (reads : S → List SourceRead) (left : S → Option (List
   rest_given c d true is = is.2
   rest_given c d false is = is.1
 
-  rest_fails : (old new : List SourceRead) (line : List ℕ) (some : Bool) → NoReadFailed old new → Fails old new (answer_so line (Ok some))
+  rest_fails : (old new : List SourceRead) (line : List ℕ) (some : Bool) → NoReadFailed old new → FailsAsRead old new (answer_so line (Ok some))
   rest_fails old new line true none = none
   rest_fails old new line false none = none
 
   -- the last line or none, at the end of the source
   pub rest_next : (b c d : LineReader S) (some : Bool) → lines_given b < MAX_LINES → IsClear (held b) (length (held b)) → length (held b) ≤ MAX_LINE_BYTES → Ends reads left b c → GivesRest c d some
-      → Next reads left b d (answer_so d.buffer.line (Ok some))
+      → GivesNextLine reads left b d (answer_so d.buffer.line (Ok some))
   rest_next b c d some within clear short ends gives =
       let free = undecided (lines_given b) (held b) within clear short in
       let grew : reads d.source.now ≡ CameToEnd ∷ reads b.source.now = ap reads gives.same ∙ ends.read.grew in
@@ -217,7 +217,7 @@ module _ {S : Type 0} (reads : S → List SourceRead) (left : S → Option (List
       }
 
   -- the end, where no byte is held
-  pub end_next : (b c : LineReader S) → length (held b) ≡ 0 → Ends reads left b c → Next reads left b c (Ok None)
+  pub end_next : (b c : LineReader S) → length (held b) ≡ 0 → Ends reads left b c → GivesNextLine reads left b c (Ok None)
   end_next b c none ends =
       let free = undecided_none (lines_given b) (held b) none in
       record {
@@ -232,7 +232,7 @@ module _ {S : Type 0} (reads : S → List SourceRead) (left : S → Option (List
         idle = λ h. absurd (free h);
       }
 
-  pub long_next : (r : LineReader S) → lines_given r < MAX_LINES → IsClear (held r) (length (held r)) → MAX_LINE_BYTES < length (held r) → Next reads left r r (Err (LineTooLong (lines_given r + 1)))
+  pub long_next : (r : LineReader S) → lines_given r < MAX_LINES → IsClear (held r) (length (held r)) → MAX_LINE_BYTES < length (held r) → GivesNextLine reads left r r (Err (LineTooLong (lines_given r + 1)))
   long_next r within clear long =
       record {
         same_source = refl;
@@ -246,7 +246,7 @@ module _ {S : Type 0} (reads : S → List SourceRead) (left : S → Option (List
         idle = λ h. refl;
       }
 
-  pub many_next : (r : LineReader S) → MAX_LINES ≤ lines_given r → 0 < length (held r) → Next reads left r r (Err TooManyLines)
+  pub many_next : (r : LineReader S) → MAX_LINES ≤ lines_given r → 0 < length (held r) → GivesNextLine reads left r r (Err TooManyLines)
   many_next r all some =
       record {
         same_source = refl;

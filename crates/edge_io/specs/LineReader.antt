@@ -2,7 +2,7 @@
 use Rattle.std.specs.Prelude.{◌≡◌, ◌≢◌, ℕ, ◌+◌, ◌⊎◌, Bool, true, false, List, [], ◌∷◌, Option, None, Some, Result, Ok, Err, Contains, ⊤}
 use Rattle.std.specs.Borrow.{Bor, MutBor}
 use Rattle.device_log.specs.Streams.{SourceRead, CameToEnd}
-use Rattle.edge_io.specs.Source.{Draws, Reads, IsEnded, LastReadFailed, NoReadFailed}
+use Rattle.edge_io.specs.Source.{Draws, ReadsSource, IsEnded, LastReadFailed, NoReadFailed}
 use Rattle.edge_io.specs.Text.{text_after}
 use Rattle.edge_io.specs.Lines.{IsTooLong, IsTooMany, GivesLine}
 use Rattle.edge_io.specs.declared.reader.LineFault.{LineFault}
@@ -65,11 +65,11 @@ Answers given reads old new (Err TooManyLines) = IsTooMany given old × (new ≡
 Answers given reads old new (Err (ReadFault count)) = new ≡ old
 
 -- which reads failed: with a read fault the last one alone, and else none
-abbrev pub Fails : (old new : List SourceRead) → Answer → Type 0
-Fails old new (Err (ReadFault count)) = LastReadFailed old new count
-Fails old new (Err (LineTooLong line)) = NoReadFailed old new
-Fails old new (Err TooManyLines) = NoReadFailed old new
-Fails old new (Ok answer) = NoReadFailed old new
+abbrev pub FailsAsRead : (old new : List SourceRead) → Answer → Type 0
+FailsAsRead old new (Err (ReadFault count)) = LastReadFailed old new count
+FailsAsRead old new (Err (LineTooLong line)) = NoReadFailed old new
+FailsAsRead old new (Err TooManyLines) = NoReadFailed old new
+FailsAsRead old new (Ok answer) = NoReadFailed old new
 
 -- The source may have been read, but only where what was held does not decide.
 pub record Waits {S : Type 0} (reads : S → List SourceRead) (left : S → Option (List ℕ))
@@ -87,7 +87,7 @@ pub record Waits {S : Type 0} (reads : S → List SourceRead) (left : S → Opti
 pub record Ends {S : Type 0} (reads : S → List SourceRead) (left : S → Option (List ℕ))
     (old new : LineReader S) : Type 0 where
   pub same_source : (source_of new).ghost_name ≡ (source_of old).ghost_name
-  pub read : Reads reads left CameToEnd (source_of old).now (source_of new).now
+  pub read : ReadsSource reads left CameToEnd (source_of old).now (source_of new).now
   pub given : lines_given new ≡ lines_given old
   pub held_is : held new ≡ held old
 
@@ -105,13 +105,13 @@ pub record GivesRest {S : Type 0} (old new : LineReader S) (some : Bool) : Type 
   pub is : IsRest old new some
 
 -- What a call of `next_line` does and answers.
-pub record Next {S : Type 0} (reads : S → List SourceRead) (left : S → Option (List ℕ))
+pub record GivesNextLine {S : Type 0} (reads : S → List SourceRead) (left : S → Option (List ℕ))
     (old new : LineReader S) (answer : Answer) : Type 0 where
   pub same_source : (source_of new).ghost_name ≡ (source_of old).ghost_name
   pub draws : Draws reads left (source_of old).now (source_of new).now
   -- the source is read only where what was read does not decide
   pub needed : AreNeeded (lines_given old) (held old) draws.more
-  pub failed : Fails (reads (source_of old).now) (reads (source_of new).now) answer
+  pub failed : FailsAsRead (reads (source_of old).now) (reads (source_of new).now) answer
   pub given : lines_given new ≡ given_after (lines_given old) answer
   pub answers : Answers (lines_given old) draws.more
       (text_after (held old) draws.more) (held new) answer

@@ -22,11 +22,11 @@ NotesRead old new result place = MatchResult result
 
 -- Where a source tells what is left: what these reads gave and what is left now are together what
 -- was left, and they met the end only where nothing is left.
-abbrev pub Leaves : (before : Option (List ℕ)) (reads : List SourceRead) (now : Option (List ℕ))
+abbrev pub LeavesOver : (before : Option (List ℕ)) (reads : List SourceRead) (now : Option (List ℕ))
     → Type 0
-Leaves None reads now = ⊤
-Leaves (Some before) reads None = ⊥
-Leaves (Some before) reads (Some now) =
+LeavesOver None reads now = ⊤
+LeavesOver (Some before) reads None = ⊥
+LeavesOver (Some before) reads (Some now) =
     (before ≡ given_by reads ++ now) × (has_ended reads ≡ true → now ≡ [])
 
 -- What calls did to a source: its log grew by these reads, which left what it tells to be left.
@@ -35,20 +35,20 @@ pub record Draws {S : Type 0} (reads : S → List SourceRead) (left : S → Opti
   -- the newest first
   pub more : List SourceRead
   pub grew : reads new ≡ more ++ reads old
-  pub leaves : Leaves (left old) more (left new)
+  pub leaves : LeavesOver (left old) more (left new)
 
 -- it was one read, this one
-pub record Reads {S : Type 0} (reads : S → List SourceRead) (left : S → Option (List ℕ))
+pub record ReadsSource {S : Type 0} (reads : S → List SourceRead) (left : S → Option (List ℕ))
     (read : SourceRead) (old new : S) : Type 0 where
   pub grew : reads new ≡ read ∷ reads old
-  pub leaves : Leaves (left old) (read ∷ []) (left new)
+  pub leaves : LeavesOver (left old) (read ∷ []) (left new)
 
 -- it was one read, which gave these bytes where it did not fail
 abbrev pub ReadsOnce : {S E : Type 0} → (S → List SourceRead) → (S → Option (List ℕ))
     → (bytes : ℕ → List ℕ) → (old new : S) → Result ℕ E → Type 0
 ReadsOnce reads left bytes old new result = MatchResult result
-    (λ count. Reads reads left (gave count (bytes count)) old new)
-    (λ _. Reads reads left (RefusedRead (next_count (read_faults (reads old)))) old new)
+    (λ count. ReadsSource reads left (gave count (bytes count)) old new)
+    (λ _. ReadsSource reads left (RefusedRead (next_count (read_faults (reads old)))) old new)
 
 -- no read failed between the two
 abbrev pub NoReadFailed : (old new : List SourceRead) → Type 0

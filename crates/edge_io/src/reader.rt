@@ -33,7 +33,7 @@ pub struct LineReader<'a, S: Source> {
 
 impl<'a, S: Source> LineReader<'a, S> {
     ghost use Rattle.edge_io.specs.contracts.reader.LineReader.{the_row};
-    ghost use Rattle.edge_io.specs.LineReader.{source_of, lines_given, held, answer_of, Next};
+    ghost use Rattle.edge_io.specs.LineReader.{source_of, lines_given, held, answer_of, GivesNextLine};
 
     /// Takes the memory for the longest line. Where it may want, and the source is still needed then,
     /// make the buffer first.
@@ -79,7 +79,7 @@ impl<'a, S: Source> LineReader<'a, S> {
     /// The next line without its newline, or `None` at the end.
     pub fn next_line(&mut self) -> Result<Option<&[u8]>, LineFault>
         ensures* after { sem 𝓛 (Rests (the_row (record { mir = named 0; lft = [] }) S.row) self.entry
-            (λ new. Next S.reads S.left self.old new (answer_of result))) }
+            (λ new. GivesNextLine S.reads S.left self.old new (answer_of result))) }
     {
         if self.advance()? {
             Ok(Some(self.buffer.line()))
@@ -90,12 +90,12 @@ impl<'a, S: Source> LineReader<'a, S> {
 }
 
 impl<S: Source> LineReader<'_, S> {
-    ghost use Rattle.edge_io.specs.LineReader.{Next, Waits, Ends, GivesRest, IsDecided, answer_so};
+    ghost use Rattle.edge_io.specs.LineReader.{GivesNextLine, Waits, Ends, GivesRest, IsDecided, answer_so};
     ghost use Rattle.edge_io.specs.LineBuffer.{IsClear, IsNewline};
 
     /// Makes the next line the line of the buffer. Without one it gives false.
     fn advance(&mut self) -> Result<bool, LineFault>
-        ensures { Next S.reads S.left self.old self.new (answer_so self.new.buffer.line result) }
+        ensures { GivesNextLine S.reads S.left self.old self.new (answer_so self.new.buffer.line result) }
     {
         if self.given >= MAX_LINES {
             return self.behind_last();
@@ -123,7 +123,7 @@ impl<S: Source> LineReader<'_, S> {
     /// Behind the last line that may be, only the end may come.
     fn behind_last(&mut self) -> Result<bool, LineFault>
         requires { MAX_LINES ≤ self.old.given }
-        ensures { Next S.reads S.left self.old self.new (answer_so self.new.buffer.line result) }
+        ensures { GivesNextLine S.reads S.left self.old self.new (answer_so self.new.buffer.line result) }
     {
         if self.buffer.len() > 0 {
             return Err(LineFault::TooManyLines);
@@ -140,7 +140,7 @@ impl<S: Source> LineReader<'_, S> {
         requires within { self.old.given < MAX_LINES }
         requires newline { IsNewline self.old.buffer.rest len }
         requires short { len ≤ MAX_LINE_BYTES }
-        ensures { Next S.reads S.left self.old self.new (Ok (Some self.new.buffer.line)) }
+        ensures { GivesNextLine S.reads S.left self.old self.new (Ok (Some self.new.buffer.line)) }
     {
         self.buffer.take_line(len);
         self.given += 1;
@@ -167,7 +167,7 @@ impl<S: Source> LineReader<'_, S> {
         ensures more { IfOk result (λ n. length self.new.buffer.rest ≡ length self.old.buffer.rest + n) }
         ensures front { take (length self.old.buffer.rest) self.new.buffer.rest ≡ self.old.buffer.rest }
         ensures end { result ≡ Ok 0 → Ends S.reads S.left self.old self.new }
-        ensures fault { IfErr result (λ fault. Next S.reads S.left self.old self.new (Err fault)) }
+        ensures fault { IfErr result (λ fault. GivesNextLine S.reads S.left self.old self.new (Err fault)) }
     {
         match self.buffer.fill(self.source) {
             Ok(count) => Ok(count),

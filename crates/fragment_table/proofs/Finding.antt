@@ -4,37 +4,37 @@ use Rattle.std.specs.Prelude.{IsNone, option_map}
 use Rattle.std.specs.List.{AllWithin}
 use Rattle.std.specs.List.Sorted.{IsPartitionedBy}
 use Rattle.std.proofs.lemmas.Bool.{ltb-false, le-ltb, lt-ltb, leb-true, leb-false, le-leb}
-use Rattle.fragment_table.specs.declared.table.Row.{Row}
+use Rattle.fragment_table.specs.declared.table.FragmentRow.{FragmentRow}
 use Rattle.fragment_table.specs.Table.{TableRow, total_length, fragment_at, next_fragment}
 use Rattle.fragment_table.specs.Kept.{table_row_of, table_rows_of, EndsFrom}
 use Rattle.fragment_table.proofs.Ends.{total-cons}
 
-above_start : (start : ℕ) (rows : List Row) (k : ℕ) (d : Row) → EndsFrom start rows → k < length rows → start ≤ (get_or rows k d).end
+above_start : (start : ℕ) (rows : List FragmentRow) (k : ℕ) (d : FragmentRow) → EndsFrom start rows → k < length rows → start ≤ (get_or rows k d).end
 above_start start [] k d ends lt = absurd (omega (arith, lt))
 above_start start (x ∷ xs) zero d ends lt = omega (arith, ends.0)
 above_start start (x ∷ xs) (suc k) d ends lt =
     let rest = above_start x.end xs k d ends.1 (omega (arith, lt)) in
     omega (arith, ends.0, rest)
 
-ends_rise : (start : ℕ) (rows : List Row) (i j : ℕ) (d : Row) → EndsFrom start rows → i ≤ j → j < length rows → (get_or rows i d).end ≤ (get_or rows j d).end
+ends_rise : (start : ℕ) (rows : List FragmentRow) (i j : ℕ) (d : FragmentRow) → EndsFrom start rows → i ≤ j → j < length rows → (get_or rows i d).end ≤ (get_or rows j d).end
 ends_rise start [] i j d ends le lt = absurd (omega (arith, lt))
 ends_rise start (x ∷ xs) zero zero d ends le lt = omega arith
 ends_rise start (x ∷ xs) zero (suc j) d ends le lt = above_start x.end xs j d ends.1 (omega (arith, lt))
 ends_rise start (x ∷ xs) (suc i) zero d ends le lt = absurd (omega (arith, le))
 ends_rise start (x ∷ xs) (suc i) (suc j) d ends le lt = ends_rise x.end xs i j d ends.1 (omega (arith, le)) (omega (arith, lt))
 
-abbrev pub ends_by : ℕ → Row → Bool
+abbrev pub ends_by : ℕ → FragmentRow → Bool
 ends_by offset row = leb row.end offset
 
 -- the fragments that end by an offset come first
-pub ends_parted : (rows : List Row) (offset : ℕ) → EndsFrom 0 rows → IsPartitionedBy (ends_by offset) rows
+pub ends_parted : (rows : List FragmentRow) (offset : ℕ) → EndsFrom 0 rows → IsPartitionedBy (ends_by offset) rows
 ends_parted rows offset ends i j d le lt h =
     let high : (get_or rows j d).end ≤ offset = leb-true _ _ h in
     let rise = ends_rise 0 rows i j d ends le lt in
     le-leb _ _ (omega (arith, high, rise))
 
 -- where i fragments end by the offset and the next one does not, that one has it
-pub found_at : (start : ℕ) (rows : List Row) (i offset : ℕ) (d : Row) → EndsFrom start rows → start ≤ offset → ((k : ℕ) → k < i → (get_or rows k d).end ≤ offset) → i < length rows → offset < (get_or rows i d).end
+pub found_at : (start : ℕ) (rows : List FragmentRow) (i offset : ℕ) (d : FragmentRow) → EndsFrom start rows → start ≤ offset → ((k : ℕ) → k < i → (get_or rows k d).end ≤ offset) → i < length rows → offset < (get_or rows i d).end
     → (start + total_length (table_rows_of (take i rows)) ≤ offset) × (fragment_at (table_rows_of rows) (offset - start) ≡ Some (i + 1, offset - (start + total_length (table_rows_of (take i rows)))))
 found_at start [] i offset d ends le before lt at = absurd (omega (arith, lt))
 found_at start (x ∷ xs) zero offset d ends le before lt at =
@@ -52,7 +52,7 @@ found_at start (x ∷ xs) (suc i) offset d ends le before lt at =
     )
 
 -- where all fragments end by the offset, none has it
-pub found_none : (start : ℕ) (rows : List Row) (offset : ℕ) (d : Row) → EndsFrom start rows → start ≤ offset → ((k : ℕ) → k < length rows → (get_or rows k d).end ≤ offset) → fragment_at (table_rows_of rows) (offset - start) ≡ None
+pub found_none : (start : ℕ) (rows : List FragmentRow) (offset : ℕ) (d : FragmentRow) → EndsFrom start rows → start ≤ offset → ((k : ℕ) → k < length rows → (get_or rows k d).end ≤ offset) → fragment_at (table_rows_of rows) (offset - start) ≡ None
 found_none start [] offset d ends le all = refl
 found_none start (x ∷ xs) offset d ends le all =
     let past : x.end ≤ offset = all 0 (omega arith) in
@@ -90,19 +90,19 @@ sub-zero : (n : ℕ) → n ≡ n - 0
 sub-zero n = omega arith
 
 -- any row, to read a list with
-some_row : Row
+some_row : FragmentRow
 some_row = record { length = 0; digest = []; end = 0 }
 
 -- what a binary search by the ends tells
-abbrev pub IsPoint : List Row → ℕ → ℕ → Type 0
+abbrev pub IsPoint : List FragmentRow → ℕ → ℕ → Type 0
 IsPoint rows offset i = AllWithin (λ row. ends_by offset row ≡ true) rows 0 i × AllWithin (λ row. ends_by offset row ≡ false) rows i (length rows)
 
-pub point_none : (rows : List Row) (offset i : ℕ) → EndsFrom 0 rows → IsPoint rows offset i → i ≡ length rows → fragment_at (table_rows_of rows) offset ≡ None
+pub point_none : (rows : List FragmentRow) (offset i : ℕ) → EndsFrom 0 rows → IsPoint rows offset i → i ≡ length rows → fragment_at (table_rows_of rows) offset ≡ None
 point_none rows offset i ends point all =
     let none = found_none 0 rows offset some_row ends (omega arith) (λ k l. leb-true _ _ (point.0 k some_row (omega arith) (omega (arith, l, all)))) in
     ap (fragment_at (table_rows_of rows)) (sub-zero offset) ∙ none
 
-pub point_found : (rows : List Row) (offset i : ℕ) → EndsFrom 0 rows → IsPoint rows offset i → i < length rows
+pub point_found : (rows : List FragmentRow) (offset i : ℕ) → EndsFrom 0 rows → IsPoint rows offset i → i < length rows
     → (total_length (table_rows_of (take i rows)) ≤ offset) × (fragment_at (table_rows_of rows) offset ≡ Some (i + 1, offset - total_length (table_rows_of (take i rows))))
 point_found rows offset i ends point lt =
     let found = found_at 0 rows i offset some_row ends (omega arith) (λ k l. leb-true _ _ (point.0 k some_row (omega arith) l)) lt (leb-false _ _ (point.1 i some_row (omega arith) lt)) in

@@ -16,21 +16,21 @@ pub(crate) const ROW_BYTES: usize = 36;
 
 /// A fragment's row, and where the fragment ends in the body.
 #[derive(Clone, Copy, Debug)]
-struct Row {
+struct FragmentRow {
     length: u32,
     digest: [u8; 32],
     end: u64,
 }
 
-impl Row {
-    fn behind(start: u64, length: u32, digest: [u8; 32]) -> Row
+impl FragmentRow {
+    fn behind(start: u64, length: u32, digest: [u8; 32]) -> FragmentRow
         requires some { 0 < length }
         requires fits { start + length < 2 ^ 64 }
         ensures row { table_row_of result ≡ made_row length digest }
         ensures valid { IsRow (table_row_of result) }
         ensures end { result.end ≡ start + result.length }
     {
-        Row {
+        FragmentRow {
             length,
             digest,
             end: start + length as u64,
@@ -41,7 +41,7 @@ impl Row {
 /// The lengths and payload digests of a body's fragments.
 #[derive(Debug, Drop)]
 pub struct FragTable {
-    rows: Vec<Row>,
+    rows: Vec<FragmentRow>,
 }
 
 impl Model for FragTable {
@@ -84,7 +84,7 @@ impl FragTable {
         ensures room { self.old.room ≤ self.new.room + 1 }
         ensures reserved { 0 < self.old.room → IsOk result }
     {
-        let row = Row::behind(end_of(&self.rows), length, digest);
+        let row = FragmentRow::behind(end_of(&self.rows), length, digest);
         self.rows.push(row)?;
         Ok(())
     }
@@ -158,7 +158,7 @@ impl FragTable {
 }
 
 // Where the last fragment ends.
-fn end_of(rows: &[Row]) -> u64
+fn end_of(rows: &[FragmentRow]) -> u64
     requires { EndsFrom 0 rows.now }
     ensures { result ≡ total_length (table_rows_of rows.now) }
 {
@@ -168,7 +168,7 @@ fn end_of(rows: &[Row]) -> u64
     }
 }
 
-fn find_fragment(rows: &[Row], offset: u64) -> Option<(u32, u64)>
+fn find_fragment(rows: &[FragmentRow], offset: u64) -> Option<(u32, u64)>
     requires { AreKept rows.now }
     ensures { result ≡ fragment_at (table_rows_of rows.now) offset }
 {
@@ -179,7 +179,7 @@ fn find_fragment(rows: &[Row], offset: u64) -> Option<(u32, u64)>
     Some((before as u32 + 1, offset - end_of(&rows[..before])))
 }
 
-fn write_rows(rows: &[Row], into: &mut Vec<u8>) -> Result<(), AllocError>
+fn write_rows(rows: &[FragmentRow], into: &mut Vec<u8>) -> Result<(), AllocError>
     requires { length rows.now ≤ 4096 }
     ensures ok { OnOk result
         (into.new.items ≡ into.old.items ++ table_bytes (table_rows_of rows.now)) }

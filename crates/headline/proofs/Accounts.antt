@@ -7,7 +7,7 @@ use Rattle.run_promise.specs.Outline.{Outline, blank_outline}
 use Rattle.run_promise.specs.Lines.{answers_of, outline_of}
 use Rattle.run_promise.specs.declared.status.Status.{Status}
 use Rattle.run_promise.specs.declared.status.Status.TheVariants as status
-use Rattle.run_promise.specs.Story.{Because, Recorded, ShownAlong, Story, Told, all_in}
+use Rattle.run_promise.specs.Story.{Because, Recorded, ShownAlong, Story, DevicesTold, all_in}
 use Rattle.run_promise.specs.Top.{EachBack, EachBackOrMore, EndsEarly, ReadsFailed}
 use Rattle.headline.specs.Account.{Account, ComeBackFrom, IsConcluded, RunLogs}
 use Rattle.headline.specs.Endings.{AreTakeable, CameBackBy, EndsHere, EndsWithStatus, IsAccountOf, WentOutBy}
@@ -15,8 +15,8 @@ use Rattle.headline.proofs.Devices.{come_back, more_back}
 use Rattle.headline.proofs.Outlines.{shown_before, shown_made}
 use Rattle.headline.proofs.Endings.{cut_short, ended_early, takeable}
 
-module _ (l : RunLogs) (s : Status) (held : List ℕ) (given : ℕ) (Text : (before all : List ℕ) → Type 0) (Devices : Told → Type 0) (Behind : Outline → Type 0) (Known : Run → Type 0)
-    (back : (t : Told) → Devices t → ComeBackFrom l (all_in t)) (story : Story l.first l.read held given Text Devices Behind Known) (alone : (t : Told) → Devices t → CameBackBy l s story.lines held t)
+module _ (l : RunLogs) (s : Status) (held : List ℕ) (given : ℕ) (Text : (before all : List ℕ) → Type 0) (Devices : DevicesTold → Type 0) (Behind : Outline → Type 0) (Known : Run → Type 0)
+    (back : (t : DevicesTold) → Devices t → ComeBackFrom l (all_in t)) (story : Story l.first l.read held given Text Devices Behind Known) (alone : (t : DevicesTold) → Devices t → CameBackBy l s story.lines held t)
     (sent : WentOutBy l s story.lines held story.answers) (ends : EndsHere l story.lines held s) where
   may_be_taken_all : AreTakeable 0 story.lines
   may_be_taken_all = takeable blank_outline 0 story.lines story.answers refl story.outline.each
@@ -78,7 +78,7 @@ module _ (l : RunLogs) (s : Status) (held : List ℕ) (given : ℕ) (Text : (bef
   account_of = by_either story.records
 
 module _ (l : RunLogs) where
-  each_back : (t : Told) → EachBack l.before l.now t → ComeBackFrom l (all_in t)
+  each_back : (t : DevicesTold) → EachBack l.before l.now t → ComeBackFrom l (all_in t)
   each_back t each = come_back l (all_in t) each.back
 
   ends_with : (s : Status) → (e : EndsEarly l.first l.read l.old l.new l.bay l.before l.now s) → EndsWithStatus l s e.upto.story.lines e.upto.held e.upto.story.answers
@@ -92,7 +92,7 @@ module _ (l : RunLogs) where
       }
 
   early : (s : Status) → (e : EndsEarly l.first l.read l.old l.new l.bay l.before l.now s) → ReadsFailed l.first l.read s
-      → ((t : Told) → EachBack l.before l.now t → CameBackBy l s e.upto.story.lines e.upto.held t) → WentOutBy l s e.upto.story.lines e.upto.held e.upto.story.answers → (a : Account l) × IsAccountOf l s a
+      → ((t : DevicesTold) → EachBack l.before l.now t → CameBackBy l s e.upto.story.lines e.upto.held t) → WentOutBy l s e.upto.story.lines e.upto.held e.upto.story.answers → (a : Account l) × IsAccountOf l s a
   early s e failed alone sent = account_of l s e.upto.held e.upto.given _ _ _ _ each_back e.upto.story alone sent (ended_early l s e failed)
 
   pub runs_are_told : (s : Status) → IsConcluded l s → ReadsFailed l.first l.read s → s ≢ status.Usage → (a : Account l) × IsAccountOf l s a

@@ -7,7 +7,7 @@ use Rattle.logged_disk.specs.Device.{DeviceState as Device}
 use Rattle.cache_model.proofs.Found.{no_truth}
 use Rattle.script_run.specs.Run.{Harm, loosened, no_harm}
 use Rattle.script_run.specs.Ledger.{AreReached, ComeBack, GoesOnFrom, IsReached}
-use Rattle.run_promise.specs.Story.{Told, all_in, own_loosened}
+use Rattle.run_promise.specs.Story.{DevicesTold, all_in, own_loosened}
 use Rattle.run_promise.specs.Top.{EachBackOrMore}
 use Rattle.headline.specs.Account.{AreBack, ComeBackFrom, RunLogs}
 
@@ -99,7 +99,7 @@ come_back l xs h = record { devices = h.devices; returned = h.returned; told = b
 pub come_within : (l : RunLogs) (xs ys : List Harm) → AreWithin xs ys → ComeBackFrom l ys → ComeBackFrom l xs
 come_within l xs ys w h = record { devices = h.devices; returned = h.returned; told = back_within xs ys h.devices w h.told }
 
-pub more_back : (l : RunLogs) (held : List ℕ) (given : ℕ) (t : Told) → EachBackOrMore l.before l.now held given t → ComeBackFrom l (all_in t)
+pub more_back : (l : RunLogs) (held : List ℕ) (given : ℕ) (t : DevicesTold) → EachBackOrMore l.before l.now held given t → ComeBackFrom l (all_in t)
 more_back l held given t (inl each) = come_back l (all_in t) each.back
 more_back l held given t (inr (inl wants)) =
     come_within l (all_in t) (all_in (own_loosened t)) (within_behind t.ended t.own (map loosened t.own) (all_within_loosened t.own))

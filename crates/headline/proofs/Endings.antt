@@ -17,7 +17,7 @@ use Rattle.run_promise.specs.Outline.{Outline, all_told, blank_outline, told_of}
 use Rattle.run_promise.specs.Lines.{AreAnswered, IsReadAs, outline_of, outline_read}
 use Rattle.run_promise.specs.declared.status.Status.{Status}
 use Rattle.run_promise.specs.declared.status.Status.TheVariants as status
-use Rattle.run_promise.specs.Story.{Because, CutsLast, HoldsNoLine, IsBadLine, LacksCache, MeetsBayFault, Story, Told}
+use Rattle.run_promise.specs.Story.{Because, CutsLast, HoldsNoLine, IsBadLine, LacksCache, MeetsBayFault, Story, DevicesTold}
 use Rattle.run_promise.specs.Top.{EndsEarly, ReadsFailed, status_of}
 use Rattle.headline.specs.Account.{IsConcluded, RunLogs, begun_in, sessions_begun}
 use Rattle.headline.specs.Endings.{AreTakeable, EndsFirst, EndsHere, GoesOnWith, HasNoSession, IsFine, LastWriteFailed, MayBeTaken}
@@ -65,7 +65,7 @@ module _ (l : RunLogs) (lines : List (List ℕ)) (held : List ℕ) (given : ℕ)
       }
 
 module _ (l : RunLogs) where
-  ends_first : (held : List ℕ) (given : ℕ) (Text : (before all : List ℕ) → Type 0) (Devices : Told → Type 0) (Behind : Outline → Type 0) (Known : Run → Type 0) (s : Status)
+  ends_first : (held : List ℕ) (given : ℕ) (Text : (before all : List ℕ) → Type 0) (Devices : DevicesTold → Type 0) (Behind : Outline → Type 0) (Known : Run → Type 0) (s : Status)
       → (story : Story l.first l.read held given Text Devices Behind Known) → EndsHere l story.lines held s → EndsFirst l s
   ends_first held given Text Devices Behind Known s story ends = record {
     reads = story.reads;

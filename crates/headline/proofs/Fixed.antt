@@ -1,7 +1,8 @@
 -- What the source gave fixes what the sink took, or both runs displaced a piece.
-use Rattle.std.proofs.Common.{◌≡◌, ℕ, List, [], ◌∷◌, ◌++◌, ◌⊎◌, inl, inr, false, refl, sym, subst, arith}
+use Rattle.std.proofs.Common.{◌≡◌, ℕ, List, [], ◌∷◌, ◌++◌, ◌⊎◌, inl, inr, true, false, refl, sym, ◌∙◌, subst, arith}
 use Rattle.std.specs.Prelude.{All}
 use Rattle.std.specs.List.{AllByRecursion}
+use Rattle.std.proofs.lemmas.List.{append_cancel_left}
 use Rattle.std.proofs.lemmas.List.Elements.{All-cons, All-nil}
 use Rattle.logged_disk.specs.Device.{DeviceState as Device, TellsAll}
 use Rattle.cache_model.specs.declared.record.Rec.TheVariants as rec
@@ -19,7 +20,8 @@ use Rattle.script_laws.specs.TurnTroubles.{FaultlessTurns, TellNoFault, tells_fa
 use Rattle.script_laws.proofs.Among.{among_right}
 use Rattle.run_promise.specs.declared.status.Status.TheVariants as status
 use Rattle.headline.specs.Account.{AllTell, IsConcluded, RunLogs}
-use Rattle.headline.specs.Fixed.{AreSteady, BothDisplaced, GiveSame, HasDisplaced, HasHistory, IsSteady, TakeSame}
+use Rattle.run_promise.specs.Top.{AreSteadyBySwitch, ComeBackSteady, IsSteady}
+use Rattle.headline.specs.Fixed.{AreSteady, AreSwitched, BothDisplaced, GiveSame, HasDisplaced, HasHistory, SwitchedRunsAreSteady, TakeSame}
 use Rattle.headline.specs.Parting.{ComesToLine, MeetsRefusal, RunsAgreeBeforeTrouble, each_displaces, one_refuses, other_refuses}
 
 -- ---- steady devices
@@ -30,6 +32,20 @@ all_tell (d ∷ ds) s = (s.0.tells, all_tell ds s.1)
 
 steady_tell : (l : RunLogs) → AreSteady l → AllTell l
 steady_tell l steady = λ ds returned. all_tell ds (steady ds returned)
+
+-- of devices that have a switch it is the clause that says so
+switched_are_steady : (ds : List Device) → AreSteadyBySwitch ds → AllByRecursion (λ (d : Device). d.has_switch ≡ true) ds → AllByRecursion IsSteady ds
+switched_are_steady [] steady has = tt
+switched_are_steady (d ∷ ds) steady has = (steady.0 has.0, switched_are_steady ds steady.1 has.1)
+
+module _ (l : RunLogs) (back : ComeBackSteady l.before.returned l.now.returned) (has : AreSwitched l) where
+  all_steady : AreSteady l
+  all_steady ds returned =
+      let same : back.devices ≡ ds = append_cancel_left l.before.returned back.devices ds (sym back.returned ∙ returned) in
+      subst (AllByRecursion IsSteady) same (switched_are_steady back.devices back.steady (has back.devices back.returned))
+
+pub switched_runs_are_steady : SwitchedRunsAreSteady
+switched_runs_are_steady l back has = (all_steady l back has, steady_tell l (all_steady l back has))
 
 none_faulted : (hs : List Harm) (ds : List Device) → AreReached hs ds → AllByRecursion IsSteady ds
     → All (λ (harm : Harm). harm.fault ≡ 0) hs

@@ -17,7 +17,7 @@ use Rattle.script_run.specs.Behind.{harm_in, harm_of, harms_of}
 use Rattle.script_run.specs.Takes.{run_after}
 use Rattle.run_promise.specs.Outline.{Outline, all_told, begun, begun_by, count_in, doubted, outline_in, raised, told_of, with_calls_of, with_told_count}
 use Rattle.run_promise.specs.Lines.{AreAnswered, IsReadAs, outline_of, outline_read}
-use Rattle.run_promise.specs.Story.{ShownAlong, Told, all_in}
+use Rattle.run_promise.specs.Story.{ShownAlong, DevicesTold, all_in}
 use Rattle.headline.specs.Account.{ComeBackFrom, RunLogs, begun_in, doubted_harms, sessions_begun}
 use Rattle.headline.proofs.Honest.{doubt}
 use Rattle.headline.proofs.Devices.{AreWithin, IsWithin, all_within_self, all_within_trans, come_within, goes_on_none, within_behind, within_front}
@@ -78,7 +78,7 @@ doubted_within run =
 
 -- what the records told before a pair was shown, and the calls of the turn that shows it, are told in the end; of its device
 -- what is told is doubted
-pub shown_made : (l : RunLogs) (lines : List (List ℕ)) (answers : List (Option StepAnswer)) (Devices : Told → Type 0) (Behind : Outline → Type 0) → ((t : Told) → Devices t → ComeBackFrom l (all_in t))
+pub shown_made : (l : RunLogs) (lines : List (List ℕ)) (answers : List (Option StepAnswer)) (Devices : DevicesTold → Type 0) (Behind : Outline → Type 0) → ((t : DevicesTold) → Devices t → ComeBackFrom l (all_in t))
     → (p : ShownAlong lines answers Devices Behind)
     → ComeBackFrom l (doubted_harms (with_calls_of (run_after fresh p.before p.earlier) p.turn))
 shown_made l lines answers Devices Behind back p =

@@ -16,7 +16,7 @@ use Rattle.cache_model.specs.State.{PutRow, put_of, State, Row, ReaderRow, state
 use Rattle.cache_model.specs.Permit.{Permit, Intent, Flush, Sync, SyncBegin, SyncStep, Drain, CleanSync, Write, Fragment, Overflow, Weigh, Finish, Commit, GiveUp, Remove, Look, ReadOn, ReadAll, StopReading, End, Stays, Done, Fails, Work, Reason, Lost, ManyFragments, TooLarge, is_cleanup, work_after}
 use Rattle.cache_model.specs.Room.{MayDisplace, displaced_record}
 use Rattle.cache_model.specs.Due.{due_pieces}
-use Rattle.cache_model.specs.Outcomes.{Copied, Copy, NoRoom, Outcome, Refused, Spoiled, copies_of, flush_records, front_of, moved_record, moved_records, records_of, stopped_front_of, stopped_records, stopped_records_of}
+use Rattle.cache_model.specs.Outcomes.{Copied, Copy, NoRoom, Outcome, ReadRefused, Spoiled, copies_of, flush_records, front_of, moved_record, moved_records, records_of, stopped_front_of, stopped_records, stopped_records_of}
 use Rattle.cache_model.specs.Syncing.{AtOnce, InParts, MaySyncBehind, Syncing, WhereDue, at_first, behind_records, first_records}
 use Rattle.cache_model.specs.Given
 use Rattle.cache_model.specs.Legal
@@ -82,7 +82,7 @@ outcome_left : (row : Row) (o : Outcome) → AllLeave (records_of row o)
 outcome_left row NoRoom = (tt, tt)
 outcome_left row (Copied bytes) = tt
 outcome_left row (Spoiled found) = (tt, tt)
-outcome_left row (Refused count) = (tt, (tt, tt))
+outcome_left row (ReadRefused count) = (tt, (tt, tt))
 
 front_left : (rows : List Row) (outcomes : List Outcome) → AllLeave (front_of rows outcomes)
 front_left [] outcomes = tt
@@ -102,7 +102,7 @@ stopped_outcome_left : (row : Row) (o : Outcome) → AllLeave (stopped_records_o
 stopped_outcome_left row NoRoom = tt
 stopped_outcome_left row (Copied bytes) = tt
 stopped_outcome_left row (Spoiled found) = (tt, tt)
-stopped_outcome_left row (Refused count) = (tt, tt)
+stopped_outcome_left row (ReadRefused count) = (tt, tt)
 
 stopped_front_left : (rows : List Row) (outcomes : List Outcome) → AllLeave (stopped_front_of rows outcomes)
 stopped_front_left [] outcomes = tt

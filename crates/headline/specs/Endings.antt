@@ -23,7 +23,7 @@ use Rattle.run_promise.specs.Needs.{NeedsSession}
 use Rattle.run_promise.specs.declared.status.Status.{Status}
 use Rattle.run_promise.specs.declared.status.Status.TheVariants as status
 use Rattle.run_promise.specs.Story.{Because, CutsLast, HoldsNoLine, IsBadLine, IsNextLine, MeetsBayFault, SendsAll, SendsBefore}
-use Rattle.run_promise.specs.Story.{Taken, Told, told_by, told_by_records}
+use Rattle.run_promise.specs.Story.{Taken, DevicesTold, told_by, told_by_records}
 use Rattle.run_promise.specs.Top.{EachBack, EachBackOrMore, ReadsFailed, WentOut, status_of}
 use Rattle.headline.specs.Account.{Account, IsConcluded, RunLogs, begun_in, sessions_begun}
 
@@ -125,7 +125,7 @@ WentOutBy l s lines held answers = EndsWithStatus l s lines held answers
 
 -- the devices that were attached came back, as was told of them, and no other; where memory was wanting, the line behind
 -- these may have made more calls, or given back one device more
-abbrev pub CameBackBy : (l : RunLogs) → Status → (lines : List (List ℕ)) → (held : List ℕ) → Told → Type 0
+abbrev pub CameBackBy : (l : RunLogs) → Status → (lines : List (List ℕ)) → (held : List ℕ) → DevicesTold → Type 0
 CameBackBy l status.OutOfMemory lines held t = EachBackOrMore l.before l.now held (length lines) t
 CameBackBy l s lines held t = EachBack l.before l.now t
 

@@ -1,9 +1,9 @@
 -- Determinism: what the source gave fixes what the sink took, where not both runs displaced a piece.
-use Rattle.std.specs.Prelude.{◌≡◌, ℕ, List, [], ◌++◌, ◌⊎◌}
+use Rattle.std.specs.Prelude.{◌≡◌, ℕ, true, List, [], ◌++◌, ◌⊎◌}
 use Rattle.std.specs.List.{AllByRecursion}
 use Rattle.device_log.specs.Streams.{SourceRead, taken_by}
 use Rattle.edge_io.specs.Text.{text_read}
-use Rattle.logged_disk.specs.Device.{DeviceState as Device, TellsAll}
+use Rattle.logged_disk.specs.Device.{DeviceState as Device}
 use Rattle.cache_model.specs.Permit.{IsAmong}
 use Rattle.script_run.specs.Run.{fresh}
 use Rattle.script_run.specs.Turn.{Turn}
@@ -11,17 +11,21 @@ use Rattle.script_run.specs.Takes.{IsRun, output_of, run_after}
 use Rattle.script_laws.specs.Parting.{DisplacesPiece}
 use Rattle.run_promise.specs.declared.status.Status.TheVariants as status
 use Rattle.run_promise.specs.Story.{Taken, told_by_records}
-use Rattle.run_promise.specs.Top.{EachBack}
-use Rattle.headline.specs.Account.{IsConcluded, RunLogs}
+use Rattle.run_promise.specs.Top.{ComeBackSteady, EachBack, IsSteady}
+use Rattle.headline.specs.Account.{AllTell, IsConcluded, RunLogs}
 
--- a device that told its content to the end, and refused nothing
-pub record IsSteady (device : Device) : Type 0 where
-  pub tells : TellsAll device
-  pub unfaulted : device.faults ≡ 0
-
--- so is each that came back since
+-- each device that came back since told its content to the end, and refused nothing
 abbrev pub AreSteady : RunLogs → Type 0
 AreSteady l = (devices : List Device) → l.now.returned ≡ l.before.returned ++ devices → AllByRecursion IsSteady devices
+
+-- each device that came back since has a switch, as one in memory does
+abbrev pub AreSwitched : RunLogs → Type 0
+AreSwitched l = (devices : List Device) → l.now.returned ≡ l.before.returned ++ devices
+    → AllByRecursion (λ (device : Device). device.has_switch ≡ true) devices
+
+-- what the clause `steady` of the top call says gives the premises of the laws on honest devices, where each has a switch
+abbrev pub SwitchedRunsAreSteady : Type 0
+SwitchedRunsAreSteady = (l : RunLogs) → ComeBackSteady l.before.returned l.now.returned → AreSwitched l → AreSteady l × AllTell l
 
 -- the sources of two runs gave the same text
 pub record GiveSame (l m : RunLogs) : Type 0 where

@@ -10,7 +10,7 @@ ghost use Rattle.headline.specs.Verdicts.{AbsencesAreCaused, BreaksAreCaused, Ge
 ghost use Rattle.headline.specs.Standing.{AbortedWasLast, FoundIsListed, NoMatchFitsNone, PassedWasPlaced, RemovedWasRecorded};
 ghost use Rattle.headline.specs.Troubles.{CountsAreReached, NoFalseDamage, NoFalseFaults};
 ghost use Rattle.headline.specs.Endings.{DoneWhereFine, EndsAreCaused, RunsAreTold};
-ghost use Rattle.headline.specs.Fixed.{SourceFixesSink};
+ghost use Rattle.headline.specs.Fixed.{SourceFixesSink, SwitchedRunsAreSteady};
 ghost use Rattle.headline.specs.Parting.{HistoriesAgreeBeforeTrouble, RunsAgreeBeforeTrouble};
 ghost use Rattle.headline.specs.Answered.{CompletedWasAnswered, GivingUpWasAnswered, RemovalWasAnswered};
 
@@ -37,6 +37,12 @@ pub fn runs_are_told()
 /// two documents of one SHA-256.
 pub fn honest_runs_are_whole()
     ensures { HonestRunsAreWhole }
+{}
+
+/// Devices that have a switch, as those in memory, told their content and refused nothing: that they did the top call
+/// says of each run.
+pub fn switched_runs_are_steady()
+    ensures { SwitchedRunsAreSteady }
 {}
 
 /// Where the legal history of an account stops before a line, the device of that line's session did not tell its content

@@ -12,5 +12,5 @@ pub use laws::{
     hit_is_whole, honest_runs_are_whole, losses_are_caused, lost_was_displaced, misses_are_caused,
     never_put_was_none, no_false_damage, no_false_faults, no_match_fits_none, pairs_are_doubted,
     passed_was_placed, removal_was_answered, removed_was_recorded, runs_agree_before_trouble,
-    runs_are_told, source_fixes_sink, vector_was_lost,
+    runs_are_told, source_fixes_sink, switched_runs_are_steady, vector_was_lost,
 };

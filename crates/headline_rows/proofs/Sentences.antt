@@ -19,7 +19,8 @@ use Rattle.cache_model.specs.declared.record.Rec.TheVariants as rec
 use Rattle.headline.specs.Account.{Account, AllTell, HistoryTells, HonestRunsAreWhole}
 use Rattle.headline.specs.Answered.{CompletedWasAnswered, RecordsBehind, RemovalWasAnswered}
 use Rattle.headline.specs.Endings.{DoneWhereFine, IsFine}
-use Rattle.headline.specs.Fixed.{AreSteady, IsSteady, SourceFixesSink}
+use Rattle.run_promise.specs.Top.{IsSteady}
+use Rattle.headline.specs.Fixed.{AreSteady, SourceFixesSink}
 use Rattle.headline.specs.Misses
 use Rattle.headline.specs.Misses.{NeverPutWasNone}
 use Rattle.headline.specs.Readers.{EndIsRead}

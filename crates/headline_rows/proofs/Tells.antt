@@ -20,7 +20,7 @@ use Rattle.script_run.specs.Behind.{harms_of}
 use Rattle.script_run.specs.Takes.{run_after}
 use Rattle.run_promise.specs.Outline.{Outline, all_told, blank_outline}
 use Rattle.run_promise.specs.Lines.{AreAnswered, outline_of, texts_of}
-use Rattle.run_promise.specs.Story.{Taken, Took, told_by, told_by_records}
+use Rattle.run_promise.specs.Story.{Taken, SinkTook, told_by, told_by_records}
 use Rattle.run_promise.specs.Top.{EachBack}
 use Rattle.headline.specs.Account.{ComeBackFrom}
 use Rattle.headline.specs.Endings.{AreTakeable}
@@ -159,7 +159,7 @@ back_by_records = subst (λ (run : Run). EachBack script_logs.before script_logs
 
 -- ---- what was written
 
-went_out : Took [] script_writes (texts_of script_answers)
+went_out : SinkTook [] script_writes (texts_of script_answers)
 unfolding cause_line formatted_line got_line hit_line number_line piece_line put_line shown encode_with digits taken_by refused_writes
 went_out = record { taken = refl; unfailed = refl }
 

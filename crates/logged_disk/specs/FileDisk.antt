@@ -5,7 +5,7 @@ use Rattle.device_log.specs.Seen.{ReadsAreSeen}
 use Rattle.device_log.specs.Faults.{IsLog, faults_of, obeys_switch}
 use Rattle.device_log.specs.DeviceLog.{calls_of}
 use Rattle.logged_disk.specs.Device.{DeviceState, IsTrusted}
-use Rattle.logged_disk.specs.FileTrust.{file_trust, trusted_reads}
+use Rattle.logged_disk.specs.FileTrust.{file_trust, seen_is_trusted, trusted_reads}
 use Rattle.logged_disk.specs.Switchless.{asks_none}
 use Rattle.logged_disk.specs.declared.file_disk.FileDisk.{FileDisk}
 
@@ -51,3 +51,12 @@ pub file_reads : {S : Type 0} (first : ℕ → Image) (disk : FileDisk S)
     → IsTrusted (file_state first disk)
     → ReadsAreSeen (file_state first disk).first (file_state first disk).past
 file_reads first disk trusted = trusted_reads (first disk.number) (calls_of disk.log) trusted
+
+pub file_tells : {S : Type 0} (first : ℕ → Image) (disk : FileDisk S)
+    → ReadsAreSeen (file_state first disk).first (file_state first disk).past
+    → IsTrusted (file_state first disk)
+file_tells first disk seen = seen_is_trusted (first disk.number) (calls_of disk.log) seen
+
+pub file_switched : {S : Type 0} (first : ℕ → Image) (disk : FileDisk S)
+    → (file_state first disk).has_switch ≡ true → IsTrusted (file_state first disk)
+file_switched first disk has = asks_none (IsTrusted (file_state first disk)) has

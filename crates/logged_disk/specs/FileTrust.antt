@@ -1,8 +1,9 @@
 -- How far a file can be trusted: as long as each read gave what the log says.
-use Rattle.std.proofs.Common.{◌≡◌, ℕ, ◌/◌, ◌≤◌, Bool, true, false, ◌&&◌, if◌then◌else◌, List, [], ◌∷◌, length, refl, sym, arith}
+use Rattle.std.proofs.Common.{◌≡◌, ℕ, ◌/◌, ◌≤◌, Bool, true, false, ◌&&◌, if◌then◌else◌, List, [], ◌∷◌, length, refl, sym, subst, ap, ◌∙◌, arith}
 use Rattle.std.specs.Str.{bytes_eq}
 use Rattle.std.specs.Cmp.Lexicographic.{same_text}
 use Rattle.std.proofs.lemmas.Bool.{and_parts}
+use Rattle.std.proofs.lemmas.Slice.Eq.{bytes_eq-Decides}
 use Rattle.device_log.specs.Image.{Image, span}
 use Rattle.device_log.specs.Calls.{Call, Read, Wrote, Synced, RefusedCall, Told, PowerCut, Flipped}
 use Rattle.device_log.specs.Seen.{seen_of, ReadsAreSeen}
@@ -47,3 +48,23 @@ pub trusted_reads : (first : Image) (past : List Call) → 1 ≤ file_trust firs
     → ReadsAreSeen first past
 unfolding file_trust
 trusted_reads first past trusted = reads_agree first past (some_trust (agrees first past) trusted)
+
+-- what the test is told by
+seen_agree : (first : Image) (past : List Call) → ReadsAreSeen first past → agrees first past ≡ true
+unfolding agrees ReadsAreSeen
+seen_agree first [] seen = refl
+seen_agree first (Read at bytes ∷ older) seen =
+    let same = (bytes_eq-Decides bytes (span (seen_of first older) at (length bytes / 512))).1 seen.0 in
+    ap (λ b. b && agrees first older) same ∙ seen_agree first older seen.1
+seen_agree first (Wrote at bytes ∷ older) seen = seen_agree first older seen
+seen_agree first (Synced ∷ older) seen = seen_agree first older seen
+seen_agree first (RefusedCall what count ∷ older) seen = seen_agree first older seen
+seen_agree first (Told act ∷ older) seen = seen_agree first older seen
+seen_agree first (PowerCut choice left ∷ older) seen = seen_agree first older seen
+seen_agree first (Flipped at byte ∷ older) seen = seen_agree first older seen
+
+-- a file that gave by each read what was seen is trusted
+pub seen_is_trusted : (first : Image) (past : List Call) → ReadsAreSeen first past → 1 ≤ file_trust first past
+unfolding file_trust
+seen_is_trusted first past seen =
+    subst (λ (b : Bool). 1 ≤ (if b then 1 else 0)) (sym (seen_agree first past seen)) (omega arith)

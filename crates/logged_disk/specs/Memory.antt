@@ -1,5 +1,5 @@
 -- What a memory device keeps, and what its log says.
-use Rattle.std.specs.Prelude.{◌≡◌, ℕ, true, if◌then◌else◌, List}
+use Rattle.std.proofs.Common.{◌≡◌, ℕ, ◌≤◌, Bool, true, false, if◌then◌else◌, List, arith}
 use Rattle.device_log.specs.Image.{blank}
 use Rattle.device_log.specs.Calls.{Call}
 use Rattle.device_log.specs.Seen.{seen_of, kept_of, ReadsAreSeen}
@@ -25,3 +25,12 @@ pub record IsMemory (written : Written) (pending : Pending) (switch : Switch) (f
 -- the highest trust, until a bit is flipped
 unfoldable pub memory_trust : List Call → ℕ
 memory_trust past = if has_flip past then 1 else 2
+
+some_of : (flipped : Bool) → 1 ≤ (if flipped then 1 else 2)
+some_of true = omega arith
+some_of false = omega arith
+
+-- so a read always gives what is seen
+pub memory_is_trusted : (past : List Call) → 1 ≤ memory_trust past
+unfolding memory_trust
+memory_is_trusted past = some_of (has_flip past)

@@ -3,8 +3,10 @@ use Rattle.std.specs.Prelude.{◌≡◌, true}
 use Rattle.device_log.specs.Image.{IsImage}
 use Rattle.device_log.specs.Seen.{ReadsAreSeen}
 use Rattle.device_log.specs.Faults.{IsLog, faults_of, obeys_switch}
+use Rattle.device_log.specs.DeviceLog.{calls_of}
 use Rattle.device_log.proofs.Puts.{blank_is_image}
 use Rattle.logged_disk.specs.Device.{IsTrusted}
+use Rattle.logged_disk.specs.Memory.{memory_is_trusted}
 use Rattle.logged_disk.specs.MemDisk.{mem_state}
 use Rattle.logged_disk.specs.declared.mem_disk.MemDisk.{MemDisk}
 
@@ -25,3 +27,12 @@ memory_obeys disk has = disk.is_memory.obeys
 pub memory_reads : (disk : MemDisk) → IsTrusted (mem_state disk)
     → ReadsAreSeen (mem_state disk).first (mem_state disk).past
 memory_reads disk trusted = disk.is_memory.reads
+
+-- a memory device is always trusted
+pub memory_tells : (disk : MemDisk) → ReadsAreSeen (mem_state disk).first (mem_state disk).past
+    → IsTrusted (mem_state disk)
+memory_tells disk seen = memory_is_trusted (calls_of disk.log)
+
+pub memory_switched : (disk : MemDisk) → (mem_state disk).has_switch ≡ true
+    → IsTrusted (mem_state disk)
+memory_switched disk has = memory_is_trusted (calls_of disk.log)

@@ -64,6 +64,14 @@ pub trait Disk {
 
     ghost reads: { (disk : Self)
         → IsTrusted (state disk) → ReadsAreSeen (state disk).first (state disk).past };
+
+    /// Whether a device is trusted is decided by its log.
+    ghost tells: { (disk : Self)
+        → ReadsAreSeen (state disk).first (state disk).past → IsTrusted (state disk) };
+
+    /// What has a switch is no part of the host, and gives what it was told.
+    ghost switched: { (disk : Self)
+        → (state disk).has_switch ≡ true → IsTrusted (state disk) };
 }
 
 /// A device that may have a switch, by which its power is cut and its calls are made to fail.

@@ -80,7 +80,7 @@ fn counted(answer: io::Result<()>, faults: &mut u64) -> Result<(), Failed>
 
 #[tactic(auto, using(crate::proofs::FileLemmas::file_trust_falls), unfolding(device_log::specs::Faults::faults_of))]
 impl<S: FileStart> Disk for FileDisk<S> {
-    ghost use Rattle.logged_disk.specs.FileDisk.{file_state, file_is_log, file_counted, file_obeys, file_reads};
+    ghost use Rattle.logged_disk.specs.FileDisk.{file_state, file_is_log, file_counted, file_obeys, file_reads, file_tells, file_switched};
 
     ghost state = { λ disk. file_state S.first disk };
 
@@ -156,4 +156,8 @@ impl<S: FileStart> Disk for FileDisk<S> {
     ghost obeys = { λ disk. file_obeys S.first disk };
 
     ghost reads = { λ disk. file_reads S.first disk };
+
+    ghost tells = { λ disk. file_tells S.first disk };
+
+    ghost switched = { λ disk. file_switched S.first disk };
 }

@@ -88,7 +88,7 @@ fn fails(switch: &mut Switch, faults: &mut u64) -> bool
 #[tactic(auto, using(crate::proofs::MemoryLemmas::trust_falls))]
 impl Disk for MemDisk {
     ghost use Rattle.logged_disk.specs.MemDisk.{mem_state};
-    ghost use Rattle.logged_disk.specs.MemoryFacts.{memory_is_log, memory_was_image, memory_counted, memory_obeys, memory_reads};
+    ghost use Rattle.logged_disk.specs.MemoryFacts.{memory_is_log, memory_was_image, memory_counted, memory_obeys, memory_reads, memory_tells, memory_switched};
 
     ghost state = { mem_state };
 
@@ -183,6 +183,10 @@ impl Disk for MemDisk {
     ghost obeys = { memory_obeys };
 
     ghost reads = { memory_reads };
+
+    ghost tells = { memory_tells };
+
+    ghost switched = { memory_switched };
 }
 
 #[tactic(auto, using(crate::proofs::MemoryLemmas::trust_falls))]

@@ -8,7 +8,7 @@ use Rattle.cache_model.specs.State.{State, Row, after_all}
 use Rattle.cache_model.specs.Permit.{Permit, IsAmong}
 use Rattle.cache_model.specs.Given.{CountsRead, CountsWrite, IsDamaged, IsGiven, IsWritten, MayCount}
 use Rattle.tape_base.specs.declared.digests.Digest.{Digest}
-use Rattle.cache_model.specs.Outcomes.{AreOutcomes, Copied, IsOutcome, NoRoom, Outcome, Refused, Spoiled, left_behind, records_of, stopped_records_of}
+use Rattle.cache_model.specs.Outcomes.{AreOutcomes, Copied, IsOutcome, NoRoom, Outcome, ReadRefused, Spoiled, left_behind, records_of, stopped_records_of}
 
 -- ---- states alike
 
@@ -67,14 +67,14 @@ pub outcome_alike : (p : Permit) (s t : State) (left : ℕ) (row : Row) (o : Out
 outcome_alike p s t left row NoRoom a h = h
 outcome_alike p s t left row (Copied bytes) a h = (h.0, given_alike p s t row bytes a.0 h.1, h.2)
 outcome_alike p s t left row (Spoiled found) a h = (h.0, damaged_alike p s t row found a.0 h.1)
-outcome_alike p s t left row (Refused count) a h = (h.0, written_alike s t row a.0.1 h.1, read_alike p s t row count a h.2)
+outcome_alike p s t left row (ReadRefused count) a h = (h.0, written_alike s t row a.0.1 h.1, read_alike p s t row count a h.2)
 
 -- the records of a piece leave two states alike
 alike_records : (s t : State) (row : Row) (o : Outcome) → IsAlike s t → IsAlike (after_all s (records_of row o)) (after_all t (records_of row o))
 alike_records s t row NoRoom a = a
 alike_records s t row (Copied bytes) a = a
 alike_records s t row (Spoiled found) a = a
-alike_records s t row (Refused count) a = (a.0, a.1, refl)
+alike_records s t row (ReadRefused count) a = (a.0, a.1, refl)
 
 -- so one behind the other
 pub outcomes_alike : (p : Permit) (s t : State) (left : ℕ) (rows : List Row) (outcomes : List Outcome) → IsAlike s t → AreOutcomes p s left rows outcomes → AreOutcomes p t left rows outcomes
@@ -91,4 +91,4 @@ pub alike_stopped : (s t : State) (row : Row) (o : Outcome) → IsAlike s t → 
 alike_stopped s t row NoRoom a = a
 alike_stopped s t row (Copied bytes) a = a
 alike_stopped s t row (Spoiled found) a = a
-alike_stopped s t row (Refused count) a = (a.0, a.1, refl)
+alike_stopped s t row (ReadRefused count) a = (a.0, a.1, refl)

@@ -26,7 +26,7 @@ use Rattle.cache_model.specs.Legal.{Does, Advances, MayGrow, nothing, more, IsSt
 use Rattle.model_laws.specs.FlushLaws.{IsOfDevice}
 use Rattle.model_laws.specs.StepLaws.{IsBacked, IsNumbered, IsRisen}
 use Rattle.cache_model.specs.Due.{due_pieces}
-use Rattle.cache_model.specs.Outcomes.{Copied, Copy, NoRoom, Outcome, Refused, Spoiled, copies_of, flush_tail, front_of, moved_record, moved_records, records_of, stopped_front_of, stopped_records_of}
+use Rattle.cache_model.specs.Outcomes.{Copied, Copy, NoRoom, Outcome, ReadRefused, Spoiled, copies_of, flush_tail, front_of, moved_record, moved_records, records_of, stopped_front_of, stopped_records_of}
 use Rattle.cache_model.specs.Syncing
 use Rattle.cache_model.specs.Syncing.{CannotEnd, DoesCleanSync, DoesSync, DoesSyncStep, MayStopSync, MaySyncBehind, StopsBehind, Syncing, Unmarks, at_first, begun_record, behind_records, ended_records, first_records, sync_records}
 use Rattle.cache_model.proofs.Steps.{all_append, along_append}
@@ -87,7 +87,7 @@ one_numbered : (s : State) (row : Row) (o : Outcome) → AllAlong IsNumbered s (
 one_numbered s row NoRoom = (tt, tt)
 one_numbered s row (Copied bytes) = tt
 one_numbered s row (Spoiled found) = (tt, tt)
-one_numbered s row (Refused count) = (tt, (tt, tt))
+one_numbered s row (ReadRefused count) = (tt, (tt, tt))
 
 front_numbered : (s : State) (rows : List Row) (outcomes : List Outcome) → AllAlong IsNumbered s (front_of rows outcomes)
 front_numbered s [] outcomes = tt
@@ -99,7 +99,7 @@ one_stopped_numbered : (s : State) (row : Row) (o : Outcome) → AllAlong IsNumb
 one_stopped_numbered s row NoRoom = tt
 one_stopped_numbered s row (Copied bytes) = tt
 one_stopped_numbered s row (Spoiled found) = (tt, tt)
-one_stopped_numbered s row (Refused count) = (tt, tt)
+one_stopped_numbered s row (ReadRefused count) = (tt, tt)
 
 stopped_numbered : (s : State) (rows : List Row) (outcomes : List Outcome) → AllAlong IsNumbered s (stopped_front_of rows outcomes)
 stopped_numbered s [] outcomes = tt

@@ -9,7 +9,7 @@ use Rattle.cache_model.proofs.Steps.{along_append}
 use Rattle.cache_model.specs.Given.{MayCount}
 use Rattle.model_laws.specs.FlushLaws.{IsOfDevice}
 use Rattle.model_laws.specs.StepLaws.{IsRisen}
-use Rattle.cache_model.specs.Outcomes.{AreOutcomes, Copied, IsOutcome, NoRoom, Outcome, Refused, Spoiled, front_of, left_behind, records_of, stopped_front_of, stopped_records, stopped_records_of}
+use Rattle.cache_model.specs.Outcomes.{AreOutcomes, Copied, IsOutcome, NoRoom, Outcome, ReadRefused, Spoiled, front_of, left_behind, records_of, stopped_front_of, stopped_records, stopped_records_of}
 use Rattle.model_laws.proofs.Alike.{IsAlike, alike_self, alike_stopped, outcome_alike}
 
 pub risen : (p : Permit) (s : State) (asked : Asked) (count : ℕ) → MayCount p s asked count → IsRisen p s (rec.Fault count)
@@ -19,7 +19,7 @@ one_risen : (p : Permit) (s : State) (left : ℕ) (row : Row) (o : Outcome) → 
 one_risen p s left row NoRoom h = (tt, tt)
 one_risen p s left row (Copied bytes) h = tt
 one_risen p s left row (Spoiled found) h = (tt, tt)
-one_risen p s left row (Refused count) h = (risen p s _ count h.2, (tt, tt))
+one_risen p s left row (ReadRefused count) h = (risen p s _ count h.2, (tt, tt))
 
 one_backed : (p : Permit) (s : State) (left : ℕ) (row : Row) (o : Outcome) → IsOutcome p s left row o → AllAlong (IsOfDevice p) s (records_of row o)
 one_backed p s left row NoRoom h = (tt, tt)
@@ -27,7 +27,7 @@ one_backed p s left row (Copied bytes) h = tt
 one_backed p s left row (Spoiled found) h =
     let d = h.1 in
     ((record { bytes = d.bytes; given = d.given.given; digest = d.digest }, d.differ), tt)
-one_backed p s left row (Refused count) h = ((_, h.2.refused), (tt, tt))
+one_backed p s left row (ReadRefused count) h = ((_, h.2.refused), (tt, tt))
 
 pub front_is_backed : (p : Permit) (s : State) (left : ℕ) (rows : List Row) (outcomes : List Outcome) → AreOutcomes p s left rows outcomes
     → AllAlong (IsRisen p) s (front_of rows outcomes) × AllAlong (IsOfDevice p) s (front_of rows outcomes)
@@ -46,7 +46,7 @@ one_stopped_risen : (p : Permit) (s : State) (left : ℕ) (row : Row) (o : Outco
 one_stopped_risen p s left row NoRoom h = tt
 one_stopped_risen p s left row (Copied bytes) h = tt
 one_stopped_risen p s left row (Spoiled found) h = (tt, tt)
-one_stopped_risen p s left row (Refused count) h = (risen p s _ count h.2, tt)
+one_stopped_risen p s left row (ReadRefused count) h = (risen p s _ count h.2, tt)
 
 one_stopped_backed : (p : Permit) (s : State) (left : ℕ) (row : Row) (o : Outcome) → IsOutcome p s left row o → AllAlong (IsOfDevice p) s (stopped_records_of row o)
 one_stopped_backed p s left row NoRoom h = tt
@@ -54,7 +54,7 @@ one_stopped_backed p s left row (Copied bytes) h = tt
 one_stopped_backed p s left row (Spoiled found) h =
     let d = h.1 in
     ((record { bytes = d.bytes; given = d.given.given; digest = d.digest }, d.differ), tt)
-one_stopped_backed p s left row (Refused count) h = ((_, h.2.refused), tt)
+one_stopped_backed p s left row (ReadRefused count) h = ((_, h.2.refused), tt)
 
 -- s is behind the records of a whole flush, t behind those of one that stops
 pub stopped_front : (p : Permit) (s t : State) (left : ℕ) (rows : List Row) (outcomes : List Outcome) → IsAlike s t → AreOutcomes p s left rows outcomes

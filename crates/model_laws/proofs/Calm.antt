@@ -28,7 +28,7 @@ use Rattle.cache_model.specs.Given.{Trouble}
 use Rattle.cache_model.specs.Legal
 use Rattle.cache_model.specs.Legal.{AreLiveTo, Does, DoesCommit, DoesFinish, DoesFlush, DoesFragment, DoesGiveUp, DoesLook, DoesOverflow, DoesReadAll, DoesReadOn, DoesRemove, DoesStopReading, DoesWeigh, DoesWrite, IsLookup, IsReading, MakesRoom, MayFlush, MayReadOn, MayStop, ReadTrouble, aborted_record, answer_record, has_hit, is_given, is_writing, most_writers, next_fragment_of, open_writers, size_alone, vector_length, vector_payload}
 use Rattle.cache_model.specs.Due.{due_pieces}
-use Rattle.cache_model.specs.Outcomes.{AreOutcomes, Copied, Copy, NoRoom, Outcome, Refused, Spoiled, began_record, copies_of, flush_records, front_of, moved_record, moved_records, records_of, stopped_front_of}
+use Rattle.cache_model.specs.Outcomes.{AreOutcomes, Copied, Copy, NoRoom, Outcome, ReadRefused, Spoiled, began_record, copies_of, flush_records, front_of, moved_record, moved_records, records_of, stopped_front_of}
 use Rattle.cache_model.proofs.Found.{no_truth, number_of}
 use Rattle.cache_model.proofs.Steps.{all_parts}
 use Rattle.model_laws.specs.Agreeing.{AreLike, HoldTheSame, IsUntroubled, TellTheSame, is_trouble, without_copy_digest, without_digest, without_digests}
@@ -122,7 +122,7 @@ matched p s left [] [] rest calm h = nothing
 matched p s left [] (o ∷ outcomes) rest calm h = absurd h
 matched p s left (row ∷ rows) [] rest calm h = absurd h
 matched p s left (row ∷ rows) (Spoiled found ∷ outcomes) rest calm h = no_truth calm.0
-matched p s left (row ∷ rows) (Refused count ∷ outcomes) rest calm h = no_truth calm.0
+matched p s left (row ∷ rows) (ReadRefused count ∷ outcomes) rest calm h = no_truth calm.0
 matched p s left (row ∷ rows) (NoRoom ∷ outcomes) rest calm h =
     let off : nat_le row.blocks left ≡ false = lt-leb row.blocks left h.0 in
     skipped row rows left outcomes (nat_le row.blocks left) refl off (matched p (after_all s (records_of row NoRoom)) left rows outcomes rest calm.1 h.1)

@@ -5,7 +5,7 @@ use Rattle.std.proofs.lemmas.Bool.{le-leb, lt-leb}
 use Rattle.evacuator.specs.Choice.{kept_within}
 use Rattle.cache_model.specs.State.{State, Row, after_all}
 use Rattle.cache_model.specs.Permit.{Permit}
-use Rattle.cache_model.specs.Outcomes.{AreOutcomes, Copied, IsOutcome, NoRoom, Outcome, Refused, Spoiled, left_behind, records_of}
+use Rattle.cache_model.specs.Outcomes.{AreOutcomes, Copied, IsOutcome, NoRoom, Outcome, ReadRefused, Spoiled, left_behind, records_of}
 use Rattle.model_laws.specs.FlushLaws.{is_kept}
 
 within_one : (left : ℕ) (row : Row) (rest : List Bool) (blocks : List ℕ) → row.blocks ≤ left → rest ≡ kept_within (left - row.blocks) blocks
@@ -17,7 +17,7 @@ kept_one : (p : Permit) (s : State) (left : ℕ) (row : Row) (o : Outcome) (rest
 kept_one p s left row NoRoom rest blocks h k = rw (lt-leb row.blocks left h) (ap (λ bs. false ∷ bs) k)
 kept_one p s left row (Copied bytes) rest blocks h k = within_one left row rest blocks h.0 k
 kept_one p s left row (Spoiled found) rest blocks h k = within_one left row rest blocks h.0 k
-kept_one p s left row (Refused count) rest blocks h k = within_one left row rest blocks h.0 k
+kept_one p s left row (ReadRefused count) rest blocks h k = within_one left row rest blocks h.0 k
 
 pub kept_are_chosen : (p : Permit) (s : State) (left : ℕ) (rows : List Row) (outcomes : List Outcome) → AreOutcomes p s left rows outcomes
     → map is_kept outcomes ≡ kept_within left (map (λ (row : Row). row.blocks) rows)

@@ -30,7 +30,7 @@ use Rattle.cache_model.specs.Verdict.{lookup_verdict}
 use Rattle.cache_model.specs.Permit.{Permit, Setting, Intent, Flush, Sync, SyncBegin, SyncStep, Drain, CleanSync, Write, Fragment, Overflow, Weigh, Finish, Commit, GiveUp, Remove, Look, ReadOn, ReadAll, StopReading, Reason, End, Work}
 use Rattle.cache_model.specs.Room.{MayDisplace, displaced_record}
 use Rattle.cache_model.specs.Due.{due_pieces}
-use Rattle.cache_model.specs.Outcomes.{Copied, Copy, NoRoom, Outcome, Refused, Spoiled, began_record, copies_of, flush_tail, front_of, moved_record, moved_records, records_of, stopped_front_of, stopped_records_of}
+use Rattle.cache_model.specs.Outcomes.{Copied, Copy, NoRoom, Outcome, ReadRefused, Spoiled, began_record, copies_of, flush_tail, front_of, moved_record, moved_records, records_of, stopped_front_of, stopped_records_of}
 use Rattle.cache_model.specs.Given
 use Rattle.cache_model.specs.Syncing
 use Rattle.cache_model.specs.Syncing.{AtOnce, DoesCleanSync, DoesSync, DoesSyncStep, MayStopSync, MaySyncBehind, StopsBehind, Syncing, Unmarks, at_first, behind_records, begun_record, ended_records, ends_first, first_records, is_in_parts, needs_sync, needs_whole, next_serial, once_ended, sync_records}
@@ -51,7 +51,7 @@ front_one : (row : Row) (o : Outcome) → AllLeaveCounts (records_of row o)
 front_one row NoRoom = (tt, tt)
 front_one row (Copied bytes) = tt
 front_one row (Spoiled found) = (tt, tt)
-front_one row (Refused count) = (tt, (tt, tt))
+front_one row (ReadRefused count) = (tt, (tt, tt))
 
 front_leaves : (rows : List Row) (outcomes : List Outcome) → AllLeaveCounts (front_of rows outcomes)
 front_leaves [] outcomes = tt
@@ -62,7 +62,7 @@ stopped_one : (row : Row) (o : Outcome) → AllLeaveCounts (stopped_records_of r
 stopped_one row NoRoom = tt
 stopped_one row (Copied bytes) = tt
 stopped_one row (Spoiled found) = (tt, tt)
-stopped_one row (Refused count) = (tt, tt)
+stopped_one row (ReadRefused count) = (tt, tt)
 
 stopped_leaves : (rows : List Row) (outcomes : List Outcome) → AllLeaveCounts (stopped_front_of rows outcomes)
 stopped_leaves [] outcomes = tt

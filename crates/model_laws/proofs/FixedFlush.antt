@@ -12,7 +12,7 @@ use Rattle.cache_model.specs.Given.{IsDamaged, IsGiven, MayCount, block_at}
 use Rattle.model_laws.specs.Choices.{GivesOnce, IsFaithful}
 use Rattle.cache_model.specs.Tape.{IsSound}
 use Rattle.cache_model.specs.Due.{due_pieces}
-use Rattle.cache_model.specs.Outcomes.{AreOutcomes, Copied, Copy, NoRoom, Outcome, Refused, Spoiled, copies_of, flush_records, front_of, moved_record, moved_records, records_of}
+use Rattle.cache_model.specs.Outcomes.{AreOutcomes, Copied, Copy, NoRoom, Outcome, ReadRefused, Spoiled, copies_of, flush_records, front_of, moved_record, moved_records, records_of}
 use Rattle.model_laws.specs.Agreeing.{IsUntroubled}
 use Rattle.cache_model.proofs.Found.{no_truth}
 use Rattle.model_laws.proofs.Alike.{ReadsAlike, given_alike, reads_back, reads_self}
@@ -41,7 +41,7 @@ front_untroubled : (p : Permit) (s t : State) (left : ℕ) (rows : List Row) (ou
 front_untroubled p s t left [] outcomes rest still live same h calm = calm
 front_untroubled p s t left (row ∷ rows) [] rest still live same h calm = absurd h
 front_untroubled p s t left (row ∷ rows) (Spoiled found ∷ outcomes) rest still live same h calm = absurd (no_damage still (row.id, live.0) same h.0.1)
-front_untroubled p s t left (row ∷ rows) (Refused count ∷ outcomes) rest still live same h calm = absurd (no_count count still h.0.2)
+front_untroubled p s t left (row ∷ rows) (ReadRefused count ∷ outcomes) rest still live same h calm = absurd (no_count count still h.0.2)
 front_untroubled p s t left (row ∷ rows) (NoRoom ∷ outcomes) rest still live same h calm =
     (refl, front_untroubled p s (after_all t (records_of row NoRoom)) left rows outcomes rest still live.1 same h.1 calm)
 front_untroubled p s t left (row ∷ rows) (Copied bytes ∷ outcomes) rest still live same h calm = front_untroubled p s t (left - row.blocks) rows outcomes rest still live.1 same h.1 calm
@@ -65,9 +65,9 @@ fixed_from p u left [] [] (b ∷ other) rest more once calm calm2 h k = absurd k
 fixed_from p u left (row ∷ rows) [] other rest more once calm calm2 h k = absurd h
 fixed_from p u left (row ∷ rows) (a ∷ one) [] rest more once calm calm2 h k = absurd k
 fixed_from p u left (row ∷ rows) (Spoiled found ∷ one) (b ∷ other) rest more once calm calm2 h k = no_truth calm.0
-fixed_from p u left (row ∷ rows) (Refused count ∷ one) (b ∷ other) rest more once calm calm2 h k = no_truth calm.0
+fixed_from p u left (row ∷ rows) (ReadRefused count ∷ one) (b ∷ other) rest more once calm calm2 h k = no_truth calm.0
 fixed_from p u left (row ∷ rows) (a ∷ one) (Spoiled found ∷ other) rest more once calm calm2 h k = no_truth calm2.0
-fixed_from p u left (row ∷ rows) (a ∷ one) (Refused count ∷ other) rest more once calm calm2 h k = no_truth calm2.0
+fixed_from p u left (row ∷ rows) (a ∷ one) (ReadRefused count ∷ other) rest more once calm calm2 h k = no_truth calm2.0
 fixed_from p u left (row ∷ rows) (NoRoom ∷ one) (Copied bytes ∷ other) rest more once calm calm2 h k = let fits : row.blocks ≤ left = k.0.0 in absurd (omega (arith, h.0, fits))
 fixed_from p u left (row ∷ rows) (Copied bytes ∷ one) (NoRoom ∷ other) rest more once calm calm2 h k = let fits : row.blocks ≤ left = h.0.0 in absurd (omega (arith, k.0, fits))
 fixed_from p u left (row ∷ rows) (NoRoom ∷ one) (NoRoom ∷ other) rest more once calm calm2 h k =

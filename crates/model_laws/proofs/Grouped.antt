@@ -16,7 +16,7 @@ use Rattle.cache_model.specs.State.{State, Row, ReaderRow}
 use Rattle.cache_model.specs.Permit.{Permit, Intent, Flush, Sync, SyncBegin, SyncStep, Drain, CleanSync, Write, Fragment, Overflow, Weigh, Finish, Commit, GiveUp, Remove, Look, ReadOn, ReadAll, StopReading, End}
 use Rattle.cache_model.specs.Room.{MayDisplace, displaced_record, has_room}
 use Rattle.cache_model.specs.Due.{due_pieces}
-use Rattle.cache_model.specs.Outcomes.{Copied, NoRoom, Outcome, Refused, Spoiled, front_of, flush_tail, stopped_front_of, stopped_records_of}
+use Rattle.cache_model.specs.Outcomes.{Copied, NoRoom, Outcome, ReadRefused, Spoiled, front_of, flush_tail, stopped_front_of, stopped_records_of}
 use Rattle.cache_model.specs.Given
 use Rattle.cache_model.specs.Syncing
 use Rattle.cache_model.specs.Syncing.{CannotEnd, DoesCleanSync, DoesSync, DoesSyncStep, Unmarks, ended_records, must_unmark}
@@ -125,7 +125,7 @@ stopped_one : (row : Row) (o : Outcome) → AllLeaveSyncs (stopped_records_of ro
 stopped_one row NoRoom = tt
 stopped_one row (Copied bytes) = tt
 stopped_one row (Spoiled found) = (tt, tt)
-stopped_one row (Refused count) = (tt, tt)
+stopped_one row (ReadRefused count) = (tt, tt)
 
 pub stopped_leaves_syncs : (rows : List Row) (outcomes : List Outcome) → AllLeaveSyncs (stopped_front_of rows outcomes)
 stopped_leaves_syncs [] outcomes = tt

@@ -6,7 +6,7 @@ use Rattle.alternate_vector.specs.Field.{Field}
 use Rattle.cache_model.specs.State.{State, Row, after_all, reader_of}
 use Rattle.cache_model.specs.Verdict.{live_vector_of}
 use Rattle.cache_model.specs.Permit.{Intent, IsAmong, Look, Permit, ReadOn}
-use Rattle.cache_model.specs.Outcomes.{Copied, NoRoom, Outcome, Refused, Spoiled, left_behind, records_of}
+use Rattle.cache_model.specs.Outcomes.{Copied, NoRoom, Outcome, ReadRefused, Spoiled, left_behind, records_of}
 use Rattle.cache_model.specs.Legal.{live_next}
 use Rattle.cache_model.specs.ToRead
 use Rattle.cache_model.specs.ToRead.{ComesTo, IsToRead, flushes_first, to_read}
@@ -29,7 +29,7 @@ left_less : (left : ℕ) (row : Row) (o : Outcome) → left_behind left row o �
 left_less left row NoRoom = omega arith
 left_less left row (Copied bytes) = omega arith
 left_less left row (Spoiled found) = omega arith
-left_less left row (Refused count) = omega arith
+left_less left row (ReadRefused count) = omega arith
 
 pub copied_fits : (p : Permit) (piece : Row) (s : State) (left : ℕ) (rows : List Row) → ComesTo p piece s left rows → IsAmong piece rows × (piece.blocks ≤ left)
 copied_fits p piece s left [] came = elim came [ ]

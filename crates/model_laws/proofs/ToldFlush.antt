@@ -27,7 +27,7 @@ use Rattle.cache_model.proofs.Steps.{after_all-append, all_as}
 use Rattle.cache_model.specs.Due.{due_pieces}
 use Rattle.cache_model.specs.ToRead
 use Rattle.cache_model.specs.ToRead.{ComesTo}
-use Rattle.cache_model.specs.Outcomes.{AreOutcomes, Copied, Copy, NoRoom, Outcome, Refused, Spoiled, began_record, copies_of, flush_records, front_of, moved_record, moved_records, records_of, stopped_records}
+use Rattle.cache_model.specs.Outcomes.{AreOutcomes, Copied, Copy, NoRoom, Outcome, ReadRefused, Spoiled, began_record, copies_of, flush_records, front_of, moved_record, moved_records, records_of, stopped_records}
 use Rattle.model_laws.proofs.Alike.{ReadsAlike, given_alike, reads_back, reads_self}
 use Rattle.cache_model.proofs.Copies.{AreReady, IsReady, copied, copied_is, others_stand, rows_of, still_ready}
 use Rattle.cache_model.proofs.SoundFlush.{copies_part, copies_ready, due_part, front_aside, front_leaves, part_ready, stopped_aside}
@@ -65,8 +65,8 @@ are_saved p s t now left behind (row ∷ rows) (Copied bytes ∷ outcomes) same 
 )
 are_saved p s t now left behind (row ∷ rows) (Spoiled found ∷ outcomes) same leads listed live h =
     are_saved p s (after_all t (records_of row (Spoiled found))) now left (behind - row.blocks) rows outcomes same (λ piece c. leads piece (ToRead.ComesTo.behind (Spoiled found) h.0 c)) listed.1 live.1 h.1
-are_saved p s t now left behind (row ∷ rows) (Refused count ∷ outcomes) same leads listed live h =
-    are_saved p s (after_all t (records_of row (Refused count))) now left (behind - row.blocks) rows outcomes same (λ piece c. leads piece (ToRead.ComesTo.behind (Refused count) h.0 c)) listed.1 live.1 h.1
+are_saved p s t now left behind (row ∷ rows) (ReadRefused count ∷ outcomes) same leads listed live h =
+    are_saved p s (after_all t (records_of row (ReadRefused count))) now left (behind - row.blocks) rows outcomes same (λ piece c. leads piece (ToRead.ComesTo.behind (ReadRefused count) h.0 c)) listed.1 live.1 h.1
 
 -- a payload within half a buffer
 short_enough : (g : Geometry) (bytes : ℕ) → blocks_of bytes ≤ budget_of g → bytes < 2 ^ 32

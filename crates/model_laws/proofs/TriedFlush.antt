@@ -14,7 +14,7 @@ use Rattle.cache_model.specs.Given.{IsGiven, IsWritten}
 use Rattle.cache_model.specs.Tape.{IsSound}
 use Rattle.cache_model.specs.Legal.{CanFlush, MayFlush, MayStop}
 use Rattle.cache_model.specs.Due.{due_pieces}
-use Rattle.cache_model.specs.Outcomes.{AreOutcomes, Copied, NoRoom, Outcome, Refused, Spoiled, records_of, stopped_front_of, stopped_records_of}
+use Rattle.cache_model.specs.Outcomes.{AreOutcomes, Copied, NoRoom, Outcome, ReadRefused, Spoiled, records_of, stopped_front_of, stopped_records_of}
 use Rattle.model_laws.specs.Choices
 use Rattle.model_laws.specs.Choices.{AreTried, GaveBytesFor, IsBufferTried, IsFlushTried, with_fault}
 use Rattle.model_laws.proofs.Alike.{IsAlike, alike_self, alike_trans, given_alike, read_alike, write_alike, written_alike}
@@ -66,7 +66,7 @@ comes p s t v behind left (row ∷ rows) a b (Choices.AreTried.given bytes fits 
     given_comes p t v behind left row rows bytes _ refl fits (given_alike p s t row bytes a.0 g)
     (λ u w c d. comes p s u w behind (left - row.blocks) rows (alike_trans s t u a c) (alike_trans s v w b d) rest)
 comes p s t v behind left (row ∷ rows) a b (Choices.AreTried.refused count fits written counts rest) =
-    let o : Outcome = Refused count in
+    let o : Outcome = ReadRefused count in
     let r = comes p (with_fault count s) (after_all t (records_of row o)) (after_all v (stopped_records_of row o)) behind (left - row.blocks) rows (a.0, a.1, refl) (b.0, b.1, refl) rest in
     record { outcomes = o ∷ r.outcomes; are = ((fits, written_alike s t row a.0.1 written, read_alike p s t row count a counts), r.are); alike = r.alike }
 
@@ -97,8 +97,8 @@ tried p s t v left (row ∷ rows) (Spoiled found ∷ outcomes) a b h =
     let o : Outcome = Spoiled found in
     let r = tried p s (after_all t (records_of row o)) (after_all v (stopped_records_of row o)) (left - row.blocks) rows outcomes a b h.1 in
     record { behind = r.behind; due = Choices.AreTried.given d.bytes h.0.0 (given_alike p t s row d.bytes a.0 d.given) r.due; alike = r.alike }
-tried p s t v left (row ∷ rows) (Refused count ∷ outcomes) a b h =
-    let o : Outcome = Refused count in
+tried p s t v left (row ∷ rows) (ReadRefused count ∷ outcomes) a b h =
+    let o : Outcome = ReadRefused count in
     let r = tried p (with_fault count s) (after_all t (records_of row o)) (after_all v (stopped_records_of row o)) (left - row.blocks) rows outcomes (a.0, a.1, refl) (b.0, b.1, refl) h.1 in
     record { behind = r.behind; due = Choices.AreTried.refused count h.0.0 (written_alike t s row a.0.1 h.0.1) (read_alike p t s row count a h.0.2) r.due; alike = r.alike }
 

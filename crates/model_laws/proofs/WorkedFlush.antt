@@ -14,7 +14,7 @@ use Rattle.cache_model.specs.declared.record.Rec.TheVariants as rec
 use Rattle.cache_model.specs.State.{State, Row, ReaderRow, cursor_next, floor_next, floor_now, formatted}
 use Rattle.cache_model.specs.Due.{due_pieces, is_due, is_due_to}
 use Rattle.cache_model.specs.Permit.{Permit}
-use Rattle.cache_model.specs.Outcomes.{AreOutcomes, Copied, NoRoom, Outcome, Refused, Spoiled, flush_records, stopped_front_of}
+use Rattle.cache_model.specs.Outcomes.{AreOutcomes, Copied, NoRoom, Outcome, ReadRefused, Spoiled, flush_records, stopped_front_of}
 use Rattle.model_laws.specs.FlushLaws.{is_kept}
 
 -- 64 blocks, buffers of 8, so that a flush copies 4 blocks at most
@@ -90,7 +90,7 @@ abbrev none_read : Permit
 none_read = record { packed = false; syncs = false; now = 0; area = 0; past = []; events = RefusedCall (ToRead 5 1) 2 ∷ RefusedCall (ToRead 0 3) 1 ∷ [] }
 
 -- a read that is refused uses the budget too
-pub two_are_refused : AreOutcomes none_read (at_120 pinned []) 4 pinned (Refused 1 ∷ NoRoom ∷ Refused 2 ∷ [])
+pub two_are_refused : AreOutcomes none_read (at_120 pinned []) 4 pinned (ReadRefused 1 ∷ NoRoom ∷ ReadRefused 2 ∷ [])
 two_are_refused = (
   (lit≤ tt, lit< tt, record { rose = lit≤ tt; refused = inr (inl refl) }),
   (lit< tt, ((lit≤ tt, lit< tt, record { rose = lit≤ tt; refused = inl refl }), tt)),
@@ -114,7 +114,7 @@ abbrev other_digest : Digest
 other_digest = record { 0 = 1 ∷ [] }
 
 abbrev troubled : List Outcome
-troubled = Refused 1 ∷ Spoiled other_digest ∷ NoRoom ∷ []
+troubled = ReadRefused 1 ∷ Spoiled other_digest ∷ NoRoom ∷ []
 
 abbrev three : List Row
 three = row_at 1 0 64 2 9 ∷ row_at 2 0 66 2 9 ∷ row_at 3 0 68 1 9 ∷ []

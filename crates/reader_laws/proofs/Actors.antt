@@ -19,7 +19,7 @@ use Rattle.script_lang.specs.declared.line.LineAnswer.TheVariants as line
 use Rattle.script_lang.specs.declared.step.Step.{Step}
 use Rattle.script_lang.specs.declared.step.Step.TheVariants as step
 use Rattle.script_lang.specs.Grammar.{reading_of}
-use Rattle.script_run.specs.Run.{Holding, Reads, Run, Writes, actor_of, fresh, held_by, reader_by, reader_in, with_value}
+use Rattle.script_run.specs.Run.{Holding, HoldsReader, Run, HoldsWriter, actor_of, fresh, held_by, reader_by, reader_in, with_value}
 use Rattle.script_run.specs.Asked.{asked}
 use Rattle.script_run.specs.Turn.{Turn}
 use Rattle.script_run.specs.Behind.{after_format, after_line, after_reading, behind, held_behind, holds_behind, in_session, open_reader_at, or_else, still_open, writer_at}
@@ -37,18 +37,18 @@ use Rattle.reader_laws.proofs.Standing.{Goes, Keeps, KeepsIn, OfKept, begins, go
 -- ---- what an actor has behind a step
 
 -- it had the reader before, or the step opened it
-reader_open : (t : State) (m n : ℕ) (b : Bool) → is_some (reader_of t m) ≡ b → cond b (Some (Reads m)) None ≡ Some (Reads n) → (m ≡ n) × (is_some (reader_of t m) ≡ true)
+reader_open : (t : State) (m n : ℕ) (b : Bool) → is_some (reader_of t m) ≡ b → cond b (Some (HoldsReader m)) None ≡ Some (HoldsReader n) → (m ≡ n) × (is_some (reader_of t m) ≡ true)
 reader_open t m n true e h = let same : m ≡ n = cc in (same, e)
 reader_open t m n false e h = none_is h
 
-no_writer_reads : (t : State) (m n : ℕ) (b : Bool) → cond b (Some (Writes m)) None ≡ Some (Reads n) → ⊥
+no_writer_reads : (t : State) (m n : ℕ) (b : Bool) → cond b (Some (HoldsWriter m)) None ≡ Some (HoldsReader n) → ⊥
 no_writer_reads t m n true h = cc
 no_writer_reads t m n false h = cc
 
-still_reads : (t : State) (o : Option Holding) (n : ℕ) → still_open t o ≡ Some (Reads n) → o ≡ Some (Reads n)
+still_reads : (t : State) (o : Option Holding) (n : ℕ) → still_open t o ≡ Some (HoldsReader n) → o ≡ Some (HoldsReader n)
 still_reads t None n h = none_is h
-still_reads t (Some (Writes put)) n h = absurd (no_writer_reads t put n _ h)
-still_reads t (Some (Reads m)) n h = ap (λ k. Some (Reads k)) (reader_open t m n (is_some (reader_of t m)) refl h).0
+still_reads t (Some (HoldsWriter put)) n h = absurd (no_writer_reads t put n _ h)
+still_reads t (Some (HoldsReader m)) n h = ap (λ k. Some (HoldsReader k)) (reader_open t m n (is_some (reader_of t m)) refl h).0
 
 found_some : (o : Option ReaderRow) → is_some o ≡ true → (r : ReaderRow) × (o ≡ Some r)
 found_some None h = no_truth (sym h)
@@ -65,24 +65,24 @@ pub record OpensHere (run : Run) (s t : State) (name : List ℕ) (st : Step) (n 
   pub found : reader_of t s.next_reader ≡ Some r
 
 opened_by : (run : Run) (s t : State) (name : List ℕ) (key : Key) (request : List Field) (n : ℕ) (o : Option Holding) → held_by run name ≡ o
-    → or_else o (open_reader_at t s.next_reader) ≡ Some (Reads n)
-    → (o ≡ Some (Reads n)) ⊎ OpensHere run s t name (step.OpenRead name key request) n
+    → or_else o (open_reader_at t s.next_reader) ≡ Some (HoldsReader n)
+    → (o ≡ Some (HoldsReader n)) ⊎ OpensHere run s t name (step.OpenRead name key request) n
 opened_by run s t name key request n (Some holding) e h = inl h
 opened_by run s t name key request n None e h =
     let is = reader_open t s.next_reader n (is_some (reader_of t s.next_reader)) refl h in
     let r = found_some (reader_of t s.next_reader) is.1 in
     inr (record { key = key; request = request; asks = refl; free = e; number = is.0; r = r.0; found = r.1 })
 
-writer_by : (t : State) (m n : ℕ) (o : Option Holding) → or_else o (writer_at t m) ≡ Some (Reads n) → o ≡ Some (Reads n)
+writer_by : (t : State) (m n : ℕ) (o : Option Holding) → or_else o (writer_at t m) ≡ Some (HoldsReader n) → o ≡ Some (HoldsReader n)
 writer_by t m n (Some holding) h = h
 writer_by t m n None h = absurd (no_writer_reads t m n _ h)
 
-holds_by : (run : Run) (s t : State) (st : Step) (name : List ℕ) (n : ℕ) → actor_of st ≡ Some name → holds_behind run s t st name ≡ Some (Reads n)
-    → (held_by run name ≡ Some (Reads n)) ⊎ OpensHere run s t name st n
+holds_by : (run : Run) (s t : State) (st : Step) (name : List ℕ) (n : ℕ) → actor_of st ≡ Some name → holds_behind run s t st name ≡ Some (HoldsReader n)
+    → (held_by run name ≡ Some (HoldsReader n)) ⊎ OpensHere run s t name st n
 holds_by run s t (step.OpenWrite actor key pin request response) name n is h = inl (writer_by t s.next_put n (held_by run name) h)
 holds_by run s t (step.OpenRead actor key request) name n is h =
     let same : actor ≡ name = same_Some actor name is in
-    subst (λ a. (held_by run name ≡ Some (Reads n)) ⊎ OpensHere run s t name (step.OpenRead a key request) n) (sym same) (opened_by run s t name key request n (held_by run name) refl h)
+    subst (λ a. (held_by run name ≡ Some (HoldsReader n)) ⊎ OpensHere run s t name (step.OpenRead a key request) n) (sym same) (opened_by run s t name key request n (held_by run name) refl h)
 holds_by run s t (step.Feed actor body) name n is h = inl (still_reads t (held_by run name) n h)
 holds_by run s t (step.Close actor) name n is h = inl (still_reads t (held_by run name) n h)
 holds_by run s t (step.Abort actor) name n is h = inl (still_reads t (held_by run name) n h)
@@ -94,7 +94,7 @@ holds_by run s t _ name n is h = none_is is
 
 module _ (k n : ℕ) where
   abbrev pub Has : Run → Type 0
-  Has run = run.held k ≡ Some (Reads n)
+  Has run = run.held k ≡ Some (HoldsReader n)
 
   pub record Makes (run : Run) (turn : Turn) (l : LineAnswer) : Type 0 where
     pub name : List ℕ
@@ -106,11 +106,11 @@ module _ (k n : ℕ) where
     pub opens : OpensHere run s (after_all s turn.added) name st n
 
   held_before : (run : Run) (turn : Turn) (s : State) (st : Step) (o : Option (List ℕ)) → run.state ≡ Some s → actor_of st ≡ o
-      → held_behind run s (after_all s turn.added) st o k ≡ Some (Reads n)
+      → held_behind run s (after_all s turn.added) st o k ≡ Some (HoldsReader n)
       → Has run ⊎ Makes run turn (line.Step st)
   held_before run turn s st None e is h = inl h
   held_before run turn s st (Some name) e is h =
-      value_by (λ (x : Option Holding). x ≡ Some (Reads n) → Has run ⊎ Makes run turn (line.Step st)) (holds_behind run s (after_all s turn.added) st name) (run.held k) k (number_of_name run.actors name)
+      value_by (λ (x : Option Holding). x ≡ Some (HoldsReader n) → Has run ⊎ Makes run turn (line.Step st)) (holds_behind run s (after_all s turn.added) st name) (run.held k) k (number_of_name run.actors name)
       (λ same has. elim (holds_by run s (after_all s turn.added) st name n is has) [
         | inl before ↦ inl (ap run.held same ∙ before)
         | inr opens ↦ inr (record { name = name; numbered = sym same; s = s; state = e; st = st; is = refl; opens = opens })
@@ -179,8 +179,8 @@ known_opened k n run turn l m =
 -- ---- no two actors have one reader
 
 pub record AreApart (run : Run) : Type 0 where
-  pub apart : (i j m : ℕ) → run.held i ≡ Some (Reads m) → run.held j ≡ Some (Reads m) → i ≡ j
-  pub below : (s : State) → run.state ≡ Some s → (i m : ℕ) → run.held i ≡ Some (Reads m) → m < s.next_reader
+  pub apart : (i j m : ℕ) → run.held i ≡ Some (HoldsReader m) → run.held j ≡ Some (HoldsReader m) → i ≡ j
+  pub below : (s : State) → run.state ≡ Some s → (i m : ℕ) → run.held i ≡ Some (HoldsReader m) → m < s.next_reader
 
 any_one : (i : Intent) → IsOther AnyNumber AnyNumber i
 any_one (Commit put) = tt
@@ -210,9 +210,9 @@ module _ (laws : OfKept) (run : Run) (turn : Turn) where
 
     -- what an actor has behind the step it had before, or it is the next reader
     abbrev IsOldOrNext : ℕ → ℕ → Type 0
-    IsOldOrNext k m = (run.held k ≡ Some (Reads m)) ⊎ ((s.next_reader ≡ m) × (m < Behind.next_reader))
+    IsOldOrNext k m = (run.held k ≡ Some (HoldsReader m)) ⊎ ((s.next_reader ≡ m) × (m < Behind.next_reader))
 
-    old_or_next : (name : List ℕ) (m : ℕ) → actor_of st ≡ Some name → holds_behind run s Behind st name ≡ Some (Reads m) → IsOldOrNext (number_of_name run.actors name) m
+    old_or_next : (name : List ℕ) (m : ℕ) → actor_of st ≡ Some name → holds_behind run s Behind st name ≡ Some (HoldsReader m) → IsOldOrNext (number_of_name run.actors name) m
     old_or_next name m is has = elim (holds_by run s Behind st name m is has) [
       | inl before ↦ inl before
       | inr o ↦
@@ -220,43 +220,43 @@ module _ (laws : OfKept) (run : Run) (turn : Turn) where
           inr (o.number, subst (λ x. x < Behind.next_reader) o.number begun)
     ]
 
-    module _ (k : ℕ) (new : Option Holding) (c : (m : ℕ) → new ≡ Some (Reads m) → IsOldOrNext k m) where
-      clash : (j m : ℕ) → (j ≡ k → ⊥) → new ≡ Some (Reads m) → run.held j ≡ Some (Reads m) → ⊥
+    module _ (k : ℕ) (new : Option Holding) (c : (m : ℕ) → new ≡ Some (HoldsReader m) → IsOldOrNext k m) where
+      clash : (j m : ℕ) → (j ≡ k → ⊥) → new ≡ Some (HoldsReader m) → run.held j ≡ Some (HoldsReader m) → ⊥
       clash j m other now has = elim (c m now) [
         | inl before ↦ other (h.apart j k m has before)
         | inr next ↦ (let below : m < s.next_reader = h.below s e j m has in omega (arith, below, next.0))
       ]
 
-      apart_by : (i j m : ℕ) → with_value run.held k new i ≡ Some (Reads m) → with_value run.held k new j ≡ Some (Reads m) → i ≡ j
+      apart_by : (i j m : ℕ) → with_value run.held k new i ≡ Some (HoldsReader m) → with_value run.held k new j ≡ Some (HoldsReader m) → i ≡ j
       apart_by i j m =
-          value_by (λ (a : Option Holding). a ≡ Some (Reads m) → with_value run.held k new j ≡ Some (Reads m) → i ≡ j) new (run.held i) i k
-          (λ first now. value_by (λ (a : Option Holding). a ≡ Some (Reads m) → i ≡ j) new (run.held j) j k
+          value_by (λ (a : Option Holding). a ≡ Some (HoldsReader m) → with_value run.held k new j ≡ Some (HoldsReader m) → i ≡ j) new (run.held i) i k
+          (λ first now. value_by (λ (a : Option Holding). a ≡ Some (HoldsReader m) → i ≡ j) new (run.held j) j k
           (λ second has. first ∙ sym second) (λ other has. absurd (clash j m other now has)))
-          (λ other before. value_by (λ (a : Option Holding). a ≡ Some (Reads m) → i ≡ j) new (run.held j) j k
+          (λ other before. value_by (λ (a : Option Holding). a ≡ Some (HoldsReader m) → i ≡ j) new (run.held j) j k
           (λ second has. absurd (clash i m other has before)) (λ others has. h.apart i j m before has))
 
-      below_by : (i m : ℕ) → with_value run.held k new i ≡ Some (Reads m) → m < Behind.next_reader
+      below_by : (i m : ℕ) → with_value run.held k new i ≡ Some (HoldsReader m) → m < Behind.next_reader
       below_by i m =
-          value_by (λ (a : Option Holding). a ≡ Some (Reads m) → m < Behind.next_reader) new (run.held i) i k
+          value_by (λ (a : Option Holding). a ≡ Some (HoldsReader m) → m < Behind.next_reader) new (run.held i) i k
           (λ same now. elim (c m now) [
             | inl before ↦ (let below : m < s.next_reader = h.below s e k m before in omega (arith, below, on))
             | inr next ↦ next.1
           ])
           (λ other before. (let below : m < s.next_reader = h.below s e i m before in omega (arith, below, on)))
 
-    apart_behind : (o : Option (List ℕ)) → actor_of st ≡ o → (i j m : ℕ) → held_behind run s Behind st o i ≡ Some (Reads m)
-        → held_behind run s Behind st o j ≡ Some (Reads m) → i ≡ j
+    apart_behind : (o : Option (List ℕ)) → actor_of st ≡ o → (i j m : ℕ) → held_behind run s Behind st o i ≡ Some (HoldsReader m)
+        → held_behind run s Behind st o j ≡ Some (HoldsReader m) → i ≡ j
     apart_behind None is i j m = h.apart i j m
     apart_behind (Some name) is i j m = apart_by (number_of_name run.actors name) (holds_behind run s Behind st name) (λ x has. old_or_next name x is has) i j m
 
-    below_behind : (o : Option (List ℕ)) → actor_of st ≡ o → (i m : ℕ) → held_behind run s Behind st o i ≡ Some (Reads m) → m < Behind.next_reader
+    below_behind : (o : Option (List ℕ)) → actor_of st ≡ o → (i m : ℕ) → held_behind run s Behind st o i ≡ Some (HoldsReader m) → m < Behind.next_reader
     below_behind None is i m has = (let below : m < s.next_reader = h.below s e i m has in omega (arith, below, on))
     below_behind (Some name) is i m has = below_by (number_of_name run.actors name) (holds_behind run s Behind st name) (λ x now. old_or_next name x is now) i m has
 
     step_apart : AreApart (in_session run s Behind turn st)
     step_apart = record {
       apart = apart_behind (actor_of st) refl;
-      below = λ t same. subst (λ (x : State). (i m : ℕ) → held_behind run s Behind st (actor_of st) i ≡ Some (Reads m) → m < x.next_reader) (same_Some Behind t same) (below_behind (actor_of st) refl);
+      below = λ t same. subst (λ (x : State). (i m : ℕ) → held_behind run s Behind st (actor_of st) i ≡ Some (HoldsReader m) → m < x.next_reader) (same_Some Behind t same) (below_behind (actor_of st) refl);
     }
 
   goes_apart : {o : Option State} {st : Step} {after : Run} → Goes run turn o st after → run.state ≡ o → KeepsIn after → AreApart run → AreApart after
@@ -283,12 +283,12 @@ apart_after laws (bytes ∷ lines) (turn ∷ turns) run is keeps h =
 
 -- ---- what is given to it
 
-pub reader_held : (o : Option Holding) (n : ℕ) → option_and_then reader_in o ≡ Some n → o ≡ Some (Reads n)
+pub reader_held : (o : Option Holding) (n : ℕ) → option_and_then reader_in o ≡ Some n → o ≡ Some (HoldsReader n)
 reader_held None n h = none_is h
-reader_held (Some (Writes put)) n h = none_is h
-reader_held (Some (Reads m)) n h = let same : m ≡ n = cc in ap (λ k. Some (Reads k)) same
+reader_held (Some (HoldsWriter put)) n h = none_is h
+reader_held (Some (HoldsReader m)) n h = let same : m ≡ n = cc in ap (λ k. Some (HoldsReader k)) same
 
-module _ (name : List ℕ) (k n : ℕ) (run : Run) (turn : Turn) (h : AreApart run) (known : IsKnown run name k) (has : run.held k ≡ Some (Reads n)) where
+module _ (name : List ℕ) (k n : ℕ) (run : Run) (turn : Turn) (h : AreApart run) (known : IsKnown run name k) (has : run.held k ≡ Some (HoldsReader n)) where
   -- the actor has it
   own_reader : reader_by run name ≡ Some n
   own_reader = ap (λ i. option_and_then reader_in (run.held i)) known.number ∙ ap (option_and_then reader_in) has
@@ -298,7 +298,7 @@ module _ (name : List ℕ) (k n : ℕ) (run : Run) (turn : Turn) (h : AreApart r
   others_none actor given None other e = refl
   others_none actor given (Some m) other e = value_by (λ (xs : List ℕ). xs ≡ []) given [] m n
       (λ same.
-      let held : run.held (number_of_name run.actors actor) ≡ Some (Reads n) = reader_held (run.held (number_of_name run.actors actor)) n (e ∙ ap Some same) in
+      let held : run.held (number_of_name run.actors actor) ≡ Some (HoldsReader n) = reader_held (run.held (number_of_name run.actors actor)) n (e ∙ ap Some same) in
       let number : number_of_name run.actors name ≡ number_of_name run.actors actor = known.number ∙ h.apart k (number_of_name run.actors actor) n has held in
       absurd (other_text actor name (sym other) (sym (same_number run.actors name actor number known.known))))
       (λ apart. refl)

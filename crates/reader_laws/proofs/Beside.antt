@@ -16,7 +16,7 @@ use Rattle.cache_model.specs.State.{PutRow, put_of, State, Row, ReaderRow, state
 use Rattle.cache_model.specs.Permit.{Permit, Intent, Flush, Sync, SyncBegin, SyncStep, Drain, CleanSync, Write, Fragment, Overflow, Weigh, Finish, Commit, GiveUp, Remove, Look, ReadOn, ReadAll, StopReading, End, Stays, Done, Fails, Work, Reason, is_cleanup, work_after}
 use Rattle.cache_model.specs.Room.{MayDisplace, displaced_record}
 use Rattle.cache_model.specs.Due.{due_pieces}
-use Rattle.cache_model.specs.Outcomes.{Copied, Copy, NoRoom, Outcome, Refused, Spoiled, copies_of, flush_records, front_of, moved_record, moved_records, records_of, stopped_front_of, stopped_records, stopped_records_of}
+use Rattle.cache_model.specs.Outcomes.{Copied, Copy, NoRoom, Outcome, ReadRefused, Spoiled, copies_of, flush_records, front_of, moved_record, moved_records, records_of, stopped_front_of, stopped_records, stopped_records_of}
 use Rattle.cache_model.specs.Syncing.{AtOnce, InParts, MaySyncBehind, Syncing, WhereDue, at_first, behind_records, first_records}
 use Rattle.cache_model.specs.Given
 use Rattle.cache_model.specs.Legal
@@ -108,7 +108,7 @@ module _ (R P : ℕ → Type 0) where
   outcome_beside row NoRoom = (tt, tt)
   outcome_beside row (Copied bytes) = tt
   outcome_beside row (Spoiled found) = (tt, tt)
-  outcome_beside row (Refused count) = (tt, (tt, tt))
+  outcome_beside row (ReadRefused count) = (tt, (tt, tt))
 
   front_beside : (rows : List Row) (outcomes : List Outcome) → AllBeside R P (front_of rows outcomes)
   front_beside [] outcomes = tt
@@ -128,7 +128,7 @@ module _ (R P : ℕ → Type 0) where
   stopped_outcome_beside row NoRoom = tt
   stopped_outcome_beside row (Copied bytes) = tt
   stopped_outcome_beside row (Spoiled found) = (tt, tt)
-  stopped_outcome_beside row (Refused count) = (tt, tt)
+  stopped_outcome_beside row (ReadRefused count) = (tt, tt)
 
   stopped_front_beside : (rows : List Row) (outcomes : List Outcome) → AllBeside R P (stopped_front_of rows outcomes)
   stopped_front_beside [] outcomes = tt

@@ -23,7 +23,7 @@ use Rattle.cache_model.specs.Due.{due_pieces}
 use Rattle.cache_model.specs.Given
 use Rattle.cache_model.specs.Legal
 use Rattle.cache_model.specs.Legal.{Advances, Does, MayGrow, nothing, more, answer_record}
-use Rattle.cache_model.specs.Outcomes.{AreOutcomes, Copied, Copy, IsOutcome, NoRoom, Outcome, Refused, Spoiled, copies_of, flush_records, front_of, left_behind, moved_record, moved_records, records_of, stopped_front_of, stopped_records_of}
+use Rattle.cache_model.specs.Outcomes.{AreOutcomes, Copied, Copy, IsOutcome, NoRoom, Outcome, ReadRefused, Spoiled, copies_of, flush_records, front_of, left_behind, moved_record, moved_records, records_of, stopped_front_of, stopped_records_of}
 use Rattle.cache_model.specs.Permit.{IsAmong, Permit, Intent, Flush, Sync, SyncBegin, SyncStep, Drain, CleanSync, Write, Fragment, Overflow, Weigh, Finish, Commit, GiveUp, Remove, Look, ReadOn, ReadAll, StopReading, End, Stays, Done, Fails, Work, Reason, is_cleanup, work_after}
 use Rattle.cache_model.specs.Room.{MayDisplace, displaced_record}
 use Rattle.cache_model.proofs.Steps.{all_append, all_as}
@@ -98,7 +98,7 @@ module _ (p : Permit) (s : State) where
   outcome_told t left row NoRoom same h = (tt, tt)
   outcome_told t left row (Copied bytes) same h = tt
   outcome_told t left row (Spoiled found) same h = (damage t row found same h.1, tt)
-  outcome_told t left row (Refused count) same h = (tt, (tt, tt))
+  outcome_told t left row (ReadRefused count) same h = (tt, (tt, tt))
 
   front_told : (t : State) (left : ℕ) (rows : List Row) (outcomes : List Outcome) → Same t → AreOutcomes p t left rows outcomes → AllTold (front_of rows outcomes)
   front_told t left [] outcomes same h = tt
@@ -121,7 +121,7 @@ module _ (p : Permit) (s : State) where
   stopped_one row NoRoom h = tt
   stopped_one row (Copied bytes) h = tt
   stopped_one row (Spoiled found) h = h
-  stopped_one row (Refused count) h = (tt, tt)
+  stopped_one row (ReadRefused count) h = (tt, tt)
 
   stopped_told : (t : State) (left : ℕ) (rows : List Row) (outcomes : List Outcome) → Same t → AreOutcomes p t left rows outcomes → AllTold (stopped_front_of rows outcomes)
   stopped_told t left [] outcomes same h = tt

@@ -13,7 +13,7 @@ use Rattle.cache_model.proofs.Found.{none_is, number_of}
 use Rattle.actor_table.specs.Table.{number_of_name as number_in}
 use Rattle.script_lang.specs.declared.step.Step.{Step}
 use Rattle.script_lang.specs.declared.step.Step.TheVariants as step
-use Rattle.script_run.specs.Run.{Holding, Reads, Run, Stream, Writes, held_by, put_in, put_written_by, reader_by, with_value}
+use Rattle.script_run.specs.Run.{Holding, HoldsReader, Run, Stream, HoldsWriter, held_by, put_in, put_written_by, reader_by, with_value}
 use Rattle.script_run.specs.Asked.{asked}
 use Rattle.script_run.specs.Turn.{Turn}
 use Rattle.script_run.specs.Behind.{in_session, open_reader_at, or_else, still_open, writer_at}
@@ -87,13 +87,13 @@ keeps_all m s (r ∷ recs) numbered beside =
 -- ---- what actors have
 
 pub record AreHeld (held : ℕ → Option Holding) (s : State) : Type 0 where
-  pub writing : (i put : ℕ) → held i ≡ Some (Writes put) → is_writing s put ≡ true
-  pub apart : (i j put : ℕ) → held i ≡ Some (Writes put) → held j ≡ Some (Writes put) → i ≡ j
+  pub writing : (i put : ℕ) → held i ≡ Some (HoldsWriter put) → is_writing s put ≡ true
+  pub apart : (i j put : ℕ) → held i ≡ Some (HoldsWriter put) → held j ≡ Some (HoldsWriter put) → i ≡ j
 
-writer_held : (o : Option Holding) (put : ℕ) → option_and_then put_in o ≡ Some put → o ≡ Some (Writes put)
+writer_held : (o : Option Holding) (put : ℕ) → option_and_then put_in o ≡ Some put → o ≡ Some (HoldsWriter put)
 writer_held None put h = none_is h
-writer_held (Some (Writes n)) put h = let same : n ≡ put = cc in ap (λ k. Some (Writes k)) same
-writer_held (Some (Reads n)) put h = none_is h
+writer_held (Some (HoldsWriter n)) put h = let same : n ≡ put = cc in ap (λ k. Some (HoldsWriter k)) same
+writer_held (Some (HoldsReader n)) put h = none_is h
 
 pub are_writing : (run : Run) (s : State) → AreHeld run.held s → AreWriting run s
 are_writing run s h name put writes = h.writing (number_in run.actors name) put (writer_held (held_by run name) put writes)
@@ -107,49 +107,49 @@ open_begun s streams put own writing =
 
 -- what it has now it had, or no one had it
 abbrev IsNew : (ℕ → Option Holding) → ℕ → ℕ → Type 0
-IsNew held k put = (held k ≡ Some (Writes put)) ⊎ ((i : ℕ) → held i ≡ Some (Writes put) → ⊥)
+IsNew held k put = (held k ≡ Some (HoldsWriter put)) ⊎ ((i : ℕ) → held i ≡ Some (HoldsWriter put) → ⊥)
 
 record Changes (held : ℕ → Option Holding) (t : State) (k : ℕ) (new : Option Holding) : Type 0 where
-  others : (i put : ℕ) → (i ≡ k → ⊥) → held i ≡ Some (Writes put) → is_writing t put ≡ true
-  here : (put : ℕ) → new ≡ Some (Writes put) → is_writing t put ≡ true
-  fresh : (put : ℕ) → new ≡ Some (Writes put) → IsNew held k put
+  others : (i put : ℕ) → (i ≡ k → ⊥) → held i ≡ Some (HoldsWriter put) → is_writing t put ≡ true
+  here : (put : ℕ) → new ≡ Some (HoldsWriter put) → is_writing t put ≡ true
+  fresh : (put : ℕ) → new ≡ Some (HoldsWriter put) → IsNew held k put
 
 module _ (held : ℕ → Option Holding) (s t : State) (k : ℕ) (new : Option Holding) (h : AreHeld held s) (c : Changes held t k new) where
   -- another actor does not have what this one has now
-  clash : (j put : ℕ) → (j ≡ k → ⊥) → new ≡ Some (Writes put) → held j ≡ Some (Writes put) → ⊥
+  clash : (j put : ℕ) → (j ≡ k → ⊥) → new ≡ Some (HoldsWriter put) → held j ≡ Some (HoldsWriter put) → ⊥
   clash j put other now has = elim (c.fresh put now) [ inl before ↦ other (h.apart j k put has before) | inr none ↦ none j has ]
 
-  apart_by : (i j put : ℕ) → with_value held k new i ≡ Some (Writes put) → with_value held k new j ≡ Some (Writes put) → i ≡ j
+  apart_by : (i j put : ℕ) → with_value held k new i ≡ Some (HoldsWriter put) → with_value held k new j ≡ Some (HoldsWriter put) → i ≡ j
   apart_by i j put =
-      value_by (λ (a : Option Holding). a ≡ Some (Writes put) → with_value held k new j ≡ Some (Writes put) → i ≡ j) new (held i) i k
-      (λ first now. value_by (λ (a : Option Holding). a ≡ Some (Writes put) → i ≡ j) new (held j) j k
+      value_by (λ (a : Option Holding). a ≡ Some (HoldsWriter put) → with_value held k new j ≡ Some (HoldsWriter put) → i ≡ j) new (held i) i k
+      (λ first now. value_by (λ (a : Option Holding). a ≡ Some (HoldsWriter put) → i ≡ j) new (held j) j k
       (λ second has. first ∙ sym second) (λ other has. absurd (clash j put other now has)))
-      (λ other before. value_by (λ (a : Option Holding). a ≡ Some (Writes put) → i ≡ j) new (held j) j k
+      (λ other before. value_by (λ (a : Option Holding). a ≡ Some (HoldsWriter put) → i ≡ j) new (held j) j k
       (λ second has. absurd (clash i put other has before)) (λ others has. h.apart i j put before has))
 
   held_with : AreHeld (with_value held k new) t
   held_with = record {
-    writing = λ i put. value_by (λ (a : Option Holding). a ≡ Some (Writes put) → is_writing t put ≡ true) new (held i) i k
+    writing = λ i put. value_by (λ (a : Option Holding). a ≡ Some (HoldsWriter put) → is_writing t put ≡ true) new (held i) i k
         (λ same now. c.here put now) (λ other before. c.others i put other before);
     apart = apart_by;
   }
 
 -- ---- what an actor has behind a step
 
-writer_is_open : (t : State) (put m : ℕ) (b : Bool) → is_writing t put ≡ b → (if b then Some (Writes put) else None) ≡ Some (Writes m) → (put ≡ m) × (is_writing t m ≡ true)
+writer_is_open : (t : State) (put m : ℕ) (b : Bool) → is_writing t put ≡ b → (if b then Some (HoldsWriter put) else None) ≡ Some (HoldsWriter m) → (put ≡ m) × (is_writing t m ≡ true)
 writer_is_open t put m true e h = let same : put ≡ m = cc in (same, subst (λ k. is_writing t k ≡ true) same e)
 writer_is_open t put m false e h = none_is h
 
-reader_is_none : (reader m : ℕ) (b : Bool) → (if b then Some (Reads reader) else None) ≡ Some (Writes m) → ⊥
+reader_is_none : (reader m : ℕ) (b : Bool) → (if b then Some (HoldsReader reader) else None) ≡ Some (HoldsWriter m) → ⊥
 reader_is_none reader m true h = cc
 reader_is_none reader m false h = cc
 
-still_writes : (t : State) (o : Option Holding) (m : ℕ) → still_open t o ≡ Some (Writes m) → (o ≡ Some (Writes m)) × (is_writing t m ≡ true)
+still_writes : (t : State) (o : Option Holding) (m : ℕ) → still_open t o ≡ Some (HoldsWriter m) → (o ≡ Some (HoldsWriter m)) × (is_writing t m ≡ true)
 still_writes t None m h = none_is h
-still_writes t (Some (Writes put)) m h =
+still_writes t (Some (HoldsWriter put)) m h =
     let is = writer_is_open t put m (is_writing t put) refl h in
-    (ap (λ k. Some (Writes k)) is.0, is.1)
-still_writes t (Some (Reads reader)) m h = absurd (reader_is_none reader m (is_some (reader_of t reader)) h)
+    (ap (λ k. Some (HoldsWriter k)) is.0, is.1)
+still_writes t (Some (HoldsReader reader)) m h = absurd (reader_is_none reader m (is_some (reader_of t reader)) h)
 
 module _ (numbers : NumbersFollow) (run : Run) (s : State) (turn : Turn) (own : ArePayloadsOwn s run.streams) (h : AreHeld run.held s) where
   abbrev Behind : State
@@ -169,7 +169,7 @@ module _ (numbers : NumbersFollow) (run : Run) (s : State) (turn : Turn) (own : 
   }
 
   -- an actor goes on, or has nothing any more
-  still_held : (k : ℕ) (asks : List Intent) → IsStep turn.device s asks turn.added turn.refused → ((i m : ℕ) → (i ≡ k → ⊥) → run.held i ≡ Some (Writes m) → AllOther AnyNumber (OtherThan m) asks)
+  still_held : (k : ℕ) (asks : List Intent) → IsStep turn.device s asks turn.added turn.refused → ((i m : ℕ) → (i ≡ k → ⊥) → run.held i ≡ Some (HoldsWriter m) → AllOther AnyNumber (OtherThan m) asks)
       → AreHeld (with_value run.held k (still_open Behind (run.held k))) Behind
   still_held k asks legal other = held_with run.held s Behind k (still_open Behind (run.held k)) h (record {
     others = λ i put apart has. open_still asks put legal (other i put apart has) (h.writing i put has);
@@ -178,9 +178,9 @@ module _ (numbers : NumbersFollow) (run : Run) (s : State) (turn : Turn) (own : 
   })
 
   -- an actor that asks of its own put
-  mine_apart : (name : List ℕ) (i m put : ℕ) → (i ≡ number_in run.actors name → ⊥) → run.held i ≡ Some (Writes m) → put_written_by run name ≡ Some put → put ≡ m → ⊥
+  mine_apart : (name : List ℕ) (i m put : ℕ) → (i ≡ number_in run.actors name → ⊥) → run.held i ≡ Some (HoldsWriter m) → put_written_by run name ≡ Some put → put ≡ m → ⊥
   mine_apart name i m put other has writes same =
-      other (h.apart i (number_in run.actors name) m has (writer_held (held_by run name) put writes ∙ ap (λ k. Some (Writes k)) same))
+      other (h.apart i (number_in run.actors name) m has (writer_held (held_by run name) put writes ∙ ap (λ k. Some (HoldsWriter k)) same))
 
   -- an actor that has something opens nothing
   kept_changes : (k : ℕ) (asks : List Intent) (o : Option Holding) → run.held k ≡ o → IsStep turn.device s asks turn.added turn.refused → ((m : ℕ) → is_writing s m ≡ true → AllOther AnyNumber (OtherThan m) asks)

@@ -3,15 +3,15 @@ use Rattle.std.specs.Prelude.{◌≡◌, ℕ, ◌⊎◌, true, List, [], ◌∷�
 use Rattle.std.specs.declared.string.String.{String}
 use Rattle.device_log.specs.Streams.{SourceRead, SinkWrite}
 use Rattle.edge_io.specs.Source.{LastReadFailed, NoReadFailed}
-use Rattle.logged_disk.specs.Device.{DeviceState as Device}
-use Rattle.device_bay.specs.Calls.{Refusal}
+use Rattle.logged_disk.specs.Device.{DeviceState as Device, TellsAll}
+use Rattle.device_bay.specs.Calls.{AttachRefusal}
 use Rattle.script_lang.specs.declared.last.LastLine.{LastLine}
 use Rattle.script_lang.specs.declared.last.LastLine.TheVariants as last
 use Rattle.script_lang.specs.Texts.{last_line}
 use Rattle.script_run.specs.Ledger.{Ledger, Deals}
 use Rattle.run_promise.specs.declared.status.Status.{Status}
 use Rattle.run_promise.specs.declared.status.Status.TheVariants as status
-use Rattle.run_promise.specs.Story.{Because, IsReadThrough, Refusals, SendsAll, SendsFront, CutsLast, GaveBack, StoryUpTo, Told, Took, WantsInLine, WantsMemory, all_in, own_loosened}
+use Rattle.run_promise.specs.Story.{Because, IsReadThrough, Refusals, SendsAll, SendsFront, CutsLast, GaveBack, StoryUpTo, DevicesTold, SinkTook, WantsInLine, WantsMemory, all_in, own_loosened}
 
 -- the one word `replay`
 abbrev pub IsReplay : {A : Type 0} → List (String A) → Type 0
@@ -42,18 +42,18 @@ exit_code status.TooManyLines = 10
 
 -- The last line went out behind these bytes, or its write failed and a front of it did.
 abbrev pub WentOut : (old new : List SinkWrite) → (before text : List ℕ) → Type 0
-WentOut old new before text = Took old new (before ++ text) ⊎ SendsFront old new before text
+WentOut old new before text = SinkTook old new (before ++ text) ⊎ SendsFront old new before text
 
 -- the devices that were attached have the names of the lines that asked for them, in order, and as many came back, the
 -- n-th with a count that none told in the n-th session exceeds, and with a log that is the calls of the lines of the n-th
 -- session, one behind the other, as their turns have them, and no other (it begins with them where no records tell of later
 -- lines); where it told its content to the end no piece was told as damaged in that session
-abbrev pub EachBack : Ledger → Ledger → Told → Type 0
+abbrev pub EachBack : Ledger → Ledger → DevicesTold → Type 0
 EachBack before now t = Deals before now (all_in t) t.names
 
 -- so it is; or the next line works on the session and wanted memory, and may have made calls of the last device; or it is a
 -- format that gave back one device more
-abbrev pub EachBackOrMore : Ledger → Ledger → (held : List ℕ) → ℕ → Told → Type 0
+abbrev pub EachBackOrMore : Ledger → Ledger → (held : List ℕ) → ℕ → DevicesTold → Type 0
 EachBackOrMore before now held given t =
     EachBack before now t
     ⊎ WantsInLine held given (EachBack before now (own_loosened t))
@@ -86,22 +86,27 @@ ReadsFailed first read status.OutOfMemory = NoReadFailed first read ⊎ ((count 
 ReadsFailed first read _ = NoReadFailed first read
 
 -- one attach more was refused
-abbrev pub RefusedOne : (before now : List Refusal) → Type 0
-RefusedOne before now = (refusal : Refusal) × (now ≡ before ++ refusal ∷ [])
+abbrev pub RefusedOne : (before now : List AttachRefusal) → Type 0
+RefusedOne before now = (refusal : AttachRefusal) × (now ≡ before ++ refusal ∷ [])
 
 -- Which attaches were refused in a run: with BayFault the one that ended it; with OutOfMemory no other; else none.
-abbrev pub AttachesRefused : (before now : List Refusal) → Status → Type 0
+abbrev pub AttachesRefused : (before now : List AttachRefusal) → Status → Type 0
 AttachesRefused before now status.BayFault = RefusedOne before now
 AttachesRefused before now status.OutOfMemory = (now ≡ before) ⊎ RefusedOne before now
 AttachesRefused before now _ = now ≡ before
 
--- each of these devices that has a switch counts no fault
-abbrev pub AreUnfailed : List Device → Type 0
-AreUnfailed [] = ⊤
-AreUnfailed (device ∷ devices) = (device.has_switch ≡ true → device.faults ≡ 0) × AreUnfailed devices
+-- a device told its content to the end, and refused nothing
+pub record IsSteady (device : Device) : Type 0 where
+  pub tells : TellsAll device
+  pub unfaulted : device.faults ≡ 0
 
--- so it is of those that came back since
-pub record ComeBackUnfailed (old new : List Device) : Type 0 where
+-- so did each of these that has a switch
+abbrev pub AreSteadyBySwitch : List Device → Type 0
+AreSteadyBySwitch [] = ⊤
+AreSteadyBySwitch (device ∷ devices) = (device.has_switch ≡ true → IsSteady device) × AreSteadyBySwitch devices
+
+-- so did each of those that came back since
+pub record ComeBackSteady (old new : List Device) : Type 0 where
   pub devices : List Device
   pub returned : new ≡ old ++ devices
-  pub unfailed : AreUnfailed devices
+  pub steady : AreSteadyBySwitch devices

@@ -22,7 +22,7 @@ use Rattle.cache_model.specs.Permit.{Permit, Intent, Flush, Sync, SyncBegin, Syn
 use Rattle.cache_model.specs.Room.{MayDisplace, displaced_record}
 use Rattle.cache_model.specs.Permit.{IsAmong}
 use Rattle.cache_model.specs.Due.{due_pieces}
-use Rattle.cache_model.specs.Outcomes.{AreOutcomes, Copied, Copy, IsOutcome, NoRoom, Outcome, Refused, Spoiled, copies_of, flush_records, front_of, left_behind, moved_record, moved_records, records_of, stopped_front_of, stopped_records_of}
+use Rattle.cache_model.specs.Outcomes.{AreOutcomes, Copied, Copy, IsOutcome, NoRoom, Outcome, ReadRefused, Spoiled, copies_of, flush_records, front_of, left_behind, moved_record, moved_records, records_of, stopped_front_of, stopped_records_of}
 use Rattle.cache_model.specs.Given
 use Rattle.cache_model.specs.Syncing
 use Rattle.cache_model.specs.Syncing.{CannotEnd, DoesCleanSync, DoesSync, DoesSyncStep, MayStopSync, MaySyncBehind, StopsBehind, Syncing, Unmarks, at_first, begun_record, behind_records, ended_records, first_records, sync_records, unmark_records}
@@ -202,7 +202,7 @@ module _ (p : Permit) where
   outcome_silent s left row NoRoom h = ((tt, refl), tt)
   outcome_silent s left row (Copied bytes) h = tt
   outcome_silent s left row (Spoiled found) h = ((tt, refl), tt)
-  outcome_silent s left row (Refused count) h = ((counted s count h.2, refl), ((tt, refl), tt))
+  outcome_silent s left row (ReadRefused count) h = ((counted s count h.2, refl), ((tt, refl), tt))
 
   front_silent : (s : State) (left : ℕ) (rows : List Row) (outcomes : List Outcome) → AreOutcomes p s left rows outcomes → AreSilent (front_of rows outcomes)
   front_silent s left [] outcomes h = tt
@@ -224,7 +224,7 @@ module _ (p : Permit) where
   stopped_outcome_silent s left row NoRoom h = tt
   stopped_outcome_silent s left row (Copied bytes) h = tt
   stopped_outcome_silent s left row (Spoiled found) h = ((tt, refl), tt)
-  stopped_outcome_silent s left row (Refused count) h = ((counted s count h.2, refl), tt)
+  stopped_outcome_silent s left row (ReadRefused count) h = ((counted s count h.2, refl), tt)
 
   stopped_front_silent : (s : State) (left : ℕ) (rows : List Row) (outcomes : List Outcome) → AreOutcomes p s left rows outcomes → AreSilent (stopped_front_of rows outcomes)
   stopped_front_silent s left [] outcomes h = tt

@@ -16,7 +16,7 @@ use Rattle.cache_model.specs.Tape.{AreApart, IsSound}
 use Rattle.cache_model.specs.Due.{due_pieces}
 use Rattle.cache_model.specs.ToRead
 use Rattle.cache_model.specs.ToRead.{ComesTo}
-use Rattle.cache_model.specs.Outcomes.{AreOutcomes, Copied, Copy, NoRoom, Outcome, Refused, Spoiled, began_record, copies_of, flush_records, front_of, moved_record, moved_records, records_of, stopped_front_of, stopped_records, stopped_records_of}
+use Rattle.cache_model.specs.Outcomes.{AreOutcomes, Copied, Copy, NoRoom, Outcome, ReadRefused, Spoiled, began_record, copies_of, flush_records, front_of, moved_record, moved_records, records_of, stopped_front_of, stopped_records, stopped_records_of}
 use Rattle.cache_model.proofs.Rows.{ArePart, apart-part, part-filter, part-trans, part_all, each_part}
 use Rattle.cache_model.proofs.Steps.{after_all-append}
 use Rattle.cache_model.proofs.Copies.{AreReady, IsReady, copied_is, others_stand, rows_of, still_ready}
@@ -82,9 +82,9 @@ loses_of : (s : State) (row : Row) (o : Outcome) → OnlyLoses s (after_all s (r
 loses_of s row NoRoom = unsaved_loses s row false
 loses_of s row (Copied bytes) = loses_self s
 loses_of s row (Spoiled found) = damaged_loses s row row.digest found
-loses_of s row (Refused count) =
+loses_of s row (ReadRefused count) =
     let t : State = state_after s (rec.Fault count) in
-    loses_trans s t (after_all s (records_of row (Refused count))) (fault_loses s count) (unsaved_loses t row true)
+    loses_trans s t (after_all s (records_of row (ReadRefused count))) (fault_loses s count) (unsaved_loses t row true)
 
 -- behind the records of what is not copied
 front_loses : (s : State) (rows : List Row) (outcomes : List Outcome) → OnlyLoses s (after_all s (front_of rows outcomes))
@@ -99,7 +99,7 @@ stopped_loses_of : (s : State) (row : Row) (o : Outcome) → OnlyLoses s (after_
 stopped_loses_of s row NoRoom = loses_self s
 stopped_loses_of s row (Copied bytes) = loses_self s
 stopped_loses_of s row (Spoiled found) = damaged_loses s row row.digest found
-stopped_loses_of s row (Refused count) = fault_loses s count
+stopped_loses_of s row (ReadRefused count) = fault_loses s count
 
 stopped_front_loses : (s : State) (rows : List Row) (outcomes : List Outcome) → OnlyLoses s (after_all s (stopped_front_of rows outcomes))
 stopped_front_loses s [] outcomes = loses_self s
@@ -182,8 +182,8 @@ are_saved kind p s t streams now left behind (row ∷ rows) (Copied bytes ∷ ou
 )
 are_saved kind p s t streams now left behind (row ∷ rows) (Spoiled found ∷ outcomes) same leads own live h =
     are_saved kind p s (after_all t (records_of row (Spoiled found))) streams now left (behind - row.blocks) rows outcomes same (λ piece c. leads piece (ToRead.ComesTo.behind (Spoiled found) h.0 c)) own.1 live.1 h.1
-are_saved kind p s t streams now left behind (row ∷ rows) (Refused count ∷ outcomes) same leads own live h =
-    are_saved kind p s (after_all t (records_of row (Refused count))) streams now left (behind - row.blocks) rows outcomes same (λ piece c. leads piece (ToRead.ComesTo.behind (Refused count) h.0 c)) own.1 live.1 h.1
+are_saved kind p s t streams now left behind (row ∷ rows) (ReadRefused count ∷ outcomes) same leads own live h =
+    are_saved kind p s (after_all t (records_of row (ReadRefused count))) streams now left (behind - row.blocks) rows outcomes same (λ piece c. leads piece (ToRead.ComesTo.behind (ReadRefused count) h.0 c)) own.1 live.1 h.1
 
 -- the pair of a copied piece is of one to which the flush came
 copy_pair : (kind : Kind) (p : Permit) (s : State) (streams : ℕ → Stream) (now left : ℕ) (c : Copy) → IsSaved kind p s streams now left c → IsPairOf (kind.documents streams) p s c.row → IsCopyPair (kind.documents streams) p s now left

@@ -6,7 +6,7 @@ use Rattle.cache_model.specs.declared.record.Rec.TheVariants as rec
 use Rattle.cache_model.specs.State.{State, Row, cursor_next}
 use Rattle.cache_model.specs.Permit.{Permit, End}
 use Rattle.cache_model.specs.Due.{due_pieces}
-use Rattle.cache_model.specs.Outcomes.{Copied, NoRoom, Outcome, Refused, Spoiled, stopped_front_of, stopped_records_of}
+use Rattle.cache_model.specs.Outcomes.{Copied, NoRoom, Outcome, ReadRefused, Spoiled, stopped_front_of, stopped_records_of}
 use Rattle.cache_model.specs.Legal
 use Rattle.cache_model.specs.Syncing
 use Rattle.cache_model.specs.Syncing.{CannotEnd, DoesCleanSync, DoesSync, DoesSyncStep, MaySyncBehind, StopsBehind, Syncing, Unmarks, at_first, begun_record, ended_records, first_records, sync_records, unmark_records}
@@ -41,7 +41,7 @@ stopped_one : (row : Row) (o : Outcome) → AllSyncing (stopped_records_of row o
 stopped_one row NoRoom = tt
 stopped_one row (Copied bytes) = tt
 stopped_one row (Spoiled found) = (tt, tt)
-stopped_one row (Refused count) = (tt, tt)
+stopped_one row (ReadRefused count) = (tt, tt)
 
 stopped_front : (rows : List Row) (outcomes : List Outcome) → AllSyncing (stopped_front_of rows outcomes)
 stopped_front [] outcomes = tt

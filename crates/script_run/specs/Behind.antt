@@ -14,7 +14,7 @@ use Rattle.script_lang.specs.Grammar.{reading_of}
 use Rattle.device_log.specs.Calls.{Call}
 use Rattle.actor_table.specs.Table.{number_of_name, with_actor}
 use Rattle.cache_model.specs.Damage.{has_damage}
-use Rattle.script_run.specs.Run.{Harm, Run, Stream, Holding, Writes, Reads, no_stream, with_value, put_written_by, held_by, actor_of}
+use Rattle.script_run.specs.Run.{Harm, Run, Stream, Holding, HoldsWriter, HoldsReader, no_stream, with_value, put_written_by, held_by, actor_of}
 use Rattle.script_run.specs.Turn.{Turn}
 use Rattle.script_run.specs.Answers.{took_of}
 
@@ -79,17 +79,17 @@ streams_behind run s t turn _ = run.streams
 
 -- an open writer
 abbrev pub writer_at : State → ℕ → Option Holding
-writer_at t put = if is_writing t put then Some (Writes put) else None
+writer_at t put = if is_writing t put then Some (HoldsWriter put) else None
 
 -- an open reader
 abbrev pub open_reader_at : State → ℕ → Option Holding
-open_reader_at t reader = if is_some (reader_of t reader) then Some (Reads reader) else None
+open_reader_at t reader = if is_some (reader_of t reader) then Some (HoldsReader reader) else None
 
 -- what was held, where it is still open
 abbrev pub still_open : State → Option Holding → Option Holding
 still_open t None = None
-still_open t (Some (Writes put)) = writer_at t put
-still_open t (Some (Reads reader)) = open_reader_at t reader
+still_open t (Some (HoldsWriter put)) = writer_at t put
+still_open t (Some (HoldsReader reader)) = open_reader_at t reader
 
 -- what an actor had, or else what it opened
 abbrev pub or_else : Option Holding → Option Holding → Option Holding

@@ -10,8 +10,8 @@ use Rattle.cache_model.specs.Verdict.{cuts_of}
 
 -- what an actor has: the writer of a put, or a reader
 pub data Holding : Type 0 where
-  Writes : (put : ℕ) → Holding
-  Reads : (reader : ℕ) → Holding
+  HoldsWriter : (put : ℕ) → Holding
+  HoldsReader : (reader : ℕ) → Holding
 
 -- what the writer of a put took; a sealed one takes no more
 pub record Stream : Type 0 where
@@ -91,13 +91,13 @@ held_by run name = run.held (number_of_name run.actors name)
 
 -- the put of a writer; none of a reader
 abbrev pub put_in : Holding → Option ℕ
-put_in (Writes put) = Some put
-put_in (Reads reader) = None
+put_in (HoldsWriter put) = Some put
+put_in (HoldsReader reader) = None
 
 -- the number of a reader; none of a writer
 abbrev pub reader_in : Holding → Option ℕ
-reader_in (Writes put) = None
-reader_in (Reads reader) = Some reader
+reader_in (HoldsWriter put) = None
+reader_in (HoldsReader reader) = Some reader
 
 -- the put that an actor writes; none where it reads or has nothing
 abbrev pub put_written_by : Run → List ℕ → Option ℕ

@@ -9,7 +9,7 @@ ghost use Rattle.stripe_lock.specs.Working.{InHand, KeepsTurns, Works, MayPublis
 use crate::kept::{Job, KeptState};
 use crate::pass::Pass;
 use crate::steps::{
-    About, Both, Cut, Draw, End, Give, Line, Look, Low, Note, Raise, See, Settle, Take,
+    About, Both, Cut, Draw, End, Give, Line, LookUp, Low, Note, Raise, See, Settle, Take,
 };
 use crate::view::View;
 use atomic_table::{Badge, Refused, Seat, Table};
@@ -138,7 +138,7 @@ impl<T: KeptState> Gate<T> {
         ensures turn { seat.new.me ≡ (at_stage called seat.old.me.0, seat.old.me.1) }
     {
         for _ in rt.forever() {
-            let serving = self.table.shared.load::<Look>(seat, SERVING);
+            let serving = self.table.shared.load::<LookUp>(seat, SERVING);
             if serving == ticket {
                 return;
             }

@@ -49,9 +49,9 @@ impl<T: KeptState> Play<T, View<T::Record>> for Draw {
 }
 
 /// Loads `serving`, while it waits.
-pub struct Look;
+pub struct LookUp;
 
-impl<T: KeptState> Play<T, View<T::Record>> for Look {
+impl<T: KeptState> Play<T, View<T::Record>> for LookUp {
     ghost then = { looked };
 }
 

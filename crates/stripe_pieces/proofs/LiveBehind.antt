@@ -14,7 +14,7 @@ use Rattle.cache_model.specs.declared.record.Rec.{Rec}
 use Rattle.cache_model.specs.declared.record.Rec.TheVariants as rec
 use Rattle.cache_model.specs.State.{Row, State, after_all, cursor_next, floor_next, floor_now, live_row_of, moved_row, only_live, place_now, row_in, state_after}
 use Rattle.cache_model.specs.Due.{due_pieces}
-use Rattle.cache_model.specs.Outcomes.{Copied, Copy, NoRoom, Outcome, Refused, Spoiled, began_record, copies_of, flush_records, front_of, moved_record, moved_records, records_of, stopped_front_of, stopped_records, stopped_records_of}
+use Rattle.cache_model.specs.Outcomes.{Copied, Copy, NoRoom, Outcome, ReadRefused, Spoiled, began_record, copies_of, flush_records, front_of, moved_record, moved_records, records_of, stopped_front_of, stopped_records, stopped_records_of}
 use Rattle.cache_model.specs.Tape.{AreApart, IsSound}
 use Rattle.cache_model.proofs.Copies.{AreReady, IsReady, others_stand, rows_of, still_ready}
 use Rattle.cache_model.proofs.Lists.{row_in-copied, row_in-without}
@@ -42,7 +42,7 @@ one_beside : (row : Row) (o : Outcome) → AreBeside (records_of row o)
 one_beside row NoRoom = (tt, tt)
 one_beside row (Copied bytes) = tt
 one_beside row (Spoiled found) = (tt, tt)
-one_beside row (Refused count) = (tt, (tt, tt))
+one_beside row (ReadRefused count) = (tt, (tt, tt))
 
 front_beside : (rows : List Row) (outcomes : List Outcome) → AreBeside (front_of rows outcomes)
 front_beside [] outcomes = tt
@@ -53,7 +53,7 @@ one_stopped : (row : Row) (o : Outcome) → AreBeside (stopped_records_of row o)
 one_stopped row NoRoom = tt
 one_stopped row (Copied bytes) = tt
 one_stopped row (Spoiled found) = (tt, tt)
-one_stopped row (Refused count) = (tt, tt)
+one_stopped row (ReadRefused count) = (tt, tt)
 
 stopped_front : (rows : List Row) (outcomes : List Outcome) → AreBeside (stopped_front_of rows outcomes)
 stopped_front [] outcomes = tt

@@ -23,7 +23,7 @@ use Rattle.cache_model.specs.Due.{due_pieces, is_due}
 use Rattle.cache_model.specs.Given.{CountsWrite, Denied, Took, block_at, bytes_from, effects_told}
 use Rattle.cache_model.specs.Legal
 use Rattle.cache_model.specs.Legal.{CanFlush}
-use Rattle.cache_model.specs.Outcomes.{AreOutcomes, Copied, NoRoom, Outcome, Refused, Spoiled, began_record, copies_of, flush_records, flush_tail, front_of, moved_record, moved_records, records_of, stopped_front_of, stopped_records, stopped_records_of, Copy}
+use Rattle.cache_model.specs.Outcomes.{AreOutcomes, Copied, NoRoom, Outcome, ReadRefused, Spoiled, began_record, copies_of, flush_records, flush_tail, front_of, moved_record, moved_records, records_of, stopped_front_of, stopped_records, stopped_records_of, Copy}
 use Rattle.cache_model.specs.Slots.{AllFit}
 use Rattle.cache_model.specs.Tape.{AreApart, IsSound}
 use Rattle.cache_model.proofs.Copies.{AreReady, blocks_of_copies, rows_of}
@@ -66,13 +66,13 @@ one_count : (row : Row) (o : Outcome) → effects_told (records_of row o) ≡ ef
 one_count row NoRoom = refl
 one_count row (Copied bytes) = refl
 one_count row (Spoiled found) = refl
-one_count row (Refused count) = refl
+one_count row (ReadRefused count) = refl
 
 stopped_count : (row : Row) (o : Outcome) → effects_told (stopped_records_of row o) ≡ effects_of o
 stopped_count row NoRoom = refl
 stopped_count row (Copied bytes) = refl
 stopped_count row (Spoiled found) = refl
-stopped_count row (Refused count) = refl
+stopped_count row (ReadRefused count) = refl
 
 front_counts : {rows : List Row} {outcomes : List Outcome} {fates : List Fate} → AllCame rows outcomes fates → effects_told (front_of rows outcomes) ≡ effects_among outcomes
 front_counts none = refl
@@ -225,7 +225,7 @@ front_unharmed (row ∷ rows) [] h = tt
 front_unharmed (row ∷ rows) (NoRoom ∷ outcomes) h = front_unharmed rows outcomes h.1
 front_unharmed (row ∷ rows) (Copied bytes ∷ outcomes) h = front_unharmed rows outcomes h
 front_unharmed (row ∷ rows) (Spoiled found ∷ outcomes) h = (h.0, front_unharmed rows outcomes h.1)
-front_unharmed (row ∷ rows) (Refused count ∷ outcomes) h = (refl, front_unharmed rows outcomes h.1.1)
+front_unharmed (row ∷ rows) (ReadRefused count ∷ outcomes) h = (refl, front_unharmed rows outcomes h.1.1)
 
 stopped_unharmed : (rows : List Row) (outcomes : List Outcome) (count : ℕ) → TellNoDamage (front_of rows outcomes) → TellNoDamage (stopped_records rows outcomes count)
 stopped_unharmed rows outcomes count h = all_append (λ r. tells_damage r ≡ false) (stopped_front_of rows outcomes) (rec.Fault count ∷ []) (front_unharmed rows outcomes h) (refl, tt)

@@ -13,7 +13,7 @@ use Rattle.tape_base.specs.Geometry.{budget_of}
 use Rattle.evacuator.specs.declared.choosing.Candidate.{Candidate}
 use Rattle.evacuator.specs.Choice.{blocks_of_all}
 use Rattle.cache_model.specs.State.{State, Row}
-use Rattle.cache_model.specs.Outcomes.{Copied, NoRoom, Outcome, Refused, Spoiled}
+use Rattle.cache_model.specs.Outcomes.{Copied, NoRoom, Outcome, ReadRefused, Spoiled}
 use Rattle.stripe_due.specs.Finding.{candidate_of}
 use Rattle.stripe_pieces.specs.declared.ahead.Ahead.{Ahead}
 use Rattle.stripe_pieces.specs.declared.ahead.Fate.{Fate}
@@ -92,7 +92,7 @@ stands_by : (at : ℕ) (row : Row) (o : Outcome) (memory bytes : List ℕ) → I
 stands_by at row NoRoom memory bytes copy here = tt
 stands_by at row (Copied read) memory bytes copy here = here ∙ sym copy
 stands_by at row (Spoiled found) memory bytes copy here = tt
-stands_by at row (Refused count) memory bytes copy here = tt
+stands_by at row (ReadRefused count) memory bytes copy here = tt
 
 -- a part of the memory was written
 pub record IsWrittenAt (at blocks : ℕ) (old new bytes : List ℕ) : Type 0 where

@@ -12,7 +12,7 @@ use Rattle.device_log.proofs.Spans.{span_same}
 use Rattle.doc_header.proofs.Stands.{part_in_front}
 use Rattle.cache_model.specs.State.{State, Row, after_all}
 use Rattle.cache_model.specs.Permit.{Permit}
-use Rattle.cache_model.specs.Outcomes.{AreOutcomes, Copied, IsOutcome, NoRoom, Outcome, Refused, Spoiled, front_of, left_behind, records_of}
+use Rattle.cache_model.specs.Outcomes.{AreOutcomes, Copied, IsOutcome, NoRoom, Outcome, ReadRefused, Spoiled, front_of, left_behind, records_of}
 use Rattle.cache_model.proofs.Steps.{after_all-append, all_append}
 use Rattle.cache_model.proofs.Aside.{aside_leaves}
 use Rattle.cache_model.proofs.Sound.{buffer_left}
@@ -20,7 +20,7 @@ use Rattle.cache_model.proofs.SoundFlush.{aside_of}
 use Rattle.stripe_pieces.specs.declared.ahead.Ahead.{Ahead}
 use Rattle.stripe_pieces.specs.declared.ahead.Fate.{Fate}
 use Rattle.stripe_pieces.specs.Ahead.{AreFates, IsFate, StandFrom, StandsAt, blocks_taken_by, taken_by_all}
-use Rattle.stripe_pieces.specs.Looks.{Looked, LooksOn}
+use Rattle.stripe_pieces.specs.Looks.{HasLooked, LooksOn}
 use Rattle.stripe_pieces.specs.Standing.{AreAsSeen, IsAsSeen}
 use Rattle.stripe_pieces.specs.Faults.{CountsUpTo, HasEffects, effects_among, effects_of}
 use Rattle.stripe_pieces.proofs.Effects.{effects_none, effects_then}
@@ -76,7 +76,7 @@ seen_before : (g : Geometry) (c d : Image) (row : Row) (o : Outcome) → ((j : �
 seen_before g c d row NoRoom same h = tt
 seen_before g c d row (Copied bytes) same h = h ∙ span_same d c (slot_of g row.place) row.blocks (λ j low high. same j)
 seen_before g c d row (Spoiled found) same h = tt
-seen_before g c d row (Refused count) same h = tt
+seen_before g c d row (ReadRefused count) same h = tt
 
 seen_more : (g : Geometry) (c : Image) (rows : List Row) (outcomes : List Outcome) (row : Row) (o : Outcome) → ArePaired rows outcomes → AreAsSeen g c rows outcomes → IsAsSeen g c row o
     → AreAsSeen g c (rows ++ row ∷ []) (outcomes ++ o ∷ [])
@@ -91,7 +91,7 @@ still_stands : (at end : ℕ) (row : Row) (o : Outcome) (old new : List ℕ) →
 still_stands at end row NoRoom old new within same h = tt
 still_stands at end row (Copied bytes) old new within same h = part_in_front (512 * end) (512 * at) (512 * row.blocks) new old (omega arith) same ∙ h
 still_stands at end row (Spoiled found) old new within same h = tt
-still_stands at end row (Refused count) old new within same h = tt
+still_stands at end row (ReadRefused count) old new within same h = tt
 
 stand_more : (at end : ℕ) (rows : List Row) (outcomes : List Outcome) (row : Row) (o : Outcome) (old new : List ℕ) → ArePaired rows outcomes → at + taken_by_all rows outcomes ≡ end
     → take (512 * end) new ≡ take (512 * end) old → StandFrom at rows outcomes old → StandsAt end row o new → StandFrom at (rows ++ row ∷ []) (outcomes ++ o ∷ []) new
@@ -109,7 +109,7 @@ left_is : (left : ℕ) (row : Row) (o : Outcome) → left_behind left row o ≡ 
 left_is left row NoRoom = omega arith
 left_is left row (Copied bytes) = refl
 left_is left row (Spoiled found) = refl
-left_is left row (Refused count) = refl
+left_is left row (ReadRefused count) = refl
 
 outcomes_more : (p : Permit) (s : State) (left : ℕ) (rows : List Row) (outcomes : List Outcome) (row : Row) (o : Outcome) → AreOutcomes p s left rows outcomes
     → IsOutcome p (after_all s (front_of rows outcomes)) (left - taken_by_all rows outcomes) row o → AreOutcomes p s left (rows ++ row ∷ []) (outcomes ++ o ∷ [])
@@ -129,7 +129,7 @@ fault_within : (s : State) (row : Row) (o : Outcome) (faults : ℕ) → s.fault 
 fault_within s row NoRoom faults h k = h
 fault_within s row (Copied bytes) faults h k = h
 fault_within s row (Spoiled found) faults h k = h
-fault_within s row (Refused count) faults h k = k
+fault_within s row (ReadRefused count) faults h k = k
 
 -- the calls that were refused
 effects_more : (outcomes : List Outcome) (o : Outcome) → effects_among (outcomes ++ o ∷ []) ≡ effects_among outcomes ++ effects_of o
@@ -141,7 +141,7 @@ later_count : (before after : ℕ) (o : Outcome) → before ≤ after → Counts
 later_count before after NoRoom last h = h
 later_count before after (Copied bytes) last h = h
 later_count before after (Spoiled found) last h = h
-later_count before after (Refused count) last h = omega (arith, last, h)
+later_count before after (ReadRefused count) last h = omega (arith, last, h)
 
 pub counted_later : (before after : ℕ) (outcomes : List Outcome) → before ≤ after → AllByRecursion (CountsUpTo before) outcomes → AllByRecursion (CountsUpTo after) outcomes
 counted_later before after [] last h = tt
@@ -149,7 +149,7 @@ counted_later before after (o ∷ outcomes) last h = (later_count before after o
 
 -- ---- one piece more
 
-pub looked_none : (s : State) (device : Device) (a : Ahead) → a.fates.items ≡ [] → s.fault ≤ device.faults → Looked s device device [] 0 a
+pub looked_none : (s : State) (device : Device) (a : Ahead) → a.fates.items ≡ [] → s.fault ≤ device.faults → HasLooked s device device [] 0 a
 looked_none s device a none low = record {
   outcomes = [];
   fates = subst (AreFates [] []) (sym none) tt;
@@ -165,7 +165,7 @@ looked_none s device a none low = record {
 }
 
 pub looked_more : (s : State) (before mid after : Device) (rows : List Row) (row : Row) (at end : ℕ) (old new : Ahead) → IsAsked mid after → SeenStays before mid
-    → Looked s before mid rows at old → LooksOn s mid after row at end old new → Looked s before after (rows ++ row ∷ []) end new
+    → HasLooked s before mid rows at old → LooksOn s mid after row at end old new → HasLooked s before after (rows ++ row ∷ []) end new
 looked_more s before mid after rows row at end old new asked stays h k =
     let last : mid.faults ≤ after.faults = asked.later in
     let pair : ArePaired rows h.outcomes = paired rows h.outcomes old.fates.items h.fates in

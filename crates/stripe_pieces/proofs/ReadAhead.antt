@@ -11,7 +11,7 @@ use Rattle.cyclone.specs.Cyclone.{BlocksStand, ReadsBlocks, Seen}
 use Rattle.cache_model.specs.State.{State, Row}
 use Rattle.cache_model.specs.Permit.{Permit}
 use Rattle.cache_model.specs.Given.{IsGiven}
-use Rattle.cache_model.specs.Outcomes.{Copied, Refused, Spoiled}
+use Rattle.cache_model.specs.Outcomes.{Copied, ReadRefused, Spoiled}
 use Rattle.stripe_due.specs.Finding.{candidate_of}
 use Rattle.stripe_pieces.specs.declared.ahead.Fate.{Fate}
 use Rattle.stripe_pieces.specs.declared.ahead.Fate.TheVariants as fate
@@ -70,7 +70,7 @@ module _ (s : State) (c new : Seen) (row : Row) (bytes : List ℕ) (held : IsHel
   pub comes_refused : (count : ℕ) (e : Failed) → ReadsBlocks c new row.place row.blocks (Err e) bytes → count ≡ new.device.faults
       → Comes s c.device new.device row (fate.Refused count) bytes
   comes_refused count e read is = record {
-    outcome = Refused count;
+    outcome = ReadRefused count;
     fate = refl;
     copy = tt;
     taken = refl;

@@ -6,7 +6,7 @@ use Rattle.std.specs.List.{AllByRecursion}
 use Rattle.cache_model.specs.State.{Row, State, after_all, blocks_of_row, floor_now, state_after}
 use Rattle.cache_model.specs.Permit.{Permit}
 use Rattle.cache_model.specs.Tape.{AreApart}
-use Rattle.cache_model.specs.Outcomes.{AreOutcomes, Copied, Copy, NoRoom, Outcome, Refused, Spoiled, copies_of, moved_record, moved_records, records_of}
+use Rattle.cache_model.specs.Outcomes.{AreOutcomes, Copied, Copy, NoRoom, Outcome, ReadRefused, Spoiled, copies_of, moved_record, moved_records, records_of}
 use Rattle.cache_model.specs.Slots.{AllFit, HasSlotForCopy}
 use Rattle.cache_model.proofs.Copies.{AreReady, IsReady, blocks_of_copies, others_stand, rows_of, still_ready}
 use Rattle.cache_model.proofs.FewerRows.{slot_left}
@@ -95,7 +95,7 @@ module _ (packed : Bool) (before : State) (fit : packed ≡ true → AllFit befo
       let few : row.blocks ≤ left = h.0.0 in (
         omega (arith, fits, few),
         tt,
-        are_copyable p (after_all s (records_of row (Refused count))) u (left - row.blocks) (at + row.blocks) memory rest h.1 stand.1 (omega (arith, fits, few)) apart ready
+        are_copyable p (after_all s (records_of row (ReadRefused count))) u (left - row.blocks) (at + row.blocks) memory rest h.1 stand.1 (omega (arith, fits, few)) apart ready
             passed.1 room live.1 lesser,
       )
   are_copyable p s u left at memory (more {rows = rows} {outcomes = outcomes} {fates = fates} row (copied bytes pinned) rest) h stand fits apart ready passed room live lesser =
@@ -125,7 +125,7 @@ copies_within p s left (more {rows = rows} {outcomes = outcomes} row (spoiled fo
     let others : blocks_of_copies (copies_of rows outcomes) ≤ left - row.blocks = copies_within p (after_all s (records_of row (Spoiled found))) (left - row.blocks) rest h.1 in
     omega (arith, others)
 copies_within p s left (more {rows = rows} {outcomes = outcomes} row (refused count n is) rest) h =
-    let others : blocks_of_copies (copies_of rows outcomes) ≤ left - row.blocks = copies_within p (after_all s (records_of row (Refused count))) (left - row.blocks) rest h.1 in
+    let others : blocks_of_copies (copies_of rows outcomes) ≤ left - row.blocks = copies_within p (after_all s (records_of row (ReadRefused count))) (left - row.blocks) rest h.1 in
     omega (arith, others)
 copies_within p s left (more {rows = rows} {outcomes = outcomes} row (copied bytes pinned) rest) h =
     let few : row.blocks ≤ left = h.0.0 in

@@ -11,7 +11,7 @@ use Rattle.evacuator.specs.declared.choosing.Candidate.{Candidate}
 use Rattle.cache_model.specs.declared.record.Rec.TheVariants as rec
 use Rattle.cache_model.specs.State.{Row, State, after_all, live_row_of, only_live, row_in}
 use Rattle.cache_model.specs.Tape.{AreApart, NotAmong}
-use Rattle.cache_model.specs.Outcomes.{Copied, NoRoom, Outcome, Refused, Spoiled, front_of, records_of, stopped_front_of, stopped_records_of}
+use Rattle.cache_model.specs.Outcomes.{Copied, NoRoom, Outcome, ReadRefused, Spoiled, front_of, records_of, stopped_front_of, stopped_records_of}
 use Rattle.cache_model.proofs.Lists.{row_in-without}
 use Rattle.cache_model.proofs.Live.{IsFound}
 use Rattle.cache_model.proofs.Steps.{after_all-append}
@@ -28,13 +28,13 @@ pub data Came (row : Row) : Outcome → Fate → Type 0 where
   no_room : Came row NoRoom fate.NoRoom
   copied : (bytes : List ℕ) (pinned : Bool) → Came row (Copied bytes) (fate.Copied pinned)
   spoiled : (found kept other : Digest) → kept ≡ row.digest → other ≡ found → Came row (Spoiled found) (fate.Spoiled kept other)
-  refused : (count n : ℕ) → n ≡ count → Came row (Refused count) (fate.Refused n)
+  refused : (count n : ℕ) → n ≡ count → Came row (ReadRefused count) (fate.Refused n)
 
 came : (row : Row) (o : Outcome) (f : Fate) → IsFate row o f → Came row o f
 came row NoRoom fate.NoRoom h = no_room
 came row (Copied bytes) (fate.Copied pinned) h = copied bytes pinned
 came row (Spoiled found) (fate.Spoiled kept other) h = spoiled found kept other h.0 h.1
-came row (Refused count) (fate.Refused n) h = refused count n h
+came row (ReadRefused count) (fate.Refused n) h = refused count n h
 came row NoRoom (fate.Copied pinned) h = absurd h
 came row NoRoom (fate.Spoiled kept other) h = absurd h
 came row NoRoom (fate.Refused n) h = absurd h
@@ -44,9 +44,9 @@ came row (Copied bytes) (fate.Refused n) h = absurd h
 came row (Spoiled found) fate.NoRoom h = absurd h
 came row (Spoiled found) (fate.Copied pinned) h = absurd h
 came row (Spoiled found) (fate.Refused n) h = absurd h
-came row (Refused count) fate.NoRoom h = absurd h
-came row (Refused count) (fate.Copied pinned) h = absurd h
-came row (Refused count) (fate.Spoiled kept other) h = absurd h
+came row (ReadRefused count) fate.NoRoom h = absurd h
+came row (ReadRefused count) (fate.Copied pinned) h = absurd h
+came row (ReadRefused count) (fate.Spoiled kept other) h = absurd h
 
 pub data AllCame : List Row → List Outcome → List Fate → Type 0 where
   none : AllCame [] [] []

@@ -11,7 +11,7 @@ use Rattle.cyclone.specs.Cyclone.{SameTape, Seen, WritesBuffer}
 use Rattle.cache_model.specs.State.{Row, State, floor_now, row_in, row_of, state_after}
 use Rattle.cache_model.specs.Due.{due_pieces}
 use Rattle.cache_model.specs.Given.{IsWritten}
-use Rattle.cache_model.specs.Outcomes.{Copied, Copy, NoRoom, Outcome, Refused, Spoiled, copies_of, moved_record}
+use Rattle.cache_model.specs.Outcomes.{Copied, Copy, NoRoom, Outcome, ReadRefused, Spoiled, copies_of, moved_record}
 use Rattle.cache_model.specs.Tape.{AreApart, IsSound}
 use Rattle.cache_model.proofs.Copies.{AreReady, others_stand, rows_of, still_ready}
 use Rattle.cache_model.proofs.Lists.{found_row}
@@ -62,7 +62,7 @@ module _ (contents : Contents) (s : State) (content : Image) (stands : AllByRecu
       let here = found_row (StandsOnDevice contents s content) row.id s.rows row stands at.0 (leb-true (floor_now s) row.place at.1) written in
       subst (HasContent contents s.geometry row) (sym seen) here
   one_told row (Spoiled found) live written seen = tt
-  one_told row (Refused count) live written seen = tt
+  one_told row (ReadRefused count) live written seen = tt
 
   all_told : (rows : List Row) (outcomes : List Outcome) → AllByRecursion (IsFound s) rows → AllByRecursion (IsWritten s) rows → AreAsSeen s.geometry content rows outcomes
       → AreToldOutcomes contents s.geometry rows outcomes

@@ -7,7 +7,7 @@ use Rattle.logged_disk.specs.Device.{DeviceState as Device, IsAfter, TellsAll, s
 use Rattle.cache_model.specs.State.{Row, State}
 use Rattle.cache_model.specs.Permit.{Permit}
 use Rattle.cache_model.specs.Due.{due_pieces}
-use Rattle.cache_model.specs.Outcomes.{AreOutcomes, Copied, NoRoom, Outcome, Refused, Spoiled, front_of}
+use Rattle.cache_model.specs.Outcomes.{AreOutcomes, Copied, NoRoom, Outcome, ReadRefused, Spoiled, front_of}
 use Rattle.stripe_due.specs.Finding.{due_candidates, most_passed}
 use Rattle.stripe_pieces.specs.declared.ahead.Ahead.{Ahead}
 use Rattle.stripe_pieces.specs.declared.ahead.Fate.{Fate}
@@ -29,7 +29,7 @@ abbrev pub IsFate : Row → Outcome → Fate → Type 0
 IsFate row NoRoom fate.NoRoom = Unit {0}
 IsFate row (Copied bytes) (fate.Copied pinned) = pinned ≡ not (row.pin == 0)
 IsFate row (Spoiled found) (fate.Spoiled kept other) = (kept ≡ row.digest) × (other ≡ found)
-IsFate row (Refused count) (fate.Refused n) = n ≡ count
+IsFate row (ReadRefused count) (fate.Refused n) = n ≡ count
 IsFate row _ _ = ⊥
 
 -- of each piece in turn

@@ -4,7 +4,7 @@ use Rattle.device_log.specs.Calls.{Call}
 use Rattle.cache_model.specs.declared.record.Rec.{Rec}
 use Rattle.cache_model.specs.Kept.{Kept, with_records}
 use Rattle.cache_model.specs.Given.{Effect, Denied, effects_in, effects_told}
-use Rattle.cache_model.specs.Outcomes.{Outcome, Refused}
+use Rattle.cache_model.specs.Outcomes.{Outcome, ReadRefused}
 
 -- the calls between two moments of a device's log have these effects
 pub record HasEffects (before after : List Call) (effects : List Effect) : Type 0 where
@@ -14,12 +14,12 @@ pub record HasEffects (before after : List Call) (effects : List Effect) : Type 
 
 -- where a piece was refused, the count is not above this one
 abbrev pub CountsUpTo : ℕ → Outcome → Type 0
-CountsUpTo faults (Refused count) = count ≤ faults
+CountsUpTo faults (ReadRefused count) = count ≤ faults
 CountsUpTo faults _ = Unit {0}
 
 -- the effect of the read of a piece: a refusal has one
 abbrev pub effects_of : Outcome → List Effect
-effects_of (Refused count) = Denied count ∷ []
+effects_of (ReadRefused count) = Denied count ∷ []
 effects_of _ = []
 
 -- of each piece in turn

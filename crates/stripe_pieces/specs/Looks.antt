@@ -92,7 +92,7 @@ pub record LooksOn (s : State) (before after : Device) (row : Row) (at end : ℕ
       → IsOutcome p t (budget_of s.geometry - at) row outcome
 
 -- the pieces of these rows were looked at within the budget, and so many blocks of memory are taken
-pub record Looked (s : State) (before after : Device) (rows : List Row) (end : ℕ) (a : Ahead) : Type 0 where
+pub record HasLooked (s : State) (before after : Device) (rows : List Row) (end : ℕ) (a : Ahead) : Type 0 where
   pub outcomes : List Outcome
   pub fates : AreFates rows outcomes a.fates.items
   pub stand : StandFrom 0 rows outcomes a.bytes.items

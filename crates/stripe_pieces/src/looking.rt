@@ -9,7 +9,7 @@ ghost use Rattle.cache_model.specs.State.{Row};
 ghost use Rattle.stripe_actors.specs.Actors.{AreActors};
 ghost use Rattle.stripe_due.specs.Finding.{candidate_of, most_passed};
 ghost use Rattle.stripe_pieces.specs.Ahead.{IsMadeFor, LooksAhead};
-ghost use Rattle.stripe_pieces.specs.Looks.{AreOfRows, Comes, HasCandidateRows, HasRow, IsJudgedAs, Looked, LooksOn, MayBeCopied, blocks_kept};
+ghost use Rattle.stripe_pieces.specs.Looks.{AreOfRows, Comes, HasCandidateRows, HasRow, IsJudgedAs, HasLooked, LooksOn, MayBeCopied, blocks_kept};
 
 use crate::Pieces;
 use crate::ahead::{Ahead, Fate};
@@ -72,7 +72,7 @@ impl<D: Disk, R: Directory + Drop, C: Chronicle> Pieces<D, R, C> {
         ensures ahead { IsMadeFor (state_now self.old).geometry ahead.new }
         ensures due { ahead.new.due.items ≡ ahead.old.due.items }
         ensures looked { (rows : List Row) → AreOfRows (state_now self.old) ahead.old.due.items rows
-            → (end : ℕ) × Looked (state_now self.old) (seen_now self.old).device
+            → (end : ℕ) × HasLooked (state_now self.old) (seen_now self.old).device
             (seen_now self.new).device rows end ahead.new }
     {
         ahead.fates.clear();

@@ -1,11 +1,11 @@
 use Rattle.std.proofs.Common.{◌∙◌, refl}
-use Rattle.cache_replay.specs.WriterLines.{Closes}
+use Rattle.cache_replay.specs.WriterLines.{ClosesLine}
 use Rattle.cache_replay.proofs.ActorWriters.{writer_answers, writer_idles}
 use Rattle.cache_replay.proofs.writer_lines.close_in.Goals as goal
 
 pub returns-in-Some : goal.returns-in-Some
 returns-in-Some g c = record {
-  line = writer_answers c.args.now Closes tt c.args.part.now _ c.args.actors.now c.number.new.self c.take_writer.new.actors c.set_back.new.actors c.args.actor.now c.in-Ok.number
+  line = writer_answers c.args.now ClosesLine tt c.args.part.now _ c.args.actors.now c.number.new.self c.take_writer.new.actors c.set_back.new.actors c.args.actor.now c.in-Ok.number
       c.in-Some.writer
       c.finish-outcome.result.left c.finish-outcome.result.answer c.set_back.result c.in-Ok.ensures.number c.number.ensures.slots
       (c.set_back.ensures.names ∙ (c.in-Some.ensures.names ∙ c.in-Ok.ensures.names)) c.requires.active c.in-Some.ensures.takes c.set_back.ensures.slots refl
@@ -16,6 +16,6 @@ returns-in-Some g c = record {
 
 pub returns-in-None : goal.returns-in-None
 returns-in-None g c = record {
-  line = writer_idles c.args.now Closes tt c.args.part.now c.args.actors.now c.number.new.self c.take_writer.new.actors c.args.actor.now c.in-Ok.number c.idle.result c.idle.ensures
+  line = writer_idles c.args.now ClosesLine tt c.args.part.now c.args.actors.now c.number.new.self c.take_writer.new.actors c.args.actor.now c.in-Ok.number c.idle.result c.idle.ensures
       c.in-Ok.ensures.number c.number.ensures.slots (c.in-None.ensures.names ∙ c.in-Ok.ensures.names) c.requires.active c.in-None.ensures.takes;
 }

@@ -2,7 +2,7 @@ use Rattle.std.proofs.Common.{◌≤◌, sym, subst}
 use Rattle.std.specs.Prelude.{IfSome, option_map}
 use Rattle.cache_calls.specs.Keeping.{state_at}
 use Rattle.run_promise.specs.Outline.{count_in}
-use Rattle.cache_replay.specs.WriterLines.{Closes, WriterDoes}
+use Rattle.cache_replay.specs.WriterLines.{ClosesLine, WriterDoes}
 use Rattle.cache_replay.proofs.Frames.{losses_kept}
 use Rattle.cache_replay.proofs.Closings.{closed_counts, closes_as_open, closes_line, rested_put, some_when}
 use Rattle.cache_replay.proofs.WriterSteps.{is_left, left_seen}
@@ -34,7 +34,7 @@ returns-clause-does g c =
     let last = g.S.Calls.written c.close_write-result.new.writer in
     let left = option_map g.S.Calls.written c.keep_open.result in
     let h = c.close_write-result.ensures in
-    subst (WriterDoes c.args.now a b Closes w left) (sym c.closed_answer.ensures)
+    subst (WriterDoes c.args.now a b ClosesLine w left) (sym c.closed_answer.ensures)
     (closes_line c.args.now a b c.requires.plain (g.met.S.Calls.at_rest c.close_write-result.new.self h.keeps.goes_on.holds_then).quiet
     w last left c.requires.writer h.writer.rested (left_seen g.S.Calls.written (state_at b) c.close_write-result.new.writer c.keep_open.result c.keep_open.ensures)
     c.close_write-result.result h.gives h.serves h.writer.seals)

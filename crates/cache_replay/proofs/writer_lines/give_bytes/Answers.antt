@@ -2,7 +2,7 @@ use Rattle.std.proofs.Common.{◌≤◌, length, sym, subst}
 use Rattle.std.specs.Prelude.{IfSome, option_map}
 use Rattle.cache_calls.specs.Keeping.{state_at}
 use Rattle.run_promise.specs.Outline.{count_in}
-use Rattle.cache_replay.specs.WriterLines.{Feeds, WriterDoes}
+use Rattle.cache_replay.specs.WriterLines.{FeedsLine, WriterDoes}
 use Rattle.cache_replay.proofs.Closings.{some_when}
 use Rattle.cache_replay.proofs.Fed.{fed_counts, feeds_line}
 use Rattle.cache_replay.proofs.WriterSteps.{is_left, left_seen}
@@ -32,7 +32,7 @@ returns-clause-does g c =
     let last = g.S.Calls.written c.feed-taken.new.writer in
     let left = option_map g.S.Calls.written c.keep_open.result in
     let h = c.feed-taken.ensures in
-    subst (WriterDoes c.args.now a b (Feeds c.args.body.now) w left) (sym c.fed_answer.ensures)
+    subst (WriterDoes c.args.now a b (FeedsLine c.args.body.now) w left) (sym c.fed_answer.ensures)
     (feeds_line c.args.now a b c.requires.plain (g.met.S.Calls.at_rest c.feed-taken.new.cache h.keeps.goes_on.holds_then).quiet
     w last c.args.body.now c.feed-taken.result.taken left c.requires.writer h.fed.fed h.fed.most
     (left_seen g.S.Calls.written (state_at b) c.feed-taken.new.writer c.keep_open.result c.keep_open.ensures)

@@ -6,11 +6,11 @@ use Rattle.cache_replay.specs.Session.{return_in}
 use Rattle.cache_replay.proofs.Order.{none_back, none_out, order_closed, order_then}
 use Rattle.logged_disk.specs.Device.{DeviceState as Device}
 use Rattle.script_run.specs.Ledger.{AreLast, AreReached, ledger_of}
-use Rattle.run_promise.specs.Story.{Owes, Told, refusals_around}
+use Rattle.run_promise.specs.Story.{Owes, DevicesTold, refusals_around}
 use Rattle.run_promise.specs.Top.{EachBack, EachBackOrMore}
 use Rattle.cache_tool.proofs.Stories.{Deals-settled}
 use Rattle.cache_tool.proofs.Ends.{nothing_back, none_own, nothing_ends, Ends-settled, gave_settled, wants_settled}
-use Rattle.cache_tool.proofs.Unfailed.{unfailed_in_order}
+use Rattle.cache_tool.proofs.Steady.{steady_in_order}
 use Rattle.cache_tool.proofs.top.replay.Goals as goal
 
 pub returns-in_default-clause-ends : goal.returns-in_default-clause-ends
@@ -28,7 +28,7 @@ returns-clause-ends g c =
     let bay = refusals_around (refusals_of (g.B.Bay.past c.args.bay.now)) (refusals_of (g.B.Bay.past c.run_lines-ending.new.bay)) in
     let ledger = ledger_of g.B.Bay c.args.bay.now in
     let closed = ledger_of g.B.Bay c.close.new.bay in
-    let settle : (t : Told) → Owes ledger (ledger_of g.B.Bay c.run_lines-ending.new.bay) (λ harms. AreReached harms (return_in c.run_lines-ending.new.session)) t → EachBack ledger closed t =
+    let settle : (t : DevicesTold) → Owes ledger (ledger_of g.B.Bay c.run_lines-ending.new.bay) (λ harms. AreReached harms (return_in c.run_lines-ending.new.session)) t → EachBack ledger closed t =
     λ t owes. Deals-settled _ _ _ t.ended _ t.names owes.deals (c.close.ensures.back t.own owes.reached) c.close.ensures.gives.names in
     let ends = Ends-settled bay (g.S.Source.reads (source_of reader).now) (g.S.Source.reads (source_of after).now) (g.K.Sink.writes c.args.sink.now) (g.K.Sink.writes c.run_lines-ending.new.sink) _ (EachBack ledger closed)
     _ (EachBackOrMore ledger closed) settle
@@ -68,8 +68,8 @@ returns-clause-order g c =
 pub returns-clause-refusals : goal.returns-clause-refusals
 returns-clause-refusals g c = λ other. c.close.ensures.gives.refusals ∙ c.run_lines-ending.ensures.refusals other
 
-pub returns-in_default-clause-unfailed : goal.returns-in_default-clause-unfailed
-returns-in_default-clause-unfailed g c = unfailed_in_order _ [] _ _ (returns-in_default-clause-order g c) (g.met.B.Bay.is_log c.args.bay.now)
+pub returns-in_default-clause-steady : goal.returns-in_default-clause-steady
+returns-in_default-clause-steady g c = steady_in_order _ [] _ _ (returns-in_default-clause-order g c) (g.met.B.Bay.is_log c.args.bay.now)
 
-pub returns-clause-unfailed : goal.returns-clause-unfailed
-returns-clause-unfailed g c = unfailed_in_order _ [] _ _ (returns-clause-order g c) (g.met.B.Bay.is_log c.close.new.bay)
+pub returns-clause-steady : goal.returns-clause-steady
+returns-clause-steady g c = steady_in_order _ [] _ _ (returns-clause-order g c) (g.met.B.Bay.is_log c.close.new.bay)
