@@ -14,8 +14,8 @@ use Rattle.cache_model.specs.State.{Row, row_in}
 use Rattle.cache_model.specs.State as state
 use Rattle.cache_chronicle.specs.declared.payloads.Payload.{Payload}
 use Rattle.cache_chronicle.specs.declared.pieces.KeptPiece.{KeptPiece}
-use Rattle.cache_chronicle.specs.declared.vectors.LastVector.{LastVector}
-use Rattle.cache_chronicle.specs.declared.vectors.LastVector.TheVariants.{Complete, TakenOut}
+use Rattle.cache_chronicle.specs.declared.vectors.NotedVector.{NotedVector}
+use Rattle.cache_chronicle.specs.declared.vectors.NotedVector.TheVariants.{Complete, TakenOut}
 use Rattle.cache_chronicle.specs.LivePieces.{kept_payload, kept_piece}
 
 -- what was cut last is that of the state
@@ -28,7 +28,7 @@ pub record IsRowOfPiece (piece : PieceId) (standing : KeptPiece) (row : Row) : T
   pub stands : standing ≡ kept_piece row
 
 -- the last vector as the state has it
-abbrev pub told_vector : LastVector → state.LastVector
+abbrev pub told_vector : NotedVector → state.LastVector
 told_vector (Complete put) = state.Complete put
 told_vector (TakenOut put) = state.TakenOut put
 
@@ -49,7 +49,7 @@ abbrev pub HasUnsaved : {S : Type 0} → HashSet ℕ S → List ℕ → Type 0
 HasUnsaved m unsaved = (place : ℕ) → contains nat_eq m place ≡ list_any (λ p. p == place) unsaved
 
 -- of each key its last vector
-abbrev pub HasVectors : {S : Type 0} → HashMap Key LastVector S → List (Key × state.LastVector) → Type 0
+abbrev pub HasVectors : {S : Type 0} → HashMap Key NotedVector S → List (Key × state.LastVector) → Type 0
 HasVectors m vectors = (key : Key) → option_map told_vector (get same_key m key) ≡ lookup (λ k. same_key k key) vectors
 
 -- of each key the put that was given up last

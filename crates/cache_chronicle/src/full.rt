@@ -10,7 +10,7 @@ ghost use Rattle.cache_chronicle.specs.LivePieces.{kept_piece};
 use crate::Chronicle;
 use crate::pieces::{KeptPiece, vector_piece};
 use crate::tables::Tables;
-use crate::vectors::{LastVector, last_of};
+use crate::vectors::{NotedVector, last_of};
 use cache_model::{Cause, Rec};
 use std::alloc::{AllocError, Global};
 use std::marker::Model;
@@ -142,8 +142,8 @@ impl Chronicle for FullChronicle {
 
     fn why(&self, key: Key) -> Cause {
         match last_of(&self.tables.vectors, key) {
-            Some(LastVector::Complete(put)) => self.cause_of_vector(key, put),
-            Some(LastVector::TakenOut(_)) => Cause::Removed,
+            Some(NotedVector::Complete(put)) => self.cause_of_vector(key, put),
+            Some(NotedVector::TakenOut(_)) => Cause::Removed,
             None => self.cause_without_vector(key),
         }
     }
@@ -154,8 +154,8 @@ impl Chronicle for FullChronicle {
 
     fn vector_of(&self, key: Key) -> Option<PieceId> {
         match last_of(&self.tables.vectors, key) {
-            Some(LastVector::Complete(put)) => Some(vector_piece(key, put)),
-            Some(LastVector::TakenOut(_)) | None => None,
+            Some(NotedVector::Complete(put)) => Some(vector_piece(key, put)),
+            Some(NotedVector::TakenOut(_)) | None => None,
         }
     }
 

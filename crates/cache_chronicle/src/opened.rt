@@ -11,7 +11,7 @@ use crate::counts::Counts;
 use crate::losses::Places;
 use crate::payloads::payload_of_found;
 use crate::pieces::{KeptPiece, Pieces};
-use crate::vectors::{LastVector, Vectors};
+use crate::vectors::{NotedVector, Vectors};
 use alternate_vector::Vector;
 use cache_model::{FoundList, FoundRow};
 
@@ -92,7 +92,7 @@ fn note_first_vector(vectors: &mut Vectors, found: &FoundRow)
     if found.id.index == 0 {
         let noted: Result<_, _> = vectors.insert(
             found.id.first,
-            LastVector::Complete(found.id.put),
+            NotedVector::Complete(found.id.put),
         );
         let _ = noted.unwrap();
     }

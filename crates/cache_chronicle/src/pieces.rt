@@ -7,7 +7,7 @@ ghost use Rattle.cache_chronicle.specs.Weight.{weight_of};
 
 use crate::opened::note_found_pieces;
 use crate::payloads::{Payload, payload_placed};
-use crate::vectors::{LastVector, Vectors, last_of};
+use crate::vectors::{NotedVector, Vectors, last_of};
 use cache_model::Rec;
 use std::collections::HashMap;
 use tape_base::{Digest, Key, PieceId};
@@ -127,11 +127,11 @@ fn take_out(pieces: &mut Pieces, piece: PieceId)
 }
 
 // A key's earlier vector goes where another is committed.
-fn take_out_earlier(pieces: &mut Pieces, earlier: Option<LastVector>, key: Key, put: u64)
+fn take_out_earlier(pieces: &mut Pieces, earlier: Option<NotedVector>, key: Key, put: u64)
     ensures has { (rows : List Row) → HasRows pieces.old rows → HasRows pieces.new (without_earlier key put (option_map told_vector earlier) rows) }
     ensures spare { spare pieces.old ≤ spare pieces.new }
 {
-    if let Some(LastVector::Complete(old)) = earlier
+    if let Some(NotedVector::Complete(old)) = earlier
         && old != put
     {
         take_out(pieces, vector_piece(key, old));

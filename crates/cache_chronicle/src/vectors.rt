@@ -13,14 +13,14 @@ use tape_base::Key;
 
 /// The last of a key's commits and removals, by the put of its vector.
 #[derive(Clone, Copy)]
-pub(crate) enum LastVector {
+pub(crate) enum NotedVector {
     Complete(u64),
     TakenOut(u64),
 }
 
-pub(crate) type Vectors = HashMap<Key, LastVector>;
+pub(crate) type Vectors = HashMap<Key, NotedVector>;
 
-pub(crate) fn last_of(vectors: &Vectors, key: Key) -> Option<LastVector>
+pub(crate) fn last_of(vectors: &Vectors, key: Key) -> Option<NotedVector>
     ensures { result ≡ get same_key vectors.now key }
 {
     vectors.get(&key).copied()
@@ -39,11 +39,11 @@ pub(crate) fn note_vector(vectors: &mut Vectors, rec: &Rec)
             note_found_vectors(vectors, list);
         }
         Rec::Committed { put, key, .. } => {
-            let noted: Result<_, _> = vectors.insert(key, LastVector::Complete(put));
+            let noted: Result<_, _> = vectors.insert(key, NotedVector::Complete(put));
             let _ = noted.unwrap();
         }
         Rec::Removed { put, key } => {
-            let noted: Result<_, _> = vectors.insert(key, LastVector::TakenOut(put));
+            let noted: Result<_, _> = vectors.insert(key, NotedVector::TakenOut(put));
             let _ = noted.unwrap();
         }
         _ => {}

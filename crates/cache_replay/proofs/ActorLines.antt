@@ -27,7 +27,7 @@ use Rattle.script_run.specs.Answers.{session_said}
 use Rattle.script_run.specs.Behind.{actors_behind, held_behind, holds_behind, in_session, streams_behind}
 use Rattle.script_run.specs.Own.{AreOwn}
 use Rattle.script_run.specs.Takes.{GivesOwn}
-use Rattle.cache_replay.specs.declared.session.Holding.{Holding}
+use Rattle.cache_replay.specs.declared.session.ActorHolding.{ActorHolding}
 use Rattle.cache_replay.specs.declared.session.Part.{Part}
 use Rattle.cache_replay.specs.declared.stop.Stop.{Stop}
 use Rattle.cache_replay.specs.declared.stop.Stop.TheVariants.{Memory}
@@ -71,17 +71,17 @@ pub changed_to_same : (before after : ℕ → Option HoldingSeen) (n : ℕ) (x :
 changed_to_same before after n x changed had = λ m.
     changed m ∙ (ap (λ (o : Option HoldingSeen). if m == n then o else before m) (sym had) ∙ with_same before n m (m == n) refl)
 
-module _ {S W R : Type 0} (c : CallsGhosts S W R) (before after : TableSeen (Holding W R)) where
+module _ {S W R : Type 0} (c : CallsGhosts S W R) (before after : TableSeen (ActorHolding W R)) where
   pub seen_same : ((n : ℕ) → slot_of_actor after.slots n ≡ slot_of_actor before.slots n) → (n : ℕ)
       → slots_of c after n ≡ slots_of c before n
   seen_same same = λ n. ap (option_map (holding_seen c)) (same n)
 
-  given : (b : Bool) (x : Holding W R) (o : Option (Holding W R))
+  given : (b : Bool) (x : ActorHolding W R) (o : Option (ActorHolding W R))
       → option_map (holding_seen c) (if b then Some x else o) ≡ (if b then Some (holding_seen c x) else option_map (holding_seen c) o)
   given true x o = refl
   given false x o = refl
 
-  pub seen_set : (n : ℕ) (x : Holding W R)
+  pub seen_set : (n : ℕ) (x : ActorHolding W R)
       → ((m : ℕ) → slot_of_actor after.slots m ≡ (if m == n then Some x else slot_of_actor before.slots m))
       → Changed (slots_of c before) (slots_of c after) n (Some (holding_seen c x))
   seen_set n x set = λ m. ap (option_map (holding_seen c)) (set m) ∙ given (m == n) x (slot_of_actor before.slots m)
@@ -155,7 +155,7 @@ module _ {S W R : Type 0} {c : CallsGhosts S W R} where
 
   -- ---- a line of an actor for which memory was wanting, and of which nothing is recorded
 
-  pub wanting_line : (now : ℕ) (step : Step) (old new : Part S W R c) (before after : TableSeen (Holding W R)) (name : List ℕ) (result : Result StepAnswer Stop)
+  pub wanting_line : (now : ℕ) (step : Step) (old new : Part S W R c) (before after : TableSeen (ActorHolding W R)) (name : List ℕ) (result : Result StepAnswer Stop)
       → IsErrAnd result (λ why. why ≡ Memory) → IsActive old (slots_of c before) → KeepsUnharmed c.at c.holds old.cache new.cache → IsAtRest (at_in new)
       → length new.page.items ≡ length old.page.items → IsAsItWas (at_in old) (at_in new)
       → ((m : ℕ) → slots_of c after m ≡ slots_of c before m) → after.names ≡ with_actor before.names name
@@ -173,7 +173,7 @@ module _ {S W R : Type 0} {c : CallsGhosts S W R} where
 
   -- ---- a line of an actor that does nothing
 
-  module _ (part : Part S W R c) (before after : TableSeen (Holding W R)) (step : Step) (name : List ℕ) (actor : actor_of step ≡ Some name)
+  module _ (part : Part S W R c) (before after : TableSeen (ActorHolding W R)) (step : Step) (name : List ℕ) (actor : actor_of step ≡ Some name)
       (names : after.names ≡ with_actor before.names name) (same : (m : ℕ) → slots_of c after m ≡ slots_of c before m) (active : IsActive part (slots_of c before)) where
     still_moves : (run : Run) (said : StepAnswer) → PlaysPart run part before → DoesNothing run (state_in_part part) step name said
         → MovesOrShows run step (at_in part) (at_in part) said

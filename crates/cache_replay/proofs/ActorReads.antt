@@ -15,7 +15,7 @@ use Rattle.script_run.specs.Asked as asks
 use Rattle.script_run.specs.Answers as says
 use Rattle.script_run.specs.Behind.{still_open}
 use Rattle.script_run.specs.Takes.{IsNextPiece}
-use Rattle.cache_replay.specs.declared.session.Holding.{Holding}
+use Rattle.cache_replay.specs.declared.session.ActorHolding.{ActorHolding}
 use Rattle.cache_replay.specs.declared.session.Part.{Part}
 use Rattle.cache_replay.specs.declared.stop.Stop.{Stop}
 use Rattle.cache_replay.specs.declared.stop.Stop.TheVariants.{Memory}
@@ -41,7 +41,7 @@ if_then (Ok x) f h = f x h
 if_then (Err e) f h = h
 
 module _ {S W R : Type 0} {c : CallsGhosts S W R} where
-  module _ (laws : IsLawful c) (old new : Part S W R c) (before mid after : TableSeen (Holding W R)) (name : List ℕ) (n : ℕ) (r later : ReaderSeen)
+  module _ (laws : IsLawful c) (old new : Part S W R c) (before mid after : TableSeen (ActorHolding W R)) (name : List ℕ) (n : ℕ) (r later : ReaderSeen)
       (number : n ≡ number_of_name before.names name) (names : after.names ≡ with_actor before.names name) (taken : Took (slots_of c before) (slots_of c mid) n r)
       (set : Changed (slots_of c mid) (slots_of c after) n (Some (ReaderHeld later))) (active : IsActive old (slots_of c before))
       (leaves : LeavesReader c old.cache new.cache r.reader) (rest : IsAtRest (at_in new)) (page : length new.page.items ≡ length old.page.items)
@@ -84,7 +84,7 @@ module _ {S W R : Type 0} {c : CallsGhosts S W R} where
     }
 
   -- an actor without a reader
-  pub next_idle : (now : ℕ) (part : Part S W R c) (before after : TableSeen (Holding W R)) (name : List ℕ) (n : ℕ) (said : StepAnswer) → said ≡ says.idle
+  pub next_idle : (now : ℕ) (part : Part S W R c) (before after : TableSeen (ActorHolding W R)) (name : List ℕ) (n : ℕ) (said : StepAnswer) → said ≡ says.idle
       → n ≡ number_of_name before.names name → after.names ≡ with_actor before.names name
       → ((m : ℕ) → slots_of c after m ≡ slots_of c before m)
       → None ≡ reader_held (slots_of c before n) → IsActive part (slots_of c before) → AnswersActor now (step.Next name) part part before after (Ok said)

@@ -25,7 +25,7 @@ use Rattle.script_run.specs.Turn.{Turn}
 use Rattle.script_run.specs.Behind.{holds_behind, in_session, of_put, or_else, still_open, streams_behind, streams_closed, streams_fed, streams_opened, writer_at}
 use Rattle.script_run.specs.Own.{AreOwn, AreWriting}
 use Rattle.script_run.proofs.Fragments.{own_is_kept}
-use Rattle.cache_replay.specs.declared.session.Holding.{Holding}
+use Rattle.cache_replay.specs.declared.session.ActorHolding.{ActorHolding}
 use Rattle.cache_replay.specs.declared.session.Part.{Part}
 use Rattle.cache_replay.specs.declared.stop.Stop.{Stop}
 use Rattle.cache_replay.specs.declared.stop.Stop.TheVariants.{Memory}
@@ -219,7 +219,7 @@ some_at P o x is h = subst (λ y. IfSome y P) is h
 
 module _ {S W R : Type 0} (c : CallsGhosts S W R) where
   -- what the actors have once one was numbered, its writer was taken, and what is left was given back
-  pub given_back : (actors numbered taken last : TableSeen (Holding W R)) (n : ℕ) (w : W) (left : Option WriterSeen) → ((m : ℕ) → slot_of_actor numbered.slots m ≡ slot_of_actor actors.slots m)
+  pub given_back : (actors numbered taken last : TableSeen (ActorHolding W R)) (n : ℕ) (w : W) (left : Option WriterSeen) → ((m : ℕ) → slot_of_actor numbered.slots m ≡ slot_of_actor actors.slots m)
       → TakesWriter c numbered taken n (Some w) → ((m : ℕ) → slots_of c last m ≡ (if m == n then held_in left else slots_of c taken m))
       → Changed (slots_of c actors) (slots_of c last) n (held_in left)
   given_back actors numbered taken last n w left same takes back = λ m. back m ∙ by m (m == n) refl
@@ -230,7 +230,7 @@ module _ {S W R : Type 0} (c : CallsGhosts S W R) where
 
 module _ {S W R : Type 0} {c : CallsGhosts S W R} where
   -- a line on the writer of a put, as it ends beside each run
-  module _ (now : ℕ) (line : WriterLine) (part new : Part S W R c) (actors last : TableSeen (Holding W R)) (name : List ℕ) (n put : ℕ) (left : Option W) (given : Option StepAnswer)
+  module _ (now : ℕ) (line : WriterLine) (part new : Part S W R c) (actors last : TableSeen (ActorHolding W R)) (name : List ℕ) (n put : ℕ) (left : Option W) (given : Option StepAnswer)
       (number : n ≡ number_of_name actors.names name) (names : last.names ≡ with_actor actors.names name) (active : IsActive part (slots_of c actors))
       (others : OthersElse (slots_of c actors) n (Some put) None) (changed : Changed (slots_of c actors) (slots_of c last) n (held_in (option_map c.written left)))
       (page : new.page ≡ part.page) (lawful : IsLawful c) (leaves : LeavesWriter c part.cache new.cache put left given) where
@@ -361,7 +361,7 @@ module _ {S W R : Type 0} {c : CallsGhosts S W R} where
     writer_stands (OpensLine key pin request response) on m w played at_hand rest own writing grows stays stands = absurd on
 
   -- a line on the writer that an actor has
-  pub writer_answers : (now : ℕ) (line : WriterLine) → IsOnWriter line → (part new : Part S W R c) (actors numbered taken last : TableSeen (Holding W R)) (name : List ℕ) (n : ℕ)
+  pub writer_answers : (now : ℕ) (line : WriterLine) → IsOnWriter line → (part new : Part S W R c) (actors numbered taken last : TableSeen (ActorHolding W R)) (name : List ℕ) (n : ℕ)
       (w : W) (left : Option W)
       (given : Option StepAnswer) (result : Result StepAnswer Stop) → n ≡ number_of_name actors.names name → ((m : ℕ) → slot_of_actor numbered.slots m ≡ slot_of_actor actors.slots m)
       → last.names ≡ with_actor actors.names name → IsActive part (slots_of c actors)
@@ -391,7 +391,7 @@ module _ {S W R : Type 0} {c : CallsGhosts S W R} where
       ))
 
   -- an actor that has none
-  pub writer_idles : (now : ℕ) (line : WriterLine) → IsOnWriter line → (part : Part S W R c) (actors numbered taken : TableSeen (Holding W R)) (name : List ℕ) (n : ℕ)
+  pub writer_idles : (now : ℕ) (line : WriterLine) → IsOnWriter line → (part : Part S W R c) (actors numbered taken : TableSeen (ActorHolding W R)) (name : List ℕ) (n : ℕ)
       (said : StepAnswer)
       → said ≡ idle → n ≡ number_of_name actors.names name → ((m : ℕ) → slot_of_actor numbered.slots m ≡ slot_of_actor actors.slots m) → taken.names ≡ with_actor actors.names name
       → IsActive part (slots_of c actors) → TakesWriter c numbered taken n None
@@ -407,7 +407,7 @@ module _ {S W R : Type 0} {c : CallsGhosts S W R} where
       (ap (λ k. still_open (state_in_part part) (run.held k)) (sym at) ∙ (none.1 ∙ ap run.held at))) refl)
 
   -- an actor that has nothing opens a writer
-  pub open_answers : (now : ℕ) (part new : Part S W R c) (actors numbered last : TableSeen (Holding W R)) (name : List ℕ) (key : Key) (pin : ℕ) (request response : List Field) (n : ℕ)
+  pub open_answers : (now : ℕ) (part new : Part S W R c) (actors numbered last : TableSeen (ActorHolding W R)) (name : List ℕ) (key : Key) (pin : ℕ) (request response : List Field) (n : ℕ)
       (left : Option W)
       (given : Option StepAnswer) (result : Result StepAnswer Stop) → n ≡ number_of_name actors.names name → ((m : ℕ) → slot_of_actor numbered.slots m ≡ slot_of_actor actors.slots m)
       → last.names ≡ with_actor actors.names name → IsActive part (slots_of c actors)
@@ -437,8 +437,8 @@ module _ {S W R : Type 0} {c : CallsGhosts S W R} where
       ))
 
   -- one that has something is busy
-  pub open_busy : (now : ℕ) (part : Part S W R c) (actors numbered : TableSeen (Holding W R)) (name : List ℕ) (key : Key) (pin : ℕ) (request response : List Field) (n : ℕ)
-      (h : Holding W R) (said : StepAnswer)
+  pub open_busy : (now : ℕ) (part : Part S W R c) (actors numbered : TableSeen (ActorHolding W R)) (name : List ℕ) (key : Key) (pin : ℕ) (request response : List Field) (n : ℕ)
+      (h : ActorHolding W R) (said : StepAnswer)
       → said ≡ busy → n ≡ number_of_name actors.names name → ((m : ℕ) → slot_of_actor numbered.slots m ≡ slot_of_actor actors.slots m) → numbered.names ≡ with_actor actors.names name
       → IsActive part (slots_of c actors) → slot_of_actor numbered.slots n ≡ Some h
       → AnswersActor now (step.OpenWrite name key pin request response) part part actors numbered (Ok said)

@@ -23,7 +23,7 @@ use Rattle.script_run.specs.Run.{Run, HoldsReader, held_by}
 use Rattle.script_run.specs.Asked as asks
 use Rattle.script_run.specs.Answers as says
 use Rattle.script_run.specs.Behind.{still_open}
-use Rattle.cache_replay.specs.declared.session.Holding.{Holding}
+use Rattle.cache_replay.specs.declared.session.ActorHolding.{ActorHolding}
 use Rattle.cache_replay.specs.declared.session.Part.{Part}
 use Rattle.cache_replay.specs.Moves.{MovesOrShows}
 use Rattle.cache_replay.specs.OneLine.{AnswersActor}
@@ -47,7 +47,7 @@ closed_has run s name reader by =
     ap (still_open (state_after s (rec.ReadClosed reader))) by ∙ ap (λ (o : Option ReaderRow). if is_some o then Some (HoldsReader reader) else None) (closed_is_none s reader)
 
 module _ {S W R : Type 0} {c : CallsGhosts S W R} where
-  module _ (laws : IsLawful c) (old new : Part S W R c) (before after : TableSeen (Holding W R)) (name : List ℕ) (n : ℕ) (r : ReaderSeen)
+  module _ (laws : IsLawful c) (old new : Part S W R c) (before after : TableSeen (ActorHolding W R)) (name : List ℕ) (n : ℕ) (r : ReaderSeen)
       (number : n ≡ number_of_name before.names name) (names : after.names ≡ with_actor before.names name) (taken : Took (slots_of c before) (slots_of c after) n r)
       (active : IsActive old (slots_of c before)) (keeps : KeepsUnharmed c.at c.holds old.cache new.cache) (rest : IsAtRest (at_in new))
       (stays : StaysStanding c.stands AnyContents old.cache new.cache) (page : length new.page.items ≡ length old.page.items)
@@ -94,7 +94,7 @@ module _ {S W R : Type 0} {c : CallsGhosts S W R} where
     }
 
   -- an actor without a reader
-  pub done_idle : (now : ℕ) (part : Part S W R c) (before after : TableSeen (Holding W R)) (name : List ℕ) (n : ℕ) (said : StepAnswer) → said ≡ says.idle
+  pub done_idle : (now : ℕ) (part : Part S W R c) (before after : TableSeen (ActorHolding W R)) (name : List ℕ) (n : ℕ) (said : StepAnswer) → said ≡ says.idle
       → n ≡ number_of_name before.names name → after.names ≡ with_actor before.names name
       → ((m : ℕ) → slots_of c after m ≡ slots_of c before m)
       → None ≡ reader_held (slots_of c before n) → IsActive part (slots_of c before) → AnswersActor now (step.Done name) part part before after (Ok said)

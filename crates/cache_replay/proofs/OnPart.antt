@@ -14,7 +14,7 @@ use Rattle.script_run.specs.Answers.{session_said, step_said}
 use Rattle.script_run.specs.Behind as then
 use Rattle.script_run.specs.Behind.{in_session}
 use Rattle.script_run.specs.Takes.{SessionTakes, StepShows, Takes}
-use Rattle.cache_replay.specs.declared.session.Holding.{Holding}
+use Rattle.cache_replay.specs.declared.session.ActorHolding.{ActorHolding}
 use Rattle.cache_replay.specs.declared.session.Part.{Part}
 use Rattle.cache_replay.specs.declared.session.Session.{Session}
 use Rattle.cache_replay.specs.declared.stop.Stop.{Stop}
@@ -61,7 +61,7 @@ module _ {S W R : Type 0} {c : CallsGhosts S W R} where
 
   -- ---- a line on it
 
-  module _ (session : Session S W R c) (before after : Part S W R c) (actors : TableSeen (Holding W R))
+  module _ (session : Session S W R c) (before after : Part S W R c) (actors : TableSeen (ActorHolding W R))
       (was : session.part ≡ Some before) where
     -- the session behind it
     abbrev behind_it : Session S W R c

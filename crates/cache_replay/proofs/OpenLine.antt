@@ -32,7 +32,7 @@ use Rattle.script_run.specs.Turn.{lookup_in}
 use Rattle.script_run.specs.Asked as asks
 use Rattle.script_run.specs.Answers as says
 use Rattle.script_run.specs.Behind.{open_reader_at, or_else}
-use Rattle.cache_replay.specs.declared.session.Holding.{Holding}
+use Rattle.cache_replay.specs.declared.session.ActorHolding.{ActorHolding}
 use Rattle.cache_replay.specs.declared.session.Part.{Part}
 use Rattle.cache_replay.specs.Moves.{MovesOrShows}
 use Rattle.cache_replay.specs.OneLine.{AnswersActor}
@@ -110,7 +110,7 @@ some_held run s n (Some (ReaderHeld r)) some own = (HoldsReader r.reader, own.0)
 -- ---- the line
 
 module _ {S W R : Type 0} {c : CallsGhosts S W R} where
-  module _ (laws : IsLawful c) (old new : Part S W R c) (before after : TableSeen (Holding W R)) (name : List ℕ) (n : ℕ) (who : Actor) (key : Key) (request : List Field) (given : Opened R)
+  module _ (laws : IsLawful c) (old new : Part S W R c) (before after : TableSeen (ActorHolding W R)) (name : List ℕ) (n : ℕ) (who : Actor) (key : Key) (request : List Field) (given : Opened R)
       (number : n ≡ number_of_name before.names name) (who_is : who.0 ≡ n) (names : after.names ≡ with_actor before.names name) (free : slots_of c before n ≡ None)
       (changed : Changed (slots_of c before) (slots_of c after) n (as_held (seen_opened c.reading given)))
       (active : IsActive old (slots_of c before)) (keeps : KeepsUnharmed c.at c.holds old.cache new.cache) (rest : IsAtRest (at_in new))
@@ -185,7 +185,7 @@ module _ {S W R : Type 0} {c : CallsGhosts S W R} where
     })
 
   -- an actor that has something
-  pub open_busy : (now : ℕ) (part : Part S W R c) (before after : TableSeen (Holding W R)) (name : List ℕ) (key : Key) (request : List Field) (n : ℕ) (said : StepAnswer)
+  pub open_busy : (now : ℕ) (part : Part S W R c) (before after : TableSeen (ActorHolding W R)) (name : List ℕ) (key : Key) (request : List Field) (n : ℕ) (said : StepAnswer)
       → said ≡ says.busy → n ≡ number_of_name before.names name → after.names ≡ with_actor before.names name
       → ((m : ℕ) → slots_of c after m ≡ slots_of c before m) → is_some (slots_of c before n) ≡ true → IsActive part (slots_of c before)
       → AnswersActor now (step.OpenRead name key request) part part before after (Ok said)

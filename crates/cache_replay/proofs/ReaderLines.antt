@@ -14,7 +14,7 @@ use Rattle.script_lang.specs.declared.answer.StepAnswer.{StepAnswer}
 use Rattle.script_run.specs.Run.{Run, HoldsReader, HoldsWriter, Stream, actor_of, held_by, reader_by, reader_in, with_value, Holding as Held}
 use Rattle.script_run.specs.Turn.{Turn}
 use Rattle.script_run.specs.Behind.{holds_behind, in_session, still_open, streams_behind}
-use Rattle.cache_replay.specs.declared.session.Holding.{Holding}
+use Rattle.cache_replay.specs.declared.session.ActorHolding.{ActorHolding}
 use Rattle.cache_replay.specs.declared.session.Part.{Part}
 use Rattle.cache_replay.specs.Moves.{Moves}
 use Rattle.cache_replay.specs.Plays.{IsHeldAs, PartEnds, PlaysPart}
@@ -75,7 +75,7 @@ module _ {S W R : Type 0} {c : CallsGhosts S W R} where
     apart = all_apart None (Some reader) slots later n (as_held has) turns.changed turns.others (mine_held reader has turns.number) active.apart;
   }
 
-  module _ (laws : IsLawful c) (run : Run) (step : Step) (name : List ℕ) (actor : actor_of step ≡ Some name) (old new : Part S W R c) (before after : TableSeen (Holding W R)) (n : ℕ)
+  module _ (laws : IsLawful c) (run : Run) (step : Step) (name : List ℕ) (actor : actor_of step ≡ Some name) (old new : Part S W R c) (before after : TableSeen (ActorHolding W R)) (n : ℕ)
       (number : n ≡ number_of_name before.names name) (names : after.names ≡ with_actor before.names name) (active : IsActive old (slots_of c before))
       (part : IsPart new) (stays : StaysStanding c.stands AnyContents old.cache new.cache) (plays : PlaysPart run old before) (reader : ℕ) (has : Option ReaderSeen)
       (turns : Turns reader (state_in_part old) (state_in_part new) (slots_of c before) (slots_of c after) n has)
@@ -168,7 +168,7 @@ open_still run s n (Some (ReaderHeld r)) own held =
     let found : reader_of s r.reader ≡ Some held.row = held.found in
     rw is (rw found refl)
 
-module _ {S W R : Type 0} {c : CallsGhosts S W R} (run : Run) (part : Part S W R c) (actors : TableSeen (Holding W R))
+module _ {S W R : Type 0} {c : CallsGhosts S W R} (run : Run) (part : Part S W R c) (actors : TableSeen (ActorHolding W R))
     (name : List ℕ) (n : ℕ)
     (number : n ≡ number_of_name actors.names name) (plays : PlaysPart run part actors) where
   pub held_there : held_by run name ≡ run.held n

@@ -9,7 +9,7 @@ use Rattle.script_lang.specs.declared.step.Step.{Step}
 use Rattle.script_lang.specs.declared.answer.StepAnswer.{StepAnswer}
 use Rattle.script_run.specs.Own.{AreOwn}
 use Rattle.script_run.specs.Run.{Run}
-use Rattle.cache_replay.specs.declared.session.Holding.{Holding}
+use Rattle.cache_replay.specs.declared.session.ActorHolding.{ActorHolding}
 use Rattle.cache_replay.specs.declared.session.Part.{Part}
 use Rattle.cache_replay.specs.declared.session.Session.{Session}
 use Rattle.cache_replay.specs.declared.stop.Stop.{Stop}
@@ -32,7 +32,7 @@ module _ {S W R : Type 0} {c : CallsGhosts S W R} where
     pub names : length (names_in new) ≤ length (names_in old) + 1
 
   -- the same of a line of an actor, on a part with what the actors have, at a moment
-  pub record AnswersActor (now : ℕ) (step : Step) (old new : Part S W R c) (actors later : TableSeen (Holding W R)) (result : Result StepAnswer Stop) : Type 0 where
+  pub record AnswersActor (now : ℕ) (step : Step) (old new : Part S W R c) (actors later : TableSeen (ActorHolding W R)) (result : Result StepAnswer Stop) : Type 0 where
     pub active : IsActive new (slots_of c later)
     pub goes : Goes c.at c.holds old.cache new.cache
     pub ends : IfOk result (λ said. (run : Run) → run.now ≡ now → PlaysPart run old actors → PartEnds run step old new later said)

@@ -17,7 +17,7 @@ use Rattle.script_run.specs.Behind.{after_step, harm_of, in_session}
 use Rattle.script_run.specs.Ledger.{AreReached, Deals, Ledger}
 use Rattle.script_run.specs.Own.{AreOwn}
 use Rattle.script_run.specs.Takes.{StepShows, StepTakes}
-use Rattle.cache_replay.specs.declared.session.Holding.{Holding}
+use Rattle.cache_replay.specs.declared.session.ActorHolding.{ActorHolding}
 use Rattle.cache_replay.specs.declared.session.Part.{Part}
 use Rattle.cache_replay.specs.declared.session.Session.{Session}
 use Rattle.cache_replay.specs.declared.stop.Stop.{Stop}
@@ -125,19 +125,19 @@ module _ {S W R : Type 0} (c : CallsGhosts S W R) where
 
 module _ {S W R : Type 0} {c : CallsGhosts S W R} where
   -- a part and the actors as the run has them
-  pub record PlaysPart (run : Run) (part : Part S W R c) (actors : TableSeen (Holding W R)) : Type 0 where
+  pub record PlaysPart (run : Run) (part : Part S W R c) (actors : TableSeen (ActorHolding W R)) : Type 0 where
     pub names : run.actors ≡ actors.names
     pub at : PlaysIn run (state_in_part part) (slots_of c actors)
     pub stands : OwnStands run.streams (state_in_part part) (c.stands part.cache)
 
   -- a line on a part did what it must, this is its answer, and the part and the actors are what the run behind it says
-  pub record PartMoves (run : Run) (step : Step) (old new : Part S W R c) (actors : TableSeen (Holding W R))
+  pub record PartMoves (run : Run) (step : Step) (old new : Part S W R c) (actors : TableSeen (ActorHolding W R))
       (said : StepAnswer) : Type 0 where
     pub moves : Moves run step (at_in old) (at_in new) said
     pub plays : PlaysPart (in_session run (state_in_part old) (state_in_part new) moves.turn step) new actors
 
   -- so it is, or two documents of one SHA-256 are shown
-  abbrev pub PartEnds : Run → Step → (old new : Part S W R c) → TableSeen (Holding W R) → StepAnswer → Type 0
+  abbrev pub PartEnds : Run → Step → (old new : Part S W R c) → TableSeen (ActorHolding W R) → StepAnswer → Type 0
   PartEnds run step old new actors said = PartMoves run step old new actors said ⊎ ShowsIn run step (at_in old) (at_in new)
 
 -- ---- devices

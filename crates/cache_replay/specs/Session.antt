@@ -12,8 +12,8 @@ use Rattle.cache_calls.specs.Keeping.{IsAtRest, plain_setting, state_at}
 use Rattle.actor_table.specs.Table.{TableSeen, slot_of_actor}
 use Rattle.script_lang.specs.declared.answer.StepAnswer.{StepAnswer}
 use Rattle.script_run.specs.Losses.{NoLossIsAFault}
-use Rattle.cache_replay.specs.declared.session.Holding.{Holding}
-use Rattle.cache_replay.specs.declared.session.Holding.TheVariants as holding
+use Rattle.cache_replay.specs.declared.session.ActorHolding.{ActorHolding}
+use Rattle.cache_replay.specs.declared.session.ActorHolding.TheVariants as holding
 use Rattle.cache_replay.specs.declared.session.Part.{Part}
 use Rattle.cache_replay.specs.declared.session.Session.{Session}
 use Rattle.run_promise.specs.Outline.{count_in}
@@ -53,12 +53,12 @@ ActorsAreApart slots = (m n : ℕ) (a b : HoldingSeen) → (m ≡ n → ⊥) →
 
 module _ {S W R : Type 0} (c : CallsGhosts S W R) where
   -- what an actor has, by what its cache tells of writers and readers
-  abbrev pub holding_seen : Holding W R → HoldingSeen
+  abbrev pub holding_seen : ActorHolding W R → HoldingSeen
   holding_seen (holding.Writer w) = WriterHeld (c.written w)
   holding_seen (holding.Reader r) = ReaderHeld (c.reading r)
 
   -- what the actor of a number has, from 1; nothing where there is no such actor
-  abbrev pub slots_of : TableSeen (Holding W R) → ℕ → Option HoldingSeen
+  abbrev pub slots_of : TableSeen (ActorHolding W R) → ℕ → Option HoldingSeen
   slots_of actors n = option_map holding_seen (slot_of_actor actors.slots n)
 
 module _ {S W R : Type 0} {c : CallsGhosts S W R} where

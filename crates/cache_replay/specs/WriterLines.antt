@@ -16,7 +16,7 @@ use Rattle.script_lang.specs.declared.answer.StepAnswer.{StepAnswer}
 use Rattle.script_run.specs.Run.{Run, HoldsWriter, held_by}
 use Rattle.script_run.specs.Behind.{holds_behind, streams_behind}
 use Rattle.script_run.specs.Losses.{NoLossIsAFault}
-use Rattle.cache_replay.specs.declared.session.Holding.{Holding}
+use Rattle.cache_replay.specs.declared.session.ActorHolding.{ActorHolding}
 use Rattle.cache_replay.specs.Moves.{Moves, ShowsIn}
 use Rattle.run_promise.specs.Outline.{count_in}
 use Rattle.cache_replay.specs.Plays.{IsStreamOf}
@@ -98,7 +98,7 @@ module _ {S W R : Type 0} (c : CallsGhosts S W R) where
   -- ---- what an actor has
 
   -- the writer that an actor had is taken; where it had none, it has what it had
-  abbrev pub TakesWriter : TableSeen (Holding W R) → TableSeen (Holding W R) → ℕ → Option W → Type 0
+  abbrev pub TakesWriter : TableSeen (ActorHolding W R) → TableSeen (ActorHolding W R) → ℕ → Option W → Type 0
   TakesWriter old new n None = HasNoWriter (slots_of c old n) × ((m : ℕ) → slots_of c new m ≡ slots_of c old m)
   TakesWriter old new n (Some w) =
       (slots_of c old n ≡ Some (WriterHeld (c.written w))) × ((m : ℕ) → slots_of c new m ≡ (if m == n then None else slots_of c old m))

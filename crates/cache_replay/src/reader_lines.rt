@@ -10,7 +10,7 @@ ghost use Rattle.cache_replay.specs.ReaderLines.{IsReadyToRead, IsWithin, Leaves
 ghost use Rattle.cache_replay.specs.Session.{IsActive, IsSession, names_in, slots_of};
 
 use crate::answers::{broken_said, miss_said};
-use crate::session::{Holding, Part, Session};
+use crate::session::{ActorHolding, Part, Session};
 use crate::stop::Stop;
 use actor_table::Actors;
 use alternate_vector::Fields;
@@ -40,7 +40,7 @@ pub(crate) fn open_read_line<S: Calls>(
 // Opens it, where there is a cache.
 fn open_reader<S: Calls>(
     part: &mut Part<S>,
-    actors: &mut Actors<Holding<S::Writer, S::Reader>>,
+    actors: &mut Actors<ActorHolding<S::Writer, S::Reader>>,
     actor: &[u8],
     key: Key,
     request: Fields,
@@ -59,7 +59,7 @@ fn open_reader<S: Calls>(
     Ok(give_reader::<S>(actors, number, opened))
 }
 
-fn has_something<S: Calls>(actors: &Actors<Holding<S::Writer, S::Reader>>, number: u32) -> bool
+fn has_something<S: Calls>(actors: &Actors<ActorHolding<S::Writer, S::Reader>>, number: u32) -> bool
     ensures { result ≡ is_some (slots_of S.Calls actors.now number) }
 {
     actors.get(number).is_some()
@@ -67,7 +67,7 @@ fn has_something<S: Calls>(actors: &Actors<Holding<S::Writer, S::Reader>>, numbe
 
 // Gives an actor that has nothing the reader that was opened.
 fn give_reader<S: Calls>(
-    actors: &mut Actors<Holding<S::Writer, S::Reader>>,
+    actors: &mut Actors<ActorHolding<S::Writer, S::Reader>>,
     number: u32,
     opened: Opened<S::Reader>,
 ) -> StepAnswer
@@ -84,11 +84,11 @@ fn give_reader<S: Calls>(
             put,
             length,
         } => {
-            actors.set(number, Holding::Reader(reader));
+            actors.set(number, ActorHolding::Reader(reader));
             StepAnswer::Hit { put, length }
         }
         Opened::Follow { reader, put } => {
-            actors.set(number, Holding::Reader(reader));
+            actors.set(number, ActorHolding::Reader(reader));
             StepAnswer::Follow { put }
         }
         Opened::Miss(why) => miss_said(why),
@@ -113,7 +113,7 @@ pub(crate) fn next_line<S: Calls>(
 // Gives it, where there is a cache.
 fn next<S: Calls>(
     part: &mut Part<S>,
-    actors: &mut Actors<Holding<S::Writer, S::Reader>>,
+    actors: &mut Actors<ActorHolding<S::Writer, S::Reader>>,
     actor: &[u8],
     alloc: Global,
     now: u64,
@@ -127,7 +127,7 @@ fn next<S: Calls>(
     match take_reader::<S>(actors, number) {
         Some(mut reader) => {
             let said = read_on(&mut part.cache, &mut reader, &mut part.page, alloc);
-            actors.set(number, Holding::Reader(reader));
+            actors.set(number, ActorHolding::Reader(reader));
             said
         }
         None => Ok(refused(Refused::Idle)),
@@ -192,7 +192,7 @@ pub(crate) fn done_line<S: Calls>(
 // Closes the reader of an actor, where there is a cache.
 fn done<S: Calls>(
     part: &mut Part<S>,
-    actors: &mut Actors<Holding<S::Writer, S::Reader>>,
+    actors: &mut Actors<ActorHolding<S::Writer, S::Reader>>,
     actor: &[u8],
     now: u64,
 ) -> Result<StepAnswer, Stop>
@@ -206,7 +206,7 @@ fn done<S: Calls>(
         Some(reader) => match part.cache.close_read(reader) {
             Ok(()) => Ok(StepAnswer::Done),
             Err((_, reader)) => {
-                actors.set(number, Holding::Reader(reader));
+                actors.set(number, ActorHolding::Reader(reader));
                 Err(Stop::Memory)
             }
         },
@@ -216,7 +216,7 @@ fn done<S: Calls>(
 
 // Takes the reader of an actor, where it has one.
 fn take_reader<S: Calls>(
-    actors: &mut Actors<Holding<S::Writer, S::Reader>>,
+    actors: &mut Actors<ActorHolding<S::Writer, S::Reader>>,
     number: u32,
 ) -> Option<S::Reader>
     requires known { 0 < number }
@@ -227,9 +227,9 @@ fn take_reader<S: Calls>(
     ensures slots { (n : ℕ) → slots_of S.Calls actors.new n ≡ (if n == number then left_without_reader (slots_of S.Calls actors.old number) else slots_of S.Calls actors.old n) }
 {
     match actors.take(number) {
-        Some(Holding::Reader(reader)) => Some(reader),
-        Some(Holding::Writer(writer)) => {
-            actors.set(number, Holding::Writer(writer));
+        Some(ActorHolding::Reader(reader)) => Some(reader),
+        Some(ActorHolding::Writer(writer)) => {
+            actors.set(number, ActorHolding::Writer(writer));
             None
         }
         None => None,

@@ -9,7 +9,7 @@ use std::alloc::Global;
 #[derive(Drop)]
 pub struct Session<S: Calls> {
     pub(crate) alloc: Global,
-    pub(crate) actors: Actors<Holding<S::Writer, S::Reader>>,
+    pub(crate) actors: Actors<ActorHolding<S::Writer, S::Reader>>,
     pub(crate) part: Option<Part<S>>,
     /// The moment for pins. It goes on behind a format.
     pub(crate) now: u64,
@@ -27,7 +27,7 @@ pub(crate) struct Part<S: Calls> {
 
 /// What an actor has.
 #[derive(Drop)]
-pub(crate) enum Holding<W: Drop, R: Drop> {
+pub(crate) enum ActorHolding<W: Drop, R: Drop> {
     Writer(W),
     Reader(R),
 }

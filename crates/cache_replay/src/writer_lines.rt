@@ -15,7 +15,7 @@ ghost use Rattle.cache_replay.specs.WriterLines.{ClosesLine, FeedsLine, GivesUpL
 
 use crate::answers::{answer_unless_memory, closed_answer};
 use crate::feeding::{Fed, feed};
-use crate::session::{Holding, Part, Session};
+use crate::session::{ActorHolding, Part, Session};
 use crate::stop::Stop;
 use actor_table::Actors;
 use alternate_vector::Fields;
@@ -35,7 +35,7 @@ struct Outcome<W: Drop> {
 
 // Takes the writer that an actor has.
 fn take_writer<S: Calls>(
-    actors: &mut Actors<Holding<S::Writer, S::Reader>>,
+    actors: &mut Actors<ActorHolding<S::Writer, S::Reader>>,
     number: u32,
 ) -> Option<S::Writer>
     requires known { 0 < number }
@@ -44,7 +44,7 @@ fn take_writer<S: Calls>(
     ensures takes { TakesWriter S.Calls actors.old actors.new number result }
 {
     match actors.take(number) {
-        Some(Holding::Writer(writer)) => Some(writer),
+        Some(ActorHolding::Writer(writer)) => Some(writer),
         Some(reader) => {
             actors.set(number, reader);
             None
@@ -55,7 +55,7 @@ fn take_writer<S: Calls>(
 
 // Gives an actor back the writer that is left, and tells the answer.
 fn set_back<S: Calls>(
-    actors: &mut Actors<Holding<S::Writer, S::Reader>>,
+    actors: &mut Actors<ActorHolding<S::Writer, S::Reader>>,
     number: u32,
     outcome: Outcome<S::Writer>,
 ) -> Result<StepAnswer, Stop>
@@ -76,7 +76,7 @@ fn set_back<S: Calls>(
 }
 
 fn put_left<S: Calls>(
-    actors: &mut Actors<Holding<S::Writer, S::Reader>>,
+    actors: &mut Actors<ActorHolding<S::Writer, S::Reader>>,
     number: u32,
     left: Option<S::Writer>,
 )
@@ -87,7 +87,7 @@ fn put_left<S: Calls>(
     ensures slots { (n : ℕ) → slots_of S.Calls actors.new n ≡ (if n == number then held_in (option_map S.written left) else slots_of S.Calls actors.old n) }
 {
     match left {
-        Some(writer) => actors.set(number, Holding::Writer(writer)),
+        Some(writer) => actors.set(number, ActorHolding::Writer(writer)),
         None => {}
     }
 }
@@ -155,7 +155,7 @@ pub(crate) fn open_write_line<S: Calls>(
 
 fn open_write_in<S: Calls>(
     part: &mut Part<S>,
-    actors: &mut Actors<Holding<S::Writer, S::Reader>>,
+    actors: &mut Actors<ActorHolding<S::Writer, S::Reader>>,
     actor: &[u8],
     key: Key,
     pin: u64,
@@ -233,7 +233,7 @@ pub(crate) fn data_line<S: Calls>(
 
 fn data_in<S: Calls>(
     part: &mut Part<S>,
-    actors: &mut Actors<Holding<S::Writer, S::Reader>>,
+    actors: &mut Actors<ActorHolding<S::Writer, S::Reader>>,
     actor: &[u8],
     body: &[u8],
     now: u64,
@@ -308,7 +308,7 @@ pub(crate) fn close_line<S: Calls>(
 
 fn close_in<S: Calls>(
     part: &mut Part<S>,
-    actors: &mut Actors<Holding<S::Writer, S::Reader>>,
+    actors: &mut Actors<ActorHolding<S::Writer, S::Reader>>,
     actor: &[u8],
     now: u64,
 ) -> Result<StepAnswer, Stop>
@@ -368,7 +368,7 @@ pub(crate) fn abort_line<S: Calls>(
 
 fn abort_in<S: Calls>(
     part: &mut Part<S>,
-    actors: &mut Actors<Holding<S::Writer, S::Reader>>,
+    actors: &mut Actors<ActorHolding<S::Writer, S::Reader>>,
     actor: &[u8],
     now: u64,
 ) -> Result<StepAnswer, Stop>

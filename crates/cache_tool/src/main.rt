@@ -1,20 +1,15 @@
-//! Runs the scripts of a disk cache: the top call, and the program over it.
+//! The program over the top call: it hands on its words and its streams, and exits with the status.
 #![tactic(auto)]
 
 mod blank;
-mod lines;
-mod run;
-#[cfg(test)]
-mod tests;
-mod top;
 
 pub use blank::Blank;
+use cache_top::cache_main;
 use device_bay::HostBay;
 use edge_io::{StdSink, StdSource};
 use run_promise::Status;
 use std::process::ExitCode;
 use std::{env, io};
-pub use top::cache_main;
 
 fn main(rt: HostRuntime) -> ExitCode {
     let alloc = rt.alloc();

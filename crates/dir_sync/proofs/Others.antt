@@ -17,7 +17,7 @@ use Rattle.stripe_header.specs.Layout.{gate_of, body_of, body_blocks}
 use Rattle.stripe_header.specs.Spelling.{Numbers, numbers_of, head_bytes, foot_bytes, covered_bytes, copy_bytes}
 use Rattle.stripe_header.specs.Reading.{block_bytes}
 use Rattle.stripe_header.proofs.CopyLaws.{length-head}
-use Rattle.dir_sync.specs.declared.progress.Progress.{Progress}
+use Rattle.dir_sync.specs.declared.progress.SyncProgress.{SyncProgress}
 use Rattle.dir_sync.specs.Moments.{Stands}
 use Rattle.dir_sync.specs.Runs.{ComesBack, spelled_body}
 use Rattle.dir_sync.specs.RunLaws.{IsOfCopy, StaysOff}
@@ -67,7 +67,7 @@ module _ (settled : Bool) (first : Image) (a : Area) (side : Side) where
         still = λ j mine is. is;
       }
 
-  stands_spared : (body : List ℕ) (p : Progress) (old new : List Call)
+  stands_spared : (body : List ℕ) (p : SyncProgress) (old new : List Call)
       → Spared settled first a side old new
       → Stands a side body p settled first old → Stands a side body p settled first new
   stands_spared body p old new spared stands =
@@ -88,7 +88,7 @@ module _ (settled : Bool) (first : Image) (a : Area) (side : Side) where
         };
       }
 
-  pub others_spare : (body : List ℕ) (p : Progress) (calls old : List Call)
+  pub others_spare : (body : List ℕ) (p : SyncProgress) (calls old : List Call)
       → AllByRecursion (StaysOff a side) calls
       → Stands a side body p settled first old → Stands a side body p settled first (calls ++ old)
   others_spare body p [] old off stands = stands

@@ -15,7 +15,7 @@ use Rattle.stripe_header.specs.declared.area.Area.{Area}
 use Rattle.stripe_header.specs.declared.area.Side.{Side}
 use Rattle.stripe_header.specs.declared.area.Side.TheVariants as sides
 use Rattle.stripe_header.specs.Layout.{gate_of, body_of, body_blocks}
-use Rattle.dir_sync.specs.declared.progress.Progress.{Progress}
+use Rattle.dir_sync.specs.declared.progress.SyncProgress.{SyncProgress}
 use Rattle.dir_sync.specs.SyncCalls.{shut_block, open_block, part_of, shutting_calls, opening_calls, past_behind, MadeSome}
 use Rattle.dir_sync.specs.Moments.{IsShut, IsOpen, HasBody, IsReplaced, BodyIsKept, IsBarred}
 use Rattle.dir_sync.proofs.Touched.{AllOn, Touches, touches_some}
@@ -207,7 +207,7 @@ part_length body from n most whole within =
 pub blocks_in : (n : ℕ) (bytes : List ℕ) → length bytes ≡ 512 * n → length bytes / 512 ≡ n
 blocks_in n bytes size = omega (arith, size)
 
-pub on_body : (a : Area) (side : Side) (body : List ℕ) (p : Progress) (n : ℕ) (last : Bool)
+pub on_body : (a : Area) (side : Side) (body : List ℕ) (p : SyncProgress) (n : ℕ) (last : Bool)
     → length (part_of body p.written n) / 512 ≡ n
     → AllOn (body_of a side + p.written) n (Wrote (body_of a side + p.written)
     (part_of body p.written n) ∷ (if last then Synced ∷ [] else []))

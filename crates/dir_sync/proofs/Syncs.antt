@@ -11,7 +11,7 @@ use Rattle.device_log.proofs.CallLaws.{joins, left_after}
 use Rattle.stripe_header.specs.declared.area.Area.{Area}
 use Rattle.stripe_header.specs.declared.area.Side.{Side}
 use Rattle.stripe_header.specs.Layout.{gate_of, body_of, body_blocks}
-use Rattle.dir_sync.specs.declared.progress.Progress.{Progress}
+use Rattle.dir_sync.specs.declared.progress.SyncProgress.{SyncProgress}
 use Rattle.dir_sync.specs.SyncCalls.{part_of, first_calls, body_calls, last_calls, is_last, MadeSome}
 use Rattle.dir_sync.specs.Moments.{IsReplaced, BodyIsKept, IsBarred, Spares, Stands}
 use Rattle.dir_sync.specs.Laws.{MayWriteCopy, past_shut, past_put, past_done, IsWritingCopy, pass_behind, given_up, Halts}
@@ -47,7 +47,7 @@ module _ (settled : Bool) (first : Image) (a : Area) (side : Side) where
         still = λ j other out still. two.still j other out (one.still j other out still);
       }
 
-module _ (settled : Bool) (first : Image) (a : Area) (side : Side) (body : List ℕ) (p : Progress)
+module _ (settled : Bool) (first : Image) (a : Area) (side : Side) (body : List ℕ) (p : SyncProgress)
     (n : ℕ) (old : List Call)
     (may : MayWriteCopy a body p n) (is : IsImage first) where
   part_size : length (part_of body p.written n) ≡ 512 * n

@@ -11,7 +11,7 @@ use Rattle.logged_disk.specs.Device.{DeviceState, seen}
 use Rattle.stripe_header.specs.declared.area.Area.{Area}
 use Rattle.stripe_header.specs.declared.area.Side.{Side}
 use Rattle.stripe_header.specs.Layout.{gate_of, body_blocks}
-use Rattle.dir_sync.specs.declared.progress.Progress.{Progress}
+use Rattle.dir_sync.specs.declared.progress.SyncProgress.{SyncProgress}
 use Rattle.dir_sync.specs.declared.parts.Halt.{Halt}
 use Rattle.dir_sync.specs.SyncCalls.{first_calls, body_calls, last_calls, shutting_calls, is_last, past_behind, MadeSome}
 use Rattle.dir_sync.specs.Moments.{IsShut, IsReplaced, IsOpened, Spares, Stands}
@@ -23,7 +23,7 @@ use Rattle.dir_sync.proofs.Stages.{on_shutting, bars, shut_as}
 use Rattle.dir_sync.proofs.Passes.{no_front, opens}
 use Rattle.dir_sync.proofs.Syncs.{spare_gate, spares, replaces, puts, halts}
 
-halts_writing : (a : Area) (side : Side) (body : List ℕ) (p : Progress) (n count : ℕ) (shut : Bool)
+halts_writing : (a : Area) (side : Side) (body : List ℕ) (p : SyncProgress) (n count : ℕ) (shut : Bool)
     (old new : List Call)
     → Halts a side body p n count shut old new → IsWritingCopy a side body p n old new
 halts_writing a side body p n count shut old new (inl (stopped, known)) = inl
@@ -34,7 +34,7 @@ halts_writing a side body p n count shut old new (inr (inr (stopped, known))) =
     inr (inr (stopped_some (last_calls a side p n) count
     (past_put a side body p n old) new stopped))
 
-module _ (a : Area) (side : Side) (body : List ℕ) (p : Progress) (n : ℕ) (old new : DeviceState)
+module _ (a : Area) (side : Side) (body : List ℕ) (p : SyncProgress) (n : ℕ) (old new : DeviceState)
     (may : MayWriteCopy a body p n) (is : IsImage old.first) (log : IsLog new.past) where
   answer_writing : {T : Type 0} (r : Result T Halt)
       → OnOk r (new.past ≡ past_done a side body p n old.past)
@@ -67,7 +67,7 @@ module _ (a : Area) (side : Side) (body : List ℕ) (p : Progress) (n : ℕ) (ol
       replaces old.settled old.first a side body p n old.past may is stands new.past log.entries
       (answer_writing r went halted)
 
-  stands_as : (q : Progress) → new.settled ≡ old.settled → new.first ≡ old.first
+  stands_as : (q : SyncProgress) → new.settled ≡ old.settled → new.first ≡ old.first
       → Stands a side body q old.settled old.first new.past → StandsOn a side body q new
   stands_as q settled first stands =
       subst (λ (b : Bool). Stands a side body q b new.first new.past) (sym settled)
@@ -144,7 +144,7 @@ bar_stands a side body shut old new (Ok done) settled first went known =
 bar_stands a side body shut old new (Err e) settled first went known = tt
 
 -- behind the last blocks
-pub answer_opens : {T E : Type 0} (a : Area) (side : Side) (body : List ℕ) (p : Progress) (n : ℕ)
+pub answer_opens : {T E : Type 0} (a : Area) (side : Side) (body : List ℕ) (p : SyncProgress) (n : ℕ)
     (old new : DeviceState) (r : Result T E)
     → new.settled ≡ old.settled → new.first ≡ old.first
     → OnOk r (new.past ≡ past_done a side body p n old.past)

@@ -6,7 +6,7 @@ use Rattle.device_log.specs.Seen.{seen_of, is_pending}
 use Rattle.stripe_header.specs.declared.area.Area.{Area}
 use Rattle.stripe_header.specs.declared.area.Side.{Side}
 use Rattle.stripe_header.specs.Layout.{gate_of, body_of, body_blocks}
-use Rattle.dir_sync.specs.declared.progress.Progress.{Progress}
+use Rattle.dir_sync.specs.declared.progress.SyncProgress.{SyncProgress}
 
 abbrev pub IsShut : Side → Image → Type 0
 IsShut side c = slice_index (c (gate_of side)) 0 ≢ 1
@@ -57,7 +57,7 @@ pub record IsOpened (side : Side) (settled : Bool) (first : Image) (past : List 
 
 -- What a run has done stands on the device. A gate that is not known to be shut may be open, so the
 -- body behind it is whole.
-pub record Stands (a : Area) (side : Side) (body : List ℕ) (p : Progress)
+pub record Stands (a : Area) (side : Side) (body : List ℕ) (p : SyncProgress)
     (settled : Bool) (first : Image) (past : List Call) : Type 0 where
   pub within : p.written ≤ body_blocks a
   pub gate : p.shut ≡ true → IsBarred side settled first past

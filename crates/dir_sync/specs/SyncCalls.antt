@@ -5,7 +5,7 @@ use Rattle.device_log.specs.Along.{WasRefused}
 use Rattle.stripe_header.specs.declared.area.Area.{Area}
 use Rattle.stripe_header.specs.declared.area.Side.{Side}
 use Rattle.stripe_header.specs.Layout.{gate_of, body_of, body_blocks}
-use Rattle.dir_sync.specs.declared.progress.Progress.{Progress}
+use Rattle.dir_sync.specs.declared.progress.SyncProgress.{SyncProgress}
 
 -- the block of a gate that is shut, and of one that is open
 unfoldable pub shut_block : List ℕ
@@ -27,21 +27,21 @@ abbrev pub opening_calls : Side → List Call
 opening_calls side = Wrote (gate_of side) open_block ∷ Synced ∷ []
 
 -- the next so many blocks are the last
-abbrev pub is_last : Area → Progress → ℕ → Bool
+abbrev pub is_last : Area → SyncProgress → ℕ → Bool
 is_last a p n = p.written + n == body_blocks a
 
 -- before the body: a pass begins with the gate
-abbrev pub first_calls : Side → Progress → List Call
+abbrev pub first_calls : Side → SyncProgress → List Call
 first_calls side p = if p.begun then [] else shutting_calls side p.shut
 
 -- of the body the next so many blocks, and a sync behind the last
-abbrev pub body_calls : Area → Side → List ℕ → Progress → ℕ → List Call
+abbrev pub body_calls : Area → Side → List ℕ → SyncProgress → ℕ → List Call
 body_calls a side body p n =
     Wrote (body_of a side + p.written) (part_of body p.written n)
     ∷ (if is_last a p n then Synced ∷ [] else [])
 
 -- behind the body
-abbrev pub last_calls : Area → Side → Progress → ℕ → List Call
+abbrev pub last_calls : Area → Side → SyncProgress → ℕ → List Call
 last_calls a side p n = if is_last a p n then opening_calls side else []
 
 -- the past behind these calls

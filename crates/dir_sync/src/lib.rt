@@ -7,5 +7,5 @@ mod progress;
 mod run;
 
 pub use laws::{a_copy_is_shut_or_whole, runs_go_on};
-pub use progress::Progress;
+pub use progress::SyncProgress;
 pub use run::{SyncFault, SyncRun, SyncState};

@@ -6,7 +6,7 @@ ghost use Rattle.logged_disk.specs.Device.{IsWhole, Keeps};
 ghost use Rattle.stripe_header.specs.Layout.{device_blocks, body_blocks, body_of};
 ghost use Rattle.dir_sync.specs.SyncCalls.{shut_block, open_block, part_of, shutting_calls, first_calls, body_calls, last_calls, past_behind};
 
-use crate::progress::Progress;
+use crate::progress::SyncProgress;
 use edge_io::Failed;
 use logged_disk::Disk;
 use stripe_header::{Area, Side};
@@ -81,7 +81,7 @@ pub fn shut_gate<D: Disk>(disk: &mut D, side: Side, shut: bool) -> Result<(), Fa
 }
 
 /// Shuts the gate where a pass begins.
-pub fn put_first<D: Disk>(disk: &mut D, side: Side, p: Progress) -> Result<(), Halt>
+pub fn put_first<D: Disk>(disk: &mut D, side: Side, p: SyncProgress) -> Result<(), Halt>
     requires within { 2 < (D.state disk.old).size }
     requires calls { 2 ≤ (D.state disk.old).calls }
     requires blocks { 1 ≤ (D.state disk.old).blocks }
@@ -131,7 +131,7 @@ pub fn put_body<D: Disk>(
     area: &Area,
     side: Side,
     body: &[u8],
-    p: Progress,
+    p: SyncProgress,
     n: u64,
 ) -> Result<(), Halt>
     requires whole { length body.now ≡ 512 * body_blocks area.now }
@@ -163,7 +163,7 @@ pub fn put_last<D: Disk>(
     disk: &mut D,
     area: &Area,
     side: Side,
-    p: Progress,
+    p: SyncProgress,
     n: u64,
 ) -> Result<(), Halt>
     requires next { p.written + n ≤ body_blocks area.now }

@@ -2,7 +2,7 @@
 
 /// One pass of a sync: the gate, the body, the gate.
 #[derive(Clone, Copy, Debug, PartialEq, Eq)]
-pub struct Progress {
+pub struct SyncProgress {
     /// The gate was shut for this pass, with a sync behind it.
     pub begun: bool,
     /// The gate is known to be shut.

@@ -10,7 +10,7 @@ ghost use Rattle.dir_sync.specs.Laws.{past_done, begun_pass, Halts};
 ghost use Rattle.dir_sync.specs.Runs.{RunKeeps, BeginKeeps, RunStands, IsBegun, ComesBack, IsToldRight, WentOn, Halted, CanBeginAgain, IfRunning, left_of, answer_of_run};
 
 use crate::parts::{Halt, put_body, put_first, put_last, shut_gate};
-use crate::progress::Progress;
+use crate::progress::SyncProgress;
 use edge_io::Failed;
 use logged_disk::Disk;
 use std::marker::Model;
@@ -25,7 +25,7 @@ fn write_parts<D: Disk>(
     area: &Area,
     side: Side,
     body: &[u8],
-    p: Progress,
+    p: SyncProgress,
     n: u64,
 ) -> Result<(), Halt>
     requires whole { length body.now ≡ 512 * body_blocks area.now }
@@ -52,7 +52,7 @@ fn advance<D: Disk>(
     area: &Area,
     side: Side,
     body: &[u8],
-    p: Progress,
+    p: SyncProgress,
     n: u64,
 ) -> Result<(), Halt>
     requires whole { length body.now ≡ 512 * body_blocks area.now }
@@ -123,7 +123,7 @@ pub struct SyncRun {
     target: Side,
     state: CopyState,
     body: Vec<u8>,
-    progress: Progress,
+    progress: SyncProgress,
 }
 
 impl Model for SyncRun {
@@ -177,7 +177,7 @@ impl SyncRun {
                 target,
                 state,
                 body,
-                progress: Progress {
+                progress: SyncProgress {
                     begun: true,
                     shut: true,
                     written: 0,
@@ -211,7 +211,7 @@ impl SyncRun {
         match advance(disk, &self.area, self.target, &self.body, self.progress, n) {
             Ok(()) => {
                 let written = self.progress.written + n;
-                self.progress = Progress {
+                self.progress = SyncProgress {
                     begun: written != self.area.body_blocks(),
                     shut: written != self.area.body_blocks(),
                     written,
@@ -219,7 +219,7 @@ impl SyncRun {
                 Ok(())
             }
             Err(halt) => {
-                self.progress = Progress {
+                self.progress = SyncProgress {
                     begun: false,
                     shut: halt.shut,
                     written: 0,

@@ -7,11 +7,11 @@ use Rattle.stripe_lock.specs.declared.view.StripeTurn.{StripeTurn}
 use Rattle.stripe_lock.specs.History.{places_from, places_of, HasJust, AreUnder, first_number, first_places, with_places}
 use Rattle.stripe_lock.specs.Passes.{PassState}
 use Rattle.stripe_lock.specs.Turns.{Turned}
-use Rattle.lock_trials.specs.declared.tally.Row.{Row}
+use Rattle.lock_trials.specs.declared.tally.TallyRow.{TallyRow}
 use Rattle.lock_trials.specs.Rows.{turns_of, HaveOneRecord}
 use Rattle.lock_trials.specs.Standing.{TurnStandsAt, TurnsStandFrom}
 
-pub one_record : (rows : List Row) → HaveOneRecord (turns_of rows)
+pub one_record : (rows : List TallyRow) → HaveOneRecord (turns_of rows)
 one_record [] = tt
 one_record (r ∷ rs) = (refl, one_record rs)
 

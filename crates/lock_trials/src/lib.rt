@@ -8,5 +8,5 @@ mod ticking;
 
 pub use any::{Outcome, both_stand, once_each, there_and_back};
 pub use many::{looked_at, tick_each};
-pub use tally::{Row, Tally, Tick};
+pub use tally::{Tally, TallyRow, Tick};
 pub use ticking::{Ticked, is_refused, tick_all, tick_both, tick_once};

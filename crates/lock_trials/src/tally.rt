@@ -6,7 +6,7 @@ use stripe_lock::{Job, KeptState};
 
 /// One turn: whose it was, and the job's number, which is the record that it added.
 #[derive(Drop)]
-pub struct Row {
+pub struct TallyRow {
     pub worker: u32,
     pub job: u64,
 }
@@ -14,7 +14,7 @@ pub struct Row {
 /// The turns that were made.
 #[derive(Drop)]
 pub struct Tally {
-    pub rows: Vec<Row>,
+    pub rows: Vec<TallyRow>,
 }
 
 impl Tally {
@@ -77,7 +77,7 @@ impl Job<Tally> for Tick {
 
     fn run(&mut self, state: &mut Tally, worker: u32) -> u64 {
         let before = state.rows.len() as u64;
-        state.rows.push_reserved(Row {
+        state.rows.push_reserved(TallyRow {
             worker,
             job: self.job,
         });

@@ -1,0 +1,54 @@
+// The top call: words, a script, and what came of it.
+ghost use Rattle.std.specs.Prelude.{◌≡◌, ◌↔◌, ◌⊎◌, false, [], length, IsTrue};
+ghost use Rattle.edge_io.specs.Source.{Draws};
+ghost use Rattle.edge_io.specs.Sink.{Grows};
+ghost use Rattle.device_bay.specs.Calls.{IsBayLog, gifts_of, out_of, refusals_of, returned_by};
+ghost use Rattle.script_run.specs.Ledger.{InOrder, ledger_of};
+ghost use Rattle.run_promise.specs.Story.{refusals_around};
+ghost use Rattle.run_promise.specs.Top.{IsReplay, ReadsFailed, AttachesRefused, ComeBackSteady, Concludes};
+
+use cache_chronicle::FullChronicle;
+use device_bay::Bay;
+use edge_io::{Sink, Source};
+use packed_directory::PackedDirectory;
+use run_promise::Status;
+use run_script::run_words;
+use std::alloc::Global;
+use stripe_calls::StripeCache;
+
+// The cache of the program: its directory has packed entries, and its chronicle keeps each record.
+type Cache<D> = StripeCache<D, PackedDirectory, FullChronicle>;
+
+/// Runs the command that the words give, by the cache of the program: `replay` runs the script that the source holds.
+pub fn cache_main<S: Source, K: Sink, B: Bay>(
+    alloc: Global,
+    words: &[String],
+    source: &mut S,
+    sink: &mut K,
+    bay: &mut B,
+) -> Status
+    ensures concludes { Concludes (S.reads source.old) (S.reads source.new) (K.writes sink.old) (K.writes sink.new) (refusals_around (refusals_of (B.past bay.old)) (refusals_of (B.past bay.new)))
+        (ledger_of B.Bay bay.old) (ledger_of B.Bay bay.new) result }
+    ensures usage { (result ≡ Status.Usage) ↔ (IsReplay words.now → ⊥) }
+    ensures reads { ReadsFailed (S.reads source.old) (S.reads source.new) result }
+
+    // Every device was given back.
+    ensures out { out_of (B.past bay.new) ≡ out_of (B.past bay.old) }
+
+    ensures source { Draws S.reads S.left source.old source.new }
+    ensures sink { Grows (K.writes sink.old) (K.writes sink.new) }
+
+    // They came back in the order in which they were attached, each as a whole.
+    ensures order { InOrder (length (gifts_of (B.past bay.old))) [] (B.past bay.old) (B.past bay.new) }
+
+    // Each that came back has a log that a device can have, with as many faults as calls that failed.
+    ensures log { IsBayLog (B.past bay.new) }
+
+    // No attach was refused but the one that ended the run, if one did.
+    ensures refusals { AttachesRefused (refusals_of (B.past bay.old)) (refusals_of (B.past bay.new)) result }
+
+    // No switch was told anything, so each device that has one refused nothing and told its content to the end.
+    ensures steady { ComeBackSteady (returned_by (B.past bay.old)) (returned_by (B.past bay.new)) }
+{
+    run_words::<S, K, B, Cache<B::Dev>>(alloc, words, source, sink, bay)
+}

@@ -1,0 +1,62 @@
+use Rattle.std.proofs.Common.{[], refl, ◌∙◌, arith, length, ap}
+use Rattle.edge_io.specs.LineReader.{source_of}
+use Rattle.edge_io.proofs.Draws.{draws_more, draws_nothing}
+use Rattle.script_run.specs.Ledger.{ledger_of}
+use Rattle.device_bay.specs.Calls.{refusals_of}
+use Rattle.cache_replay.proofs.Order.{order_same, order_then}
+use Rattle.run_promise.specs.Story.{refusals_around}
+use Rattle.run_script.proofs.Ends.{begins, failed_earlier, Ends-earlier}
+use Rattle.run_script.proofs.Halts.{grows_more}
+use Rattle.run_script.proofs.run.run_lines.Goals as goal
+
+pub lines-init : goal.lines-init
+lines-init g c = record {
+  goes = begins (g.S.Source.reads (source_of c.args.reader.now).now) (g.K.Sink.writes c.args.sink.now) (ledger_of g.B.Bay c.args.bay.now) _ _ _ _ c.requires.held c.requires.given c.requires.blank c.requires.fresh;
+  session = c.requires.session;
+  few = omega (arith, ap length c.requires.names);
+  out = omega (arith, c.requires.none);
+  source = refl;
+  draws = draws_nothing g.S.Source.reads g.S.Source.left (source_of c.args.reader.now).now;
+  failed = refl;
+  sink = ([], refl);
+  order = order_same _ _;
+  refusals = refl;
+}
+
+pub lines-preserved : goal.lines-preserved
+lines-preserved g c =
+    let before = c.lines.invariant in
+    record {
+      goes = c.in-Ok.ensures.goes _ _ _ before.goes;
+      session = c.line.ensures.session;
+      few = c.in-Ok.ensures.few;
+      out = omega (arith, c.line.ensures.out, before.out);
+      source = c.line.ensures.source ∙ before.source;
+      draws = draws_more g.S.Source.reads g.S.Source.left _ _ _ before.draws c.line.ensures.draws;
+      failed = c.in-Ok.ensures.reads ∙ before.failed;
+      sink = grows_more _ _ _ before.sink c.line.ensures.sink;
+      order = order_then _ _ _ _ _ _ before.order c.line.ensures.order;
+      refusals = c.in-Ok.ensures.refusals ∙ before.refusals;
+    }
+
+pub returns-in-Err-clause-ends : goal.returns-in-Err-clause-ends
+returns-in-Err-clause-ends g c =
+    let before = c.lines.invariant in
+    let bay = refusals_around (refusals_of (g.B.Bay.past c.lines.bay)) (refusals_of (g.B.Bay.past c.line.new.bay)) in
+    let bay' = refusals_around (refusals_of (g.B.Bay.past c.args.bay.now)) (refusals_of (g.B.Bay.past c.line.new.bay)) in
+    Ends-earlier bay bay' before.refusals refl _ _ _ _ _ _ c.in-Err.ending (c.in-Err.ensures.ends _ _ _ before.goes)
+
+pub returns-in-Err-clause-reads : goal.returns-in-Err-clause-reads
+returns-in-Err-clause-reads g c = failed_earlier _ _ _ c.in-Err.ending c.lines.invariant.failed c.in-Err.ensures.reads
+
+pub returns-in-Err-clause-draws : goal.returns-in-Err-clause-draws
+returns-in-Err-clause-draws g c = draws_more g.S.Source.reads g.S.Source.left _ _ _ c.lines.invariant.draws c.line.ensures.draws
+
+pub returns-in-Err-clause-sink : goal.returns-in-Err-clause-sink
+returns-in-Err-clause-sink g c = grows_more _ _ _ c.lines.invariant.sink c.line.ensures.sink
+
+pub returns-in-Err-clause-order : goal.returns-in-Err-clause-order
+returns-in-Err-clause-order g c = order_then _ _ _ _ _ _ c.lines.invariant.order c.line.ensures.order
+
+pub returns-in-Err-clause-refusals : goal.returns-in-Err-clause-refusals
+returns-in-Err-clause-refusals g c = λ other. c.in-Err.ensures.refusals other ∙ c.lines.invariant.refusals

@@ -1,0 +1,216 @@
+// The lines of a script, one after the other.
+ghost use Rattle.std.specs.Prelude.{◌≡◌, ◌+◌, ◌<◌, ◌≤◌, ℕ, false, List, [], length, OnOk, IfErr, MatchResult};
+ghost use Rattle.device_log.specs.Streams.{SourceRead, SinkWrite};
+ghost use Rattle.edge_io.specs.Source.{Draws, NoReadFailed};
+ghost use Rattle.edge_io.specs.Sink.{Grows};
+ghost use Rattle.edge_io.specs.LineReader.{held, lines_given, source_of};
+ghost use Rattle.device_bay.specs.Calls.{out_of, refusals_of};
+ghost use Rattle.script_lang.specs.Texts.{answer_line};
+ghost use Rattle.script_run.specs.Run.{fresh};
+ghost use Rattle.run_promise.specs.Outline.{blank_outline};
+ghost use Rattle.cache_replay.specs.Session.{IsSession, devices_of, names_in, return_in};
+ghost use Rattle.cache_replay.specs.Plays.{IsOutlined, Plays};
+ghost use Rattle.script_run.specs.Ledger.{AreReached, KeepsOrder, Ledger, ledger_of};
+ghost use Rattle.cache_replay.specs.Stop.{RefusesNone};
+ghost use Rattle.run_promise.specs.Story.{GoesOn, Owes, OwesOrGave, SinkTook, refusals_around};
+ghost use Rattle.run_script.specs.Halt.{AnswerIsUnwritten, AnswerIsWritten, StepHalts, is_bay_halt, last_of, ending_of};
+ghost use Rattle.run_script.specs.Ending.{EndsRun, FailedReads, IsOfRun, is_bay_ending};
+
+use crate::lines::{Reading, next_reading};
+use cache_calls::Formats;
+use cache_replay::{Session, Stop, step};
+use device_bay::Bay;
+use edge_io::{LineFault, LineReader, MAX_LINES, Sink, Source};
+use script_lang::{LastLine, LineAnswer, Step, StepAnswer, answer_text};
+use std::alloc::Global;
+
+/// How a run of lines ends.
+#[derive(Clone, Copy, Debug)]
+pub(crate) enum Ending {
+    Done,
+    Stopped(LastLine),
+    WriteFault,
+    OutOfMemory,
+}
+
+/// Why a step ends the run.
+#[derive(Debug, Drop)]
+pub(crate) enum Halt {
+    /// It was not done.
+    Stop(Stop),
+    WriteFault,
+    /// It was done, and there is no memory for its answer.
+    Memory,
+}
+
+/// Writes an answer out.
+fn write_answer<K: Sink>(alloc: Global, sink: &mut K, said: &StepAnswer) -> Result<(), Halt>
+    ensures written { OnOk result (SinkTook (K.writes sink.old) (K.writes sink.new) (answer_line said.now)) }
+    ensures failed { IfErr result (AnswerIsUnwritten (K.writes sink.old) (K.writes sink.new) (answer_line said.now)) }
+    ensures grows { Grows (K.writes sink.old) (K.writes sink.new) }
+{
+    let mut text = Vec::new(alloc);
+    let Ok(()) = answer_text(said, &mut text) else {
+        return Err(Halt::Memory);
+    };
+    match sink.write_all(&text) {
+        Ok(()) => Ok(()),
+        Err(_) => Err(Halt::WriteFault),
+    }
+}
+
+/// Does a step, and writes its answer out.
+fn take_step<K: Sink, B: Bay, C: Formats<B::Dev>>(
+    alloc: Global,
+    sink: &mut K,
+    bay: &mut B,
+    session: &mut Session<C>,
+    asked: Step,
+) -> Result<(), Halt>
+    requires session { IsSession session.old }
+    requires held { devices_of session.old ≤ out_of (B.past bay.old) }
+    requires few { length (names_in session.old) ≤ MAX_LINES }
+    ensures done { OnOk result
+        (AnswerIsWritten session.old asked session.new (ledger_of B.Bay bay.old)
+        (ledger_of B.Bay bay.new) (SinkTook (K.writes sink.old) (K.writes sink.new))) }
+    ensures halted { IfErr result (StepHalts session.old asked session.new
+        (ledger_of B.Bay bay.old) (ledger_of B.Bay bay.new) (K.writes sink.old) (K.writes sink.new)
+        (B.past bay.old) (B.past bay.new)) }
+    ensures session { IsSession session.new }
+    ensures names { length (names_in session.new) ≤ length (names_in session.old) + 1 }
+    ensures out { out_of (B.past bay.new) + devices_of session.old ≡ out_of (B.past bay.old) + devices_of session.new }
+    ensures sink { Grows (K.writes sink.old) (K.writes sink.new) }
+    ensures order { KeepsOrder (return_in session.old) (B.past bay.old)
+        (return_in session.new) (B.past bay.new) }
+    ensures refusals { MatchResult result (λ _. RefusesNone (B.past bay.old) (B.past bay.new))
+        (λ halt. is_bay_halt halt ≡ false → RefusesNone (B.past bay.old) (B.past bay.new)) }
+{
+    match step(session, bay, asked) {
+        Ok(said) => write_answer(alloc, sink, &said),
+        Err(why) => Err(Halt::Stop(why)),
+    }
+}
+
+/// The last line that a fault of the reader asks for.
+fn last_of(fault: LineFault) -> LastLine
+    ensures { result ≡ last_of fault }
+{
+    match fault {
+        LineFault::LineTooLong { line } => LastLine::LineTooLong { line },
+        LineFault::TooManyLines => LastLine::TooManyLines,
+        LineFault::ReadFault { .. } => LastLine::ReadFault,
+    }
+}
+
+/// How the run ends at this line.
+fn ending_of(line: u64, halt: Halt) -> Ending
+    ensures { result ≡ ending_of line halt }
+{
+    match halt {
+        Halt::Stop(Stop::NoCache) => Ending::Stopped(LastLine::NoCache { line }),
+        Halt::Stop(Stop::BayFault) => Ending::Stopped(LastLine::BayFault),
+        Halt::Stop(Stop::Memory) | Halt::Memory => Ending::OutOfMemory,
+        Halt::WriteFault => Ending::WriteFault,
+    }
+}
+
+/// Does what the next line asks for, or ends the run.
+fn line<S: Source, K: Sink, B: Bay, C: Formats<B::Dev>>(
+    alloc: Global,
+    reader: &mut LineReader<'_, S>,
+    sink: &mut K,
+    bay: &mut B,
+    session: &mut Session<C>,
+) -> Result<(), Ending>
+    requires session { IsSession session.old }
+    requires held { devices_of session.old ≤ out_of (B.past bay.old) }
+    requires few { length (names_in session.old) ≤ lines_given reader.old }
+    ensures goes { OnOk result ((first : List SourceRead) (told : List SinkWrite) (back : Ledger)
+        → GoesOn first told back (S.reads (source_of reader.old).now) (held reader.old)
+        (lines_given reader.old) (K.writes sink.old) (ledger_of B.Bay bay.old)
+        (λ o. IsOutlined o session.old) (λ run. Plays run session.old)
+        → GoesOn first told back (S.reads (source_of reader.new).now) (held reader.new)
+        (lines_given reader.new) (K.writes sink.new) (ledger_of B.Bay bay.new)
+        (λ o. IsOutlined o session.new) (λ run. Plays run session.new)) }
+    ensures ends { IfErr result (λ ending. (first : List SourceRead) (told : List SinkWrite)
+        (back : Ledger) → GoesOn first told back (S.reads (source_of reader.old).now)
+        (held reader.old) (lines_given reader.old) (K.writes sink.old) (ledger_of B.Bay bay.old)
+        (λ o. IsOutlined o session.old) (λ run. Plays run session.old)
+        → EndsRun first (S.reads (source_of reader.new).now) told (K.writes sink.new)
+        (refusals_around (refusals_of (B.past bay.old)) (refusals_of (B.past bay.new)))
+        (Owes back (ledger_of B.Bay bay.new)
+        (λ harms. AreReached harms (return_in session.new)))
+        (OwesOrGave back (ledger_of B.Bay bay.new) (devices_of session.new)
+        (λ harms. AreReached harms (return_in session.new))) ending) }
+    ensures begun { IfErr result IsOfRun }
+    ensures reads { MatchResult result (λ _. NoReadFailed (S.reads (source_of reader.old).now) (S.reads (source_of reader.new).now))
+        (FailedReads (S.reads (source_of reader.old).now) (S.reads (source_of reader.new).now)) }
+    ensures nearer { OnOk result ((lines_given reader.old < MAX_LINES) × (lines_given reader.new ≡ lines_given reader.old + 1)) }
+    ensures session { IsSession session.new }
+    ensures few { OnOk result (length (names_in session.new) ≤ lines_given reader.new) }
+    ensures source { (source_of reader.new).ghost_name ≡ (source_of reader.old).ghost_name }
+    ensures out { out_of (B.past bay.new) + devices_of session.old ≡ out_of (B.past bay.old) + devices_of session.new }
+    ensures draws { Draws S.reads S.left (source_of reader.old).now (source_of reader.new).now }
+    ensures sink { Grows (K.writes sink.old) (K.writes sink.new) }
+    ensures order { KeepsOrder (return_in session.old) (B.past bay.old)
+        (return_in session.new) (B.past bay.new) }
+    ensures refusals { MatchResult result (λ _. RefusesNone (B.past bay.old) (B.past bay.new))
+        (λ ending. is_bay_ending ending ≡ false → RefusesNone (B.past bay.old) (B.past bay.new)) }
+{
+    match next_reading(alloc, reader) {
+        Reading::End => Err(Ending::Done),
+        Reading::Fault(fault) => Err(Ending::Stopped(last_of(fault))),
+        Reading::Memory => Err(Ending::OutOfMemory),
+        Reading::Line(LineAnswer::Nothing) => Ok(()),
+        Reading::Line(LineAnswer::Bad(fault)) => Err(Ending::Stopped(LastLine::BadScript {
+            line: reader.lines_given(),
+            fault,
+        })),
+        Reading::Line(LineAnswer::Step(asked)) => match take_step(
+            alloc, sink, bay, session, asked,
+        ) {
+            Ok(()) => Ok(()),
+            Err(halt) => Err(ending_of(reader.lines_given(), halt)),
+        },
+    }
+}
+
+/// Does what each line asks for, up to the end of the script or to what ends the run.
+pub(crate) fn run_lines<S: Source, K: Sink, B: Bay, C: Formats<B::Dev>>(
+    alloc: Global,
+    reader: &mut LineReader<'_, S>,
+    sink: &mut K,
+    bay: &mut B,
+    session: &mut Session<C>,
+) -> Ending
+    requires given { lines_given reader.old ≡ 0 }
+    requires held { held reader.old ≡ [] }
+    requires session { IsSession session.old }
+    requires fresh { Plays fresh session.old }
+    requires blank { IsOutlined blank_outline session.old }
+    requires none { devices_of session.old ≡ 0 }
+    requires names { names_in session.old ≡ [] }
+    ensures ends { EndsRun (S.reads (source_of reader.old).now) (S.reads (source_of reader.new).now)
+        (K.writes sink.old) (K.writes sink.new)
+        (refusals_around (refusals_of (B.past bay.old)) (refusals_of (B.past bay.new)))
+        (Owes (ledger_of B.Bay bay.old) (ledger_of B.Bay bay.new)
+        (λ harms. AreReached harms (return_in session.new)))
+        (OwesOrGave (ledger_of B.Bay bay.old) (ledger_of B.Bay bay.new) (devices_of session.new)
+        (λ harms. AreReached harms (return_in session.new))) result }
+    ensures begun { IsOfRun result }
+    ensures reads { FailedReads (S.reads (source_of reader.old).now) (S.reads (source_of reader.new).now) result }
+    ensures source { (source_of reader.new).ghost_name ≡ (source_of reader.old).ghost_name }
+    ensures out { out_of (B.past bay.new) ≡ out_of (B.past bay.old) + devices_of session.new }
+    ensures draws { Draws S.reads S.left (source_of reader.old).now (source_of reader.new).now }
+    ensures sink { Grows (K.writes sink.old) (K.writes sink.new) }
+    ensures order { KeepsOrder (return_in session.old) (B.past bay.old)
+        (return_in session.new) (B.past bay.new) }
+    ensures refusals { is_bay_ending result ≡ false → RefusesNone (B.past bay.old) (B.past bay.new) }
+{
+    'lines: loop {
+        match line(alloc, reader, sink, bay, session) {
+            Ok(()) => {}
+            Err(ending) => return ending,
+        }
+    }
+}

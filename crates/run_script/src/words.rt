@@ -1,0 +1,138 @@
+// The command that words give, over any cache: a script, and what came of it.
+ghost use Rattle.std.specs.Prelude.{◌≡◌, ◌↔◌, ◌⊎◌, false, [], length, IsTrue};
+ghost use Rattle.edge_io.specs.Source.{Draws};
+ghost use Rattle.edge_io.specs.Sink.{Grows};
+ghost use Rattle.device_bay.specs.Calls.{IsBayLog, gifts_of, out_of, refusals_of, returned_by};
+ghost use Rattle.script_lang.specs.Texts.{last_line};
+ghost use Rattle.script_run.specs.Ledger.{InOrder, ledger_of};
+ghost use Rattle.cache_replay.specs.Stop.{RefusesNone};
+ghost use Rattle.run_promise.specs.Story.{refusals_around};
+ghost use Rattle.run_script.specs.Ending.{EndsRun, FailedReads, IsOfRun, is_bay_ending};
+ghost use Rattle.run_promise.specs.Top.{IsReplay, WentOut, EachBack, EachBackOrMore, ReadsFailed, status_of, AttachesRefused, ComeBackSteady, Concludes};
+
+use crate::run::{Ending, run_lines};
+use cache_calls::Formats;
+use cache_replay::{Session, begin, close};
+use device_bay::Bay;
+use edge_io::{LineBuffer, LineReader, Sink, Source};
+use run_promise::Status;
+use script_lang::{LastLine, last_line_text, usage_text};
+use std::alloc::Global;
+
+fn is_replay(words: &[String]) -> bool
+    ensures { IsTrue result ↔ IsReplay words.now }
+{
+    match words {
+        [word] => word.as_str() == "replay",
+        _ => false,
+    }
+}
+
+fn status_of(last: LastLine) -> Status
+    ensures { result ≡ status_of last }
+{
+    match last {
+        LastLine::Usage => Status::Usage,
+        LastLine::BadScript { .. } => Status::BadScript,
+        LastLine::ReadFault => Status::ReadFault,
+        LastLine::BayFault => Status::BayFault,
+        LastLine::LineTooLong { .. } => Status::LineTooLong,
+        LastLine::TooManyLines => Status::TooManyLines,
+        LastLine::NoCache { .. } => Status::NoCache,
+    }
+}
+
+/// Writes bytes out; a fault in the last line of a run does not change its status.
+fn send<K: Sink>(sink: &mut K, text: &str)
+    ensures out { WentOut (K.writes sink.old) (K.writes sink.new) [] text.now }
+    ensures grows { Grows (K.writes sink.old) (K.writes sink.new) }
+{
+    let _ = sink.write_all(text.as_bytes());
+}
+
+/// Writes the last line of a run that ends early.
+fn conclude<K: Sink>(alloc: Global, sink: &mut K, last: LastLine) -> Status
+    ensures said { ((result ≡ Status.OutOfMemory) × (K.writes sink.new ≡ K.writes sink.old))
+        ⊎ ((result ≡ status_of last) × WentOut (K.writes sink.old) (K.writes sink.new) [] (last_line last)) }
+    ensures grows { Grows (K.writes sink.old) (K.writes sink.new) }
+{
+    match last_line_text(alloc, last) {
+        Ok(text) => {
+            send(sink, text.as_str());
+            status_of(last)
+        }
+        Err(_) => Status::OutOfMemory,
+    }
+}
+
+/// Runs a script.
+fn replay<S: Source, K: Sink, B: Bay, C: Formats<B::Dev>>(
+    alloc: Global,
+    source: &mut S,
+    sink: &mut K,
+    bay: &mut B,
+) -> Ending
+    ensures ends { EndsRun (S.reads source.old) (S.reads source.new) (K.writes sink.old) (K.writes sink.new) (refusals_around (refusals_of (B.past bay.old)) (refusals_of (B.past bay.new)))
+        (EachBack (ledger_of B.Bay bay.old) (ledger_of B.Bay bay.new)) (EachBackOrMore (ledger_of B.Bay bay.old) (ledger_of B.Bay bay.new)) result }
+    ensures begun { IsOfRun result }
+    ensures reads { FailedReads (S.reads source.old) (S.reads source.new) result }
+    ensures out { out_of (B.past bay.new) ≡ out_of (B.past bay.old) }
+    ensures source { Draws S.reads S.left source.old source.new }
+    ensures sink { Grows (K.writes sink.old) (K.writes sink.new) }
+    ensures order { InOrder (length (gifts_of (B.past bay.old))) [] (B.past bay.old) (B.past bay.new) }
+    ensures refusals { is_bay_ending result ≡ false → RefusesNone (B.past bay.old) (B.past bay.new) }
+    ensures steady { ComeBackSteady (returned_by (B.past bay.old)) (returned_by (B.past bay.new)) }
+{
+    let Ok(buffer) = LineBuffer::new(alloc) else {
+        return Ending::OutOfMemory;
+    };
+    let mut reader = LineReader::with_buffer(source, buffer);
+    let mut session: Session<C> = begin(alloc);
+    let ending = run_lines(alloc, &mut reader, sink, bay, &mut session);
+    let _source = reader.into_source();
+    close(session, bay);
+    ending
+}
+
+/// Runs the command that the words give, by a cache of the type `C`: `replay` runs the script that the source holds.
+pub fn run_words<S: Source, K: Sink, B: Bay, C: Formats<B::Dev>>(
+    alloc: Global,
+    words: &[String],
+    source: &mut S,
+    sink: &mut K,
+    bay: &mut B,
+) -> Status
+    ensures concludes { Concludes (S.reads source.old) (S.reads source.new) (K.writes sink.old) (K.writes sink.new) (refusals_around (refusals_of (B.past bay.old)) (refusals_of (B.past bay.new)))
+        (ledger_of B.Bay bay.old) (ledger_of B.Bay bay.new) result }
+    ensures usage { (result ≡ Status.Usage) ↔ (IsReplay words.now → ⊥) }
+    ensures reads { ReadsFailed (S.reads source.old) (S.reads source.new) result }
+
+    // Every device was given back.
+    ensures out { out_of (B.past bay.new) ≡ out_of (B.past bay.old) }
+
+    ensures source { Draws S.reads S.left source.old source.new }
+    ensures sink { Grows (K.writes sink.old) (K.writes sink.new) }
+
+    // They came back in the order in which they were attached, each as a whole.
+    ensures order { InOrder (length (gifts_of (B.past bay.old))) [] (B.past bay.old) (B.past bay.new) }
+
+    // Each that came back has a log that a device can have, with as many faults as calls that failed.
+    ensures log { IsBayLog (B.past bay.new) }
+
+    // No attach was refused but the one that ended the run, if one did.
+    ensures refusals { AttachesRefused (refusals_of (B.past bay.old)) (refusals_of (B.past bay.new)) result }
+
+    // No switch was told anything, so each device that has one refused nothing and told its content to the end.
+    ensures steady { ComeBackSteady (returned_by (B.past bay.old)) (returned_by (B.past bay.new)) }
+{
+    if !is_replay(words) {
+        send(sink, usage_text());
+        return Status::Usage;
+    }
+    match replay::<S, K, B, C>(alloc, source, sink, bay) {
+        Ending::Done => Status::Done,
+        Ending::Stopped(last) => conclude(alloc, sink, last),
+        Ending::WriteFault => Status::WriteFault,
+        Ending::OutOfMemory => Status::OutOfMemory,
+    }
+}
