@@ -8,7 +8,7 @@ use Rattle.cache_model.specs.State.{State, after_all, nothing_yet}
 use Rattle.cache_model.specs.Kept.{state_of}
 use Rattle.cache_model.specs.Legal.{format_records}
 use Rattle.cache_model.specs.Vectors.{AreTold}
-use Rattle.model_laws.proofs.ToldGroups.{told_format}
+use Rattle.step_laws.proofs.ToldGroups.{told_format}
 use Rattle.cache_calls.specs.declared.calls.Calls.{Ghosts as CallsGhosts}
 use Rattle.cache_calls.specs.Begins.{Begins}
 use Rattle.cache_calls.specs.Keeping.{IsAtRest, IsUnharmed}

@@ -22,7 +22,7 @@ use Rattle.cache_model.proofs.Found.{cuts_found}
 use Rattle.cache_model.proofs.ByNumber.{find-changed}
 use Rattle.cache_model.proofs.Sound.{buffer_left, displaced_leave}
 use Rattle.cache_model.proofs.Steps.{after_all-append}
-use Rattle.model_laws.proofs.Told.{displaced_behind}
+use Rattle.step_laws.proofs.Told.{displaced_behind}
 use Rattle.logged_disk.specs.Device.{TellsAll}
 use Rattle.call_laws.specs.Contents.{Untold}
 use Rattle.call_laws.specs.Moments.{At, Facts, permit_of}

@@ -30,7 +30,7 @@ use Rattle.cache_model.proofs.SoundFlush.{stopped_aside}
 use Rattle.cache_model.proofs.Steps.{after_all-append, all_append}
 use Rattle.cache_model.proofs.Syncing.{clean_aside, drain_splits, flush_among_syncs, step_aside, sync_splits, unmark_aside}
 use Rattle.call_laws.specs.Whole.{GroupsLeavePuts}
-use Rattle.model_laws.proofs.Told.{AreFit, displaced_behind, puts_cut, puts_opened}
+use Rattle.step_laws.proofs.Told.{AreFit, displaced_behind, puts_cut, puts_opened}
 
 -- ---- records that open no put, and cut nothing
 

@@ -9,7 +9,7 @@ use Rattle.cache_model.specs.Verdict.{is_open}
 use Rattle.cache_model.specs.Permit.{Permit, Work, Intent, GiveUp, End, Stays, Done, Fails, Reason, work_after, is_cleanup}
 use Rattle.cache_model.specs.Legal
 use Rattle.cache_model.specs.Legal.{Does, Advances, MayGrow, nothing, more, IsStep, is_writing}
-use Rattle.model_laws.specs.StepLaws.{AsksLast, WriterIsEnded}
+use Rattle.step_laws.specs.StepLaws.{AsksLast, WriterIsEnded}
 use Rattle.cache_model.proofs.Steps.{after_all-append, seen}
 use Rattle.cache_model.proofs.Found.{number_of}
 use Rattle.script_run.specs.Laws.{StepsOwn}

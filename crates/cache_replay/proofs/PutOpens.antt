@@ -10,7 +10,7 @@ use Rattle.cache_model.specs.Permit.{Done, Exhausted, GiveUp, Intent, ManyWriter
 use Rattle.cache_model.specs.Legal.{DoesGiveUp, IsQuiet, is_writing}
 use Rattle.cache_model.specs.Tape.{IsSound}
 use Rattle.logged_disk.specs.Device.{TellsAll}
-use Rattle.model_laws.proofs.ToldGroups.{told_group}
+use Rattle.step_laws.proofs.ToldGroups.{told_group}
 use Rattle.call_laws.specs.Moments.{At, IsToldAt, NothingKnown}
 use Rattle.call_laws.specs.Progress.{AllDone, Stops, cleanups}
 use Rattle.call_laws.specs.Serves.{ServesFrom, ServesTold}

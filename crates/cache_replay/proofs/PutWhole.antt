@@ -8,7 +8,7 @@ use Rattle.cache_model.specs.Legal.{DoesGiveUp, IsQuiet, is_writing}
 use Rattle.cache_model.specs.Tape.{IsSound}
 use Rattle.cache_model.specs.Pair.{Documents}
 use Rattle.logged_disk.specs.Device.{TellsAll}
-use Rattle.model_laws.proofs.ToldGroups.{told_group}
+use Rattle.step_laws.proofs.ToldGroups.{told_group}
 use Rattle.call_laws.specs.Moments.{At, Facts, IsToldAt, OfState}
 use Rattle.call_laws.specs.Progress.{AllDone}
 use Rattle.call_laws.specs.Serves.{ServesFrom, ServesTold}

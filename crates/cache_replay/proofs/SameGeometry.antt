@@ -14,7 +14,7 @@ use Rattle.cache_model.proofs.Aside.{AllAside, aside_leaves}
 use Rattle.cache_model.proofs.Sound.{buffer_left}
 use Rattle.cache_model.proofs.Steps.{after_all-append, all_append, all_as}
 use Rattle.cache_model.proofs.Syncing.{LeavesSyncs, clean_aside, flush_among_syncs, front_leaves_syncs, sync_splits, tail_leaves_syncs, unmark_aside}
-use Rattle.model_laws.proofs.Grouped.{Grouped, IsEnding, IsOfInsert, IsPlain, grouped}
+use Rattle.step_laws.proofs.Grouped.{Grouped, IsEnding, IsOfInsert, IsPlain, grouped}
 
 -- ---- records
 

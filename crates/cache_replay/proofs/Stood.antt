@@ -5,7 +5,7 @@ use Rattle.logged_disk.specs.Device.{TellsAll}
 use Rattle.cache_model.specs.State.{PutRow, State, fragment_piece, put_of}
 use Rattle.cache_model.specs.Pair.{ShowsPair}
 use Rattle.cache_model.specs.Vectors.{ArePuts, AreTold, AreVectors}
-use Rattle.model_laws.proofs.ToldGroups.{told_step}
+use Rattle.step_laws.proofs.ToldGroups.{told_step}
 use Rattle.call_laws.specs.Contents.{AnyContents, AreRecordedAs, Content, Contents}
 use Rattle.call_laws.proofs.Kept.{tells_or_not}
 use Rattle.cache_calls.specs.declared.calls.Calls.{Ghosts as CallsGhosts}

@@ -21,7 +21,7 @@ use Rattle.cache_model.specs.Legal
 use Rattle.cache_model.specs.Legal.{Does, IsQuiet, MayGrow, has_hit, nothing}
 use Rattle.cache_model.proofs.Aside.{AllAside, IsAside, lookup_aside, one_aside}
 use Rattle.cache_model.proofs.Steps.{after_all-append, all_append, grows_by}
-use Rattle.model_laws.proofs.Told.{told_aside}
+use Rattle.step_laws.proofs.Told.{told_aside}
 use Rattle.call_laws.specs.Contents.{AnyContents, Untold}
 use Rattle.call_laws.specs.Moments.{IsToldAt, OfState}
 use Rattle.call_laws.specs.Progress.{AllDone}

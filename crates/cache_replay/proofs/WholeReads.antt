@@ -30,9 +30,9 @@ use Rattle.cache_model.specs.Vectors.{AreTold, IsVectorAs}
 use Rattle.cache_model.proofs.Found.{none_is, no_truth, same_some}
 use Rattle.cache_model.proofs.Steps.{after_all-append, alone, grows_by, grows_on, seen}
 use Rattle.cache_model.proofs.Aside.{AllAside, reading_on_aside}
-use Rattle.model_laws.proofs.Answered.{end_is_whole}
-use Rattle.model_laws.proofs.Pairs.{also_pair, also_pair_of}
-use Rattle.model_laws.proofs.Told.{told_aside}
+use Rattle.step_laws.proofs.Answered.{end_is_whole}
+use Rattle.step_laws.proofs.Pairs.{also_pair, also_pair_of}
+use Rattle.step_laws.proofs.Told.{told_aside}
 use Rattle.call_laws.specs.Contents.{AnyContents, Contents, Untold}
 use Rattle.call_laws.specs.Moments.{At, NothingKnown, permit_of}
 use Rattle.call_laws.specs.Progress.{AllDone}

@@ -25,7 +25,7 @@ use Rattle.cache_model.specs.Given
 use Rattle.cache_model.specs.Legal
 use Rattle.cache_model.specs.Legal.{Advances, IsStep, MayGrow, answer_record, is_given, more, nothing}
 use Rattle.cache_model.proofs.Found.{no_truth, none_is, same_some}
-use Rattle.model_laws.proofs.Answered.{given_is_own}
+use Rattle.step_laws.proofs.Answered.{given_is_own}
 use Rattle.cache_model.proofs.Steps.{First, all_append, first_of, none_left}
 use Rattle.script_lang.specs.declared.step.Step.TheVariants as step
 use Rattle.script_lang.specs.declared.answer.StepAnswer.{StepAnswer}

@@ -10,7 +10,7 @@ use Rattle.cache_model.specs.declared.record.Rec.TheVariants as rec
 use Rattle.cache_model.specs.Legal.{IsQuiet}
 use Rattle.cache_model.specs.Permit.{IsAmong, Permit}
 use Rattle.cache_model.proofs.Found.{none_is}
-use Rattle.model_laws.proofs.Answered.{hit_matches}
+use Rattle.step_laws.proofs.Answered.{hit_matches}
 use Rattle.script_lang.specs.declared.step.Step.{Step}
 use Rattle.script_lang.specs.declared.answer.StepAnswer.{StepAnswer}
 use Rattle.script_run.specs.Run.{Run, fresh}

@@ -16,7 +16,7 @@ use Rattle.cache_model.specs.Given
 use Rattle.cache_model.specs.Legal
 use Rattle.cache_model.specs.Legal.{IsQuiet, IsStep, answer_record}
 use Rattle.cache_model.proofs.Steps.{alone}
-use Rattle.model_laws.proofs.Answered.{followed_is_closed}
+use Rattle.step_laws.proofs.Answered.{followed_is_closed}
 use Rattle.script_lang.specs.declared.line.LineAnswer.{LineAnswer}
 use Rattle.script_lang.specs.declared.line.LineAnswer.TheVariants as line
 use Rattle.script_lang.specs.declared.step.Step.TheVariants as step

@@ -12,7 +12,7 @@ use Rattle.cache_model.specs.State.{State, Row, LastVector, Complete, alternates
 use Rattle.cache_model.specs.Verdict.{cause_of_miss, is_unsaved, live_vector_of, lookup_verdict, passed, vector_of_last}
 use Rattle.cache_model.specs.Permit.{IsAmong}
 use Rattle.cache_model.proofs.Found.{no_truth, none_is}
-use Rattle.model_laws.specs.VectorLaws.{IsUnanswered, VectorsAreCounted}
+use Rattle.step_laws.specs.VectorLaws.{IsUnanswered, VectorsAreCounted}
 use Rattle.model_laws.proofs.Counted.{told_count}
 use Rattle.script_lang.specs.declared.step.Step.{Step}
 use Rattle.script_lang.specs.declared.step.Step.TheVariants as step

@@ -13,7 +13,7 @@ use Rattle.cache_model.specs.State.{State, after_all, state_after, AllAlong}
 use Rattle.cache_model.specs.Damage.{has_damage, is_damage}
 use Rattle.cache_model.specs.Permit.{IsAmong, Permit}
 use Rattle.cache_model.proofs.Found.{no_truth, none_is}
-use Rattle.model_laws.specs.StepLaws.{FaultsRise, IsRisen}
+use Rattle.step_laws.specs.StepLaws.{FaultsRise, IsRisen}
 use Rattle.script_lang.specs.declared.answer.Refused.TheVariants as refused
 use Rattle.script_lang.specs.declared.answer.StepAnswer.{StepAnswer}
 use Rattle.script_lang.specs.declared.answer.StepAnswer.TheVariants as answer

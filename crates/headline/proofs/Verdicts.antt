@@ -27,7 +27,7 @@ use Rattle.cache_model.specs.Legal
 use Rattle.cache_model.specs.Legal.{IsStep, answer_record}
 use Rattle.cache_model.proofs.Found.{no_truth, none_is}
 use Rattle.cache_model.proofs.Steps.{First, alone, first_of}
-use Rattle.model_laws.specs.VectorLaws.{IsUnanswered, VectorsAreCounted}
+use Rattle.step_laws.specs.VectorLaws.{IsUnanswered, VectorsAreCounted}
 use Rattle.model_laws.proofs.Counted.{told_count}
 use Rattle.script_lang.specs.declared.step.Step.{Step}
 use Rattle.script_lang.specs.declared.step.Step.TheVariants as step

@@ -6,7 +6,7 @@ use Rattle.logged_disk.specs.Device.{DeviceState as Device}
 use Rattle.cache_model.specs.Permit.{IsAmong}
 use Rattle.cache_model.specs.State.{State}
 use Rattle.cache_model.specs.declared.cause.Cause.TheVariants as cause
-use Rattle.model_laws.specs.StepLaws.{IsOfGiven}
+use Rattle.step_laws.specs.StepLaws.{IsOfGiven}
 use Rattle.script_lang.specs.declared.step.Step.{Step}
 use Rattle.script_lang.specs.declared.answer.StepAnswer.{StepAnswer}
 use Rattle.script_lang.specs.declared.answer.StepAnswer.TheVariants as answer

@@ -10,7 +10,7 @@ use Rattle.cache_model.specs.declared.record.Rec.TheVariants as rec
 use Rattle.cache_model.specs.State.{State, Row, alternates_of, floor_now, live_row_of, row_of, vector_piece}
 use Rattle.cache_model.specs.Verdict.{is_unsaved}
 use Rattle.cache_model.specs.Permit.{IsAmong}
-use Rattle.model_laws.specs.VectorLaws.{IsUnanswered}
+use Rattle.step_laws.specs.VectorLaws.{IsUnanswered}
 use Rattle.script_lang.specs.declared.step.Step.{Step}
 use Rattle.script_lang.specs.declared.step.Step.TheVariants as step
 use Rattle.script_lang.specs.declared.answer.StepAnswer.{StepAnswer}

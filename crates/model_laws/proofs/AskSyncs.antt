@@ -17,14 +17,14 @@ use Rattle.cache_model.proofs.SoundFlush.{front_aside}
 use Rattle.cache_model.proofs.Steps.{all_append, all_as}
 use Rattle.cache_model.specs.ToRead.{flushes_first}
 use Rattle.cache_model.proofs.Syncing.{LeavesSyncs, after_syncs, first_of, front_leaves_syncs, tail_leaves_syncs}
-use Rattle.model_laws.specs.AskLaws
-use Rattle.model_laws.specs.AskLaws.{EndsBefore, IntentHasCause, IsHeadGreatest, IsNextSerial, SyncsBefore, asks_sync, begins_next_buffer, places, way_of}
+use Rattle.step_laws.specs.AskLaws
+use Rattle.step_laws.specs.AskLaws.{EndsBefore, IntentHasCause, IsHeadGreatest, IsNextSerial, SyncsBefore, asks_sync, begins_next_buffer, places, way_of}
 use Rattle.model_laws.proofs.Among.{among_behind, among_rest}
 use Rattle.model_laws.proofs.Asks.{among_holds, begins_behind, first_is}
-use Rattle.model_laws.proofs.Grouped
-use Rattle.model_laws.proofs.Grouped.{AreEnding, Grouped, IsEnding, IsOfInsert, IsPlain, ended_ends, grouped, stopped_leaves_syncs}
+use Rattle.step_laws.proofs.Grouped
+use Rattle.step_laws.proofs.Grouped.{AreEnding, Grouped, IsEnding, IsOfInsert, IsPlain, ended_ends, grouped, stopped_leaves_syncs}
 use Rattle.model_laws.proofs.Marks.{AllLeaveMarks, LeavesMarks, ended_marks, first_marks, leave_marks, serial_left, where_marks}
-use Rattle.model_laws.proofs.Unsynced.{must_of}
+use Rattle.step_laws.proofs.Unsynced.{must_of}
 
 -- ---- the sync that is due
 

@@ -18,8 +18,8 @@ use Rattle.cache_model.specs.Legal
 use Rattle.cache_model.specs.Legal.{Does, IsStep, size_alone}
 use Rattle.cache_model.specs.Syncing
 use Rattle.cache_model.specs.Syncing.{DoesSync, WhereDue, must_unmark}
-use Rattle.model_laws.specs.StepLaws.{is_single}
-use Rattle.model_laws.proofs.Unsynced.{clean_ends, drain_ends, must_of, step_ends, sync_ends}
+use Rattle.step_laws.specs.StepLaws.{is_single}
+use Rattle.step_laws.proofs.Unsynced.{clean_ends, drain_ends, must_of, step_ends, sync_ends}
 use Rattle.cache_model.proofs.Steps.{alone, none_left}
 use Rattle.cache_model.proofs.Found.{no_truth, none_is, same_some}
 

@@ -18,11 +18,11 @@ use Rattle.cache_model.proofs.Found.{no_truth}
 use Rattle.cache_model.proofs.Sound.{LeavesTape}
 use Rattle.cache_model.proofs.Steps.{after_all-append, all_append, all_as}
 use Rattle.cache_model.proofs.Syncing.{LeavesSyncs, clean_aside, sync_splits, unmark_aside}
-use Rattle.model_laws.specs.AskLaws.{IsHeldBack, TellNoSync, is_of_sync, is_placement, places, way_of}
+use Rattle.step_laws.specs.AskLaws.{IsHeldBack, TellNoSync, is_of_sync, is_placement, places, way_of}
 use Rattle.model_laws.proofs.Asked.{none_due}
-use Rattle.model_laws.proofs.Grouped
-use Rattle.model_laws.proofs.Grouped.{Grouped, IsEnding, IsOfInsert, IsPlain, grouped}
-use Rattle.model_laws.proofs.Unsynced.{clean_on, never, sync_on, unmark_on}
+use Rattle.step_laws.proofs.Grouped
+use Rattle.step_laws.proofs.Grouped.{Grouped, IsEnding, IsOfInsert, IsPlain, grouped}
+use Rattle.step_laws.proofs.Unsynced.{clean_on, never, sync_on, unmark_on}
 
 -- what holds of each record holds of one among them
 pub among_holds : {X : Type 0} (P : X → Type 0) (x : X) (xs : List X) → AllByRecursion P xs → IsAmong x xs → P x

@@ -24,14 +24,14 @@ use Rattle.cache_model.specs.Given
 use Rattle.cache_model.specs.Legal
 use Rattle.cache_model.specs.Legal.{Does, Advances, MayGrow, nothing, more, IsStep, answer_record}
 use Rattle.model_laws.specs.FlushLaws.{IsOfDevice}
-use Rattle.model_laws.specs.StepLaws.{IsBacked, IsNumbered, IsRisen}
+use Rattle.step_laws.specs.StepLaws.{IsBacked, IsNumbered, IsRisen}
 use Rattle.cache_model.specs.Due.{due_pieces}
 use Rattle.cache_model.specs.Outcomes.{Copied, Copy, NoRoom, Outcome, ReadRefused, Spoiled, copies_of, flush_tail, front_of, moved_record, moved_records, records_of, stopped_front_of, stopped_records_of}
 use Rattle.cache_model.specs.Syncing
 use Rattle.cache_model.specs.Syncing.{CannotEnd, DoesCleanSync, DoesSync, DoesSyncStep, MayStopSync, MaySyncBehind, StopsBehind, Syncing, Unmarks, at_first, begun_record, behind_records, ended_records, first_records, sync_records}
 use Rattle.cache_model.proofs.Steps.{all_append, along_append}
 use Rattle.cache_model.proofs.Syncing.{AreOfSyncs, IsOfSync, after_syncs, behind_of, ended_of, first_of, sync_of, unmark_of}
-use Rattle.model_laws.proofs.Alike.{IsAlike, counts_alike, outcomes_alike}
+use Rattle.step_laws.proofs.Alike.{IsAlike, counts_alike, outcomes_alike}
 use Rattle.model_laws.proofs.Among.{call_made}
 use Rattle.model_laws.proofs.Listed.{live_by_row, payload_told}
 use Rattle.model_laws.proofs.BackedFlush.{front_is_backed, risen, stopped_front, stopped_is_backed}

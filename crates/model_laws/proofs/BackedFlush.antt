@@ -8,9 +8,9 @@ use Rattle.cache_model.specs.Permit.{Permit}
 use Rattle.cache_model.proofs.Steps.{along_append}
 use Rattle.cache_model.specs.Given.{MayCount}
 use Rattle.model_laws.specs.FlushLaws.{IsOfDevice}
-use Rattle.model_laws.specs.StepLaws.{IsRisen}
+use Rattle.step_laws.specs.StepLaws.{IsRisen}
 use Rattle.cache_model.specs.Outcomes.{AreOutcomes, Copied, IsOutcome, NoRoom, Outcome, ReadRefused, Spoiled, front_of, left_behind, records_of, stopped_front_of, stopped_records, stopped_records_of}
-use Rattle.model_laws.proofs.Alike.{IsAlike, alike_self, alike_stopped, outcome_alike}
+use Rattle.step_laws.proofs.Alike.{IsAlike, alike_self, alike_stopped, outcome_alike}
 
 pub risen : (p : Permit) (s : State) (asked : Asked) (count : ℕ) → MayCount p s asked count → IsRisen p s (rec.Fault count)
 risen p s asked count m = (m.rose, (asked, m.refused))

@@ -35,7 +35,7 @@ use Rattle.cache_model.proofs.SoundFlush.{copies_part, copies_ready, copies_with
 use Rattle.cache_model.proofs.Steps.{after_all-append, all_append, along_append}
 use Rattle.cache_model.proofs.Syncing.{AllLeaveSyncs, AreOfSyncs, after_syncs, all_resynced, behind_of, clean_aside, drain_splits, first_of, front_leaves_syncs, step_aside, sync_splits, syncs_aside, unmark_aside}
 use Rattle.model_laws.specs.TapeLaws.{EndsBelow, FoundBelow, IsBelow, RowBelow}
-use Rattle.model_laws.proofs.Unsynced.{may_flush}
+use Rattle.step_laws.proofs.Unsynced.{may_flush}
 
 -- ---- numbers
 

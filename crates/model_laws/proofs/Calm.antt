@@ -32,7 +32,7 @@ use Rattle.cache_model.specs.Outcomes.{AreOutcomes, Copied, Copy, NoRoom, Outcom
 use Rattle.cache_model.proofs.Found.{no_truth, number_of}
 use Rattle.cache_model.proofs.Steps.{all_parts}
 use Rattle.model_laws.specs.Agreeing.{AreLike, HoldTheSame, IsUntroubled, TellTheSame, is_trouble, without_copy_digest, without_digest, without_digests}
-use Rattle.model_laws.proofs.Unsynced.{clean_on, drain_on, never, step_on, sync_on, unmark_on}
+use Rattle.step_laws.proofs.Unsynced.{clean_on, drain_on, never, step_on, sync_on, unmark_on}
 use Rattle.model_laws.proofs.Digests.{due_too, list_of_piece_too, list_too, live_row_too, live_vector_too, lookup_too, reader_too}
 use Rattle.model_laws.proofs.DigestSteps.{all_alike, digests_twice, record_alike}
 

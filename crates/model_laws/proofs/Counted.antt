@@ -38,7 +38,7 @@ use Rattle.cache_model.specs.Legal
 use Rattle.cache_model.specs.Legal.{Advances, Course, Does, IsLegal, IsStep, MayGrow, answer_record, format_records, is_writing, more, next_fragment_of, nothing}
 use Rattle.cache_model.proofs.Found.{no_truth, none_is}
 use Rattle.cache_model.proofs.Steps.{after_all-append, all_append}
-use Rattle.model_laws.specs.VectorLaws.{IsOver, IsUnanswered, VectorIsCounted, VectorsAreCounted}
+use Rattle.step_laws.specs.VectorLaws.{IsOver, IsUnanswered, VectorIsCounted, VectorsAreCounted}
 use Rattle.model_laws.proofs.CountedRecords.{AllLeaveCounts, KeepsCounts, LeavesCounts, counted_committed, counted_kept, counted_opened, keeps_all, keeps_placed, keeps_trans}
 
 -- ---- records that leave it

@@ -7,7 +7,7 @@ use Rattle.cache_model.specs.Verdict.{is_open}
 use Rattle.cache_model.specs.Forgetting.{forget, forgotten_puts, is_among_puts, put_of_last, without_puts}
 use Rattle.cache_model.specs.Legal.{is_writing}
 use Rattle.cache_model.proofs.Found.{none_is, same_some}
-use Rattle.model_laws.specs.VectorLaws.{VectorsAreCounted}
+use Rattle.step_laws.specs.VectorLaws.{VectorsAreCounted}
 use Rattle.model_laws.proofs.CountedRecords.{KeepsCounts, counted_kept}
 use Rattle.model_laws.proofs.Forgetting.{AreDead, count_stays, forgotten_is_dead, put_gone, put_kept, puts_by, row_kept, vector_gone, vector_kept, vector_none}
 

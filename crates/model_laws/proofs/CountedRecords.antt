@@ -19,7 +19,7 @@ use Rattle.cache_model.specs.Verdict.{is_open}
 use Rattle.cache_model.specs.Legal.{is_writing}
 use Rattle.cache_model.proofs.Found.{no_truth, none_is, number_of, same_some}
 use Rattle.cache_model.proofs.Lists.{row_in-without, row_in-placed, row_in-copied}
-use Rattle.model_laws.specs.VectorLaws.{IsOver, VectorsAreCounted}
+use Rattle.step_laws.specs.VectorLaws.{IsOver, VectorsAreCounted}
 
 -- ---- a put that is changed
 

@@ -15,13 +15,13 @@ use Rattle.cache_model.specs.ToRead.{flushes_first}
 use Rattle.cache_model.proofs.Found.{no_truth}
 use Rattle.cache_model.proofs.Steps.{all_append}
 use Rattle.cache_model.proofs.Syncing.{AllLeaveSyncs, LeavesSyncs, front_leaves_syncs, tail_leaves_syncs}
-use Rattle.model_laws.specs.AskLaws
-use Rattle.model_laws.specs.AskLaws.{HasEndCause, asks_sync, way_of}
+use Rattle.step_laws.specs.AskLaws
+use Rattle.step_laws.specs.AskLaws.{HasEndCause, asks_sync, way_of}
 use Rattle.model_laws.proofs.Asks.{among_holds}
 use Rattle.model_laws.proofs.AskSyncs.{stops_by}
-use Rattle.model_laws.proofs.Grouped
-use Rattle.model_laws.proofs.Grouped.{Grouped, IsOfInsert, IsPlain, grouped, stopped_leaves_syncs}
-use Rattle.model_laws.proofs.Unsynced.{must_of}
+use Rattle.step_laws.proofs.Grouped
+use Rattle.step_laws.proofs.Grouped.{Grouped, IsOfInsert, IsPlain, grouped, stopped_leaves_syncs}
+use Rattle.step_laws.proofs.Unsynced.{must_of}
 
 -- ---- where none is due
 

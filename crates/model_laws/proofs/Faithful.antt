@@ -31,10 +31,10 @@ use Rattle.model_laws.proofs.Below
 use Rattle.model_laws.proofs.Below.{Taped, taped}
 use Rattle.model_laws.proofs.Calm.{groups_agree}
 use Rattle.model_laws.proofs.Undisplaced.{none_displaced}
-use Rattle.model_laws.proofs.Alike.{reads_self}
+use Rattle.step_laws.proofs.Alike.{reads_self}
 use Rattle.model_laws.proofs.FixedFlush.{IsLive, flush_untroubled, no_count, no_damage, outcomes_are_fixed}
 use Rattle.cache_model.proofs.Found.{no_truth, none_is, same_some}
-use Rattle.model_laws.proofs.Unsynced.{clean_on, drain_on, never, step_on, sync_on, unmark_on}
+use Rattle.step_laws.proofs.Unsynced.{clean_on, drain_on, never, step_on, sync_on, unmark_on}
 
 -- ---- what is asked for
 

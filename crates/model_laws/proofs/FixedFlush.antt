@@ -15,7 +15,7 @@ use Rattle.cache_model.specs.Due.{due_pieces}
 use Rattle.cache_model.specs.Outcomes.{AreOutcomes, Copied, Copy, NoRoom, Outcome, ReadRefused, Spoiled, copies_of, flush_records, front_of, moved_record, moved_records, records_of}
 use Rattle.model_laws.specs.Agreeing.{IsUntroubled}
 use Rattle.cache_model.proofs.Found.{no_truth}
-use Rattle.model_laws.proofs.Alike.{ReadsAlike, given_alike, reads_back, reads_self}
+use Rattle.step_laws.proofs.Alike.{ReadsAlike, given_alike, reads_back, reads_self}
 use Rattle.cache_model.proofs.Live.{IsFound, due_are_live}
 
 -- ---- a faithful device

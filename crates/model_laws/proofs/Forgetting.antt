@@ -27,7 +27,7 @@ use Rattle.cache_model.proofs.Found.{found_passes, no_truth, none_is, same_some}
 use Rattle.cache_model.proofs.Known.{found_is_known, live_place_is_known}
 use Rattle.cache_model.proofs.Lists.{own_piece}
 use Rattle.cache_model.proofs.Rows.{apart-part, part-filter, rising-part}
-use Rattle.model_laws.proofs.Told.{vectors_part}
+use Rattle.step_laws.proofs.Told.{vectors_part}
 use Rattle.model_laws.specs.ForgetLaws.{IsLeft, IsLeftSound}
 
 -- ---- tests of lists

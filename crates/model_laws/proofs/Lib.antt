@@ -1,14 +1,8 @@
-pub mod Pairs
-mod Places
-pub mod Answered
 mod Asked
-mod Cleanup
 pub mod Backed
 mod WorkedSessions
 mod AcceptedSteps
 mod SyncedSteps
-pub mod Unsynced
-pub mod Grouped
 pub mod Among
 pub mod Listed
 mod Asks
@@ -25,12 +19,9 @@ mod Below
 pub mod Fits
 mod Possible
 mod Tried
-pub mod Told
-pub mod ToldGroups
 pub mod CountedRecords
 pub mod Counted
 mod Payloads
-pub mod Alike
 pub mod Digests
 pub mod DigestSteps
 mod Calm
@@ -42,7 +33,6 @@ mod AgreeingSteps
 pub mod Undisplaced
 pub mod Purging
 pub mod TriedFlush
-pub mod ToldFlush
 mod WorkedFlush
 mod ReadPairs
 mod Syncs

@@ -12,7 +12,7 @@ use Rattle.cache_model.specs.Legal
 use Rattle.cache_model.specs.Legal.{Does, DoesDrain}
 use Rattle.cache_model.proofs.Steps.{after_all-append}
 use Rattle.cache_model.proofs.Syncing.{AllLeaveSyncs, LeavesSyncs, after_syncs, ended_of, tail_leaves_syncs}
-use Rattle.model_laws.specs.AskLaws.{IsSynced, IsSyncBegun, IsSyncMade}
+use Rattle.step_laws.specs.AskLaws.{IsSynced, IsSyncBegun, IsSyncMade}
 use Rattle.model_laws.proofs.AskSyncs.{parts_shape, whole_shape}
 
 -- ---- what is left of syncs and of the cursor

@@ -15,14 +15,14 @@ use Rattle.cache_model.proofs.Found.{no_truth}
 use Rattle.cache_model.proofs.Sound.{AllLeaveTape, LeavesTape, buffer_left}
 use Rattle.cache_model.proofs.Steps.{after_all-append, all_append, all_as}
 use Rattle.cache_model.proofs.Syncing.{LeavesSyncs, sync_splits, unmark_aside}
-use Rattle.model_laws.specs.AskLaws.{IsMarkedEmpty, way_of}
+use Rattle.step_laws.specs.AskLaws.{IsMarkedEmpty, way_of}
 use Rattle.model_laws.proofs.Asks.{ending_begins, insert_leaves}
-use Rattle.model_laws.proofs.Grouped
-use Rattle.model_laws.proofs.Grouped.{Grouped, IsEnding, IsOfInsert, IsPlain, grouped}
+use Rattle.step_laws.proofs.Grouped
+use Rattle.step_laws.proofs.Grouped.{Grouped, IsEnding, IsOfInsert, IsPlain, grouped}
 use Rattle.model_laws.proofs.Marks.{AllLeaveMarks, LeavesMarks, ends_marks, leave_marks}
 use Rattle.model_laws.proofs.Serials
 use Rattle.model_laws.proofs.Serials.{BeginsOnce, does_once, unmark_once}
-use Rattle.model_laws.proofs.Unsynced.{never}
+use Rattle.step_laws.proofs.Unsynced.{never}
 
 -- ---- where no clean sync begins
 

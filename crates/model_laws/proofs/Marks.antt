@@ -8,7 +8,7 @@ use Rattle.cache_model.specs.State.{State, Mark, after_all, state_after}
 use Rattle.cache_model.specs.Syncing.{Syncing, ended_records, ends_first, first_records, next_serial}
 use Rattle.cache_model.proofs.Steps.{all_as}
 use Rattle.cache_model.proofs.Syncing.{LeavesSyncs}
-use Rattle.model_laws.proofs.Grouped.{AreEnding, IsEnding, ended_ends}
+use Rattle.step_laws.proofs.Grouped.{AreEnding, IsEnding, ended_ends}
 
 -- the record begins no session and no sync
 abbrev pub LeavesMarks : Rec → Type 0

@@ -26,7 +26,7 @@ use Rattle.cache_model.proofs.Found.{no_truth, none_is, number_of, same_some}
 use Rattle.cache_model.proofs.Lists.{found_row, own_piece, row_in-copied, row_in-placed}
 use Rattle.cache_model.proofs.Steps.{after_all-append}
 use Rattle.model_laws.specs.PayloadLaws.{AreCut, IsCutBy, PutHasCut}
-use Rattle.model_laws.specs.VectorLaws.{VectorsAreCounted}
+use Rattle.step_laws.specs.VectorLaws.{VectorsAreCounted}
 use Rattle.model_laws.proofs.Counted
 use Rattle.model_laws.proofs.Counted.{Parts, counted_group, displaced_leaves, legal_counted, parts}
 use Rattle.model_laws.proofs.CountedRecords.{AllLeaveCounts, LeavesCounts, changed, earlier_found, find_changed, without_found}

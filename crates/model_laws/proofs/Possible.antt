@@ -32,7 +32,7 @@ use Rattle.cache_model.specs.Tape.{IsSound}
 use Rattle.cache_model.proofs.Found.{none_is, number_of, same_some}
 use Rattle.model_laws.proofs.Listed.{listed_by}
 use Rattle.model_laws.proofs.Purged.{can_displace}
-use Rattle.model_laws.proofs.Unsynced.{unmarked_where}
+use Rattle.step_laws.proofs.Unsynced.{unmarked_where}
 use Rattle.model_laws.proofs.TriedFlush.{Flushes, flush_comes, made, stopped}
 
 -- ---- sizes

@@ -24,7 +24,7 @@ use Rattle.model_laws.proofs.Calm.{calm_purged, calm_room}
 use Rattle.model_laws.proofs.Digests.{filtered, list_too, live_row_too, live_rows_too}
 use Rattle.model_laws.proofs.DigestSteps.{all_alike}
 use Rattle.model_laws.proofs.Undisplaced.{PlacesFreely, group_other}
-use Rattle.model_laws.proofs.Unsynced.{never, unmark_on}
+use Rattle.step_laws.proofs.Unsynced.{never, unmark_on}
 
 -- ---- slots, but for digests
 

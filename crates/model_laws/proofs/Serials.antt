@@ -13,10 +13,10 @@ use Rattle.cache_model.specs.Legal
 use Rattle.cache_model.specs.Legal.{Advances, Course, Does, IsLegal, MayGrow, more, nothing}
 use Rattle.cache_model.proofs.Steps.{after_all-append, all_append, all_as, along_append}
 use Rattle.cache_model.proofs.Syncing.{LeavesSyncs, front_leaves_syncs, tail_leaves_syncs}
-use Rattle.model_laws.specs.AskLaws.{IsHeadGreatest, IsNextSerial, way_of}
+use Rattle.step_laws.specs.AskLaws.{IsHeadGreatest, IsNextSerial, way_of}
 use Rattle.model_laws.proofs.Asks.{insert_leaves}
-use Rattle.model_laws.proofs.Grouped
-use Rattle.model_laws.proofs.Grouped.{Grouped, IsOfInsert, IsPlain, grouped, stopped_leaves_syncs}
+use Rattle.step_laws.proofs.Grouped
+use Rattle.step_laws.proofs.Grouped.{Grouped, IsOfInsert, IsPlain, grouped, stopped_leaves_syncs}
 use Rattle.model_laws.proofs.Marks.{AllLeaveMarks, LeavesMarks, ended_marks, ends_marks, first_marks, leave_marks, serial_left, where_marks}
 
 -- ---- records in which at most one sync begins

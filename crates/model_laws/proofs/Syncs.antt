@@ -13,7 +13,7 @@ use Rattle.cache_model.specs.declared.answer.ReadAnswer.TheVariants as read
 use Rattle.cache_model.specs.declared.cause.Cause.TheVariants as cause
 use Rattle.alternate_vector.specs.Field.{Field}
 use Rattle.tape_base.specs.declared.keys.Key.{Key}
-use Rattle.model_laws.specs.PlaceLaws.{vector_found}
+use Rattle.step_laws.specs.PlaceLaws.{vector_found}
 use Rattle.cache_model.specs.State.{State, Mark, after_all, mark_now, mark_of, row_in, state_after}
 use Rattle.cache_model.specs.Syncs.{Follows, IsAllowed}
 use Rattle.cache_model.proofs.Found.{no_truth}

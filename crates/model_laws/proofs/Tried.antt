@@ -23,9 +23,9 @@ use Rattle.model_laws.specs.Choices
 use Rattle.model_laws.specs.Choices.{AreDueTried, IsFlushTried, IsTried, IsTriedWhereLive, WasRead}
 use Rattle.cache_model.specs.ToRead.{to_read}
 use Rattle.cache_model.proofs.Found.{end_gives_none, no_truth}
-use Rattle.model_laws.proofs.Answered.{given_in}
+use Rattle.step_laws.proofs.Answered.{given_in}
 use Rattle.model_laws.proofs.TriedFlush.{made_is_tried, stopped_is_tried}
-use Rattle.model_laws.proofs.Unsynced.{drain_on, never, sync_on, unmark_on}
+use Rattle.step_laws.proofs.Unsynced.{drain_on, never, sync_on, unmark_on}
 
 -- ---- tried
 

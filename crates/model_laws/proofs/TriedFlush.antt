@@ -17,7 +17,7 @@ use Rattle.cache_model.specs.Due.{due_pieces}
 use Rattle.cache_model.specs.Outcomes.{AreOutcomes, Copied, NoRoom, Outcome, ReadRefused, Spoiled, records_of, stopped_front_of, stopped_records_of}
 use Rattle.model_laws.specs.Choices
 use Rattle.model_laws.specs.Choices.{AreTried, GaveBytesFor, IsBufferTried, IsFlushTried, with_fault}
-use Rattle.model_laws.proofs.Alike.{IsAlike, alike_self, alike_trans, given_alike, read_alike, write_alike, written_alike}
+use Rattle.step_laws.proofs.Alike.{IsAlike, alike_self, alike_trans, given_alike, read_alike, write_alike, written_alike}
 use Rattle.cache_model.proofs.Written.{due_are_written}
 
 -- ---- outcomes of what was tried

@@ -10,7 +10,7 @@ use Rattle.cache_model.specs.State.{State, Row, after_all, floor_next, floor_now
 use Rattle.model_laws.specs.Choices.{AreTried, GaveBytesFor, IsFaithful}
 use Rattle.device_log.specs.Calls.{Asked}
 use Rattle.cache_model.specs.Given.{MayCount}
-use Rattle.model_laws.specs.StepLaws.{IsOfGiven, IsRefusalCount, IsRisen}
+use Rattle.step_laws.specs.StepLaws.{IsOfGiven, IsRefusalCount, IsRisen}
 use Rattle.cache_model.specs.Tape.{IsSound}
 use Rattle.cache_model.specs.Verdict.{piece_at}
 use Rattle.cache_model.specs.Permit.{Permit}

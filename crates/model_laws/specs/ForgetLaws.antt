@@ -12,7 +12,7 @@ use Rattle.cache_model.specs.Verdict.{followed, lookup_verdict, no_record, piece
 use Rattle.cache_model.specs.Permit.{IsAmong}
 use Rattle.cache_model.specs.Syncs.{IsAllowed}
 use Rattle.cache_model.specs.Tape.{IsSound}
-use Rattle.model_laws.specs.VectorLaws.{VectorsAreCounted}
+use Rattle.step_laws.specs.VectorLaws.{VectorsAreCounted}
 use Rattle.cache_model.specs.Vectors.{AreTold}
 use Rattle.cache_model.specs.Forgetting.{forget, is_among_puts, is_dead, is_forgotten, known_puts, put_of_last}
 

@@ -13,7 +13,7 @@ use Rattle.cache_model.specs.declared.cause.Cause.TheVariants as cause
 use Rattle.alternate_vector.specs.Field.{Field}
 use Rattle.tape_base.specs.declared.keys.Key.{Key}
 use Rattle.tape_base.specs.Place.{reach_of}
-use Rattle.model_laws.specs.PlaceLaws.{vector_found}
+use Rattle.step_laws.specs.PlaceLaws.{vector_found}
 use Rattle.cache_model.specs.Permit.{IsAmong}
 use Rattle.cache_model.specs.State.{State, Mark, Row, after_all, floor_now, live_rows, mark_of, row_in, row_of}
 use Rattle.cache_model.specs.Syncs.{Follows, IsAllowed}

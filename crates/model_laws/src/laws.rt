@@ -1,15 +1,15 @@
 // Laws of the definitions over records, in the subject's sentences. These functions do nothing when
 // they run.
-ghost use Rattle.model_laws.specs.PlaceLaws.{PlaceFollows, PlaceIsLast, MovedIsThere, FoundIsThere, TakenIsNowhere, ReplacedIsNowhere, PassedIsNotLive, VectorIsLast, FloorIsLast};
+ghost use Rattle.step_laws.specs.PlaceLaws.{PlaceFollows, PlaceIsLast, MovedIsThere, FoundIsThere, TakenIsNowhere, ReplacedIsNowhere, PassedIsNotLive, VectorIsLast, FloorIsLast};
 ghost use Rattle.model_laws.specs.Choices.{GroupIsFixed, AskedIsAnswered, AnsweredIsTried, HitIsRead, GivenIsRead};
-ghost use Rattle.model_laws.specs.StepLaws.{RefusalEnds, NumbersFollow, FaultsRise, OneGroup, NothingAsked, FragmentIsCut, LiveIsRemoved, EmptyFlush, LookupIsOne, TooLargeIsNotPlaced, AllIsCutFirst, ReaderIsClosed, WriterIsEnded, TroubleIsBacked};
+ghost use Rattle.step_laws.specs.StepLaws.{RefusalEnds, NumbersFollow, FaultsRise, OneGroup, NothingAsked, FragmentIsCut, LiveIsRemoved, EmptyFlush, LookupIsOne, TooLargeIsNotPlaced, AllIsCutFirst, ReaderIsClosed, TroubleIsBacked};
 ghost use Rattle.model_laws.specs.VerdictLaws.{HitMatches, CompleteIsHit, RemovedIsMissed, PassedIsMissed, FormattedIsEmpty, GivenIsOwn, EndIsWhole, FollowedIsClosed, WaitsForOpen};
 ghost use Rattle.model_laws.specs.TapeLaws.{LegalIsBelow, OpeningsAreSound, PlacesStayBelow, StepsAreSound, LegalIsSound, LiveIsKnown};
 ghost use Rattle.model_laws.specs.FlushLaws.{DueAreFound, FlushIsSound, FrontIsBacked, GivenAreTried, KeptAreChosen, OutcomesAreFixed, OutcomesAreFound, OutcomesAreTried, StoppedIsBacked, StoppedIsSound, WalkFinds, WalkGoesOn};
 ghost use Rattle.model_laws.specs.Agreeing.{GroupsAgree, StepsAgree};
 ghost use Rattle.model_laws.specs.Purging.{DisplacementsAgree};
-ghost use Rattle.model_laws.specs.PairLaws.{CopiedIsDueAndFits, LookupReadsItsKey, NothingAskedReadsNone, PairsAreBytes, PairsAreGiven, ReaderReadsItsNext};
-ghost use Rattle.model_laws.specs.VectorLaws.{FlushTells, StoppedTells, FormatsTell, OpeningsTell, GroupsTell, StepsTell, VectorsAreKept, MergedIsSpelled, CountIsListed, FormatsCount, GroupsCount, OpeningsCount, StepsCount, UnansweredIsCounted};
+ghost use Rattle.step_laws.specs.PairLaws.{CopiedIsDueAndFits, LookupReadsItsKey, NothingAskedReadsNone, PairsAreBytes, PairsAreGiven, ReaderReadsItsNext};
+ghost use Rattle.step_laws.specs.VectorLaws.{FlushTells, StoppedTells, FormatsTell, OpeningsTell, GroupsTell, StepsTell, VectorsAreKept, MergedIsSpelled, CountIsListed, FormatsCount, GroupsCount, OpeningsCount, StepsCount, UnansweredIsCounted};
 ghost use Rattle.model_laws.specs.SyncLaws.{OpenedIsTold};
 ghost use Rattle.model_laws.specs.PayloadLaws.{FormattedAreCut, PayloadsAreCut};
 ghost use Rattle.model_laws.specs.RoomLaws.{GroupFits, InsertFits, LegalFits, LessFits, MoveDisplacesNothing, NothingIsDisplaced, PlainDisplacesNothing, SlotIsMade, StepFits, TenthIsDisplaced};
@@ -104,11 +104,6 @@ pub fn refusal_ends()
 /// A step that ends by closing a reader leaves it closed.
 pub fn reader_is_closed()
     ensures { ReaderIsClosed }
-{}
-
-/// A step that ends by giving a put up leaves it not open.
-pub fn writer_is_ended()
-    ensures { WriterIsEnded }
 {}
 
 /// Damage is recorded only with a digest of what the device gave, or of a payload as the records tell

@@ -23,5 +23,5 @@ pub use laws::{
     step_fits, steps_agree, steps_are_sound, steps_count, steps_tell, stopped_is_backed,
     stopped_is_sound, stopped_tells, taken_is_nowhere, tenth_is_displaced, too_large_is_not_placed,
     trouble_is_backed, unanswered_is_counted, vector_is_last, vectors_are_kept, waits_for_open,
-    walk_finds, walk_goes_on, writer_is_ended, written_is_kept,
+    walk_finds, walk_goes_on, written_is_kept,
 };

@@ -1,5 +1,5 @@
 // Laws of syncs and of clean marks. These functions do nothing when they run.
-ghost use Rattle.model_laws.specs.AskLaws.{AskedIsSynced, DueIsEnded, DueIsSynced, EndedFirst, FlushBegins, LegalSerialsRise, MarkIsTakenBack, MarkedIsEmpty, MarkedPlacesNothing, MarkedStaysEmpty, NoSyncIsRecorded, RoomBegins, SerialsFollow, SerialsRise, StepsTellNoSync, SyncEndsWhereDue, SyncIsDueOrAsked};
+ghost use Rattle.step_laws.specs.AskLaws.{AskedIsSynced, DueIsEnded, DueIsSynced, EndedFirst, FlushBegins, LegalSerialsRise, MarkIsTakenBack, MarkedIsEmpty, MarkedPlacesNothing, MarkedStaysEmpty, NoSyncIsRecorded, RoomBegins, SerialsFollow, SerialsRise, StepsTellNoSync, SyncEndsWhereDue, SyncIsDueOrAsked};
 ghost use Rattle.model_laws.specs.SyncLaws.{FinishedIsLast, FollowerAllowsSync, FollowerHasSync, MarksStay, OnlyLaterAreAllowed, SyncIsHeld};
 
 /// What a sync holds is how things stood when it began.

@@ -13,7 +13,7 @@ use Rattle.cache_model.specs.declared.record.Rec.TheVariants as rec
 use Rattle.cache_model.specs.State.{State, ReaderRow, AllAlong, after_all, reader_of, state_after}
 use Rattle.cache_model.specs.Permit.{Intent, Commit}
 use Rattle.cache_model.proofs.Found.{no_truth, none_is}
-use Rattle.model_laws.specs.StepLaws.{IsNumbered}
+use Rattle.step_laws.specs.StepLaws.{IsNumbered}
 use Rattle.script_lang.specs.declared.line.LineAnswer.{LineAnswer}
 use Rattle.script_lang.specs.declared.line.LineAnswer.TheVariants as line
 use Rattle.script_lang.specs.declared.step.Step.{Step}

@@ -27,8 +27,8 @@ use Rattle.cache_model.specs.Outcomes.{AreOutcomes, Copied, Copy, IsOutcome, NoR
 use Rattle.cache_model.specs.Permit.{IsAmong, Permit, Intent, Flush, Sync, SyncBegin, SyncStep, Drain, CleanSync, Write, Fragment, Overflow, Weigh, Finish, Commit, GiveUp, Remove, Look, ReadOn, ReadAll, StopReading, End, Stays, Done, Fails, Work, Reason, is_cleanup, work_after}
 use Rattle.cache_model.specs.Room.{MayDisplace, displaced_record}
 use Rattle.cache_model.proofs.Steps.{all_append, all_as}
-use Rattle.model_laws.specs.StepLaws.{IsOfGiven}
-use Rattle.model_laws.proofs.Unsynced.{clean_on, drain_on, never, step_on, sync_on, unmark_on}
+use Rattle.step_laws.specs.StepLaws.{IsOfGiven}
+use Rattle.step_laws.proofs.Unsynced.{clean_on, drain_on, never, step_on, sync_on, unmark_on}
 use Rattle.script_lang.specs.declared.step.Step.{Step}
 use Rattle.script_lang.specs.declared.step.Step.TheVariants as step
 use Rattle.script_run.specs.Run.{Run, Stream, fresh, held_by, put_written_by, reader_by}

@@ -14,7 +14,7 @@ use Rattle.cache_model.specs.Permit.{End, Permit, ReadOn}
 use Rattle.cache_model.specs.Given
 use Rattle.cache_model.specs.Legal
 use Rattle.cache_model.specs.Legal.{IsQuiet, IsStep, answer_record}
-use Rattle.model_laws.proofs.Answered.{end_is_whole, followed_is_closed}
+use Rattle.step_laws.proofs.Answered.{end_is_whole, followed_is_closed}
 use Rattle.cache_model.proofs.Found.{none_is, number_of, same_some}
 use Rattle.script_lang.specs.declared.answer.StepAnswer.TheVariants as answer
 use Rattle.script_lang.specs.declared.step.Step.TheVariants as step

@@ -22,7 +22,7 @@ use Rattle.cache_model.specs.Permit.{End, Intent, Look, Permit, Reason}
 use Rattle.cache_model.specs.Given
 use Rattle.cache_model.specs.Legal
 use Rattle.cache_model.specs.Legal.{IsStep}
-use Rattle.model_laws.specs.StepLaws.{OneGroup}
+use Rattle.step_laws.specs.StepLaws.{OneGroup}
 use Rattle.cache_model.proofs.Found.{none_is, same_some}
 use Rattle.script_lang.specs.declared.answer.StepAnswer.{StepAnswer}
 use Rattle.script_lang.specs.declared.answer.StepAnswer.TheVariants as answer

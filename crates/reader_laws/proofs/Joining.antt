@@ -3,7 +3,7 @@ use Rattle.std.proofs.Common.{◌≡◌, ℕ, ◌-◌, ◌*◌, List, drop, take
 use Rattle.std.specs.Prelude.{Option, Some}
 use Rattle.tape_base.specs.declared.geometries.Geometry.{Geometry}
 use Rattle.cache_model.specs.State.{State, ReaderRow, after_all, reader_of}
-use Rattle.model_laws.specs.StepLaws.{NothingAsked}
+use Rattle.step_laws.specs.StepLaws.{NothingAsked}
 use Rattle.cache_model.proofs.Found.{same_some}
 use Rattle.script_lang.specs.declared.answer.StepAnswer.TheVariants as answer
 use Rattle.script_lang.specs.declared.step.Step.{Step}

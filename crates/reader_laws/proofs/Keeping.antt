@@ -10,7 +10,7 @@ use Rattle.cache_model.specs.declared.record.Rec.{Rec}
 use Rattle.cache_model.specs.declared.record.Rec.TheVariants as rec
 use Rattle.cache_model.specs.State.{State, PutRow, ReaderRow, Closed, GivenUp, after_all, change_put, change_reader, opened_reader, put_of, reader_of, state_after, with_cut, with_writing, without_reader, AllAlong}
 use Rattle.cache_model.specs.Verdict.{cuts_of}
-use Rattle.model_laws.specs.StepLaws.{IsNumbered}
+use Rattle.step_laws.specs.StepLaws.{IsNumbered}
 use Rattle.cache_model.proofs.ByNumber.{find-changed, find-without}
 use Rattle.script_run.proofs.Changed.{changed, either, found_changed}
 use Rattle.script_run.proofs.Values.{other_than}

@@ -19,7 +19,7 @@ use Rattle.cache_model.specs.Permit.{End, Stays, Done, Fails, Look, Permit, Read
 use Rattle.cache_model.specs.Given
 use Rattle.cache_model.specs.Legal
 use Rattle.cache_model.specs.Legal.{Advances, IsQuiet, IsStep, MayGrow, nothing, more, answer_record}
-use Rattle.model_laws.specs.StepLaws.{OneGroup}
+use Rattle.step_laws.specs.StepLaws.{OneGroup}
 use Rattle.cache_model.proofs.Found.{none_is, same_some}
 use Rattle.cache_model.proofs.Steps.{First, all_append, first_of, none_left}
 use Rattle.actor_table.specs.Table.{number_of_name as number_in}

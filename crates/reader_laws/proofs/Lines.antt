@@ -10,7 +10,7 @@ use Rattle.cache_model.specs.State.{State, ReaderRow, after_all, reader_of, stat
 use Rattle.cache_model.specs.Permit.{End, Intent, ReadOn, StopReading}
 use Rattle.cache_model.specs.Legal
 use Rattle.cache_model.specs.Legal.{IsQuiet, IsStep}
-use Rattle.model_laws.specs.StepLaws.{IsNumbered, NumbersFollow, OneGroup, ReaderIsClosed}
+use Rattle.step_laws.specs.StepLaws.{IsNumbered, NumbersFollow, OneGroup, ReaderIsClosed}
 use Rattle.cache_model.proofs.Found.{no_truth, none_is}
 use Rattle.script_lang.specs.declared.step.Step.{Step}
 use Rattle.script_lang.specs.declared.step.Step.TheVariants as step

@@ -16,7 +16,7 @@ use Rattle.cache_model.specs.Given
 use Rattle.cache_model.specs.Legal
 use Rattle.cache_model.specs.Legal.{answer_record}
 use Rattle.cache_model.proofs.Found.{end_gives_none, same_some}
-use Rattle.model_laws.proofs.Answered.{given_is_own}
+use Rattle.step_laws.proofs.Answered.{given_is_own}
 use Rattle.cache_model.proofs.Steps.{all_append}
 use Rattle.script_run.specs.Run.{Run, Stream}
 use Rattle.script_run.specs.Turn.{told_in}

@@ -15,7 +15,7 @@ use Rattle.cache_model.specs.Permit.{End, Look, Permit}
 use Rattle.cache_model.specs.Given
 use Rattle.cache_model.specs.Legal
 use Rattle.cache_model.specs.Legal.{IsStep}
-use Rattle.model_laws.specs.StepLaws.{NothingAsked, OneGroup}
+use Rattle.step_laws.specs.StepLaws.{NothingAsked, OneGroup}
 use Rattle.cache_model.proofs.Found.{none_is, number_of, same_some}
 use Rattle.cache_model.proofs.Steps.{after_all-append}
 use Rattle.actor_table.specs.Table.{number_of_name as number_in}

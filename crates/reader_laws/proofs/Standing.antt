@@ -12,13 +12,13 @@ use Rattle.cache_model.specs.Legal
 use Rattle.cache_model.specs.Legal.{IsQuiet, format_records}
 use Rattle.cache_model.specs.Pair.{ShowsPair}
 use Rattle.cache_model.specs.Permit.{to_do}
-use Rattle.model_laws.specs.StepLaws.{NumbersFollow}
+use Rattle.step_laws.specs.StepLaws.{NumbersFollow}
 use Rattle.cache_model.specs.Tape.{IsSound}
 use Rattle.model_laws.specs.TapeLaws.{LegalIsSound, StepsAreSound}
 use Rattle.cache_model.specs.Vectors.{AreTold, IsVectorAs}
-use Rattle.model_laws.specs.VectorLaws.{FormatsTell, StepsTell}
+use Rattle.step_laws.specs.VectorLaws.{FormatsTell, StepsTell}
 use Rattle.cache_model.proofs.Found.{none_is}
-use Rattle.model_laws.proofs.Pairs.{also_shows}
+use Rattle.step_laws.proofs.Pairs.{also_shows}
 use Rattle.script_lang.specs.declared.step.Step.{Step}
 use Rattle.script_lang.specs.declared.step.Step.TheVariants as step
 use Rattle.script_lang.specs.declared.line.LineAnswer.{LineAnswer}

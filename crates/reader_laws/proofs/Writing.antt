@@ -8,7 +8,7 @@ use Rattle.cache_model.specs.State.{State, PutRow, Closed, GivenUp, after_all, c
 use Rattle.cache_model.specs.Verdict.{is_open}
 use Rattle.cache_model.specs.Permit.{Intent, GiveUp, ReadOn, StopReading}
 use Rattle.cache_model.specs.Legal.{IsStep, is_writing}
-use Rattle.model_laws.specs.StepLaws.{IsNumbered, NumbersFollow}
+use Rattle.step_laws.specs.StepLaws.{IsNumbered, NumbersFollow}
 use Rattle.cache_model.proofs.Found.{none_is, number_of}
 use Rattle.actor_table.specs.Table.{number_of_name as number_in}
 use Rattle.script_lang.specs.declared.step.Step.{Step}

@@ -9,7 +9,7 @@ use Rattle.cache_model.specs.declared.record.Rec.TheVariants as rec
 use Rattle.cache_model.specs.State.{State, ReaderRow, after_all, reader_of}
 use Rattle.cache_model.specs.Permit.{Permit}
 use Rattle.cache_model.specs.Legal.{IsQuiet}
-use Rattle.model_laws.specs.StepLaws.{IsOfGiven}
+use Rattle.step_laws.specs.StepLaws.{IsOfGiven}
 use Rattle.script_lang.specs.declared.step.Step.{Step}
 use Rattle.script_lang.specs.declared.step.Step.TheVariants as step
 use Rattle.script_lang.specs.declared.answer.StepAnswer.TheVariants as answer

@@ -4,7 +4,7 @@ use Rattle.std.specs.Prelude.{Option, Some, None}
 use Rattle.tape_base.specs.declared.geometries.BadGeometry.{BadGeometry}
 use Rattle.tape_base.specs.Limits.{first_refusal}
 use Rattle.cache_model.specs.State.{State, after_all, nothing_yet}
-use Rattle.model_laws.specs.VectorLaws.{VectorsAreCounted}
+use Rattle.step_laws.specs.VectorLaws.{VectorsAreCounted}
 use Rattle.model_laws.proofs.Counted.{counted_format, counted_step}
 use Rattle.script_lang.specs.declared.step.Step.{Step}
 use Rattle.script_lang.specs.declared.step.Step.TheVariants as step

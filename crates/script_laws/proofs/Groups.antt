@@ -32,7 +32,7 @@ use Rattle.cache_model.proofs.Found.{none_is}
 use Rattle.cache_model.proofs.Syncing.{AreOfSyncs, IsOfSync, behind_of, ended_of, first_of, sync_of, unmark_of}
 use Rattle.script_laws.specs.Causes
 use Rattle.script_laws.specs.Causes.{IsGivenBy, IsTraced, cause_given, cause_told}
-use Rattle.model_laws.specs.StepLaws.{IsRefusalCount}
+use Rattle.step_laws.specs.StepLaws.{IsRefusalCount}
 use Rattle.model_laws.proofs.Among.{call_made}
 use Rattle.cache_model.proofs.Steps.{all_append, all_as}
 use Rattle.script_laws.proofs.Among.{among_right}

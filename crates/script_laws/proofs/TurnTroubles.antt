@@ -25,7 +25,7 @@ use Rattle.script_run.specs.Turn.{Turn}
 use Rattle.script_run.specs.Behind.{after_line, after_reading, behind, harm_in, harms_of}
 use Rattle.script_run.specs.Takes.{FormatTakes, IsRun, ReadingTakes, Takes, run_after}
 use Rattle.script_run.proofs.Listed.{is_among}
-use Rattle.model_laws.specs.StepLaws.{IsRefusalCount}
+use Rattle.step_laws.specs.StepLaws.{IsRefusalCount}
 use Rattle.script_laws.specs.TurnTroubles.{TellNoFault, TellsRefusals, tells_fault}
 use Rattle.script_laws.proofs.Damages.{told_among}
 use Rattle.script_laws.proofs.Groups.{IsKept}

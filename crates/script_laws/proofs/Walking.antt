@@ -10,7 +10,7 @@ use Rattle.cache_model.specs.Permit.{Permit, Intent, IsAmong, End, Stays, Done, 
 use Rattle.cache_model.specs.Legal.{Advances, MayGrow, nothing, more, IsStep}
 use Rattle.edge_io.specs.Causes.{Rose}
 use Rattle.cache_model.proofs.Found.{none_is}
-use Rattle.model_laws.specs.StepLaws.{IsRisen}
+use Rattle.step_laws.specs.StepLaws.{IsRisen}
 use Rattle.model_laws.proofs.Backed.{faults_rise}
 use Rattle.script_laws.specs.Causes.{IsTraced, cause_told}
 use Rattle.script_laws.specs.Troubles.{IsFaultRecorded}

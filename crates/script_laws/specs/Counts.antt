@@ -1,7 +1,7 @@
 -- How many alternates a miss names that none of them answers: in the sessions of a script as many as the key's vector lists.
 use Rattle.std.specs.Prelude.{ℕ, ⊤, List, Option, Some, None}
 use Rattle.cache_model.specs.State.{State}
-use Rattle.model_laws.specs.VectorLaws.{VectorsAreCounted}
+use Rattle.step_laws.specs.VectorLaws.{VectorsAreCounted}
 use Rattle.script_run.specs.Run.{fresh}
 use Rattle.script_run.specs.Turn.{Turn}
 use Rattle.script_run.specs.Takes.{IsRun, run_after}

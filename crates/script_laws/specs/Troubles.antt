@@ -6,7 +6,7 @@ use Rattle.cache_model.specs.declared.record.Rec.TheVariants as rec
 use Rattle.cache_model.specs.State.{State, after_all}
 use Rattle.cache_model.specs.Permit.{Intent, IsAmong, Permit, Reason, Faulted}
 use Rattle.cache_model.specs.Legal.{IsStep}
-use Rattle.model_laws.specs.StepLaws.{IsRefusalCount}
+use Rattle.step_laws.specs.StepLaws.{IsRefusalCount}
 use Rattle.script_lang.specs.declared.step.Step.{Step}
 use Rattle.script_lang.specs.declared.answer.StepAnswer.TheVariants as answer
 use Rattle.script_run.specs.Losses.{NoLossIsAFault}

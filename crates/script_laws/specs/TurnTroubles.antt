@@ -5,7 +5,7 @@ use Rattle.cache_model.specs.declared.record.Rec.{Rec}
 use Rattle.cache_model.specs.declared.record.Rec.TheVariants as rec
 use Rattle.cache_model.specs.Damage.{TellNoDamage}
 use Rattle.cache_model.specs.Permit.{IsAmong}
-use Rattle.model_laws.specs.StepLaws.{IsRefusalCount}
+use Rattle.step_laws.specs.StepLaws.{IsRefusalCount}
 use Rattle.script_run.specs.Run.{Harm, Run}
 use Rattle.script_run.specs.Turn.{Turn}
 use Rattle.script_run.specs.Behind.{harms_of}

@@ -12,7 +12,7 @@ use Rattle.cache_model.specs.Syncing
 use Rattle.cache_model.specs.Syncing.{DoesSync, Unmarks, WhereDue}
 use Rattle.cache_model.specs.Legal
 use Rattle.cache_model.specs.Legal.{Advances, Does, IsStep, MayGrow, nothing, more, IsWriting, aborted_record, is_writing}
-use Rattle.model_laws.specs.StepLaws.{AsksLast}
+use Rattle.step_laws.specs.StepLaws.{AsksLast}
 use Rattle.cache_model.proofs.Steps.{after_all-append, none_left}
 use Rattle.cache_model.proofs.Found.{no_truth, number_of}
 use Rattle.script_run.specs.Asked.{close_intents}

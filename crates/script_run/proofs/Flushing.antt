@@ -22,8 +22,8 @@ use Rattle.cache_model.proofs.Steps.{after_all-append}
 use Rattle.cache_model.proofs.Copies.{AreReady, IsReady, copied_is, others_stand, rows_of, still_ready}
 use Rattle.cache_model.proofs.SoundFlush.{copies_part, copies_ready, due_part, part_ready}
 use Rattle.cache_model.proofs.Live.{IsFound, due_are_live}
-use Rattle.model_laws.proofs.ToldFlush.{LeadsTo, as_shown, go_on, moved}
-use Rattle.model_laws.proofs.Alike.{ReadsAlike, given_alike, reads_back, reads_self}
+use Rattle.step_laws.proofs.ToldFlush.{LeadsTo, as_shown, go_on, moved}
+use Rattle.step_laws.proofs.Alike.{ReadsAlike, given_alike, reads_back, reads_self}
 use Rattle.script_run.specs.Run.{Stream}
 use Rattle.script_run.specs.Own.{AreOwnPuts, IsOwnReader}
 use Rattle.script_run.proofs.Saying.{IsCopied, IsRow, Kind, Stands, rows_carried}

@@ -15,8 +15,8 @@ use Rattle.cache_model.specs.Permit.{Permit}
 use Rattle.cache_model.specs.Outcomes.{Copy}
 use Rattle.cache_model.proofs.Found.{number_of}
 use Rattle.cache_model.proofs.Steps.{all_as}
-use Rattle.model_laws.proofs.Pairs.{AreAlso}
-use Rattle.model_laws.proofs.ToldFlush.{moved}
+use Rattle.step_laws.proofs.Pairs.{AreAlso}
+use Rattle.step_laws.proofs.ToldFlush.{moved}
 use Rattle.script_run.specs.Run.{Stream}
 use Rattle.script_run.specs.Own.{AreOwn, AreOwnPuts, ArePayloadsOwn, HasCutPayload, IsOwnFragment, IsPlacedAs, fragment_doc, fragment_document, piece_of}
 use Rattle.script_run.proofs.Carried.{fragment_carried}

@@ -29,9 +29,9 @@ use Rattle.cache_model.proofs.Onward.{later_advanced}
 use Rattle.cache_model.proofs.Sound.{IsLater}
 use Rattle.cache_model.proofs.Steps.{after_all-append, all_append, all_as}
 use Rattle.cache_model.proofs.Syncing.{flush_among_syncs}
-use Rattle.model_laws.proofs.ToldFlush.{as_shown, go_on}
-use Rattle.model_laws.proofs.ToldGroups.{pair_of_copy, shown_first, shown_later}
-use Rattle.model_laws.proofs.Unsynced.{may_flush}
+use Rattle.step_laws.proofs.ToldFlush.{as_shown, go_on}
+use Rattle.step_laws.proofs.ToldGroups.{pair_of_copy, shown_first, shown_later}
+use Rattle.step_laws.proofs.Unsynced.{may_flush}
 use Rattle.script_run.specs.Run.{Stream}
 use Rattle.script_run.specs.Own.{rows_of_parts}
 use Rattle.script_run.proofs.Saying.{Kind}

@@ -19,7 +19,7 @@ use Rattle.cache_model.specs.Permit.{End, Intent, Look, Permit, Reason}
 use Rattle.cache_model.specs.Given
 use Rattle.cache_model.specs.Legal
 use Rattle.cache_model.specs.Legal.{IsStep}
-use Rattle.model_laws.proofs.Answered.{hit_matches}
+use Rattle.step_laws.proofs.Answered.{hit_matches}
 use Rattle.cache_model.proofs.Steps.{First, first_of}
 use Rattle.script_run.specs.Run.{Stream}
 use Rattle.script_run.specs.Turn.{lookup_in}

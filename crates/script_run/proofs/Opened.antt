@@ -15,7 +15,7 @@ use Rattle.cache_model.specs.State.{State, PutRow, alternates_of, opened_put, op
 use Rattle.cache_model.specs.Verdict.{followed, hit, hit_answer, follow_answer, lookup_verdict}
 use Rattle.cache_model.specs.Legal.{IsQuiet}
 use Rattle.cache_model.proofs.Found.{number_of}
-use Rattle.model_laws.proofs.Answered.{hit_matches}
+use Rattle.step_laws.proofs.Answered.{hit_matches}
 use Rattle.cache_model.proofs.Steps.{all_append}
 use Rattle.script_run.specs.Run.{Stream}
 use Rattle.script_run.specs.Own.{AreOwnPuts, IsListedOf, IsOwnPut, IsOwnReader, IsTableOf}

@@ -11,10 +11,10 @@ use Rattle.cache_model.specs.Permit.{Permit}
 use Rattle.cache_model.specs.Given.{IsGiven}
 use Rattle.cache_model.specs.Outcomes.{Copy}
 use Rattle.cache_model.proofs.Live.{IsFound}
-use Rattle.model_laws.proofs.Pairs.{AreAlso}
+use Rattle.step_laws.proofs.Pairs.{AreAlso}
 use Rattle.cache_model.proofs.Steps.{all_as}
 use Rattle.cache_model.proofs.Rows.{each_part}
-use Rattle.model_laws.proofs.ToldFlush.{moved}
+use Rattle.step_laws.proofs.ToldFlush.{moved}
 use Rattle.script_run.specs.Run.{Stream}
 use Rattle.script_run.specs.Own.{AreAlternates, AreOwnPuts, IsOwnFragment, IsOwnReader}
 use Rattle.script_run.proofs.Carried.{AreAlike, Carries, alike_carries, listed_carried, puts_stay, readers_carried}

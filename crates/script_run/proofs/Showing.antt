@@ -5,7 +5,7 @@ use Rattle.cache_model.specs.State.{State, after_all}
 use Rattle.cache_model.specs.declared.record.Rec.{Rec}
 use Rattle.cache_model.specs.Pair.{IsPairNext, ShowsFrom}
 use Rattle.cache_model.specs.Permit.{Permit, Intent, Work}
-use Rattle.model_laws.proofs.Pairs.{also_shows}
+use Rattle.step_laws.proofs.Pairs.{also_shows}
 use Rattle.script_run.specs.Run.{Stream, with_value}
 use Rattle.script_run.proofs.Saying.{Kind, SameBytes}
 use Rattle.script_run.proofs.Values.{value_by}

@@ -13,11 +13,11 @@ use Rattle.cache_model.specs.Legal
 use Rattle.cache_model.specs.Legal.{Does, IsQuiet, IsStep, is_writing}
 use Rattle.cache_model.specs.Pair.{ShowsPair}
 use Rattle.cache_model.specs.Tape.{IsSound}
-use Rattle.model_laws.specs.StepLaws.{AsksLast, WriterIsEnded}
+use Rattle.step_laws.specs.StepLaws.{AsksLast, WriterIsEnded}
 use Rattle.cache_model.specs.Vectors.{AreTold}
 use Rattle.cache_model.proofs.Steps.{alone}
 use Rattle.cache_model.proofs.Found.{cuts_found, no_truth, number_of, same_some}
-use Rattle.model_laws.proofs.ToldFlush.{go_on}
+use Rattle.step_laws.proofs.ToldFlush.{go_on}
 use Rattle.script_lang.specs.declared.step.Step.{Step}
 use Rattle.script_lang.specs.declared.step.Step.TheVariants as step
 use Rattle.script_run.specs.Run.{Run, Holding, Stream, gathered_of, held_by, no_stream, reader_by, with_value, put_written_by}

@@ -1,11 +1,11 @@
 // Laws of the bytes that lines give. These functions do nothing when they run.
 ghost use Rattle.std.specs.Prelude.{ℕ};
-ghost use Rattle.model_laws.specs.PairLaws.{PairsAreBytes, PairsAreGiven};
+ghost use Rattle.step_laws.specs.PairLaws.{PairsAreBytes, PairsAreGiven};
 ghost use Rattle.script_run.specs.Run.{Stream};
 ghost use Rattle.script_run.specs.Own.{IsPlacedAs};
 ghost use Rattle.script_run.specs.Laws.{AllIsFollowed, AllIsGiven, FlushOwns, FormatsKeep, FormatsOwn, GivenIsListed, HitIsPut, NoneIsUnlike, OwnIsAsListed, OwnIsKept, ReadIsOwn, ReadsKeep, ReadsOwn, StepsKeep, StepsOwn, StoppedOwns};
 
-use model_laws::writer_is_ended;
+use step_laws::writer_is_ended;
 
 /// Behind a format nothing was put.
 pub fn formats_own()

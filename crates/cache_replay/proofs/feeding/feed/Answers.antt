@@ -1,7 +1,7 @@
 use Rattle.std.proofs.Common.{◌+◌}
 use Rattle.std.specs.Prelude.{Some, None}
 use Rattle.logged_disk.proofs.GoingOn.{told_before}
-use Rattle.model_laws.proofs.ToldGroups.{told_group}
+use Rattle.step_laws.proofs.ToldGroups.{told_group}
 use Rattle.call_laws.proofs.Kept.{told_serves}
 use Rattle.cache_calls.proofs.Keeping.{keeps_then}
 use Rattle.cache_replay.proofs.FeedEnds.{Ends}

@@ -1,4 +1,4 @@
-use Rattle.model_laws.proofs.Answered.{complete_is_hit}
+use Rattle.step_laws.proofs.Answered.{complete_is_hit}
 use Rattle.model_laws.proofs.laws.complete_is_hit.Goals as goal
 
 pub returns : goal.returns

@@ -1,4 +1,4 @@
-use Rattle.model_laws.proofs.Places.{floor_is_last}
+use Rattle.step_laws.proofs.Places.{floor_is_last}
 use Rattle.model_laws.proofs.laws.floor_is_last.Goals as goal
 
 pub returns : goal.returns

@@ -1,4 +1,4 @@
-use Rattle.model_laws.proofs.Answered.{followed_is_closed}
+use Rattle.step_laws.proofs.Answered.{followed_is_closed}
 use Rattle.model_laws.proofs.laws.followed_is_closed.Goals as goal
 
 pub returns : goal.returns

@@ -1,4 +1,4 @@
-use Rattle.model_laws.proofs.Places.{moved_is_there}
+use Rattle.step_laws.proofs.Places.{moved_is_there}
 use Rattle.model_laws.proofs.laws.moved_is_there.Goals as goal
 
 pub returns : goal.returns

@@ -1,4 +1,4 @@
-use Rattle.model_laws.proofs.Places.{place_follows}
+use Rattle.step_laws.proofs.Places.{place_follows}
 use Rattle.model_laws.proofs.laws.place_follows.Goals as goal
 
 pub returns : goal.returns

@@ -1,4 +1,4 @@
-use Rattle.model_laws.proofs.Cleanup.{refusal_ends}
+use Rattle.step_laws.proofs.Cleanup.{refusal_ends}
 use Rattle.model_laws.proofs.laws.refusal_ends.Goals as goal
 
 pub returns : goal.returns

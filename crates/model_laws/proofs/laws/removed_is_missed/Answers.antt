@@ -1,4 +1,4 @@
-use Rattle.model_laws.proofs.Answered.{removed_is_missed}
+use Rattle.step_laws.proofs.Answered.{removed_is_missed}
 use Rattle.model_laws.proofs.laws.removed_is_missed.Goals as goal
 
 pub returns : goal.returns

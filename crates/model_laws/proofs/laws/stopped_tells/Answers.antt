@@ -1,4 +1,4 @@
-use Rattle.model_laws.proofs.ToldFlush.{stopped_tells}
+use Rattle.step_laws.proofs.ToldFlush.{stopped_tells}
 use Rattle.model_laws.proofs.laws.stopped_tells.Goals as goal
 
 pub returns : goal.returns

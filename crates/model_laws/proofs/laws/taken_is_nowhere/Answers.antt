@@ -1,4 +1,4 @@
-use Rattle.model_laws.proofs.Places.{taken_is_nowhere}
+use Rattle.step_laws.proofs.Places.{taken_is_nowhere}
 use Rattle.model_laws.proofs.laws.taken_is_nowhere.Goals as goal
 
 pub returns : goal.returns

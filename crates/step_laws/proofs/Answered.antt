@@ -22,7 +22,7 @@ use Rattle.cache_model.specs.Verdict.{cause_of_loss, followed, hit, lookup_verdi
 use Rattle.cache_model.specs.Permit.{IsAmong}
 use Rattle.cache_model.proofs.Found.{end_gives_none}
 use Rattle.cache_model.proofs.Lists.{row_in-without, row_in-placed}
-use Rattle.model_laws.proofs.Places.{passed_is_not_live}
+use Rattle.step_laws.proofs.Places.{passed_is_not_live}
 
 -- ---- the choice
 

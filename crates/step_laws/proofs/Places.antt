@@ -16,7 +16,7 @@ use Rattle.cache_model.specs.State.{State, Row, LastVector, Complete, TakenOut, 
 use Rattle.tape_base.specs.declared.geometries.Geometry.{Geometry}
 use Rattle.cache_model.specs.Opening.{Opening}
 use Rattle.cache_model.specs.Openings.{opened_record}
-use Rattle.model_laws.specs.PlaceLaws.{place_after, place_found, is_replaced, LeavesPiece, takes_away, is_about, NotAbout, vector_said, begins_buffer, NoBuffer}
+use Rattle.step_laws.specs.PlaceLaws.{place_after, place_found, is_replaced, LeavesPiece, takes_away, is_about, NotAbout, vector_said, begins_buffer, NoBuffer}
 use Rattle.tape_base.specs.Place.{floor_of}
 use Rattle.cache_model.proofs.Lists.{row_in-without, row_in-placed, row_in-copied}
 use Rattle.cache_model.proofs.Found.{no_truth}

@@ -32,7 +32,7 @@ use Rattle.cache_model.specs.ToRead.{flushes_first}
 use Rattle.cache_model.specs.ToRead
 use Rattle.cache_model.specs.Pair.{Documents, IsCopyPair, IsPair, IsPairNext, ShowsFrom, ShowsPair}
 use Rattle.cache_model.specs.Vectors.{ArePuts, AreTold, AreVectors, IsListed, IsVectorAs}
-use Rattle.model_laws.specs.VectorLaws.{IsShownIn}
+use Rattle.step_laws.specs.VectorLaws.{IsShownIn}
 use Rattle.cache_model.proofs.Steps.{after_all-append, all_append}
 use Rattle.cache_model.proofs.Rows.{part_all}
 use Rattle.cache_model.proofs.Sound.{AllLeaveTape, IsLater, buffer_left, displaced_leave}
@@ -40,9 +40,9 @@ use Rattle.cache_model.proofs.Onward.{later_advanced, legal_is_sound}
 use Rattle.cache_model.proofs.Aside.{AllAside, IsAside, lookup_aside, one_aside, reading_on_aside}
 use Rattle.cache_model.proofs.Merged.{IsMerged, put_told}
 use Rattle.cache_model.proofs.Syncing.{clean_aside, drain_splits, flush_among_syncs, resynced, step_aside, sync_splits, unmark_aside}
-use Rattle.model_laws.proofs.Unsynced.{may_flush}
-use Rattle.model_laws.proofs.Told.{AreFit, IsBehind, displaced_behind, no_puts, puts_cut, puts_opened, told_aside, vectors_leave, vectors_part, vectors_placed}
-use Rattle.model_laws.proofs.ToldFlush.{as_shown, flush_tells, stopped_tells}
+use Rattle.step_laws.proofs.Unsynced.{may_flush}
+use Rattle.step_laws.proofs.Told.{AreFit, IsBehind, displaced_behind, no_puts, puts_cut, puts_opened, told_aside, vectors_leave, vectors_part, vectors_placed}
+use Rattle.step_laws.proofs.ToldFlush.{as_shown, flush_tells, stopped_tells}
 
 -- what a group of records leaves, but for a pair
 abbrev Tells : Type 0 → State → List Rec → Type 0

@@ -28,10 +28,10 @@ use Rattle.cache_model.specs.Due.{due_pieces}
 use Rattle.cache_model.specs.ToRead
 use Rattle.cache_model.specs.ToRead.{ComesTo}
 use Rattle.cache_model.specs.Outcomes.{AreOutcomes, Copied, Copy, NoRoom, Outcome, ReadRefused, Spoiled, began_record, copies_of, flush_records, front_of, moved_record, moved_records, records_of, stopped_records}
-use Rattle.model_laws.proofs.Alike.{ReadsAlike, given_alike, reads_back, reads_self}
+use Rattle.step_laws.proofs.Alike.{ReadsAlike, given_alike, reads_back, reads_self}
 use Rattle.cache_model.proofs.Copies.{AreReady, IsReady, copied, copied_is, others_stand, rows_of, still_ready}
 use Rattle.cache_model.proofs.SoundFlush.{copies_part, copies_ready, due_part, front_aside, front_leaves, part_ready, stopped_aside}
-use Rattle.model_laws.proofs.Told.{listed_stays, told_aside, told_left, vectors_part}
+use Rattle.step_laws.proofs.Told.{listed_stays, told_aside, told_left, vectors_part}
 use Rattle.cache_model.proofs.Live.{IsFound, due_are_live}
 
 -- ---- a flush that stops

@@ -26,7 +26,7 @@ use Rattle.cache_model.proofs.Sound.{LeavesTape}
 use Rattle.cache_model.proofs.Steps.{all_append}
 use Rattle.cache_model.proofs.Syncing.{AllLeaveSyncs, LeavesSyncs, front_leaves_syncs, tail_leaves_syncs}
 use Rattle.cache_model.specs.ToRead.{flushes_first}
-use Rattle.model_laws.specs.AskLaws.{places, way_of}
+use Rattle.step_laws.specs.AskLaws.{places, way_of}
 
 -- ---- records
 

@@ -1,0 +1,10 @@
+pub mod Pairs
+pub mod Places
+pub mod Answered
+pub mod Cleanup
+pub mod Unsynced
+pub mod Grouped
+pub mod Told
+pub mod ToldGroups
+pub mod ToldFlush
+pub mod Alike

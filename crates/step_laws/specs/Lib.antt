@@ -1,0 +1,5 @@
+pub mod PlaceLaws
+pub mod StepLaws
+pub mod PairLaws
+pub mod VectorLaws
+pub mod AskLaws
