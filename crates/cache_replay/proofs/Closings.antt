@@ -26,7 +26,7 @@ use Rattle.cache_calls.specs.declared.calls.Refusal.TheVariants as refusal
 use Rattle.cache_calls.specs.Actors.{WriterSeen}
 use Rattle.cache_calls.specs.Asked.{close_asks, ending_asks, progress_at, rest_asks, rest_rows, rows_at_close}
 use Rattle.cache_calls.specs.Keeping.{plain_setting, state_at}
-use Rattle.cache_calls.specs.Writers.{ClosesLine as ClosesAs, ClosesOpen, CutsRest, KeepsRest, SealsWhere, TellsComplete}
+use Rattle.cache_calls.specs.Writers.{Closes as ClosesAs, ClosesOpen, CutsRest, KeepsRest, SealsWhere, TellsComplete}
 use Rattle.script_lang.specs.declared.step.Step.TheVariants as step
 use Rattle.script_lang.specs.declared.answer.Refused.TheVariants as refused
 use Rattle.script_lang.specs.declared.answer.StepAnswer.{StepAnswer}
