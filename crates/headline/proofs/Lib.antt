@@ -13,6 +13,7 @@ mod Displaced
 mod Causing
 mod Staying
 mod Last
+mod Brought
 mod NeverPut
 mod Keeping
 mod Standing

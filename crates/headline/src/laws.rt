@@ -26,6 +26,7 @@ use script_laws::{
     lines_agree_before_trouble, runs_are_counted, turns_tell_refusals, undamaged_turns,
     vectors_are_on_record,
 };
+use script_run::{own_is_as_listed, reads_keep};
 
 /// What is concluded of a run that was begun gives its account: what the sink took is the text of its answers, as far
 /// as the status says. The other laws speak of every account.
@@ -107,13 +108,17 @@ pub fn faults_were_refused()
     damage_stays();
 }
 
-/// Where a line answers damage, the device gave other bytes in that line or an earlier one of its session.
+/// Where a line answers damage, the device gave other bytes in that line or an earlier one of its session; a record had
+/// placed the piece there, or copied it, with the digest that was kept.
 pub fn damage_was_given()
     ensures { DamageWasGiven }
 {
     answers_are_traced();
     damage_is_given();
     damage_stays();
+    legal_is_kept();
+    own_is_as_listed();
+    reads_keep();
 }
 
 /// Where a line is answered never-put, no earlier line of its session completed, gave up or removed a put of the key.
