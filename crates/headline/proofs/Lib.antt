@@ -34,3 +34,4 @@ mod Doubted
 mod PutEnds
 mod PutCourse
 mod Answered
+mod Recording

@@ -12,7 +12,7 @@ ghost use Rattle.headline.specs.Troubles.{CountsAreReached, NoFalseDamage, NoFal
 ghost use Rattle.headline.specs.Endings.{DoneWhereFine, EndsAreCaused, RunsAreTold};
 ghost use Rattle.headline.specs.Fixed.{SourceFixesSink, SwitchedRunsAreSteady};
 ghost use Rattle.headline.specs.Parting.{HistoriesAgreeBeforeTrouble, RunsAgreeBeforeTrouble};
-ghost use Rattle.headline.specs.Answered.{CompletedWasAnswered, GivingUpWasAnswered, RemovalWasAnswered};
+ghost use Rattle.headline.specs.Answered.{AnsweredAbortWasRecorded, AnsweredPutWasCompleted, AnsweredRemovalWasRecorded, CompletedWasAnswered, GivingUpWasAnswered, RemovalWasAnswered};
 
 use edge_io::texts_have_lines;
 use model_laws::{faults_rise, numbers_follow, one_group, reader_is_closed};
@@ -260,6 +260,25 @@ pub fn removal_was_answered()
 /// A line that recorded that a put was given up asked for that, or was refused.
 pub fn giving_up_was_answered()
     ensures { GivingUpWasAnswered }
+{
+    legal_is_kept();
+}
+
+/// A line that is answered a put recorded that it was completed, with so many bytes.
+pub fn answered_put_was_completed()
+    ensures { AnsweredPutWasCompleted }
+{
+    legal_is_kept();
+}
+
+/// A line that is answered that a put was removed recorded that.
+pub fn answered_removal_was_recorded()
+    ensures { AnsweredRemovalWasRecorded }
+{}
+
+/// A line that is answered that a put was given up recorded that.
+pub fn answered_abort_was_recorded()
+    ensures { AnsweredAbortWasRecorded }
 {
     legal_is_kept();
 }
