@@ -35,3 +35,4 @@ mod PutEnds
 mod PutCourse
 mod Answered
 mod Recording
+mod Bodies

@@ -217,6 +217,13 @@ put_kind : (t : State) (n : ℕ) (why : Option Reason) → PutKind why (kind (sa
 put_kind t n None = puts refl refl
 put_kind t n (Some why) = none (refusal_kind t None why)
 
+-- where a put is answered nothing is refused
+pub put_answer : (t : State) (n : ℕ) (why : Option Reason) (put size fragments : ℕ)
+    → said t None why (put_said t n) ≡ answer.Put put size fragments
+    → (why ≡ None) × (n ≡ put)
+put_answer t n None put size fragments h = (refl, cc)
+put_answer t n (Some why) put size fragments h = absurd (zero_one (sym (refusal_kind t None why) ∙ ap kind h))
+
 puts_only : {X : Type 0} (why : Option Reason) (n k : ℕ) → Apart 0 k → Apart 1 k → n ≡ k → PutKind why n → X
 puts_only why n k zero one is (none same) = clash n 0 k same is zero
 puts_only why n k zero one is (puts allowed same) = clash n 1 k same is one
@@ -263,7 +270,7 @@ allowed_first : (p : Permit) (s : State) (is : List Intent) (why : Option Reason
 allowed_first p s [] why added between one h = absurd one
 allowed_first p s (i ∷ is) why added between one h = allowed_by i is why one.0 (ap (λ (w : Work). w.refused) (sym one.2) ∙ h)
 
-allowed_before : {p : Permit} {s : State} {w after : Work} {recs : List Rec} → MayGrow p s w recs after → after.refused ≡ None
+pub allowed_before : {p : Permit} {s : State} {w after : Work} {recs : List Rec} → MayGrow p s w recs after → after.refused ≡ None
     → w.refused ≡ None
 allowed_before nothing h = h
 allowed_before {p} {s} {w} (more added between one others) h =

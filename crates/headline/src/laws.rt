@@ -12,13 +12,14 @@ ghost use Rattle.headline.specs.Troubles.{CountsAreReached, NoFalseDamage, NoFal
 ghost use Rattle.headline.specs.Endings.{DoneWhereFine, EndsAreCaused, RunsAreTold};
 ghost use Rattle.headline.specs.Fixed.{SourceFixesSink, SwitchedRunsAreSteady};
 ghost use Rattle.headline.specs.Parting.{HistoriesAgreeBeforeTrouble, RunsAgreeBeforeTrouble};
+ghost use Rattle.headline.specs.Bodies.{GotIsTheBody, PutTookItsBody};
 ghost use Rattle.headline.specs.Answered.{AnsweredAbortWasRecorded, AnsweredPutWasCompleted, AnsweredRemovalWasRecorded, CompletedWasAnswered, GivingUpWasAnswered, RemovalWasAnswered};
 
 use edge_io::texts_have_lines;
 use model_laws::{faults_rise, numbers_follow, one_group, reader_is_closed};
 use reader_laws::{
     all_given, damage_is_given, follow_is_asked, got_is_put, hit_is_asked, legal_is_kept,
-    length_is_told, opens_first, reader_is_opened,
+    length_is_told, opens_first, put_is_measured, reader_is_opened,
 };
 use run_promise::texts_are_output;
 use script_laws::{
@@ -281,6 +282,24 @@ pub fn answered_abort_was_recorded()
     ensures { AnsweredAbortWasRecorded }
 {
     legal_is_kept();
+}
+
+/// Behind a `put` line that was answered its put, the writer of the put took that line's body, as long as its session
+/// stands.
+pub fn put_took_its_body()
+    ensures { PutTookItsBody }
+{
+    legal_is_kept();
+    put_is_measured();
+    numbers_follow();
+}
+
+/// So what a later line of the session got of that put is the body of the `put` line.
+pub fn got_is_the_body()
+    ensures { GotIsTheBody }
+{
+    got_is_whole();
+    put_took_its_body();
 }
 
 /// No line answers a count above that with which its device came back.
