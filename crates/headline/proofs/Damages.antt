@@ -21,16 +21,18 @@ use Rattle.script_run.specs.Run.{Harm, Run, fresh}
 use Rattle.script_run.specs.Turn.{Turn}
 use Rattle.script_run.specs.Behind.{after_line, harm_in, harm_of, harms_of}
 use Rattle.script_run.specs.Takes.{run_after}
+use Rattle.script_run.specs.Laws.{NoneIsUnlike, ReadsKeep}
 use Rattle.script_run.proofs.Listed.{is_among}
 use Rattle.script_laws.specs.Causes
 use Rattle.script_laws.specs.Causes.{AnswersAreTraced, IsTraced, cause_answered, cause_given}
 use Rattle.script_laws.specs.Damages.{DamageStays}
 use Rattle.script_laws.specs.Runs.{answers_damage}
 use Rattle.reader_laws.specs.Along.{AreOfSession, KeepsSession}
-use Rattle.reader_laws.specs.Laws.{DamageIsGiven, IsOfOtherBytes}
-use Rattle.headline.specs.Account.{Account, HistoryTells, IsDeviceBehind, RunLogs, begun_in, sessions_begun}
-use Rattle.headline.specs.Causes.{WasGiven}
+use Rattle.reader_laws.specs.Laws.{DamageIsGiven, IsOfOtherBytes, LegalIsKept}
+use Rattle.headline.specs.Account.{Account, IsDeviceBehind, RunLogs, begun_in, sessions_begun}
+use Rattle.headline.specs.Causes.{DamageWasGiven, WasGiven, WasKept}
 use Rattle.headline.proofs.Along.{AreSeen, IsSeen, device_seen, reading_seen, run_length, run_seen}
+use Rattle.headline.proofs.Brought.{kept_before}
 use Rattle.headline.proofs.Lost.{LossAlong, damaged_by, loss_is_told}
 use Rattle.headline.proofs.Places.{Found, OnSession, kind_of, told_line}
 use Rattle.headline.proofs.Troubles.{answer_is, come, did_before, line_seen, seen_behind}
@@ -55,17 +57,28 @@ damage_record place kept found (rec.Displaced piece segment live) h = absurd cc
 damage_record place kept found (rec.Fault count) h = absurd cc
 damage_record place kept found _ h = none_is h
 
-module _ (given : DamageIsGiven) (law : DamageStays) (l : RunLogs) (a : Account l) (lines : List (List ℕ)) (asks : Step) (said : StepAnswer) (device : Device) (which : IsDeviceBehind l lines device)
+-- what holds of each line, and along lines
+pub record OfDamage : Type 0 where
+  pub traced : AnswersAreTraced
+  pub given : DamageIsGiven
+  pub stays : DamageStays
+  pub legal : LegalIsKept
+  pub unlike : NoneIsUnlike
+  pub keep : ReadsKeep
+
+-- the device gave such bytes, where a piece had been placed, or copied, with the digest that was kept
+abbrev WasBacked : List Turn → List (List ℕ) → Device → ℕ → Digest → Digest → Type 0
+WasBacked turns lines device place kept found =
+    (given : WasGiven turns lines device place found) × (kept ≢ found) × WasKept given.earlier given.did.earlier given.did.turn place kept found
+
+module _ (laws : OfDamage) (l : RunLogs) (a : Account l) (lines : List (List ℕ)) (asks : Step) (said : StepAnswer) (device : Device) (which : IsDeviceBehind l lines device)
     (f : Found fresh a.turns lines asks said (run_after fresh a.told a.turns)) (on : OnSession (run_after fresh lines f.earlier) f.turn (run_after fresh lines f.earlier).state asks)
     (piece : PieceId) (place : ℕ) (kept found : Digest) where
-  abbrev Result : Type 0
-  Result = WasGiven a.turns lines device place found × (kept ≢ found)
-
   -- the line itself told it
-  by_line : IsAmong (rec.Damaged piece place kept found) f.turn.added → Result
+  by_line : IsAmong (rec.Damaged piece place kept found) f.turn.added → WasBacked a.turns lines device place kept found
   by_line among =
-      let told = is_among (IsOfOtherBytes f.turn.device on.s) (rec.Damaged piece place kept found) f.turn.added (given lines f.earlier on.s f.turn asks f.legal on.state on.takes) among in
-      let seen = line_seen l a lines asks said f law device which on in (
+      let told = is_among (IsOfOtherBytes f.turn.device on.s) (rec.Damaged piece place kept found) f.turn.added (laws.given lines f.earlier on.s f.turn asks f.legal on.state on.takes) among in
+      let seen = line_seen l a lines asks said f laws.stays device which on in (
         record {
           earlier = lines;
           since = [];
@@ -78,6 +91,7 @@ module _ (given : DamageIsGiven) (law : DamageStays) (l : RunLogs) (a : Account 
           given = told.0;
         },
         told.1,
+        kept_before lines f.earlier on.s f.legal on.state laws.legal laws.unlike laws.keep f.turn asks on.takes piece place kept found among,
       )
 
   -- or an earlier one of the session did
@@ -106,17 +120,17 @@ module _ (given : DamageIsGiven) (law : DamageStays) (l : RunLogs) (a : Account 
     seen =
         let ds = (come l a lines asks said f).devices in
         let before : AreSeen (harms_of (run_after fresh lines f.earlier)) ds =
-        reading_seen law ds (run_after fresh lines f.earlier) f.turn (line.Step asks) f.takes (seen_behind l a lines asks said f law) in
+        reading_seen laws.stays ds (run_after fresh lines f.earlier) f.turn (line.Step asks) f.takes (seen_behind l a lines asks said f laws.stays) in
         let behind : AreSeen (harms_of (after_line Then t.turn t.bytes)) ds =
-        run_seen law ds t.later t.rest (after_line Then t.turn t.bytes) t.goes (subst (λ (run : Run). AreSeen (harms_of run) ds) t.ends before) in
+        run_seen laws.stays ds t.later t.rest (after_line Then t.turn t.bytes) t.goes (subst (λ (run : Run). AreSeen (harms_of run) ds) t.ends before) in
         device_seen l t.before device Then.ended Harmed ds (come l a lines asks said f).returned (subst (λ (hs : List Harm). AreSeen hs ds) (ap harms_of t.made.next) behind) same_device begun
 
-    by_earlier : Result
+    by_earlier : WasBacked a.turns lines device place kept found
     by_earlier =
         let among : IsAmong (rec.Damaged piece place kept found) t.turn.added =
         subst (λ (r : Rec). IsAmong r t.turn.added) (damaged_by t.made.told piece place kept found t.made.tells) t.made.among in
         let told = is_among (IsOfOtherBytes t.turn.device t.made.s) (rec.Damaged piece place kept found) t.turn.added
-        (given t.before t.earlier t.made.s t.turn t.made.asks t.legal t.made.state t.made.takes) among in (
+        (laws.given t.before t.earlier t.made.s t.turn t.made.asks t.legal t.made.state t.made.takes) among in (
           record {
             earlier = t.before;
             since = t.bytes ∷ t.later;
@@ -135,27 +149,27 @@ module _ (given : DamageIsGiven) (law : DamageStays) (l : RunLogs) (a : Account 
             given = told.0;
           },
           told.1,
+          kept_before t.before t.earlier t.made.s t.legal t.made.state laws.legal laws.unlike laws.keep t.turn t.made.asks t.made.takes piece place kept found among,
         )
 
-  by_lost : IsAmong (piece, cause.Damaged place kept found) on.s.lost → Result
+  by_lost : IsAmong (piece, cause.Damaged place kept found) on.s.lost → WasBacked a.turns lines device place kept found
   by_lost h = by_earlier (loss_is_told (piece, cause.Damaged place kept found) lines f.earlier on.s f.legal on.state h)
 
-module _ (given : DamageIsGiven) (law : DamageStays) (l : RunLogs) (a : Account l) (lines : List (List ℕ)) (asks : Step) (said : StepAnswer) (place : ℕ) (kept found : Digest) (device : Device) (which : IsDeviceBehind l lines device)
+module _ (laws : OfDamage) (l : RunLogs) (a : Account l) (lines : List (List ℕ)) (asks : Step) (said : StepAnswer) (place : ℕ) (kept found : Digest) (device : Device) (which : IsDeviceBehind l lines device)
     (f : Found fresh a.turns lines asks said (run_after fresh a.told a.turns)) (on : OnSession (run_after fresh lines f.earlier) f.turn (run_after fresh lines f.earlier).state asks) where
-  by_trace : IsTraced on.s f.turn.added (cause.Damaged place kept found) → WasGiven a.turns lines device place found × (kept ≢ found)
+  by_trace : IsTraced on.s f.turn.added (cause.Damaged place kept found) → WasBacked a.turns lines device place kept found
   by_trace (Causes.IsTraced.stands e) = no_truth (sym e)
-  by_trace (Causes.IsTraced.lost piece h) = by_lost given law l a lines asks said device which f on piece place kept found h
+  by_trace (Causes.IsTraced.lost piece h) = by_lost laws l a lines asks said device which f on piece place kept found h
   by_trace (Causes.IsTraced.recorded g) =
       let r = damage_record place kept found g.r g.gives in
-      by_line given law l a lines asks said device which f on r.0 place kept found (subst (λ (x : Rec). IsAmong x f.turn.added) r.1 g.among)
+      by_line laws l a lines asks said device which f on r.0 place kept found (subst (λ (x : Rec). IsAmong x f.turn.added) r.1 g.among)
 
-pub damage_was_given : (traced : AnswersAreTraced) (given : DamageIsGiven) (law : DamageStays) (l : RunLogs) (a : Account l) (lines : List (List ℕ)) (asks : Step) (said : StepAnswer) (place : ℕ) (kept found : Digest) (device : Device)
-    → HistoryTells a lines asks said → cause_answered said ≡ Some (cause.Damaged place kept found) → IsDeviceBehind l lines device → WasGiven a.turns lines device place found × (kept ≢ found)
-damage_was_given traced given law l a lines asks said place kept found device at names which =
+pub damage_was_given : (laws : OfDamage) → DamageWasGiven
+damage_was_given laws l a lines asks said place kept found device at names which =
     let f = told_line l a lines asks said at in
     let run : Run = run_after fresh lines f.earlier in
     elim (kind_of run f.turn asks f.takes) [
-      | inl on ↦ by_trace given law l a lines asks said place kept found device which f on
-          (traced run on.s f.turn asks (cause.Damaged place kept found) on.takes (ap cause_answered (sym (answer_is l a lines asks said f on)) ∙ names))
+      | inl on ↦ by_trace laws l a lines asks said place kept found device which f on
+          (laws.traced run on.s f.turn asks (cause.Damaged place kept found) on.takes (ap cause_answered (sym (answer_is l a lines asks said f on)) ∙ names))
       | inr u ↦ no_truth (sym (ap (λ (o : Option Cause). unwrap_or (option_map is_damage o) false) names) ∙ (ap answers_damage f.is ∙ u.no_damage))
     ]

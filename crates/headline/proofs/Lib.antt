@@ -13,6 +13,7 @@ mod Displaced
 mod Causing
 mod Staying
 mod Last
+mod Brought
 mod NeverPut
 mod Keeping
 mod Standing
@@ -33,3 +34,5 @@ mod Doubted
 mod PutEnds
 mod PutCourse
 mod Answered
+mod Recording
+mod Bodies

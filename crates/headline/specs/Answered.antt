@@ -1,4 +1,5 @@
--- What a line was answered that recorded how a put ended: that it was completed, given up, or removed.
+-- What a line was answered that recorded how a put ended: that it was completed, given up, or removed; and that a line which
+-- was answered so recorded it.
 use Rattle.std.specs.Prelude.{◌≡◌, ℕ, List, ◌∷◌, ◌++◌, Some, None}
 use Rattle.tape_base.specs.declared.keys.Key.{Key}
 use Rattle.alternate_vector.specs.Field.{Field}
@@ -105,3 +106,41 @@ pub record WasGivenUpSo {l : RunLogs} (a : Account l) (lines : List (List ℕ)) 
 abbrev pub GivingUpWasAnswered : Type 0
 GivingUpWasAnswered = (l : RunLogs) (a : Account l) (lines : List (List ℕ)) (put : ℕ) (key : Key)
     → (r : RecordsBehind a lines (rec.Aborted put key)) → WasGivenUpSo a lines (run_after fresh lines r.did.earlier) key put
+
+-- ---- from answers to records
+
+-- the line recorded that the put of the key was completed, with so many bytes, and asked for that
+pub record RecordedPut {l : RunLogs} (a : Account l) (lines : List (List ℕ)) (asks : Step) (put size : ℕ) : Type 0 where
+  pub key : Key
+  pub alternates : List Stored
+  pub records : RecordsBehind a lines (rec.Committed put key size alternates)
+  pub completes : AsksToComplete (run_after fresh lines records.did.earlier) key put asks
+
+-- each line that was answered a put, with so many bytes, did
+abbrev pub AnsweredPutWasCompleted : Type 0
+AnsweredPutWasCompleted = (l : RunLogs) (a : Account l) (lines : List (List ℕ)) (asks : Step) (put size fragments : ℕ)
+    → HistoryTells a lines asks (answer.Put put size fragments) → RecordedPut a lines asks put size
+
+-- the line recorded that the put of the key was removed, and asked for that
+pub record RecordedRemoval {l : RunLogs} (a : Account l) (lines : List (List ℕ)) (asks : Step) (put : ℕ) : Type 0 where
+  pub key : Key
+  pub asks_is : asks ≡ step.Remove key
+  pub records : RecordsBehind a lines (rec.Removed put key)
+
+-- each line that was answered that a put was removed did
+abbrev pub AnsweredRemovalWasRecorded : Type 0
+AnsweredRemovalWasRecorded = (l : RunLogs) (a : Account l) (lines : List (List ℕ)) (asks : Step) (put : ℕ)
+    → HistoryTells a lines asks (answer.Removed put) → RecordedRemoval a lines asks put
+
+-- the line recorded that the put of the key was given up, and asked for that, by the actor that writes it
+pub record RecordedAbort {l : RunLogs} (a : Account l) (lines : List (List ℕ)) (asks : Step) (put : ℕ) : Type 0 where
+  pub key : Key
+  pub name : List ℕ
+  pub asks_is : asks ≡ step.Abort name
+  pub records : RecordsBehind a lines (rec.Aborted put key)
+  pub writes : ActorWrites (run_after fresh lines records.did.earlier) name key put
+
+-- each line that was answered that a put was given up did
+abbrev pub AnsweredAbortWasRecorded : Type 0
+AnsweredAbortWasRecorded = (l : RunLogs) (a : Account l) (lines : List (List ℕ)) (asks : Step) (put : ℕ)
+    → HistoryTells a lines asks (answer.Aborted put) → RecordedAbort a lines asks put

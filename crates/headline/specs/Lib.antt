@@ -12,3 +12,4 @@ pub mod Breaks
 pub mod Displacements
 pub mod Verdicts
 pub mod Answered
+pub mod Bodies

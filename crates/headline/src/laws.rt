@@ -12,13 +12,14 @@ ghost use Rattle.headline.specs.Troubles.{CountsAreReached, NoFalseDamage, NoFal
 ghost use Rattle.headline.specs.Endings.{DoneWhereFine, EndsAreCaused, RunsAreTold};
 ghost use Rattle.headline.specs.Fixed.{SourceFixesSink, SwitchedRunsAreSteady};
 ghost use Rattle.headline.specs.Parting.{HistoriesAgreeBeforeTrouble, RunsAgreeBeforeTrouble};
-ghost use Rattle.headline.specs.Answered.{CompletedWasAnswered, GivingUpWasAnswered, RemovalWasAnswered};
+ghost use Rattle.headline.specs.Bodies.{GotIsTheBody, PutTookItsBody};
+ghost use Rattle.headline.specs.Answered.{AnsweredAbortWasRecorded, AnsweredPutWasCompleted, AnsweredRemovalWasRecorded, CompletedWasAnswered, GivingUpWasAnswered, RemovalWasAnswered};
 
 use edge_io::texts_have_lines;
 use model_laws::{faults_rise, numbers_follow, one_group, reader_is_closed};
 use reader_laws::{
     all_given, damage_is_given, follow_is_asked, got_is_put, hit_is_asked, legal_is_kept,
-    length_is_told, opens_first, reader_is_opened,
+    length_is_told, opens_first, put_is_measured, reader_is_opened,
 };
 use run_promise::texts_are_output;
 use script_laws::{
@@ -26,6 +27,7 @@ use script_laws::{
     lines_agree_before_trouble, runs_are_counted, turns_tell_refusals, undamaged_turns,
     vectors_are_on_record,
 };
+use script_run::{own_is_as_listed, reads_keep};
 
 /// What is concluded of a run that was begun gives its account: what the sink took is the text of its answers, as far
 /// as the status says. The other laws speak of every account.
@@ -107,13 +109,17 @@ pub fn faults_were_refused()
     damage_stays();
 }
 
-/// Where a line answers damage, the device gave other bytes in that line or an earlier one of its session.
+/// Where a line answers damage, the device gave other bytes in that line or an earlier one of its session; a record had
+/// placed the piece there, or copied it, with the digest that was kept.
 pub fn damage_was_given()
     ensures { DamageWasGiven }
 {
     answers_are_traced();
     damage_is_given();
     damage_stays();
+    legal_is_kept();
+    own_is_as_listed();
+    reads_keep();
 }
 
 /// Where a line is answered never-put, no earlier line of its session completed, gave up or removed a put of the key.
@@ -257,6 +263,43 @@ pub fn giving_up_was_answered()
     ensures { GivingUpWasAnswered }
 {
     legal_is_kept();
+}
+
+/// A line that is answered a put recorded that it was completed, with so many bytes.
+pub fn answered_put_was_completed()
+    ensures { AnsweredPutWasCompleted }
+{
+    legal_is_kept();
+}
+
+/// A line that is answered that a put was removed recorded that.
+pub fn answered_removal_was_recorded()
+    ensures { AnsweredRemovalWasRecorded }
+{}
+
+/// A line that is answered that a put was given up recorded that.
+pub fn answered_abort_was_recorded()
+    ensures { AnsweredAbortWasRecorded }
+{
+    legal_is_kept();
+}
+
+/// Behind a `put` line that was answered its put, the writer of the put took that line's body, as long as its session
+/// stands.
+pub fn put_took_its_body()
+    ensures { PutTookItsBody }
+{
+    legal_is_kept();
+    put_is_measured();
+    numbers_follow();
+}
+
+/// So what a later line of the session got of that put is the body of the `put` line.
+pub fn got_is_the_body()
+    ensures { GotIsTheBody }
+{
+    got_is_whole();
+    put_took_its_body();
 }
 
 /// No line answers a count above that with which its device came back.

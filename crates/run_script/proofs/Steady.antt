@@ -1,5 +1,5 @@
 -- Devices whose switch was told nothing, and of which no bit was turned, told their content and refused nothing.
-use Rattle.std.proofs.Common.{ℕ, List, [], ◌∷◌, ◌++◌, subst, arith}
+use Rattle.std.proofs.Common.{◌≡◌, ℕ, true, List, [], ◌∷◌, ◌++◌, subst, arith}
 use Rattle.std.specs.Prelude.{All}
 use Rattle.std.proofs.lemmas.List.Elements.{All-tail}
 use Rattle.logged_disk.specs.Device.{DeviceState as Device}
