@@ -10,10 +10,10 @@ mod Runs
 mod Counts
 mod Sessions
 mod TurnTroubles
-mod Formats
-mod Devices
+pub mod Formats
+pub mod Devices
 mod Alike
-mod Parting
+pub mod Parting
 mod Agreeing
 mod Quiet
 mod Recorded

@@ -89,14 +89,14 @@ displaces_none turn none d = no_truth (is_among (λ r. is_trouble r ≡ false) (
 -- turns that are the same but for their devices
 module _ (u v : Run) (s t : State) (a b : Turn) (step : Step) (runs : without_devices u ≡ without_devices v)
     (states : HoldTheSame s t) where
-  asked_same : asked v t step ≡ asked u s step
+  pub asked_same : asked v t step ≡ asked u s step
   asked_same =
       asked_too v t step
       ∙ ap (λ (run : Run). asked run (without_digests t) step) (sym runs)
       ∙ ap (λ (x : State). asked (without_devices u) x step) (sym states)
       ∙ sym (asked_too u s step)
 
-  given_same : TellTheSame a.added b.added → GivesOwn u s a step → GivesOwn v t b step → a.given ≡ b.given
+  pub given_same : TellTheSame a.added b.added → GivesOwn u s a step → GivesOwn v t b step → a.given ≡ b.given
   given_same told own other_own =
       let there : GivesOwn (without_devices u) (without_digests s) b step =
       subst (λ (x : State). GivesOwn (without_devices u) x b step) (sym states)
@@ -105,11 +105,11 @@ module _ (u v : Run) (s t : State) (a b : Turn) (step : Step) (runs : without_de
       (sym (told_too a.added) ∙ ap told_in told ∙ told_too b.added) (sym (lookup_too a.added) ∙ ap lookup_in told ∙ lookup_too b.added)
       (gives_too u s a step own) there
 
-  turns_same : TellTheSame a.added b.added → a.refused ≡ b.refused → a.given ≡ b.given → without_device a ≡ without_device b
+  pub turns_same : TellTheSame a.added b.added → a.refused ≡ b.refused → a.given ≡ b.given → without_device a ≡ without_device b
   turns_same told refused given = λ i. record { added = told i; refused = refused i; device = no_turn.device; given = given i }
 
   module _ (s2 t2 : State) (behind : HoldTheSame s2 t2) (turns : without_device a ≡ without_device b) where
-    said_same : session_said u s s2 a step ≡ session_said v t t2 b step
+    pub said_same : session_said u s s2 a step ≡ session_said v t t2 b step
     said_same =
         says_too u s s2 a step
         ∙ ap (λ (run : Run). session_said run (without_digests s) (without_digests s2) (without_device a) step) runs
@@ -118,7 +118,7 @@ module _ (u v : Run) (s t : State) (a b : Turn) (step : Step) (runs : without_de
         ∙ ap (λ (turn : Turn). session_said (without_devices v) (without_digests t) (without_digests t2) turn step) turns
         ∙ sym (says_too v t t2 b step)
 
-    left_same : without_devices (in_session u s s2 a step) ≡ without_devices (in_session v t t2 b step)
+    pub left_same : without_devices (in_session u s s2 a step) ≡ without_devices (in_session v t t2 b step)
     left_same =
         leaves_too u s s2 a step
         ∙ ap (λ (run : Run). without_devices (in_session run (without_digests s) (without_digests s2) (without_device a) step)) runs

@@ -1,0 +1,12 @@
+mod Slots
+mod Walking
+mod Flushing
+mod Sorts
+mod Behind
+mod Apart
+mod Sounds
+mod Agreeing
+mod Asked
+mod Lines
+mod Counts
+mod Runs
