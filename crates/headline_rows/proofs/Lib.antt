@@ -8,3 +8,4 @@ mod Script
 mod Tells
 mod Fine
 mod Sentences
+mod Whole

@@ -3,3 +3,4 @@ pub mod Steps
 pub mod History
 pub mod Told
 pub mod Sentences
+pub mod Whole

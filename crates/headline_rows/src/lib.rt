@@ -5,12 +5,15 @@ ghost use Rattle.headline_rows.specs.Steps.{AHitIsAStep, AMissIsAStep, APieceIsA
 ghost use Rattle.headline_rows.specs.History.{OnlyTheBodyIsGiven, TheScriptIsARun, TheScriptIsAnswered, TheScriptPrints};
 ghost use Rattle.headline_rows.specs.Told.{TheScriptHasAnAccount, TheScriptIsConcluded};
 ghost use Rattle.headline_rows.specs.Sentences.{EachRunIsDone, EachRunPrintsIt, ItWasRemoved, NothingWasPut, TheEndIsRead, TheGetIsWhole, TheHistoryIsWhole, TheHitIsWhole, TheMissIsCaused, ThePutIsListed, ThePutWasAnswered, TheRemovalWasAnswered};
+ghost use Rattle.headline_rows.specs.Whole.{EachHistoryPrintsIt, EachRunAgrees, NoCountIsTold, NoDamageIsTold, NoFaultIsTold, TheRunEnds, TheRunIsSteady, TheRunIsTold};
 
 use edge_io::texts_have_lines;
 use headline::{
-    completed_was_answered, done_where_fine, end_is_read, found_is_listed, got_is_whole,
-    hit_is_whole, honest_runs_are_whole, misses_are_caused, never_put_was_none,
-    removal_was_answered, removed_was_recorded, source_fixes_sink,
+    completed_was_answered, counts_are_reached, done_where_fine, end_is_read, ends_are_caused,
+    found_is_listed, got_is_whole, histories_agree_before_trouble, hit_is_whole,
+    honest_runs_are_whole, misses_are_caused, never_put_was_none, no_false_damage, no_false_faults,
+    removal_was_answered, removed_was_recorded, runs_agree_before_trouble, runs_are_told,
+    source_fixes_sink, switched_runs_are_steady,
 };
 use run_promise::texts_are_output;
 
@@ -181,6 +184,7 @@ pub fn each_run_prints_it()
 {
     source_fixes_sink();
     the_script_is_concluded();
+    the_run_is_steady();
 }
 
 /// Each run over that text ends with the status Done, where nothing was refused.
@@ -189,4 +193,65 @@ pub fn each_run_is_done()
 {
     done_where_fine();
     texts_have_lines();
+}
+
+/// What is concluded of the run gives an account of all nine lines.
+pub fn the_run_is_told()
+    ensures { TheRunIsTold }
+{
+    runs_are_told();
+    texts_have_lines();
+    the_script_is_concluded();
+}
+
+/// None of the nine lines had a cause to end the run, and the end of the source did.
+pub fn the_run_ends()
+    ensures { TheRunEnds }
+{
+    ends_are_caused();
+    texts_have_lines();
+    the_script_is_concluded();
+}
+
+/// No line behind the format answers a count of faults.
+pub fn no_count_is_told()
+    ensures { NoCountIsTold }
+{
+    counts_are_reached();
+}
+
+/// None answers a device fault.
+pub fn no_fault_is_told()
+    ensures { NoFaultIsTold }
+{
+    no_false_faults();
+}
+
+/// None answers damage.
+pub fn no_damage_is_told()
+    ensures { NoDamageIsTold }
+{
+    no_false_damage();
+}
+
+/// The device has a switch, so that it told its content and refused nothing is known by the clause of the top call.
+pub fn the_run_is_steady()
+    ensures { TheRunIsSteady }
+{
+    switched_runs_are_steady();
+}
+
+/// Whatever ended another run: the lines with which its legal history begins printed the same, or met trouble of its device.
+pub fn each_history_prints_it()
+    ensures { EachHistoryPrintsIt }
+{
+    histories_agree_before_trouble();
+}
+
+/// Each other run over that text and devices that told their content printed the same, or the two part at a line.
+pub fn each_run_agrees()
+    ensures { EachRunAgrees }
+{
+    runs_agree_before_trouble();
+    the_script_is_concluded();
 }
