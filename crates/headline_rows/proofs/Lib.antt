@@ -9,3 +9,8 @@ mod Tells
 mod Fine
 mod Sentences
 mod Whole
+mod WritersReadings
+mod WritersSteps
+mod Writers
+mod WritersTells
+mod WritersSentences

@@ -4,3 +4,5 @@ pub mod History
 pub mod Told
 pub mod Sentences
 pub mod Whole
+pub mod Writers
+pub mod WritersTold

@@ -6,14 +6,18 @@ ghost use Rattle.headline_rows.specs.History.{OnlyTheBodyIsGiven, TheScriptIsARu
 ghost use Rattle.headline_rows.specs.Told.{TheScriptHasAnAccount, TheScriptIsConcluded};
 ghost use Rattle.headline_rows.specs.Sentences.{EachRunIsDone, EachRunPrintsIt, ItWasRemoved, NothingWasPut, TheEndIsRead, TheGetIsWhole, TheHistoryIsWhole, TheHitIsWhole, TheMissIsCaused, ThePutIsListed, ThePutWasAnswered, TheRemovalWasAnswered};
 ghost use Rattle.headline_rows.specs.Whole.{EachHistoryPrintsIt, EachRunAgrees, NoCountIsTold, NoDamageIsTold, NoFaultIsTold, TheRunEnds, TheRunIsSteady, TheRunIsTold};
+ghost use Rattle.headline_rows.specs.Writers.{TheWritersAreARun, TheWritersAreAnswered, TheWritersPrint};
+ghost use Rattle.headline_rows.specs.WritersTold.{TheAbortWasLast, TheAbsenceIsCaused, TheBreakIsCaused, TheBreakWasAborted, TheFollowedWasPut, TheGivingUpWasAnswered, TheRequestFitsNone, TheWritersAreConcluded, TheWritersHaveAnAccount};
 
 use edge_io::texts_have_lines;
 use headline::{
+    aborted_was_last, absences_are_caused, break_was_aborted, breaks_are_caused,
     completed_was_answered, counts_are_reached, done_where_fine, end_is_read, ends_are_caused,
-    found_is_listed, got_is_whole, histories_agree_before_trouble, hit_is_whole,
-    honest_runs_are_whole, misses_are_caused, never_put_was_none, no_false_damage, no_false_faults,
-    removal_was_answered, removed_was_recorded, runs_agree_before_trouble, runs_are_told,
-    source_fixes_sink, switched_runs_are_steady,
+    follow_was_put, found_is_listed, giving_up_was_answered, got_is_whole,
+    histories_agree_before_trouble, hit_is_whole, honest_runs_are_whole, misses_are_caused,
+    never_put_was_none, no_false_damage, no_false_faults, no_match_fits_none, removal_was_answered,
+    removed_was_recorded, runs_agree_before_trouble, runs_are_told, source_fixes_sink,
+    switched_runs_are_steady,
 };
 use run_promise::texts_are_output;
 
@@ -254,4 +258,93 @@ pub fn each_run_agrees()
 {
     runs_agree_before_trouble();
     the_script_is_concluded();
+}
+
+/// The lines of the second script have a legal history, written out by hand.
+pub fn the_writers_are_a_run()
+    ensures { TheWritersAreARun }
+{}
+
+/// By these turns each of its lines is answered so.
+pub fn the_writers_are_answered()
+    ensures { TheWritersAreAnswered }
+{}
+
+/// And that is what is printed.
+pub fn the_writers_print()
+    ensures { TheWritersPrint }
+{
+    the_writers_are_answered();
+    texts_are_output();
+}
+
+/// The second run has an account, with these lines, turns and answers.
+pub fn the_writers_have_an_account()
+    ensures { TheWritersHaveAnAccount }
+{
+    the_writers_are_a_run();
+    the_writers_are_answered();
+}
+
+/// What the top call concludes with the status Done holds of its logs.
+pub fn the_writers_are_concluded()
+    ensures { TheWritersAreConcluded }
+{
+    the_writers_are_a_run();
+    the_writers_are_answered();
+}
+
+/// What the reader follows an earlier line opened.
+pub fn the_followed_was_put()
+    ensures { TheFollowedWasPut }
+{
+    follow_was_put();
+    the_writers_are_answered();
+}
+
+/// The line that recorded that it was given up is its writer's, and was answered so.
+pub fn the_giving_up_was_answered()
+    ensures { TheGivingUpWasAnswered }
+{
+    giving_up_was_answered();
+}
+
+/// The reader that broke was given all that was cut of it, and an earlier line gave it up.
+pub fn the_break_was_aborted()
+    ensures { TheBreakWasAborted }
+{
+    break_was_aborted();
+    the_writers_are_answered();
+}
+
+/// By the records of the lines before this reader cannot go on.
+pub fn the_break_is_caused()
+    ensures { TheBreakIsCaused }
+{
+    breaks_are_caused();
+    the_writers_are_answered();
+}
+
+/// Before the get that was answered aborted that put was given up last, and none was completed or removed.
+pub fn the_abort_was_last()
+    ensures { TheAbortWasLast }
+{
+    aborted_was_last();
+    the_writers_are_answered();
+}
+
+/// Before the removal that was answered so the key has no live vector.
+pub fn the_absence_is_caused()
+    ensures { TheAbsenceIsCaused }
+{
+    absences_are_caused();
+    the_writers_are_answered();
+}
+
+/// Before the last get the key's vector lists one alternate, which the request does not fit.
+pub fn the_request_fits_none()
+    ensures { TheRequestFitsNone }
+{
+    no_match_fits_none();
+    the_writers_are_answered();
 }
