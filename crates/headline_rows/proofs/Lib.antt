@@ -14,3 +14,5 @@ mod WritersSteps
 mod Writers
 mod WritersTells
 mod WritersSentences
+mod Crowded
+mod CrowdedTells

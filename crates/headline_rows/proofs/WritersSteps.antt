@@ -99,7 +99,7 @@ follow_is_a_step key = record {
   synced = λ on. cc;
 }
 
-are_bytes : IsBytes fed_body
+pub are_bytes : IsBytes fed_body
 are_bytes zero = lit< tt
 are_bytes (suc zero) = lit< tt
 are_bytes (suc (suc zero)) = lit< tt
@@ -278,7 +278,7 @@ response_is_kept = record {
   rising = (tt, tt);
 }
 
-fewer : {X : Type 0} (test : X → Bool) (xs : List X) → length (filter test xs) ≤ length xs
+pub fewer : {X : Type 0} (test : X → Bool) (xs : List X) → length (filter test xs) ≤ length xs
 fewer test [] = lit≤ tt
 fewer test (x ∷ xs) = by (test x) refl (fewer test xs)
   where

@@ -6,3 +6,4 @@ pub mod Sentences
 pub mod Whole
 pub mod Writers
 pub mod WritersTold
+pub mod Crowded

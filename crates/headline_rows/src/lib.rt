@@ -8,12 +8,13 @@ ghost use Rattle.headline_rows.specs.Sentences.{EachRunIsDone, EachRunPrintsIt, 
 ghost use Rattle.headline_rows.specs.Whole.{EachHistoryPrintsIt, EachRunAgrees, NoCountIsTold, NoDamageIsTold, NoFaultIsTold, TheRunEnds, TheRunIsSteady, TheRunIsTold};
 ghost use Rattle.headline_rows.specs.Writers.{TheWritersAreARun, TheWritersAreAnswered, TheWritersPrint};
 ghost use Rattle.headline_rows.specs.WritersTold.{TheAbortWasLast, TheAbsenceIsCaused, TheBreakIsCaused, TheBreakWasAborted, TheFollowedWasPut, TheGivingUpWasAnswered, TheRequestFitsNone, TheWritersAreConcluded, TheWritersHaveAnAccount};
+ghost use Rattle.headline_rows.specs.Crowded.{TheBrokenGetIsCaused, TheCrowdedHasAnAccount, TheCrowdedIsARun, TheCrowdedIsAnswered, TheCrowdedIsConcluded};
 
 use edge_io::texts_have_lines;
 use headline::{
     aborted_was_last, absences_are_caused, break_was_aborted, breaks_are_caused,
     completed_was_answered, counts_are_reached, done_where_fine, end_is_read, ends_are_caused,
-    follow_was_put, found_is_listed, giving_up_was_answered, got_is_whole,
+    follow_was_put, found_is_listed, gets_are_caused, giving_up_was_answered, got_is_whole,
     histories_agree_before_trouble, hit_is_whole, honest_runs_are_whole, misses_are_caused,
     never_put_was_none, no_false_damage, no_false_faults, no_match_fits_none, removal_was_answered,
     removed_was_recorded, runs_agree_before_trouble, runs_are_told, source_fixes_sink,
@@ -347,4 +348,38 @@ pub fn the_request_fits_none()
 {
     no_match_fits_none();
     the_writers_are_answered();
+}
+
+/// The lines of the third script have a legal history, written out by hand.
+pub fn the_crowded_is_a_run()
+    ensures { TheCrowdedIsARun }
+{}
+
+/// By these turns each of its lines is answered so.
+pub fn the_crowded_is_answered()
+    ensures { TheCrowdedIsAnswered }
+{}
+
+/// The third run has an account, with these lines, turns and answers.
+pub fn the_crowded_has_an_account()
+    ensures { TheCrowdedHasAnAccount }
+{
+    the_crowded_is_a_run();
+    the_crowded_is_answered();
+}
+
+/// What the top call concludes with the status Done holds of its logs.
+pub fn the_crowded_is_concluded()
+    ensures { TheCrowdedIsConcluded }
+{
+    the_crowded_is_a_run();
+    the_crowded_is_answered();
+}
+
+/// Before the get that broke a piece of what it hit is missing, and all before it are live.
+pub fn the_broken_get_is_caused()
+    ensures { TheBrokenGetIsCaused }
+{
+    gets_are_caused();
+    the_crowded_is_answered();
 }
