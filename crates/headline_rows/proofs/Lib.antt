@@ -16,3 +16,4 @@ mod WritersTells
 mod WritersSentences
 mod Crowded
 mod CrowdedTells
+mod BadEnd

@@ -112,7 +112,7 @@ each_is_answered key = (
   ),
 )
 
-answered_each : AreAnswered blank_outline script_lines script_answers
+pub answered_each : AreAnswered blank_outline script_lines script_answers
 answered_each = are_answered blank_outline script_lines (steps_with key_of_a) what_was_said are_read (each_is_answered key_of_a)
 
 -- ---- the device
@@ -137,7 +137,7 @@ records_come_back = subst (λ (run : Run). ComeBackFrom script_logs (harms_of ru
   told = (record { made = record { later = []; is = refl }; all = λ h. cc; counted = lit≤ tt; unharmed = λ h. refl }, tt);
 })
 
-back_by_answers : EachBack script_logs.before script_logs.now (told_by (outline_of blank_outline script_lines script_answers))
+pub back_by_answers : EachBack script_logs.before script_logs.now (told_by (outline_of blank_outline script_lines script_answers))
 back_by_answers = subst (λ (o : Outline). EachBack script_logs.before script_logs.now (told_by o)) (sym outline_behind) (record {
   back = record {
     devices = script_device ∷ [];
@@ -147,7 +147,7 @@ back_by_answers = subst (λ (o : Outline). EachBack script_logs.before script_lo
   attached = refl;
 })
 
-back_by_records : EachBack script_logs.before script_logs.now (told_by_records (run_after fresh script_lines script_turns))
+pub back_by_records : EachBack script_logs.before script_logs.now (told_by_records (run_after fresh script_lines script_turns))
 back_by_records = subst (λ (run : Run). EachBack script_logs.before script_logs.now (told_by_records run)) (sym run_behind_script) (record {
   back = record {
     devices = script_device ∷ [];

@@ -7,3 +7,4 @@ pub mod Whole
 pub mod Writers
 pub mod WritersTold
 pub mod Crowded
+pub mod BadEnd

@@ -9,6 +9,7 @@ ghost use Rattle.headline_rows.specs.Whole.{EachHistoryPrintsIt, EachRunAgrees, 
 ghost use Rattle.headline_rows.specs.Writers.{TheWritersAreARun, TheWritersAreAnswered, TheWritersPrint};
 ghost use Rattle.headline_rows.specs.WritersTold.{TheAbortWasLast, TheAbsenceIsCaused, TheBreakIsCaused, TheBreakWasAborted, TheFollowedWasPut, TheGivingUpWasAnswered, TheRequestFitsNone, TheWritersAreConcluded, TheWritersHaveAnAccount};
 ghost use Rattle.headline_rows.specs.Crowded.{TheBrokenGetIsCaused, TheCrowdedHasAnAccount, TheCrowdedIsARun, TheCrowdedIsAnswered, TheCrowdedIsConcluded};
+ghost use Rattle.headline_rows.specs.BadEnd.{TheBadLineEndsIt, TheBadRunIsConcluded};
 
 use edge_io::texts_have_lines;
 use headline::{
@@ -382,4 +383,21 @@ pub fn the_broken_get_is_caused()
 {
     gets_are_caused();
     the_crowded_is_answered();
+}
+
+/// Of the nine lines and one that is not in the grammar, what the top call concludes with the status BadScript holds.
+pub fn the_bad_run_is_concluded()
+    ensures { TheBadRunIsConcluded }
+{
+    the_script_is_a_run();
+    the_script_is_answered();
+}
+
+/// None of the nine lines had a cause to end that run, and the one behind them did.
+pub fn the_bad_line_ends_it()
+    ensures { TheBadLineEndsIt }
+{
+    ends_are_caused();
+    texts_have_lines();
+    the_bad_run_is_concluded();
 }
