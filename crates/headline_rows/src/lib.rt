@@ -1,4 +1,4 @@
-//! Two runs, worked by hand, and what the laws of `headline` say of them.
+//! Three runs, worked by hand, and what the laws of `headline` say of them.
 #![tactic(auto)]
 
 ghost use Rattle.headline_rows.specs.Steps.{AHitIsAStep, AMissIsAStep, APieceIsAStep, AnEndIsAStep, APutIsAStep, AGetIsAStep, ARemovalIsAStep, AMissBehindItIsAStep, ThePutHolds};
