@@ -8,3 +8,12 @@ mod Script
 mod Tells
 mod Fine
 mod Sentences
+mod Whole
+mod WritersReadings
+mod WritersSteps
+mod Writers
+mod WritersTells
+mod WritersSentences
+mod Crowded
+mod CrowdedTells
+mod BadEnd

@@ -13,7 +13,7 @@ use Rattle.headline_rows.proofs.Keys.{not_full, one_at_most, one_byte, only_one}
 use Rattle.headline_rows.specs.Script.{put_records}
 use Rattle.headline_rows.specs.Steps.{APutIsAStep, fragment_row, state_of_miss}
 
-no_fields : AreFields []
+pub no_fields : AreFields []
 no_fields = record { few = lit≤ tt; each = tt; rising = tt }
 
 abbrev behind_fragment : Key → State

@@ -55,7 +55,7 @@ are_read = (
   ),
 )
 
-has_numbers : HasNumbers script_geometry 1 64 64 8 16 4 7 5
+pub has_numbers : HasNumbers script_geometry 1 64 64 8 16 4 7 5
 has_numbers = record {
   has_segments = refl;
   has_buckets = refl;

@@ -19,7 +19,6 @@ use Rattle.cache_model.specs.declared.record.Rec.TheVariants as rec
 use Rattle.headline.specs.Account.{Account, AllTell, HistoryTells, HonestRunsAreWhole}
 use Rattle.headline.specs.Answered.{CompletedWasAnswered, RecordsBehind, RemovalWasAnswered}
 use Rattle.headline.specs.Endings.{DoneWhereFine, IsFine}
-use Rattle.run_promise.specs.Top.{IsSteady}
 use Rattle.headline.specs.Fixed.{AreSteady, SourceFixesSink}
 use Rattle.headline.specs.Misses
 use Rattle.headline.specs.Misses.{NeverPutWasNone}
@@ -149,26 +148,22 @@ removal_was_answered law a tells = law script_logs a (take 7 script_lines) 1 key
 
 -- ---- the device
 
-device_tells : TellsAll script_device
+pub device_tells : TellsAll script_device
 unfolding has_flip
 device_tells = record { trusted = lit≤ tt; unturned = refl }
 
-all_tell : AllTell script_logs
+pub all_tell : AllTell script_logs
 all_tell devices are = subst (λ (ds : List Device). AllByRecursion TellsAll ds) are (device_tells, tt)
 
 pub history_is_whole : HonestRunsAreWhole → TheHistoryIsWhole
 history_is_whole law a = law script_logs all_tell a
 
-all_steady : AreSteady script_logs
-all_steady devices are =
-    subst (λ (ds : List Device). AllByRecursion IsSteady ds) are (record { tells = device_tells; unfaulted = refl }, tt)
-
-output_is : (output : List ℕ) → taken_by script_writes ≡ taken_by [] ++ output → output ≡ script_output
+pub output_is : (output : List ℕ) → taken_by script_writes ≡ taken_by [] ++ output → output ≡ script_output
 unfolding taken_by
 output_is output taken = sym taken
 
-pub each_run_prints : SourceFixesSink → TheScriptIsConcluded → EachRunPrintsIt
-each_run_prints law concluded m concluded_too same steady = elim (law script_logs m concluded concluded_too same all_steady steady) [
+pub each_run_prints : SourceFixesSink → TheScriptIsConcluded → AreSteady script_logs → EachRunPrintsIt
+each_run_prints law concluded first m concluded_too same steady = elim (law script_logs m concluded concluded_too same first steady) [
   | inl alike ↦ inl (alike.taken_too ∙ ap (λ (output : List ℕ). taken_by m.old ++ output) (output_is alike.output alike.taken))
   | inr one ↦ inr one
 ]

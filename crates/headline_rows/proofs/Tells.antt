@@ -30,15 +30,15 @@ use Rattle.headline_rows.specs.Told.{TheScriptHasAnAccount, TheScriptIsConcluded
 use Rattle.headline_rows.proofs.Along.{AreAnsweredBy, AreTakeableBy, begun_by_step, are_answered, are_takeable, outline_by, outline_is, run_by, run_is}
 use Rattle.headline_rows.proofs.Script.{are_read, steps_with}
 
-no_newline : (bytes : List ℕ) → list_any (nat_eq 10) bytes ≡ false → Contains bytes 10 → ⊥
+pub no_newline : (bytes : List ℕ) → list_any (nat_eq 10) bytes ≡ false → Contains bytes 10 → ⊥
 no_newline bytes none has =
     let some : list_any (nat_eq 10) bytes ≡ true = list_any-from_Contains nat_eq_equiv 10 bytes has in
     cc
 
-is_line_to_get : IsLine line_to_get
+pub is_line_to_get : IsLine line_to_get
 is_line_to_get = record { short = lit≤ tt; clear = no_newline line_to_get refl }
 
-is_line_to_read_on : IsLine line_to_read_on
+pub is_line_to_read_on : IsLine line_to_read_on
 is_line_to_read_on = record { short = lit≤ tt; clear = no_newline line_to_read_on refl }
 
 pub taken_lines : Taken (text_read script_reads) script_lines []
@@ -112,7 +112,7 @@ each_is_answered key = (
   ),
 )
 
-answered_each : AreAnswered blank_outline script_lines script_answers
+pub answered_each : AreAnswered blank_outline script_lines script_answers
 answered_each = are_answered blank_outline script_lines (steps_with key_of_a) what_was_said are_read (each_is_answered key_of_a)
 
 -- ---- the device
@@ -137,7 +137,7 @@ records_come_back = subst (λ (run : Run). ComeBackFrom script_logs (harms_of ru
   told = (record { made = record { later = []; is = refl }; all = λ h. cc; counted = lit≤ tt; unharmed = λ h. refl }, tt);
 })
 
-back_by_answers : EachBack script_logs.before script_logs.now (told_by (outline_of blank_outline script_lines script_answers))
+pub back_by_answers : EachBack script_logs.before script_logs.now (told_by (outline_of blank_outline script_lines script_answers))
 back_by_answers = subst (λ (o : Outline). EachBack script_logs.before script_logs.now (told_by o)) (sym outline_behind) (record {
   back = record {
     devices = script_device ∷ [];
@@ -147,7 +147,7 @@ back_by_answers = subst (λ (o : Outline). EachBack script_logs.before script_lo
   attached = refl;
 })
 
-back_by_records : EachBack script_logs.before script_logs.now (told_by_records (run_after fresh script_lines script_turns))
+pub back_by_records : EachBack script_logs.before script_logs.now (told_by_records (run_after fresh script_lines script_turns))
 back_by_records = subst (λ (run : Run). EachBack script_logs.before script_logs.now (told_by_records run)) (sym run_behind_script) (record {
   back = record {
     devices = script_device ∷ [];
@@ -164,7 +164,7 @@ unfolding cause_line formatted_line got_line hit_line number_line piece_line put
 went_out = record { taken = refl; unfailed = refl }
 
 -- any step may, once a session was begun
-all_takeable : (sessions : ℕ) (steps : List Step) → 0 < sessions → AreTakeableBy sessions steps
+pub all_takeable : (sessions : ℕ) (steps : List Step) → 0 < sessions → AreTakeableBy sessions steps
 all_takeable sessions [] some = tt
 all_takeable sessions (asks ∷ steps) some = ((λ needs. some), all_takeable (sessions + begun_by_step asks) steps (omega (arith, some)))
 

@@ -3,3 +3,8 @@ pub mod Steps
 pub mod History
 pub mod Told
 pub mod Sentences
+pub mod Whole
+pub mod Writers
+pub mod WritersTold
+pub mod Crowded
+pub mod BadEnd

@@ -1,16 +1,25 @@
-//! A run of nine lines, worked by hand, and what the laws of `headline` say of it.
+//! Three runs, worked by hand, and what the laws of `headline` say of them.
 #![tactic(auto)]
 
 ghost use Rattle.headline_rows.specs.Steps.{AHitIsAStep, AMissIsAStep, APieceIsAStep, AnEndIsAStep, APutIsAStep, AGetIsAStep, ARemovalIsAStep, AMissBehindItIsAStep, ThePutHolds};
 ghost use Rattle.headline_rows.specs.History.{OnlyTheBodyIsGiven, TheScriptIsARun, TheScriptIsAnswered, TheScriptPrints};
 ghost use Rattle.headline_rows.specs.Told.{TheScriptHasAnAccount, TheScriptIsConcluded};
 ghost use Rattle.headline_rows.specs.Sentences.{EachRunIsDone, EachRunPrintsIt, ItWasRemoved, NothingWasPut, TheEndIsRead, TheGetIsWhole, TheHistoryIsWhole, TheHitIsWhole, TheMissIsCaused, ThePutIsListed, ThePutWasAnswered, TheRemovalWasAnswered};
+ghost use Rattle.headline_rows.specs.Whole.{EachHistoryPrintsIt, EachRunAgrees, NoCountIsTold, NoDamageIsTold, NoFaultIsTold, TheRunEnds, TheRunIsSteady, TheRunIsTold};
+ghost use Rattle.headline_rows.specs.Writers.{TheWritersAreARun, TheWritersAreAnswered, TheWritersPrint};
+ghost use Rattle.headline_rows.specs.WritersTold.{TheAbortWasLast, TheAbsenceIsCaused, TheBreakIsCaused, TheBreakWasAborted, TheFollowedWasPut, TheGivingUpWasAnswered, TheRequestFitsNone, TheWritersAreConcluded, TheWritersHaveAnAccount};
+ghost use Rattle.headline_rows.specs.Crowded.{TheBrokenGetIsCaused, TheCrowdedHasAnAccount, TheCrowdedIsARun, TheCrowdedIsAnswered, TheCrowdedIsConcluded};
+ghost use Rattle.headline_rows.specs.BadEnd.{TheBadLineEndsIt, TheBadRunIsConcluded};
 
 use edge_io::texts_have_lines;
 use headline::{
-    completed_was_answered, done_where_fine, end_is_read, found_is_listed, got_is_whole,
-    hit_is_whole, honest_runs_are_whole, misses_are_caused, never_put_was_none,
-    removal_was_answered, removed_was_recorded, source_fixes_sink,
+    aborted_was_last, absences_are_caused, break_was_aborted, breaks_are_caused,
+    completed_was_answered, counts_are_reached, done_where_fine, end_is_read, ends_are_caused,
+    follow_was_put, found_is_listed, gets_are_caused, giving_up_was_answered, got_is_whole,
+    histories_agree_before_trouble, hit_is_whole, honest_runs_are_whole, misses_are_caused,
+    never_put_was_none, no_false_damage, no_false_faults, no_match_fits_none, removal_was_answered,
+    removed_was_recorded, runs_agree_before_trouble, runs_are_told, source_fixes_sink,
+    switched_runs_are_steady,
 };
 use run_promise::texts_are_output;
 
@@ -181,6 +190,7 @@ pub fn each_run_prints_it()
 {
     source_fixes_sink();
     the_script_is_concluded();
+    the_run_is_steady();
 }
 
 /// Each run over that text ends with the status Done, where nothing was refused.
@@ -189,4 +199,205 @@ pub fn each_run_is_done()
 {
     done_where_fine();
     texts_have_lines();
+}
+
+/// What is concluded of the run gives an account of all nine lines.
+pub fn the_run_is_told()
+    ensures { TheRunIsTold }
+{
+    runs_are_told();
+    texts_have_lines();
+    the_script_is_concluded();
+}
+
+/// None of the nine lines had a cause to end the run, and the end of the source did.
+pub fn the_run_ends()
+    ensures { TheRunEnds }
+{
+    ends_are_caused();
+    texts_have_lines();
+    the_script_is_concluded();
+}
+
+/// No line behind the format answers a count of faults.
+pub fn no_count_is_told()
+    ensures { NoCountIsTold }
+{
+    counts_are_reached();
+}
+
+/// None answers a device fault.
+pub fn no_fault_is_told()
+    ensures { NoFaultIsTold }
+{
+    no_false_faults();
+}
+
+/// None answers damage.
+pub fn no_damage_is_told()
+    ensures { NoDamageIsTold }
+{
+    no_false_damage();
+}
+
+/// The device has a switch, so that it told its content and refused nothing is known by the clause of the top call.
+pub fn the_run_is_steady()
+    ensures { TheRunIsSteady }
+{
+    switched_runs_are_steady();
+}
+
+/// Whatever ended another run: the lines with which its legal history begins printed the same, or met trouble of its device.
+pub fn each_history_prints_it()
+    ensures { EachHistoryPrintsIt }
+{
+    histories_agree_before_trouble();
+}
+
+/// Each other run over that text and devices that told their content printed the same, or the two part at a line.
+pub fn each_run_agrees()
+    ensures { EachRunAgrees }
+{
+    runs_agree_before_trouble();
+    the_script_is_concluded();
+}
+
+/// The lines of the second script have a legal history, written out by hand.
+pub fn the_writers_are_a_run()
+    ensures { TheWritersAreARun }
+{}
+
+/// By these turns each of its lines is answered so.
+pub fn the_writers_are_answered()
+    ensures { TheWritersAreAnswered }
+{}
+
+/// And that is what is printed.
+pub fn the_writers_print()
+    ensures { TheWritersPrint }
+{
+    the_writers_are_answered();
+    texts_are_output();
+}
+
+/// The second run has an account, with these lines, turns and answers.
+pub fn the_writers_have_an_account()
+    ensures { TheWritersHaveAnAccount }
+{
+    the_writers_are_a_run();
+    the_writers_are_answered();
+}
+
+/// What the top call concludes with the status Done holds of its logs.
+pub fn the_writers_are_concluded()
+    ensures { TheWritersAreConcluded }
+{
+    the_writers_are_a_run();
+    the_writers_are_answered();
+}
+
+/// What the reader follows an earlier line opened.
+pub fn the_followed_was_put()
+    ensures { TheFollowedWasPut }
+{
+    follow_was_put();
+    the_writers_are_answered();
+}
+
+/// The line that recorded that it was given up is its writer's, and was answered so.
+pub fn the_giving_up_was_answered()
+    ensures { TheGivingUpWasAnswered }
+{
+    giving_up_was_answered();
+}
+
+/// The reader that broke was given all that was cut of it, and an earlier line gave it up.
+pub fn the_break_was_aborted()
+    ensures { TheBreakWasAborted }
+{
+    break_was_aborted();
+    the_writers_are_answered();
+}
+
+/// By the records of the lines before this reader cannot go on.
+pub fn the_break_is_caused()
+    ensures { TheBreakIsCaused }
+{
+    breaks_are_caused();
+    the_writers_are_answered();
+}
+
+/// Before the get that was answered aborted that put was given up last, and none was completed or removed.
+pub fn the_abort_was_last()
+    ensures { TheAbortWasLast }
+{
+    aborted_was_last();
+    the_writers_are_answered();
+}
+
+/// Before the removal that was answered so the key has no live vector.
+pub fn the_absence_is_caused()
+    ensures { TheAbsenceIsCaused }
+{
+    absences_are_caused();
+    the_writers_are_answered();
+}
+
+/// Before the last get the key's vector lists one alternate, which the request does not fit.
+pub fn the_request_fits_none()
+    ensures { TheRequestFitsNone }
+{
+    no_match_fits_none();
+    the_writers_are_answered();
+}
+
+/// The lines of the third script have a legal history, written out by hand.
+pub fn the_crowded_is_a_run()
+    ensures { TheCrowdedIsARun }
+{}
+
+/// By these turns each of its lines is answered so.
+pub fn the_crowded_is_answered()
+    ensures { TheCrowdedIsAnswered }
+{}
+
+/// The third run has an account, with these lines, turns and answers.
+pub fn the_crowded_has_an_account()
+    ensures { TheCrowdedHasAnAccount }
+{
+    the_crowded_is_a_run();
+    the_crowded_is_answered();
+}
+
+/// What the top call concludes with the status Done holds of its logs.
+pub fn the_crowded_is_concluded()
+    ensures { TheCrowdedIsConcluded }
+{
+    the_crowded_is_a_run();
+    the_crowded_is_answered();
+}
+
+/// Before the get that broke a piece of what it hit is missing, and all before it are live.
+pub fn the_broken_get_is_caused()
+    ensures { TheBrokenGetIsCaused }
+{
+    gets_are_caused();
+    the_crowded_is_answered();
+}
+
+/// Of the nine lines and one that is not in the grammar, what the top call concludes with the status BadScript holds.
+pub fn the_bad_run_is_concluded()
+    ensures { TheBadRunIsConcluded }
+{
+    the_script_is_a_run();
+    the_script_is_answered();
+}
+
+/// None of the nine lines had a cause to end that run, and the one behind them did.
+pub fn the_bad_line_ends_it()
+    ensures { TheBadLineEndsIt }
+{
+    ends_are_caused();
+    texts_have_lines();
+    the_bad_run_is_concluded();
 }
