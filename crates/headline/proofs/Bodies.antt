@@ -1,5 +1,5 @@
 -- What the writer of a put took whose line was answered so stays that line's body: no actor writes a put that was completed.
-use Rattle.std.proofs.Common.{◌≡◌, ℕ, suc, ◌+◌, ◌<◌, List, [], ◌∷◌, ◌++◌, length, Bool, true, false, refl, sym, ◌∙◌, ap, subst, arith, append_assoc, inl, inr}
+use Rattle.std.proofs.Common.{◌≡◌, ℕ, suc, ◌+◌, ◌<◌, List, [], ◌∷◌, ◌++◌, length, take, Bool, true, false, refl, sym, ◌∙◌, ap, subst, arith, append_assoc, append-nil, inl, inr}
 use Rattle.std.specs.Prelude.{Option, Some, None, cond, if◌then◌else◌, is_none, ◌==◌}
 use Rattle.std.specs.List.{AllByRecursion}
 use Rattle.tape_base.specs.declared.geometries.BadGeometry.{BadGeometry}
@@ -11,7 +11,7 @@ use Rattle.alternate_vector.specs.Field.{Field}
 use Rattle.cache_model.specs.declared.record.Rec.{Rec}
 use Rattle.cache_model.specs.declared.record.Rec.TheVariants as rec
 use Rattle.cache_model.specs.State.{AllAlong, State, PutRow, Closed, GivenUp, Open, after_all, opened_put, put_of, state_after, with_cut, with_writing}
-use Rattle.cache_model.specs.Permit.{IsAmong, Permit, Intent, End, GiveUp, Reason, Write, work_after}
+use Rattle.cache_model.specs.Permit.{End, Exhausted, Faulted, GiveUp, Intent, IsAmong, Lost, ManyFragments, ManyWriters, NoSync, Permit, Reason, StillMoving, StillOpen, SyncRuns, TooLarge, Write, work_after}
 use Rattle.cache_model.specs.Legal
 use Rattle.cache_model.specs.Legal.{IsStep, MayGrow}
 use Rattle.cache_model.proofs.Found.{no_truth, none_is, number_of, same_some}
@@ -21,12 +21,14 @@ use Rattle.script_lang.specs.declared.line.LineAnswer.{LineAnswer}
 use Rattle.script_lang.specs.declared.line.LineAnswer.TheVariants as line
 use Rattle.script_lang.specs.declared.step.Step.{Step}
 use Rattle.script_lang.specs.declared.step.Step.TheVariants as step
+use Rattle.script_lang.specs.declared.answer.Refused.TheVariants as refused
 use Rattle.script_lang.specs.declared.answer.StepAnswer.{StepAnswer}
 use Rattle.script_lang.specs.declared.answer.StepAnswer.TheVariants as answer
 use Rattle.script_lang.specs.Grammar.{reading_of}
 use Rattle.script_run.specs.Run.{Holding, Run, Stream, fresh, held_by, put_written_by, with_value}
 use Rattle.script_run.specs.Turn.{Turn}
 use Rattle.script_run.specs.Asked.{asked, body_intents, put_intents}
+use Rattle.script_run.specs.Answers.{feed_said, if_has as has_said, refusal_said, said, took_of}
 use Rattle.script_run.specs.Behind.{after_format, after_line, after_reading, behind, fed, in_session, of_put, sealed_by, streams_behind, streams_closed, streams_fed, streams_opened, taken_in_line}
 use Rattle.script_run.specs.Own.{AreWriting}
 use Rattle.script_run.specs.Takes.{IsRun, LineTakes, ReadingTakes, SessionTakes, Takes, run_after}
@@ -40,7 +42,7 @@ use Rattle.reader_laws.specs.Laws
 use Rattle.reader_laws.specs.Laws.{IsMeasured, LegalIsKept, PutIsMeasured}
 use Rattle.headline.specs.Account.{Account, HistoryTells, RunLogs}
 use Rattle.headline.specs.Answered.{RecordedPut}
-use Rattle.headline.specs.Bodies.{GotIsTheBody, PutTookItsBody}
+use Rattle.headline.specs.Bodies.{DataTookItsBytes, GotIsTheBody, PutTookItsBody, taken_told}
 use Rattle.headline.specs.Reads.{DidBefore, GotIsWhole, IsWholePut}
 use Rattle.headline.proofs.Places.{Found, OnSession, told_line}
 use Rattle.headline.proofs.Recording.{allowed_before, answered_put_was_completed, put_answer}
@@ -440,3 +442,107 @@ got_is_the_body whole took l a lines since key asked body bytes request response
     let t = took l a lines since key body request response put size fragments at same w.did in
     let is : bytes ≡ body = w.taken ∙ t.0 in
     (is, w.sized ∙ (ap length is ∙ sym t.1))
+
+-- ---- what a `data` line took
+
+refusal_taken : (t : State) (took : Option ℕ) (why : Reason) → taken_told (refusal_said t took why) ≡ took
+refusal_taken t took ManyWriters = refl
+refusal_taken t took Exhausted = refl
+refusal_taken t took (ManyFragments n) = refl
+refusal_taken t took (TooLarge n bytes) = refl
+refusal_taken t took (Lost n index) = refl
+refusal_taken t took (Faulted count) = refl
+refusal_taken t took (SyncRuns serial) = refl
+refusal_taken t took NoSync = refl
+refusal_taken t took (StillOpen writers readers) = refl
+refusal_taken t took (StillMoving blocks) = refl
+
+-- a refusal is not `took`
+refusal_took : (t : State) (took : Option ℕ) (why : Reason) (count : ℕ) → refusal_said t took why ≡ answer.Took count → ⊥
+refusal_took t took ManyWriters count h = cc
+refusal_took t took Exhausted count h = cc
+refusal_took t took (ManyFragments n) count h = cc
+refusal_took t took (TooLarge n bytes) count h = cc
+refusal_took t took (Lost n index) count h = cc
+refusal_took t took (Faulted fault) count h = cc
+refusal_took t took (SyncRuns serial) count h = cc
+refusal_took t took NoSync count h = cc
+refusal_took t took (StillOpen writers readers) count h = cc
+refusal_took t took (StillMoving blocks) count h = cc
+
+-- a whole `data` that is taken is one of a session
+on_feed : (run : Run) (turn : Turn) (o : Option State) (name body : List ℕ) → Takes run turn o (step.Feed name body)
+    → OnSession run turn o (step.Feed name body)
+on_feed run turn None name body takes = absurd takes
+on_feed run turn (Some s) name body takes = record { s = s; state = refl; takes = takes; said = refl; next = refl }
+
+module _ (run : Run) (t : State) (name body : List ℕ) (count : ℕ) where
+  -- what the put of an actor took, and what was told
+  record FedBy (o : Option ℕ) (why : Option Reason) (says : StepAnswer) : Type 0 where
+    put : ℕ
+    is : o ≡ Some put
+    taken : (of_put run o (streams_fed run t body why) put).bytes ≡ (run.streams put).bytes ++ take count body
+    all : says ≡ answer.Took count → count ≡ length body
+
+  told_taken : (why : Option Reason) (put : ℕ) → taken_told (said t (Some (took_of run t put)) why (answer.Took (length body))) ≡ Some count
+      → taken_in_line run t body why put ≡ count
+  told_taken None put h = same_some (length body) count (Some (length body)) refl h
+  told_taken (Some reason) put h =
+      same_some (took_of run t put) count (Some (took_of run t put)) refl (sym (refusal_taken t (Some (took_of run t put)) reason) ∙ h)
+
+  told_all : (why : Option Reason) (put : ℕ) → said t (Some (took_of run t put)) why (answer.Took (length body)) ≡ answer.Took count
+      → count ≡ length body
+  told_all None put h = let same : length body ≡ count = cc in sym same
+  told_all (Some reason) put h = absurd (refusal_took t (Some (took_of run t put)) reason count h)
+
+  fed_here : (why : Option Reason) (put : ℕ) (b : Bool)
+      → taken_told
+      (if b then answer.Refused refused.Sealed (Some 0) else said t (Some (took_of run t put)) why (answer.Took (length body))) ≡ Some count
+      → ((if b then run.streams else with_value run.streams put (fed (run.streams put) body (taken_in_line run t body why put))) put).bytes
+      ≡ (run.streams put).bytes ++ take count body
+  fed_here why put true h =
+      let zero_is : 0 ≡ count = same_some 0 count (Some 0) refl h in
+      sym (ap (λ (n : ℕ). (run.streams put).bytes ++ take n body) (sym zero_is) ∙ append-nil (run.streams put).bytes)
+  fed_here why put false h =
+      ap (λ (x : Stream). x.bytes)
+      (value_here (fed (run.streams put) body (taken_in_line run t body why put)) (run.streams put) put put refl)
+      ∙ ap (λ (n : ℕ). (run.streams put).bytes ++ take n body) (told_taken why put h)
+
+  all_here : (why : Option Reason) (put : ℕ) (b : Bool)
+      → (if b then answer.Refused refused.Sealed (Some 0) else said t (Some (took_of run t put)) why (answer.Took (length body)))
+      ≡ answer.Took count
+      → count ≡ length body
+  all_here why put true h = cc
+  all_here why put false h = told_all why put h
+
+  fed_so : (o : Option ℕ) (why : Option Reason) → taken_told (has_said o (feed_said run t body why)) ≡ Some count
+      → FedBy o why (has_said o (feed_said run t body why))
+  fed_so None why h = none_is h
+  fed_so (Some put) why h = record {
+    put = put;
+    is = refl;
+    taken = fed_here why put (run.streams put).sealed h;
+    all = all_here why put (run.streams put).sealed;
+  }
+
+pub data_took_its_bytes : DataTookItsBytes
+data_took_its_bytes l a lines name body says count at told =
+    let asks : Step = step.Feed name body in
+    let f = told_line l a lines asks says at in
+    let run : Run = run_after fresh lines f.earlier in
+    let o : OnSession run f.turn run.state asks = on_feed run f.turn run.state name body f.takes in
+    let t : State = after_all o.s f.turn.added in
+    let is : says ≡ has_said (put_written_by run name) (feed_said run t body f.turn.refused) = f.is ∙ o.said in
+    let fed : FedBy run t name body count (put_written_by run name) f.turn.refused
+    (has_said (put_written_by run name) (feed_said run t body f.turn.refused)) =
+    fed_so run t name body count (put_written_by run name) f.turn.refused (ap taken_told (sym is) ∙ told) in
+    let behind_is : after_line run f.turn at.bytes ≡ in_session run o.s t f.turn asks =
+    ap (after_reading run f.turn) at.reading ∙ o.next in (
+      record {
+        did = did_before l a lines asks says f;
+        put = fed.put;
+        writes = fed.is;
+        taken = ap (λ (x : Run). (x.streams fed.put).bytes) behind_is ∙ fed.taken;
+      },
+      λ took. fed.all (sym is ∙ took),
+    )

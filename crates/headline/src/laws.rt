@@ -12,7 +12,7 @@ ghost use Rattle.headline.specs.Troubles.{CountsAreReached, NoFalseDamage, NoFal
 ghost use Rattle.headline.specs.Endings.{DoneWhereFine, EndsAreCaused, RunsAreTold};
 ghost use Rattle.headline.specs.Fixed.{SourceFixesSink, SwitchedRunsAreSteady};
 ghost use Rattle.headline.specs.Parting.{HistoriesAgreeBeforeTrouble, RunsAgreeBeforeTrouble};
-ghost use Rattle.headline.specs.Bodies.{GotIsTheBody, PutTookItsBody};
+ghost use Rattle.headline.specs.Bodies.{DataTookItsBytes, GotIsTheBody, PutTookItsBody};
 ghost use Rattle.headline.specs.Answered.{AnsweredAbortWasRecorded, AnsweredPutWasCompleted, AnsweredRemovalWasRecorded, CompletedWasAnswered, GivingUpWasAnswered, RemovalWasAnswered};
 
 use edge_io::texts_have_lines;
@@ -301,6 +301,11 @@ pub fn got_is_the_body()
     got_is_whole();
     put_took_its_body();
 }
+
+/// In a `data` line its writer took as many bytes as the line was answered, and with `took` all of them.
+pub fn data_took_its_bytes()
+    ensures { DataTookItsBytes }
+{}
 
 /// No line answers a count above that with which its device came back.
 pub fn counts_are_reached()
