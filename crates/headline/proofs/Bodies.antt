@@ -28,7 +28,7 @@ use Rattle.script_lang.specs.Grammar.{reading_of}
 use Rattle.script_run.specs.Run.{Holding, Run, Stream, fresh, held_by, put_written_by, with_value}
 use Rattle.script_run.specs.Turn.{Turn}
 use Rattle.script_run.specs.Asked.{asked, body_intents, put_intents}
-use Rattle.script_run.specs.Answers.{feed_said, if_has as has_said, refusal_said, said, took_of}
+use Rattle.script_run.specs.Answers.{feed_said, idle, if_has as has_said, put_said, refusal_said, said, took_of}
 use Rattle.script_run.specs.Behind.{after_format, after_line, after_reading, behind, fed, in_session, of_put, sealed_by, streams_behind, streams_closed, streams_fed, streams_opened, taken_in_line}
 use Rattle.script_run.specs.Own.{AreWriting}
 use Rattle.script_run.specs.Takes.{IsRun, LineTakes, ReadingTakes, SessionTakes, Takes, run_after}
@@ -37,13 +37,14 @@ use Rattle.script_run.proofs.Ended.{IsNotOpen, open_row}
 use Rattle.script_run.proofs.Values.{other_than, value_here}
 use Rattle.script_laws.proofs.Groups.{IsKept}
 use Rattle.script_laws.proofs.Walking.{walked}
-use Rattle.reader_laws.specs.Along.{KeepsSession, KeptAlong, StandsKept, StandsWhere, begins_session}
+use Rattle.reader_laws.specs.Along.{AreOfSession, KeepsSession, KeptAlong, StandsKept, StandsWhere, begins_session}
 use Rattle.reader_laws.specs.Laws
 use Rattle.reader_laws.specs.Laws.{IsMeasured, LegalIsKept, PutIsMeasured}
 use Rattle.headline.specs.Account.{Account, HistoryTells, RunLogs}
 use Rattle.headline.specs.Answered.{RecordedPut}
-use Rattle.headline.specs.Bodies.{DataTookItsBytes, GotIsTheBody, PutTookItsBody, taken_told}
+use Rattle.headline.specs.Bodies.{ClosedPutStays, DataTookItsBytes, GotIsTheBody, PutTookItsBody, taken_told}
 use Rattle.headline.specs.Reads.{DidBefore, GotIsWhole, IsWholePut}
+use Rattle.headline.proofs.Opened.{kept_here}
 use Rattle.headline.proofs.Places.{Found, OnSession, told_line}
 use Rattle.headline.proofs.Recording.{allowed_before, answered_put_was_completed, put_answer}
 use Rattle.headline.proofs.Troubles.{did_before}
@@ -402,35 +403,122 @@ module _ (numbers : NumbersFollow) (l : RunLogs) (a : Account l) (lines : List (
         (Laws.AnswersPutComplete.puts key body request response (sym f.is)) in
         m.told ∙ ap length (behind_taken on r).bytes
 
+-- ---- the lines since
+
+module _ (law : LegalIsKept) (numbers : NumbersFollow) (turns : List Turn) (put : ℕ) (taken : List ℕ) (lines since : List (List ℕ))
+    (bytes : List ℕ) where
+  stays_since : (d : DidBefore turns lines) → HasTaken put (after_line (run_after fresh lines d.earlier) d.turn bytes) taken
+      → KeepsSession (reading_of bytes) → AreOfSession since → (did : DidBefore turns (lines ++ bytes ∷ since))
+      → ((run_after fresh (lines ++ bytes ∷ since) did.earlier).streams put).bytes ≡ taken
+  stays_since d first keeps same did =
+      let h = split fresh lines bytes since did.earlier did.legal in
+      let is : turns ≡ h.earlier ++ h.turn ∷ (h.rest ++ did.turn ∷ did.later) =
+      did.turns_are
+      ∙ (ap (λ (ts : List Turn). ts ++ did.turn ∷ did.later) h.are ∙ append_assoc h.earlier (h.turn ∷ h.rest) (did.turn ∷ did.later)) in
+      let e : DidBefore turns lines =
+      record { earlier = h.earlier; turn = h.turn; later = h.rest ++ did.turn ∷ did.later; turns_are = is; legal = h.legal } in
+      let one : IsOneTurn d.earlier h.earlier d.turn h.turn = same_did turns lines d e in
+      let here : HasTaken put (after_line (run_after fresh lines h.earlier) h.turn bytes) taken =
+      subst (λ (x : Turn). HasTaken put (after_line (run_after fresh lines h.earlier) x bytes) taken) one.turns
+      (subst (λ (ts : List Turn). HasTaken put (after_line (run_after fresh lines ts) d.turn bytes) taken) one.fronts first) in
+      let along = (law lines (bytes ∷ since) h.earlier (h.turn ∷ h.rest) h.legal (h.takes, h.goes) (keeps, same)).0 in
+      let all = taken_along put numbers taken since h.rest
+      (after_line (run_after fresh lines h.earlier) h.turn bytes) h.goes along.2 here in
+      ap (λ (run : Run). (run.streams put).bytes) h.ends ∙ all.bytes
+
 pub put_took_its_body : (law : LegalIsKept) (measured : PutIsMeasured) (numbers : NumbersFollow) → PutTookItsBody
 put_took_its_body law measured numbers l a lines since key body request response put size fragments at same did =
     let asks : Step = step.Put key body request response in
     let says : StepAnswer = answer.Put put size fragments in
     let f = told_line l a lines asks says at in
-    let r = answered_put_was_completed law l a lines asks put size fragments at in
-    let h = split fresh lines at.bytes since did.earlier did.legal in
-    let d : DidBefore a.turns lines = record {
-      earlier = h.earlier;
-      turn = h.turn;
-      later = h.rest ++ did.turn ∷ did.later;
-      turns_are =
-          did.turns_are ∙
-          (ap (λ (ts : List Turn). ts ++ did.turn ∷ did.later) h.are ∙ append_assoc h.earlier (h.turn ∷ h.rest) (did.turn ∷ did.later));
-      legal = h.legal;
-    } in
-    let one : IsOneTurn f.earlier h.earlier f.turn h.turn = same_did a.turns lines (did_before l a lines asks says f) d in
-    let first : HasTaken put (after_line (run_after fresh lines f.earlier) f.turn at.bytes) body =
-    line_taken numbers l a lines key body request response put size fragments at f r in
-    let here : HasTaken put (after_line (run_after fresh lines h.earlier) h.turn at.bytes) body =
-    subst (λ (x : Turn). HasTaken put (after_line (run_after fresh lines h.earlier) x at.bytes) body) one.turns
-    (subst (λ (ts : List Turn). HasTaken put (after_line (run_after fresh lines ts) f.turn at.bytes) body) one.fronts first) in
-    let keeps : KeepsSession (reading_of at.bytes) = subst KeepsSession (sym at.reading) refl in
-    let along = (law lines (at.bytes ∷ since) h.earlier (h.turn ∷ h.rest) h.legal (h.takes, h.goes) (keeps, same)).0 in
-    let all = taken_along put numbers body since h.rest
-    (after_line (run_after fresh lines h.earlier) h.turn at.bytes) h.goes along.2 here in (
-      ap (λ (run : Run).
-          (run.streams put).bytes) h.ends ∙ all.bytes,
+    let r = answered_put_was_completed law l a lines asks put size fragments at in (
+      stays_since law numbers a.turns put body lines since at.bytes (did_before l a lines asks says f)
+          (line_taken numbers l a lines key body request response put size fragments at f r)
+          (subst KeepsSession (sym at.reading) refl) same did,
       sized numbers l a lines key body request response put size fragments at f r measured,
+    )
+
+-- ---- a writer that closes
+
+-- a close that is taken is one of a session
+on_close : (run : Run) (turn : Turn) (o : Option State) (name : List ℕ) → Takes run turn o (step.Close name)
+    → OnSession run turn o (step.Close name)
+on_close run turn None name takes = absurd takes
+on_close run turn (Some s) name takes = record { s = s; state = refl; takes = takes; said = refl; next = refl }
+
+idle_puts_none : (put size fragments : ℕ) → idle ≡ answer.Put put size fragments → ⊥
+idle_puts_none put size fragments h = cc
+
+-- of the put that is answered nothing is refused, and the actor wrote it
+record ClosesSo (o : Option ℕ) (why : Option Reason) (put : ℕ) : Type 0 where
+  allowed : why ≡ None
+  writes : o ≡ Some put
+
+closes_so : (t : State) (o : Option ℕ) (why : Option Reason) (put size fragments : ℕ)
+    → has_said o (λ n. said t None why (put_said t n)) ≡ answer.Put put size fragments → ClosesSo o why put
+closes_so t None why put size fragments h = absurd (idle_puts_none put size fragments h)
+closes_so t (Some n) why put size fragments h =
+    let told = put_answer t n why put size fragments h in
+    record { allowed = told.0; writes = ap Some told.1 }
+
+module _ (law : LegalIsKept) (numbers : NumbersFollow) (l : RunLogs) (a : Account l) (lines : List (List ℕ)) (name : List ℕ)
+    (put size fragments : ℕ) (at : HistoryTells a lines (step.Close name) (answer.Put put size fragments))
+    (f : Found fresh a.turns lines (step.Close name) (answer.Put put size fragments) (run_after fresh a.told a.turns)) where
+  abbrev Then : Run
+  Then = run_after fresh lines f.earlier
+
+  abbrev Old : List ℕ
+  Old = (Then.streams put).bytes
+
+  closed_streams : (o : Option ℕ) (why : Option Reason) → ClosesSo o why put → (of_put Then o (streams_closed Then why) put).bytes ≡ Old
+  closed_streams o why c =
+      subst (λ (x : Option ℕ). (of_put Then x (streams_closed Then why) put).bytes ≡ Old) (sym c.writes)
+      (subst (λ (w : Option Reason). (streams_closed Then w put put).bytes ≡ Old) (sym c.allowed)
+      (ap (λ (x : Stream). x.bytes) (value_here (Then.streams put) (Then.streams put) put put refl)))
+
+  close_taken : (o : OnSession Then f.turn Then.state (step.Close name)) → RecordedPut a lines (step.Close name) put size
+      → HasTaken put (behind Then f.turn Then.state (step.Close name)) Old
+  close_taken o r =
+      let t : State = after_all o.s f.turn.added in
+      let c : ClosesSo (put_written_by Then name) f.turn.refused put =
+      closes_so t (put_written_by Then name) f.turn.refused put size fragments (sym (f.is ∙ o.said)) in
+      let turns = same_did a.turns lines r.records.did (did_before l a lines (step.Close name) (answer.Put put size fragments) f) in
+      let told : Rec = rec.Committed put r.key size r.alternates in
+      let among : IsAmong told f.turn.added = subst (λ (x : Turn). IsAmong told x.added) turns.turns r.records.among in
+      let stands : StandsKept Then o.s = (kept_here law lines f.earlier o.s f.legal o.state).0 in
+      let row = open_row o.s put (stands.writing name put c.writes) in
+      let begun : row.w.put < o.s.next_put = (stands.kept.puts put row.w row.found).begun in
+      let below : put < o.s.next_put = subst (λ n. n < o.s.next_put) (number_of o.s put row.w row.found) begun in
+      let over = over_in put f.turn.device o.s f.turn.added r.key size r.alternates (walked o.takes.legal.grows).kept
+      (numbers f.turn.device o.s (asked Then o.s (step.Close name)) f.turn.added f.turn.refused o.takes.legal) below among in
+      subst (λ (run : Run). HasTaken put run Old) (sym o.next) (record {
+        s = t;
+        state = refl;
+        over = over.0;
+        below = over.1;
+        bytes = closed_streams (put_written_by Then name) f.turn.refused c;
+      })
+
+pub closed_put_stays : (law : LegalIsKept) (measured : PutIsMeasured) (numbers : NumbersFollow) → ClosedPutStays
+closed_put_stays law measured numbers l a lines since name put size fragments at same before did =
+    let asks : Step = step.Close name in
+    let says : StepAnswer = answer.Put put size fragments in
+    let f = told_line l a lines asks says at in
+    let run : Run = run_after fresh lines f.earlier in
+    let r = answered_put_was_completed law l a lines asks put size fragments at in
+    let k : HasTaken put (behind run f.turn run.state asks) (run.streams put).bytes =
+    close_taken law numbers l a lines name put size fragments at f (on_close run f.turn run.state name f.takes) r in
+    let first : HasTaken put (after_line run f.turn at.bytes) (run.streams put).bytes =
+    subst (λ (x : LineAnswer). HasTaken put (after_reading run f.turn x) (run.streams put).bytes) (sym at.reading) k in
+    let m : IsMeasured (behind run f.turn run.state asks) put size fragments =
+    measured lines f.earlier f.turn asks put size fragments f.legal f.takes (Laws.AnswersPutComplete.closes name (sym f.is)) in
+    let d : DidBefore a.turns lines = did_before l a lines asks says f in
+    let one : IsOneTurn f.earlier before.earlier f.turn before.turn = same_did a.turns lines d before in
+    let old : (run.streams put).bytes ≡ ((run_after fresh lines before.earlier).streams put).bytes =
+    ap (λ (ts : List Turn). ((run_after fresh lines ts).streams put).bytes) one.fronts in (
+      stays_since law numbers a.turns put (run.streams put).bytes lines since at.bytes d first
+          (subst KeepsSession (sym at.reading) refl) same did ∙ old,
+      m.told ∙ ap length (k.bytes ∙ old),
     )
 
 -- ---- what is got

@@ -29,6 +29,16 @@ GotIsTheBody = (l : RunLogs) (a : Account l) (lines since : List (List ℕ)) (ke
     → (at : HistoryTells a lines (step.Put key body request response) (answer.Put put size fragments)) → AreOfSession since
     → HistoryTells a (lines ++ at.bytes ∷ since) (step.Get asked wanted) (answer.Got put got bytes) → (bytes ≡ body) × (got ≡ size)
 
+-- behind a `close` line that was answered so, and lines of its session since, what the writer of the put took is what it had
+-- taken before that line, and so many bytes were told
+abbrev pub ClosedPutStays : Type 0
+ClosedPutStays = (l : RunLogs) (a : Account l) (lines since : List (List ℕ)) (name : List ℕ) (put size fragments : ℕ)
+    → (at : HistoryTells a lines (step.Close name) (answer.Put put size fragments)) → AreOfSession since
+    → (before : DidBefore a.turns lines) → (did : DidBefore a.turns (lines ++ at.bytes ∷ since))
+    → (((run_after fresh (lines ++ at.bytes ∷ since) did.earlier).streams put).bytes
+    ≡ ((run_after fresh lines before.earlier).streams put).bytes)
+    × (size ≡ length ((run_after fresh lines before.earlier).streams put).bytes)
+
 -- how many bytes of a line an answer tells that were taken: all, or those before a refusal or a fault
 abbrev pub taken_told : StepAnswer → Option ℕ
 taken_told (answer.Took count) = Some count
