@@ -1,5 +1,5 @@
 -- What the writer of a put took whose line was answered so stays that line's body: no actor writes a put that was completed.
-use Rattle.std.proofs.Common.{◌≡◌, ℕ, suc, ◌+◌, ◌<◌, List, [], ◌∷◌, ◌++◌, length, Bool, true, false, refl, sym, ◌∙◌, ap, subst, arith, append_assoc, inl, inr}
+use Rattle.std.proofs.Common.{◌≡◌, ℕ, suc, ◌+◌, ◌<◌, List, [], ◌∷◌, ◌++◌, length, take, Bool, true, false, refl, sym, ◌∙◌, ap, subst, arith, append_assoc, append-nil, inl, inr}
 use Rattle.std.specs.Prelude.{Option, Some, None, cond, if◌then◌else◌, is_none, ◌==◌}
 use Rattle.std.specs.List.{AllByRecursion}
 use Rattle.tape_base.specs.declared.geometries.BadGeometry.{BadGeometry}
@@ -11,7 +11,7 @@ use Rattle.alternate_vector.specs.Field.{Field}
 use Rattle.cache_model.specs.declared.record.Rec.{Rec}
 use Rattle.cache_model.specs.declared.record.Rec.TheVariants as rec
 use Rattle.cache_model.specs.State.{AllAlong, State, PutRow, Closed, GivenUp, Open, after_all, opened_put, put_of, state_after, with_cut, with_writing}
-use Rattle.cache_model.specs.Permit.{IsAmong, Permit, Intent, End, GiveUp, Reason, Write, work_after}
+use Rattle.cache_model.specs.Permit.{End, Exhausted, Faulted, GiveUp, Intent, IsAmong, Lost, ManyFragments, ManyWriters, NoSync, Permit, Reason, StillMoving, StillOpen, SyncRuns, TooLarge, Write, work_after}
 use Rattle.cache_model.specs.Legal
 use Rattle.cache_model.specs.Legal.{IsStep, MayGrow}
 use Rattle.cache_model.proofs.Found.{no_truth, none_is, number_of, same_some}
@@ -21,12 +21,14 @@ use Rattle.script_lang.specs.declared.line.LineAnswer.{LineAnswer}
 use Rattle.script_lang.specs.declared.line.LineAnswer.TheVariants as line
 use Rattle.script_lang.specs.declared.step.Step.{Step}
 use Rattle.script_lang.specs.declared.step.Step.TheVariants as step
+use Rattle.script_lang.specs.declared.answer.Refused.TheVariants as refused
 use Rattle.script_lang.specs.declared.answer.StepAnswer.{StepAnswer}
 use Rattle.script_lang.specs.declared.answer.StepAnswer.TheVariants as answer
 use Rattle.script_lang.specs.Grammar.{reading_of}
 use Rattle.script_run.specs.Run.{Holding, Run, Stream, fresh, held_by, put_written_by, with_value}
 use Rattle.script_run.specs.Turn.{Turn}
 use Rattle.script_run.specs.Asked.{asked, body_intents, put_intents}
+use Rattle.script_run.specs.Answers.{feed_said, idle, if_has as has_said, put_said, refusal_said, said, took_of}
 use Rattle.script_run.specs.Behind.{after_format, after_line, after_reading, behind, fed, in_session, of_put, sealed_by, streams_behind, streams_closed, streams_fed, streams_opened, taken_in_line}
 use Rattle.script_run.specs.Own.{AreWriting}
 use Rattle.script_run.specs.Takes.{IsRun, LineTakes, ReadingTakes, SessionTakes, Takes, run_after}
@@ -35,13 +37,14 @@ use Rattle.script_run.proofs.Ended.{IsNotOpen, open_row}
 use Rattle.script_run.proofs.Values.{other_than, value_here}
 use Rattle.script_laws.proofs.Groups.{IsKept}
 use Rattle.script_laws.proofs.Walking.{walked}
-use Rattle.reader_laws.specs.Along.{KeepsSession, KeptAlong, StandsKept, StandsWhere, begins_session}
+use Rattle.reader_laws.specs.Along.{AreOfSession, KeepsSession, KeptAlong, StandsKept, StandsWhere, begins_session}
 use Rattle.reader_laws.specs.Laws
 use Rattle.reader_laws.specs.Laws.{IsMeasured, LegalIsKept, PutIsMeasured}
 use Rattle.headline.specs.Account.{Account, HistoryTells, RunLogs}
 use Rattle.headline.specs.Answered.{RecordedPut}
-use Rattle.headline.specs.Bodies.{GotIsTheBody, PutTookItsBody}
+use Rattle.headline.specs.Bodies.{ClosedPutStays, DataTookItsBytes, GotIsTheBody, PutTookItsBody, taken_told}
 use Rattle.headline.specs.Reads.{DidBefore, GotIsWhole, IsWholePut}
+use Rattle.headline.proofs.Opened.{kept_here}
 use Rattle.headline.proofs.Places.{Found, OnSession, told_line}
 use Rattle.headline.proofs.Recording.{allowed_before, answered_put_was_completed, put_answer}
 use Rattle.headline.proofs.Troubles.{did_before}
@@ -400,35 +403,122 @@ module _ (numbers : NumbersFollow) (l : RunLogs) (a : Account l) (lines : List (
         (Laws.AnswersPutComplete.puts key body request response (sym f.is)) in
         m.told ∙ ap length (behind_taken on r).bytes
 
+-- ---- the lines since
+
+module _ (law : LegalIsKept) (numbers : NumbersFollow) (turns : List Turn) (put : ℕ) (taken : List ℕ) (lines since : List (List ℕ))
+    (bytes : List ℕ) where
+  stays_since : (d : DidBefore turns lines) → HasTaken put (after_line (run_after fresh lines d.earlier) d.turn bytes) taken
+      → KeepsSession (reading_of bytes) → AreOfSession since → (did : DidBefore turns (lines ++ bytes ∷ since))
+      → ((run_after fresh (lines ++ bytes ∷ since) did.earlier).streams put).bytes ≡ taken
+  stays_since d first keeps same did =
+      let h = split fresh lines bytes since did.earlier did.legal in
+      let is : turns ≡ h.earlier ++ h.turn ∷ (h.rest ++ did.turn ∷ did.later) =
+      did.turns_are
+      ∙ (ap (λ (ts : List Turn). ts ++ did.turn ∷ did.later) h.are ∙ append_assoc h.earlier (h.turn ∷ h.rest) (did.turn ∷ did.later)) in
+      let e : DidBefore turns lines =
+      record { earlier = h.earlier; turn = h.turn; later = h.rest ++ did.turn ∷ did.later; turns_are = is; legal = h.legal } in
+      let one : IsOneTurn d.earlier h.earlier d.turn h.turn = same_did turns lines d e in
+      let here : HasTaken put (after_line (run_after fresh lines h.earlier) h.turn bytes) taken =
+      subst (λ (x : Turn). HasTaken put (after_line (run_after fresh lines h.earlier) x bytes) taken) one.turns
+      (subst (λ (ts : List Turn). HasTaken put (after_line (run_after fresh lines ts) d.turn bytes) taken) one.fronts first) in
+      let along = (law lines (bytes ∷ since) h.earlier (h.turn ∷ h.rest) h.legal (h.takes, h.goes) (keeps, same)).0 in
+      let all = taken_along put numbers taken since h.rest
+      (after_line (run_after fresh lines h.earlier) h.turn bytes) h.goes along.2 here in
+      ap (λ (run : Run). (run.streams put).bytes) h.ends ∙ all.bytes
+
 pub put_took_its_body : (law : LegalIsKept) (measured : PutIsMeasured) (numbers : NumbersFollow) → PutTookItsBody
 put_took_its_body law measured numbers l a lines since key body request response put size fragments at same did =
     let asks : Step = step.Put key body request response in
     let says : StepAnswer = answer.Put put size fragments in
     let f = told_line l a lines asks says at in
-    let r = answered_put_was_completed law l a lines asks put size fragments at in
-    let h = split fresh lines at.bytes since did.earlier did.legal in
-    let d : DidBefore a.turns lines = record {
-      earlier = h.earlier;
-      turn = h.turn;
-      later = h.rest ++ did.turn ∷ did.later;
-      turns_are =
-          did.turns_are ∙
-          (ap (λ (ts : List Turn). ts ++ did.turn ∷ did.later) h.are ∙ append_assoc h.earlier (h.turn ∷ h.rest) (did.turn ∷ did.later));
-      legal = h.legal;
-    } in
-    let one : IsOneTurn f.earlier h.earlier f.turn h.turn = same_did a.turns lines (did_before l a lines asks says f) d in
-    let first : HasTaken put (after_line (run_after fresh lines f.earlier) f.turn at.bytes) body =
-    line_taken numbers l a lines key body request response put size fragments at f r in
-    let here : HasTaken put (after_line (run_after fresh lines h.earlier) h.turn at.bytes) body =
-    subst (λ (x : Turn). HasTaken put (after_line (run_after fresh lines h.earlier) x at.bytes) body) one.turns
-    (subst (λ (ts : List Turn). HasTaken put (after_line (run_after fresh lines ts) f.turn at.bytes) body) one.fronts first) in
-    let keeps : KeepsSession (reading_of at.bytes) = subst KeepsSession (sym at.reading) refl in
-    let along = (law lines (at.bytes ∷ since) h.earlier (h.turn ∷ h.rest) h.legal (h.takes, h.goes) (keeps, same)).0 in
-    let all = taken_along put numbers body since h.rest
-    (after_line (run_after fresh lines h.earlier) h.turn at.bytes) h.goes along.2 here in (
-      ap (λ (run : Run).
-          (run.streams put).bytes) h.ends ∙ all.bytes,
+    let r = answered_put_was_completed law l a lines asks put size fragments at in (
+      stays_since law numbers a.turns put body lines since at.bytes (did_before l a lines asks says f)
+          (line_taken numbers l a lines key body request response put size fragments at f r)
+          (subst KeepsSession (sym at.reading) refl) same did,
       sized numbers l a lines key body request response put size fragments at f r measured,
+    )
+
+-- ---- a writer that closes
+
+-- a close that is taken is one of a session
+on_close : (run : Run) (turn : Turn) (o : Option State) (name : List ℕ) → Takes run turn o (step.Close name)
+    → OnSession run turn o (step.Close name)
+on_close run turn None name takes = absurd takes
+on_close run turn (Some s) name takes = record { s = s; state = refl; takes = takes; said = refl; next = refl }
+
+idle_puts_none : (put size fragments : ℕ) → idle ≡ answer.Put put size fragments → ⊥
+idle_puts_none put size fragments h = cc
+
+-- of the put that is answered nothing is refused, and the actor wrote it
+record ClosesSo (o : Option ℕ) (why : Option Reason) (put : ℕ) : Type 0 where
+  allowed : why ≡ None
+  writes : o ≡ Some put
+
+closes_so : (t : State) (o : Option ℕ) (why : Option Reason) (put size fragments : ℕ)
+    → has_said o (λ n. said t None why (put_said t n)) ≡ answer.Put put size fragments → ClosesSo o why put
+closes_so t None why put size fragments h = absurd (idle_puts_none put size fragments h)
+closes_so t (Some n) why put size fragments h =
+    let told = put_answer t n why put size fragments h in
+    record { allowed = told.0; writes = ap Some told.1 }
+
+module _ (law : LegalIsKept) (numbers : NumbersFollow) (l : RunLogs) (a : Account l) (lines : List (List ℕ)) (name : List ℕ)
+    (put size fragments : ℕ) (at : HistoryTells a lines (step.Close name) (answer.Put put size fragments))
+    (f : Found fresh a.turns lines (step.Close name) (answer.Put put size fragments) (run_after fresh a.told a.turns)) where
+  abbrev Then : Run
+  Then = run_after fresh lines f.earlier
+
+  abbrev Old : List ℕ
+  Old = (Then.streams put).bytes
+
+  closed_streams : (o : Option ℕ) (why : Option Reason) → ClosesSo o why put → (of_put Then o (streams_closed Then why) put).bytes ≡ Old
+  closed_streams o why c =
+      subst (λ (x : Option ℕ). (of_put Then x (streams_closed Then why) put).bytes ≡ Old) (sym c.writes)
+      (subst (λ (w : Option Reason). (streams_closed Then w put put).bytes ≡ Old) (sym c.allowed)
+      (ap (λ (x : Stream). x.bytes) (value_here (Then.streams put) (Then.streams put) put put refl)))
+
+  close_taken : (o : OnSession Then f.turn Then.state (step.Close name)) → RecordedPut a lines (step.Close name) put size
+      → HasTaken put (behind Then f.turn Then.state (step.Close name)) Old
+  close_taken o r =
+      let t : State = after_all o.s f.turn.added in
+      let c : ClosesSo (put_written_by Then name) f.turn.refused put =
+      closes_so t (put_written_by Then name) f.turn.refused put size fragments (sym (f.is ∙ o.said)) in
+      let turns = same_did a.turns lines r.records.did (did_before l a lines (step.Close name) (answer.Put put size fragments) f) in
+      let told : Rec = rec.Committed put r.key size r.alternates in
+      let among : IsAmong told f.turn.added = subst (λ (x : Turn). IsAmong told x.added) turns.turns r.records.among in
+      let stands : StandsKept Then o.s = (kept_here law lines f.earlier o.s f.legal o.state).0 in
+      let row = open_row o.s put (stands.writing name put c.writes) in
+      let begun : row.w.put < o.s.next_put = (stands.kept.puts put row.w row.found).begun in
+      let below : put < o.s.next_put = subst (λ n. n < o.s.next_put) (number_of o.s put row.w row.found) begun in
+      let over = over_in put f.turn.device o.s f.turn.added r.key size r.alternates (walked o.takes.legal.grows).kept
+      (numbers f.turn.device o.s (asked Then o.s (step.Close name)) f.turn.added f.turn.refused o.takes.legal) below among in
+      subst (λ (run : Run). HasTaken put run Old) (sym o.next) (record {
+        s = t;
+        state = refl;
+        over = over.0;
+        below = over.1;
+        bytes = closed_streams (put_written_by Then name) f.turn.refused c;
+      })
+
+pub closed_put_stays : (law : LegalIsKept) (measured : PutIsMeasured) (numbers : NumbersFollow) → ClosedPutStays
+closed_put_stays law measured numbers l a lines since name put size fragments at same before did =
+    let asks : Step = step.Close name in
+    let says : StepAnswer = answer.Put put size fragments in
+    let f = told_line l a lines asks says at in
+    let run : Run = run_after fresh lines f.earlier in
+    let r = answered_put_was_completed law l a lines asks put size fragments at in
+    let k : HasTaken put (behind run f.turn run.state asks) (run.streams put).bytes =
+    close_taken law numbers l a lines name put size fragments at f (on_close run f.turn run.state name f.takes) r in
+    let first : HasTaken put (after_line run f.turn at.bytes) (run.streams put).bytes =
+    subst (λ (x : LineAnswer). HasTaken put (after_reading run f.turn x) (run.streams put).bytes) (sym at.reading) k in
+    let m : IsMeasured (behind run f.turn run.state asks) put size fragments =
+    measured lines f.earlier f.turn asks put size fragments f.legal f.takes (Laws.AnswersPutComplete.closes name (sym f.is)) in
+    let d : DidBefore a.turns lines = did_before l a lines asks says f in
+    let one : IsOneTurn f.earlier before.earlier f.turn before.turn = same_did a.turns lines d before in
+    let old : (run.streams put).bytes ≡ ((run_after fresh lines before.earlier).streams put).bytes =
+    ap (λ (ts : List Turn). ((run_after fresh lines ts).streams put).bytes) one.fronts in (
+      stays_since law numbers a.turns put (run.streams put).bytes lines since at.bytes d first
+          (subst KeepsSession (sym at.reading) refl) same did ∙ old,
+      m.told ∙ ap length (k.bytes ∙ old),
     )
 
 -- ---- what is got
@@ -440,3 +530,107 @@ got_is_the_body whole took l a lines since key asked body bytes request response
     let t = took l a lines since key body request response put size fragments at same w.did in
     let is : bytes ≡ body = w.taken ∙ t.0 in
     (is, w.sized ∙ (ap length is ∙ sym t.1))
+
+-- ---- what a `data` line took
+
+refusal_taken : (t : State) (took : Option ℕ) (why : Reason) → taken_told (refusal_said t took why) ≡ took
+refusal_taken t took ManyWriters = refl
+refusal_taken t took Exhausted = refl
+refusal_taken t took (ManyFragments n) = refl
+refusal_taken t took (TooLarge n bytes) = refl
+refusal_taken t took (Lost n index) = refl
+refusal_taken t took (Faulted count) = refl
+refusal_taken t took (SyncRuns serial) = refl
+refusal_taken t took NoSync = refl
+refusal_taken t took (StillOpen writers readers) = refl
+refusal_taken t took (StillMoving blocks) = refl
+
+-- a refusal is not `took`
+refusal_took : (t : State) (took : Option ℕ) (why : Reason) (count : ℕ) → refusal_said t took why ≡ answer.Took count → ⊥
+refusal_took t took ManyWriters count h = cc
+refusal_took t took Exhausted count h = cc
+refusal_took t took (ManyFragments n) count h = cc
+refusal_took t took (TooLarge n bytes) count h = cc
+refusal_took t took (Lost n index) count h = cc
+refusal_took t took (Faulted fault) count h = cc
+refusal_took t took (SyncRuns serial) count h = cc
+refusal_took t took NoSync count h = cc
+refusal_took t took (StillOpen writers readers) count h = cc
+refusal_took t took (StillMoving blocks) count h = cc
+
+-- a whole `data` that is taken is one of a session
+on_feed : (run : Run) (turn : Turn) (o : Option State) (name body : List ℕ) → Takes run turn o (step.Feed name body)
+    → OnSession run turn o (step.Feed name body)
+on_feed run turn None name body takes = absurd takes
+on_feed run turn (Some s) name body takes = record { s = s; state = refl; takes = takes; said = refl; next = refl }
+
+module _ (run : Run) (t : State) (name body : List ℕ) (count : ℕ) where
+  -- what the put of an actor took, and what was told
+  record FedBy (o : Option ℕ) (why : Option Reason) (says : StepAnswer) : Type 0 where
+    put : ℕ
+    is : o ≡ Some put
+    taken : (of_put run o (streams_fed run t body why) put).bytes ≡ (run.streams put).bytes ++ take count body
+    all : says ≡ answer.Took count → count ≡ length body
+
+  told_taken : (why : Option Reason) (put : ℕ) → taken_told (said t (Some (took_of run t put)) why (answer.Took (length body))) ≡ Some count
+      → taken_in_line run t body why put ≡ count
+  told_taken None put h = same_some (length body) count (Some (length body)) refl h
+  told_taken (Some reason) put h =
+      same_some (took_of run t put) count (Some (took_of run t put)) refl (sym (refusal_taken t (Some (took_of run t put)) reason) ∙ h)
+
+  told_all : (why : Option Reason) (put : ℕ) → said t (Some (took_of run t put)) why (answer.Took (length body)) ≡ answer.Took count
+      → count ≡ length body
+  told_all None put h = let same : length body ≡ count = cc in sym same
+  told_all (Some reason) put h = absurd (refusal_took t (Some (took_of run t put)) reason count h)
+
+  fed_here : (why : Option Reason) (put : ℕ) (b : Bool)
+      → taken_told
+      (if b then answer.Refused refused.Sealed (Some 0) else said t (Some (took_of run t put)) why (answer.Took (length body))) ≡ Some count
+      → ((if b then run.streams else with_value run.streams put (fed (run.streams put) body (taken_in_line run t body why put))) put).bytes
+      ≡ (run.streams put).bytes ++ take count body
+  fed_here why put true h =
+      let zero_is : 0 ≡ count = same_some 0 count (Some 0) refl h in
+      sym (ap (λ (n : ℕ). (run.streams put).bytes ++ take n body) (sym zero_is) ∙ append-nil (run.streams put).bytes)
+  fed_here why put false h =
+      ap (λ (x : Stream). x.bytes)
+      (value_here (fed (run.streams put) body (taken_in_line run t body why put)) (run.streams put) put put refl)
+      ∙ ap (λ (n : ℕ). (run.streams put).bytes ++ take n body) (told_taken why put h)
+
+  all_here : (why : Option Reason) (put : ℕ) (b : Bool)
+      → (if b then answer.Refused refused.Sealed (Some 0) else said t (Some (took_of run t put)) why (answer.Took (length body)))
+      ≡ answer.Took count
+      → count ≡ length body
+  all_here why put true h = cc
+  all_here why put false h = told_all why put h
+
+  fed_so : (o : Option ℕ) (why : Option Reason) → taken_told (has_said o (feed_said run t body why)) ≡ Some count
+      → FedBy o why (has_said o (feed_said run t body why))
+  fed_so None why h = none_is h
+  fed_so (Some put) why h = record {
+    put = put;
+    is = refl;
+    taken = fed_here why put (run.streams put).sealed h;
+    all = all_here why put (run.streams put).sealed;
+  }
+
+pub data_took_its_bytes : DataTookItsBytes
+data_took_its_bytes l a lines name body says count at told =
+    let asks : Step = step.Feed name body in
+    let f = told_line l a lines asks says at in
+    let run : Run = run_after fresh lines f.earlier in
+    let o : OnSession run f.turn run.state asks = on_feed run f.turn run.state name body f.takes in
+    let t : State = after_all o.s f.turn.added in
+    let is : says ≡ has_said (put_written_by run name) (feed_said run t body f.turn.refused) = f.is ∙ o.said in
+    let fed : FedBy run t name body count (put_written_by run name) f.turn.refused
+    (has_said (put_written_by run name) (feed_said run t body f.turn.refused)) =
+    fed_so run t name body count (put_written_by run name) f.turn.refused (ap taken_told (sym is) ∙ told) in
+    let behind_is : after_line run f.turn at.bytes ≡ in_session run o.s t f.turn asks =
+    ap (after_reading run f.turn) at.reading ∙ o.next in (
+      record {
+        did = did_before l a lines asks says f;
+        put = fed.put;
+        writes = fed.is;
+        taken = ap (λ (x : Run). (x.streams fed.put).bytes) behind_is ∙ fed.taken;
+      },
+      λ took. fed.all (sym is ∙ took),
+    )

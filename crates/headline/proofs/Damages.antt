@@ -69,15 +69,18 @@ pub record OfDamage : Type 0 where
 -- the device gave such bytes, where a piece had been placed, or copied, with the digest that was kept
 abbrev WasBacked : List Turn → List (List ℕ) → Device → ℕ → Digest → Digest → Type 0
 WasBacked turns lines device place kept found =
-    (given : WasGiven turns lines device place found) × (kept ≢ found) × WasKept given.earlier given.did.earlier given.did.turn place kept found
+    (given : WasGiven turns lines device place found) × (kept ≢ found)
+    × WasKept given.earlier given.did.earlier given.did.turn place kept found
 
-module _ (laws : OfDamage) (l : RunLogs) (a : Account l) (lines : List (List ℕ)) (asks : Step) (said : StepAnswer) (device : Device) (which : IsDeviceBehind l lines device)
+module _ (laws : OfDamage) (l : RunLogs) (a : Account l) (lines : List (List ℕ)) (asks : Step) (said : StepAnswer) (device : Device)
+    (which : IsDeviceBehind l lines device)
     (f : Found fresh a.turns lines asks said (run_after fresh a.told a.turns)) (on : OnSession (run_after fresh lines f.earlier) f.turn (run_after fresh lines f.earlier).state asks)
     (piece : PieceId) (place : ℕ) (kept found : Digest) where
   -- the line itself told it
   by_line : IsAmong (rec.Damaged piece place kept found) f.turn.added → WasBacked a.turns lines device place kept found
   by_line among =
-      let told = is_among (IsOfOtherBytes f.turn.device on.s) (rec.Damaged piece place kept found) f.turn.added (laws.given lines f.earlier on.s f.turn asks f.legal on.state on.takes) among in
+      let told = is_among (IsOfOtherBytes f.turn.device on.s) (rec.Damaged piece place kept found) f.turn.added
+      (laws.given lines f.earlier on.s f.turn asks f.legal on.state on.takes) among in
       let seen = line_seen l a lines asks said f laws.stays device which on in (
         record {
           earlier = lines;
@@ -91,7 +94,8 @@ module _ (laws : OfDamage) (l : RunLogs) (a : Account l) (lines : List (List ℕ
           given = told.0;
         },
         told.1,
-        kept_before lines f.earlier on.s f.legal on.state laws.legal laws.unlike laws.keep f.turn asks on.takes piece place kept found among,
+        kept_before lines f.earlier on.s f.legal on.state laws.legal laws.unlike laws.keep f.turn asks on.takes piece place kept
+            found among,
       )
 
   -- or an earlier one of the session did
@@ -120,9 +124,11 @@ module _ (laws : OfDamage) (l : RunLogs) (a : Account l) (lines : List (List ℕ
     seen =
         let ds = (come l a lines asks said f).devices in
         let before : AreSeen (harms_of (run_after fresh lines f.earlier)) ds =
-        reading_seen laws.stays ds (run_after fresh lines f.earlier) f.turn (line.Step asks) f.takes (seen_behind l a lines asks said f laws.stays) in
+        reading_seen laws.stays ds (run_after fresh lines f.earlier) f.turn (line.Step asks) f.takes
+        (seen_behind l a lines asks said f laws.stays) in
         let behind : AreSeen (harms_of (after_line Then t.turn t.bytes)) ds =
-        run_seen laws.stays ds t.later t.rest (after_line Then t.turn t.bytes) t.goes (subst (λ (run : Run). AreSeen (harms_of run) ds) t.ends before) in
+        run_seen laws.stays ds t.later t.rest (after_line Then t.turn t.bytes) t.goes
+        (subst (λ (run : Run). AreSeen (harms_of run) ds) t.ends before) in
         device_seen l t.before device Then.ended Harmed ds (come l a lines asks said f).returned (subst (λ (hs : List Harm). AreSeen hs ds) (ap harms_of t.made.next) behind) same_device begun
 
     by_earlier : WasBacked a.turns lines device place kept found
@@ -149,13 +155,15 @@ module _ (laws : OfDamage) (l : RunLogs) (a : Account l) (lines : List (List ℕ
             given = told.0;
           },
           told.1,
-          kept_before t.before t.earlier t.made.s t.legal t.made.state laws.legal laws.unlike laws.keep t.turn t.made.asks t.made.takes piece place kept found among,
+          kept_before t.before t.earlier t.made.s t.legal t.made.state laws.legal laws.unlike laws.keep t.turn t.made.asks
+              t.made.takes piece place kept found among,
         )
 
   by_lost : IsAmong (piece, cause.Damaged place kept found) on.s.lost → WasBacked a.turns lines device place kept found
   by_lost h = by_earlier (loss_is_told (piece, cause.Damaged place kept found) lines f.earlier on.s f.legal on.state h)
 
-module _ (laws : OfDamage) (l : RunLogs) (a : Account l) (lines : List (List ℕ)) (asks : Step) (said : StepAnswer) (place : ℕ) (kept found : Digest) (device : Device) (which : IsDeviceBehind l lines device)
+module _ (laws : OfDamage) (l : RunLogs) (a : Account l) (lines : List (List ℕ)) (asks : Step) (said : StepAnswer) (place : ℕ)
+    (kept found : Digest) (device : Device) (which : IsDeviceBehind l lines device)
     (f : Found fresh a.turns lines asks said (run_after fresh a.told a.turns)) (on : OnSession (run_after fresh lines f.earlier) f.turn (run_after fresh lines f.earlier).state asks) where
   by_trace : IsTraced on.s f.turn.added (cause.Damaged place kept found) → WasBacked a.turns lines device place kept found
   by_trace (Causes.IsTraced.stands e) = no_truth (sym e)
@@ -170,6 +178,7 @@ damage_was_given laws l a lines asks said place kept found device at names which
     let run : Run = run_after fresh lines f.earlier in
     elim (kind_of run f.turn asks f.takes) [
       | inl on ↦ by_trace laws l a lines asks said place kept found device which f on
-          (laws.traced run on.s f.turn asks (cause.Damaged place kept found) on.takes (ap cause_answered (sym (answer_is l a lines asks said f on)) ∙ names))
+          (laws.traced run on.s f.turn asks (cause.Damaged place kept found) on.takes
+          (ap cause_answered (sym (answer_is l a lines asks said f on)) ∙ names))
       | inr u ↦ no_truth (sym (ap (λ (o : Option Cause). unwrap_or (option_map is_damage o) false) names) ∙ (ap answers_damage f.is ∙ u.no_damage))
     ]

@@ -12,7 +12,7 @@ ghost use Rattle.headline.specs.Troubles.{CountsAreReached, NoFalseDamage, NoFal
 ghost use Rattle.headline.specs.Endings.{DoneWhereFine, EndsAreCaused, RunsAreTold};
 ghost use Rattle.headline.specs.Fixed.{SourceFixesSink, SwitchedRunsAreSteady};
 ghost use Rattle.headline.specs.Parting.{HistoriesAgreeBeforeTrouble, RunsAgreeBeforeTrouble};
-ghost use Rattle.headline.specs.Bodies.{GotIsTheBody, PutTookItsBody};
+ghost use Rattle.headline.specs.Bodies.{ClosedPutStays, DataTookItsBytes, GotIsTheBody, PutTookItsBody};
 ghost use Rattle.headline.specs.Answered.{AnsweredAbortWasRecorded, AnsweredPutWasCompleted, AnsweredRemovalWasRecorded, CompletedWasAnswered, GivingUpWasAnswered, RemovalWasAnswered};
 
 use edge_io::texts_have_lines;
@@ -301,6 +301,20 @@ pub fn got_is_the_body()
     got_is_whole();
     put_took_its_body();
 }
+
+/// Behind a `close` line that was answered a put, what its writer had taken stays, as long as its session stands.
+pub fn closed_put_stays()
+    ensures { ClosedPutStays }
+{
+    legal_is_kept();
+    put_is_measured();
+    numbers_follow();
+}
+
+/// In a `data` line its writer took as many bytes as the line was answered, and with `took` all of them.
+pub fn data_took_its_bytes()
+    ensures { DataTookItsBytes }
+{}
 
 /// No line answers a count above that with which its device came back.
 pub fn counts_are_reached()
