@@ -1,7 +1,6 @@
 -- The run that ends at a line which is not in the grammar.
 use Rattle.std.proofs.Common.{◌≡◌, ◌∙◌, ℕ, ◌+◌, List, [], ◌∷◌, ◌++◌, refl, sym, ap, subst, lit<, lit≤, inl, append-nil, append_assoc}
 use Rattle.std.specs.Fmt.{digits}
-use Rattle.hex.specs.Hex.{encode_with}
 use Rattle.device_log.specs.Streams.{SourceRead, refused_reads, refused_writes, taken_by}
 use Rattle.edge_io.specs.Laws.{SpelledAreLines}
 use Rattle.edge_io.specs.Lines.{AreLines, IsLine, lines_of}
@@ -12,7 +11,7 @@ use Rattle.script_lang.specs.declared.line.BadKind.TheVariants as kind
 use Rattle.script_lang.specs.declared.line.BadLine.{BadLine}
 use Rattle.script_lang.specs.declared.line.LineAnswer.TheVariants as line
 use Rattle.script_lang.specs.Grammar.{reading_of, step_of}
-use Rattle.script_lang.specs.Texts.{bad_script_line, cause_line, formatted_line, got_line, hit_line, last_line, number_line, piece_line, put_line, shown}
+use Rattle.script_lang.specs.Texts.{bad_script_line, last_line}
 use Rattle.script_lang.specs.Verbs.{verb_of}
 use Rattle.script_lang.specs.Words.{bad}
 use Rattle.run_promise.specs.Lines.{texts_of}
@@ -23,7 +22,7 @@ use Rattle.headline.specs.Endings.{AreTakeable, EndsAreCaused, MayBeTaken}
 use Rattle.headline_rows.specs.BadEnd.{TheBadLineEndsIt, TheBadRunIsConcluded, line_that_is_bad, logs_to_bad, reads_to_bad, writes_to_bad}
 use Rattle.headline_rows.specs.History.{TheScriptIsARun, TheScriptIsAnswered, script_answers}
 use Rattle.headline_rows.specs.Script.{script_lines, script_turns}
-use Rattle.headline_rows.proofs.Tells.{answered_each, back_by_answers, back_by_records, lines_are_takeable, no_newline, taken_lines}
+use Rattle.headline_rows.proofs.Tells.{answered_each, back_by_answers, back_by_records, lines_are_takeable, no_newline, taken_lines, went_out as answers_went_out}
 
 abbrev held_bytes : List ℕ
 held_bytes = line_that_is_bad ++ 10 ∷ []
@@ -46,8 +45,11 @@ taken_to_bad : Taken (text_read reads_to_bad) script_lines held_bytes
 taken_to_bad = record { all = refl; each = taken_lines.each; within = lit≤ tt }
 
 went_out : SinkTook [] writes_to_bad (texts_of script_answers ++ last_line (last.BadScript 10 fault_of_bad))
-unfolding bad_script_line cause_line formatted_line got_line hit_line number_line piece_line put_line shown encode_with digits taken_by refused_writes
-went_out = record { taken = refl; unfailed = refl }
+unfolding bad_script_line digits taken_by refused_writes
+went_out = record {
+  taken = ap (λ (bytes : List ℕ). bytes ++ last_line (last.BadScript 10 fault_of_bad)) answers_went_out.taken;
+  unfailed = answers_went_out.unfailed;
+}
 
 pub bad_run_is_concluded : TheScriptIsARun → TheScriptIsAnswered → TheBadRunIsConcluded
 bad_run_is_concluded legal said = record {
@@ -109,7 +111,8 @@ are_same n m (x ∷ one) [] a b f g more later taken too is is_too same =
 are_same n m (x ∷ one) (y ∷ other) a b f g more later taken too is is_too same =
     let first : x ≡ y = ap first_of same in
     let rest : one ≡ other =
-    are_same (n + begun_in (reading_of x)) (m + begun_in (reading_of y)) one other a b f g more later taken.1 too.1 is is_too (ap rest_of same) in
+    are_same (n + begun_in (reading_of x)) (m + begun_in (reading_of y)) one other a b f g more later taken.1 too.1 is is_too
+    (ap rest_of same) in
     ap (λ (bytes : List ℕ). bytes ∷ one) first ∙ ap (λ (lines : List (List ℕ)). y ∷ lines) rest
 
 pub bad_line_ends : EndsAreCaused → SpelledAreLines → TheBadRunIsConcluded → TheBadLineEndsIt

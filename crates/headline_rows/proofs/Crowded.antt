@@ -82,8 +82,9 @@ four_fill : (s : State) (id : PieceId) (a b c d : Row) → s.geometry.buckets �
 four_fill s id a b c d one =
     let bucket : bucket_of_piece s id ≡ 0 = omega (arith, one) in
     let used : used_buckets s (a ∷ b ∷ c ∷ d ∷ []) ≡ 1 = one_used s a (b ∷ c ∷ d ∷ []) one in
-    let all : 4 ≡ 3 * s.geometry.buckets + used_buckets s (a ∷ b ∷ c ∷ d ∷ []) = omega (arith, used, one) in
-    rw (is_used s a (b ∷ c ∷ d ∷ []) (bucket_of_piece s id) one bucket) (eq-eqb 4 (3 * s.geometry.buckets + used_buckets s (a ∷ b ∷ c ∷ d ∷ [])) all)
+    let most : ℕ = 3 * s.geometry.buckets + used_buckets s (a ∷ b ∷ c ∷ d ∷ []) in
+    let all : 4 ≡ most = omega (arith, used, one) in
+    rw (is_used s a (b ∷ c ∷ d ∷ []) (bucket_of_piece s id) one bucket) (eq-eqb 4 most all)
 
 -- ---- the put
 
@@ -127,6 +128,9 @@ are_left : (key : Key) → rows_left (crowded_fragment key 2 65 4 ∷ []) (four_
     ≡ crowded_fragment key 1 64 0 ∷ crowded_fragment key 3 66 8 ∷ crowded_fragment key 4 67 12 ∷ []
 are_left key = simp (same_key-same key)
 
+abbrev rows_behind : Key → List Row
+rows_behind key = crowded_fragment key 1 64 0 ∷ crowded_fragment key 3 66 8 ∷ crowded_fragment key 4 67 12 ∷ []
+
 abbrev PurgesSecond : Key → List Row → Type 0
 PurgesSecond key rows =
     ArePurged (behind_some key 9) (bucket_of_piece (behind_some key 9) (vector_piece key 1)) rows (crowded_fragment key 2 65 4 ∷ [])
@@ -141,7 +145,7 @@ are_purged key =
       apart = λ i j d below within. absurd (omega (arith, below, within));
       tenth = refl;
       slot = ap (is_full_with s bucket) (are_left key)
-          ∙ slot_left s bucket (crowded_fragment key 1 64 0 ∷ crowded_fragment key 3 66 8 ∷ crowded_fragment key 4 67 12 ∷ []) refl (lit≤ tt);
+          ∙ slot_left s bucket (rows_behind key) refl (lit≤ tt);
     })
 
 first_is_live : (key : Key) → live_row_of (behind_some key 9) (fragment_piece key 1 1) ≡ Some (crowded_fragment key 1 64 0)

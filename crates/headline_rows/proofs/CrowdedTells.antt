@@ -178,7 +178,13 @@ crowded_has_account legal said = (
     recorded = records_come_back;
   },
   record { lines_are = refl; answers_are = refl; told_are = refl; turns_are = refl },
-  record { sent = went_out; takeable = crowded_are_takeable; ends = ((_, refl), refl); back = back_by_answers; alone = λ h. back_by_records },
+  record {
+    sent = went_out;
+    takeable = crowded_are_takeable;
+    ends = ((_, refl), refl);
+    back = back_by_answers;
+    alone = λ h. back_by_records;
+  },
 )
 
 pub crowded_is_concluded : TheCrowdedIsARun → TheCrowdedIsAnswered → TheCrowdedIsConcluded

@@ -159,7 +159,7 @@ back_by_records = subst (λ (run : Run). EachBack script_logs.before script_logs
 
 -- ---- what was written
 
-went_out : SinkTook [] script_writes (texts_of script_answers)
+pub went_out : SinkTook [] script_writes (texts_of script_answers)
 unfolding cause_line formatted_line got_line hit_line number_line piece_line put_line shown encode_with digits taken_by refused_writes
 went_out = record { taken = refl; unfailed = refl }
 

@@ -55,7 +55,8 @@ lines_are law reads lines held since taken none =
     let same : script_reads ≡ reads = since ∙ append-nil reads in
     let one : lines_of (text_read reads) ≡ lines ++ lines_of held = ap lines_of taken.all ∙ law lines held taken.each in
     let all : lines_of (text_read reads) ≡ lines ++ [] = one ∙ ap (λ (bytes : List ℕ). lines ++ lines_of bytes) none in
-    let nine : lines_of (text_read script_reads) ≡ script_lines ++ [] = ap lines_of taken_lines.all ∙ law script_lines [] taken_lines.each in
+    let nine : lines_of (text_read script_reads) ≡ script_lines ++ [] =
+    ap lines_of taken_lines.all ∙ law script_lines [] taken_lines.each in
     let both : lines ++ [] ≡ script_lines ++ [] = sym all ∙ (ap (λ (r : List SourceRead). lines_of (text_read r)) (sym same) ∙ nine) in
     sym (append-nil lines) ∙ (both ∙ append-nil script_lines)
 
@@ -97,7 +98,8 @@ first_of_lines (bytes ∷ lines) = bytes
 behind_first : (first : List ℕ) (lines later : List (List ℕ)) → script_lines ≡ (first ∷ lines) ++ later → sessions_begun (first ∷ lines) ≡ 1
 behind_first first lines later are =
     let total : sessions_begun ((first ∷ lines) ++ later) ≡ 1 = ap sessions_begun (sym are) ∙ one_is_begun in
-    let apart : sessions_begun ((first ∷ lines) ++ later) ≡ sessions_begun (first ∷ lines) + sessions_begun later = begun_apart (first ∷ lines) later in
+    let apart : sessions_begun ((first ∷ lines) ++ later) ≡ sessions_begun (first ∷ lines) + sessions_begun later =
+    begun_apart (first ∷ lines) later in
     let begins : begun_in (reading_of line_to_format) ≡ 1 = ap begun_in format_is_read in
     let same : line_to_format ≡ first = ap first_of_lines are in
     let here : begun_in (reading_of first) ≡ 1 = ap (λ (bytes : List ℕ). begun_in (reading_of bytes)) (sym same) ∙ begins in

@@ -318,7 +318,8 @@ varied_is_live : (key : Key) → live_row_of (behind_fragment key) (fragment_pie
 varied_is_live key = simp (same_key-same key)
 
 pub varied_is_a_step : (key : Key)
-    → IsStep silent (behind_miss key) (put_intents (behind_miss key) key varied_body varied_request varied_response) (varied_records key) None
+    → IsStep silent (behind_miss key) (put_intents (behind_miss key) key varied_body varied_request varied_response) (varied_records key)
+    None
 varied_is_a_step key = record {
   grows = more (_ ∷ []) _ (
     Done,

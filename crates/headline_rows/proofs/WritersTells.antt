@@ -193,7 +193,13 @@ writers_have_account legal said = (
     recorded = records_come_back;
   },
   record { lines_are = refl; answers_are = refl; told_are = refl; turns_are = refl },
-  record { sent = went_out; takeable = writers_are_takeable; ends = ((_, refl), refl); back = back_by_answers; alone = λ h. back_by_records },
+  record {
+    sent = went_out;
+    takeable = writers_are_takeable;
+    ends = ((_, refl), refl);
+    back = back_by_answers;
+    alone = λ h. back_by_records;
+  },
 )
 
 pub writers_are_concluded : TheWritersAreARun → TheWritersAreAnswered → TheWritersAreConcluded

@@ -87,7 +87,8 @@ TheBreakWasAborted = (a : Account writers_logs) → TellsWriters a → BrokeAbor
 
 -- by the records of the lines before the reader cannot go on, for that cause
 abbrev pub TheBreakIsCaused : Type 0
-TheBreakIsCaused = (a : Account writers_logs) → TellsWriters a → BreakIsCaused a.turns (take 6 writers_lines) name_of_reader (cause.Aborted 1)
+TheBreakIsCaused = (a : Account writers_logs) → TellsWriters a
+    → BreakIsCaused a.turns (take 6 writers_lines) name_of_reader (cause.Aborted 1)
 
 -- before the get that was answered aborted that put was given up last, and none was completed or removed
 abbrev pub TheAbortWasLast : Type 0

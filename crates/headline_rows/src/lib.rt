@@ -240,21 +240,24 @@ pub fn no_damage_is_told()
     no_false_damage();
 }
 
-/// The device has a switch, so that it told its content and refused nothing is known by the clause of the top call.
+/// The device has a switch, so the clause `steady` of the top call says that it told its content and
+/// refused nothing.
 pub fn the_run_is_steady()
     ensures { TheRunIsSteady }
 {
     switched_runs_are_steady();
 }
 
-/// Whatever ended another run: the lines with which its legal history begins printed the same, or met trouble of its device.
+/// Whatever ended another run: the lines with which its legal history begins printed the same, or one
+/// of them met a refused call or damage.
 pub fn each_history_prints_it()
     ensures { EachHistoryPrintsIt }
 {
     histories_agree_before_trouble();
 }
 
-/// Each other run over that text and devices that told their content printed the same, or the two part at a line.
+/// Each other run over that text and devices that told their content printed the same, or the two part
+/// at a line.
 pub fn each_run_agrees()
     ensures { EachRunAgrees }
 {
@@ -327,7 +330,8 @@ pub fn the_break_is_caused()
     the_writers_are_answered();
 }
 
-/// Before the get that was answered aborted that put was given up last, and none was completed or removed.
+/// Before the get that was answered aborted that put was given up last, and none was completed or
+/// removed.
 pub fn the_abort_was_last()
     ensures { TheAbortWasLast }
 {
@@ -385,7 +389,8 @@ pub fn the_broken_get_is_caused()
     the_crowded_is_answered();
 }
 
-/// Of the nine lines and one that is not in the grammar, what the top call concludes with the status BadScript holds.
+/// Behind the nine lines stands one that is not in the grammar: what the top call concludes with the
+/// status BadScript holds of these logs.
 pub fn the_bad_run_is_concluded()
     ensures { TheBadRunIsConcluded }
 {
