@@ -1,0 +1,2 @@
+pub mod Troubled
+pub mod Steps
