@@ -1,5 +1,5 @@
 -- The two blocks of the put: how long they are, what their digests are, and that they are bytes.
-use Rattle.std.proofs.Common.{◌≡◌, ◌≤◌, ◌<◌, ◌+◌, ◌*◌, ◌^◌, ℕ, List, [], ◌∷◌, ◌++◌, length, take, drop, refl, sym, ap, ◌∙◌, arith, lit<, lit≤}
+use Rattle.std.proofs.Common.{◌≡◌, ◌≤◌, ◌<◌, ◌+◌, ◌^◌, ℕ, List, [], ◌∷◌, ◌++◌, length, take, drop, refl, sym, ap, ◌∙◌, arith, lit<, lit≤}
 use Rattle.std.specs.Prelude.{replicate}
 use Rattle.std.proofs.lemmas.List.{take-append-drop, take_at, take_all, drop_at, length-append, length-replicate}
 use Rattle.hex.specs.Hex.{IsBytes}
@@ -13,7 +13,7 @@ use Rattle.doc_header.specs.Moving.{BeginsWith}
 use Rattle.doc_header.proofs.Stands.{number_32_again}
 use Rattle.doc_header.proofs.ReadingLaws.{apart, length-header, length-sha256}
 use Rattle.doc_header.proofs.MovingLaws.{document_small}
-use Rattle.alternate_vector.specs.Alternates.{AreStoredAlternates, vector_size}
+use Rattle.alternate_vector.specs.Alternates.{AreStoredAlternates}
 use Rattle.alternate_vector.specs.Field.{AreFields}
 use Rattle.alternate_vector.proofs.Bytes.{vector_small}
 use Rattle.alternate_vector.proofs.Lengths.{length-vector}

@@ -1,13 +1,12 @@
 -- The buffer is written out, at the second go.
-use Rattle.std.proofs.Common.{◌≡◌, ◌∙◌, ℕ, [], ◌∷◌, ◌++◌, List, refl, sym, ap, subst, inl, lit<, lit≤, None, Some}
+use Rattle.std.proofs.Common.{◌∙◌, ℕ, [], ◌∷◌, ◌++◌, refl, sym, ap, subst, inl, lit<, lit≤, None, Some}
 use Rattle.std.specs.Prelude.{◌/◌}
-use Rattle.tape_base.specs.declared.keys.Key.{Key}
 use Rattle.doc_header.specs.Reading.{document_digest}
 use Rattle.cache_model.specs.Legal
 use Rattle.cache_model.specs.Legal.{IsStep, more, nothing}
 use Rattle.cache_model.specs.Permit.{Done, Fails, Faulted, Flush}
 use Rattle.cache_model.specs.State.{State, after_all}
-use Rattle.headline_rows.specs.Steps.{ThePutHolds, held_state}
+use Rattle.headline_rows.specs.Steps.{ThePutHolds}
 use Rattle.headline_device_rows.specs.Troubled.{calls_of_flush, device_with, fault_records, fragment_block, next_buffer_records, refused_call, vector_block}
 use Rattle.headline_device_rows.specs.Steps.{AFlushIsAStep, ARefusedFlushIsAStep}
 use Rattle.headline_device_rows.proofs.Blocks.{both_are_two, digest_of_fragment, digest_of_vector, first_of_both, second_of_both}

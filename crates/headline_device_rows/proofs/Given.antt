@@ -1,5 +1,5 @@
 -- What the device gives for the two pieces, and what it gives in their place: steps over the states as they are written out.
-use Rattle.std.proofs.Common.{◌≡◌, ◌∙◌, ℕ, ◌+◌, List, [], ◌∷◌, refl, sym, ap, subst, inl, inr, lit<, lit≤, false, Some, None}
+use Rattle.std.proofs.Common.{◌≡◌, ◌∙◌, ℕ, ◌+◌, List, [], ◌∷◌, refl, sym, ap, subst, inl, inr, lit<, false, Some, None}
 use Rattle.tape_base.specs.declared.keys.Key.{Key}
 use Rattle.tape_base.specs.declared.actors.Actor.{Actor}
 use Rattle.tape_base.proofs.NameLaws.{same_key-same}
@@ -19,8 +19,8 @@ use Rattle.cache_model.specs.State.{ReaderRow, Row, State, after_all, fragment_p
 use Rattle.cache_model.specs.Verdict.{digest_in, live_vector_of, lookup_verdict, reader_verdict}
 use Rattle.script_run.specs.Asked.{get_intents}
 use Rattle.headline_rows.specs.Script.{get_records, hit_records, row_of_a}
-use Rattle.headline_rows.specs.Steps.{ThePutHolds, fragment_row, held_state, state_of_put, vector_row}
-use Rattle.headline_device_rows.specs.Troubled.{break_records, broken_get_records, calls_of_break, calls_of_damaged_miss, calls_of_get, calls_of_hit, damaged_miss_records, device_with, fault_records, fragment_block, fragment_damage, next_buffer_records, other_block, other_digest, vector_block, vector_damage}
+use Rattle.headline_rows.specs.Steps.{ThePutHolds, fragment_row, held_state, vector_row}
+use Rattle.headline_device_rows.specs.Troubled.{break_records, broken_get_records, calls_of_break, calls_of_damaged_miss, calls_of_get, calls_of_hit, damaged_miss_records, device_with, fault_records, fragment_block, fragment_damage, next_buffer_records, other_block, other_digest, vector_block}
 use Rattle.headline_device_rows.specs.Steps.{ABreakIsAStep, ABrokenGetIsAStep, ADamagedMissIsAStep, AGetReadsBoth, AHitReadsTheVector, FragmentDiffers, VectorDiffers, state_behind_break, state_behind_broken_get, state_behind_flush, state_behind_get, state_behind_hit}
 use Rattle.headline_device_rows.proofs.Blocks.{digest_of_fragment, digest_of_vector, fragment_is_block, fragment_is_bytes, vector_is_block, vector_is_bytes}
 

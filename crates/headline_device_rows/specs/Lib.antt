@@ -1,2 +1,5 @@
 pub mod Troubled
 pub mod Steps
+pub mod History
+pub mod Told
+pub mod Sentences

@@ -1,6 +1,6 @@
 -- Each line that makes a call is a step of its session, under any key. The damage is a step where the zeros have another digest
 -- than the piece.
-use Rattle.std.specs.Prelude.{◌≢◌, List, [], ◌∷◌, ◌++◌, None, Some}
+use Rattle.std.specs.Prelude.{◌≢◌, [], ◌∷◌, None, Some}
 use Rattle.tape_base.specs.declared.keys.Key.{Key}
 use Rattle.cache_model.specs.Legal.{IsStep}
 use Rattle.cache_model.specs.Permit.{Flush, Look, ReadOn, Faulted}

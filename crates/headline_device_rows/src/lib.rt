@@ -2,8 +2,17 @@
 #![tactic(auto)]
 
 ghost use Rattle.headline_device_rows.specs.Steps.{ABreakIsAStep, ABrokenGetIsAStep, ADamagedMissIsAStep, AFlushIsAStep, AGetReadsBoth, AHitReadsTheVector, ARefusedFlushIsAStep};
+ghost use Rattle.headline_device_rows.specs.History.{TheTroubledScriptIsARun, TheTroubledScriptIsAnswered};
+ghost use Rattle.headline_device_rows.specs.Told.{TheTroubledScriptHasAnAccount, TheTroubledScriptIsConcluded};
+ghost use Rattle.headline_device_rows.specs.Sentences.{NoCountIsAbove, NoDamageInMemory, NoFaultInMemory, NoneStopsInMemory, TheBreakIsCaused, TheBrokenGetIsCaused, TheDamagedMissIsCaused, TheFlushWasRefused, TheFragmentStaysOther, TheFragmentWasOther, TheGetOnFileIsWhole, TheVectorWasOther};
 
-use headline_rows::the_put_holds;
+use headline::{
+    breaks_are_caused, counts_are_reached, damage_was_given, faults_were_refused, gets_are_caused,
+    got_is_whole, misses_are_caused, no_false_damage, no_false_faults, pairs_are_doubted,
+};
+use headline_rows::{
+    a_hit_is_a_step, a_miss_is_a_step, a_piece_is_a_step, a_put_is_a_step, the_put_holds,
+};
 
 /// The device refuses to take the buffer.
 pub fn a_refused_flush_is_a_step()
@@ -52,4 +61,134 @@ pub fn a_damaged_miss_is_a_step()
     ensures { ADamagedMissIsAStep }
 {
     the_put_holds();
+}
+
+/// The lines of the script have a legal history, written out by hand.
+pub fn the_troubled_script_is_a_run()
+    ensures { TheTroubledScriptIsARun }
+{
+    a_miss_is_a_step();
+    a_put_is_a_step();
+    a_hit_is_a_step();
+    a_piece_is_a_step();
+    a_refused_flush_is_a_step();
+    a_flush_is_a_step();
+    a_hit_reads_the_vector();
+    a_get_reads_both();
+    a_break_is_a_step();
+    a_broken_get_is_a_step();
+    a_damaged_miss_is_a_step();
+}
+
+/// By these turns each line is answered so.
+pub fn the_troubled_script_is_answered()
+    ensures { TheTroubledScriptIsAnswered }
+{}
+
+/// The run has an account, with these lines, turns and answers.
+pub fn the_troubled_script_has_an_account()
+    ensures { TheTroubledScriptHasAnAccount }
+{
+    the_troubled_script_is_a_run();
+    the_troubled_script_is_answered();
+}
+
+/// What the top call concludes with the status Done holds of its logs.
+pub fn the_troubled_script_is_concluded()
+    ensures { TheTroubledScriptIsConcluded }
+{
+    the_troubled_script_is_a_run();
+    the_troubled_script_is_answered();
+}
+
+/// The line that was answered a device fault had a call refused.
+pub fn the_flush_was_refused()
+    ensures { TheFlushWasRefused }
+{
+    faults_were_refused();
+    the_troubled_script_is_answered();
+}
+
+/// No line answers a count above that of its device.
+pub fn no_count_is_above()
+    ensures { NoCountIsAbove }
+{
+    counts_are_reached();
+}
+
+/// No line on the device in memory answers a fault.
+pub fn no_fault_in_memory()
+    ensures { NoFaultInMemory }
+{
+    no_false_faults();
+}
+
+/// Nor does one answer damage.
+pub fn no_damage_in_memory()
+    ensures { NoDamageInMemory }
+{
+    no_false_damage();
+}
+
+/// Where the legal history of an account stops, it stops before a line on the file.
+pub fn none_stops_in_memory()
+    ensures { NoneStopsInMemory }
+{
+    pairs_are_doubted();
+}
+
+/// The get that read the file gave all that the writer of put 1 took.
+pub fn the_get_on_file_is_whole()
+    ensures { TheGetOnFileIsWhole }
+{
+    got_is_whole();
+    the_troubled_script_is_answered();
+}
+
+/// For the fragment at which the reader broke the file gave another document.
+pub fn the_fragment_was_other()
+    ensures { TheFragmentWasOther }
+{
+    damage_was_given();
+    the_troubled_script_is_answered();
+}
+
+/// So it had for the get behind that.
+pub fn the_fragment_stays_other()
+    ensures { TheFragmentStaysOther }
+{
+    damage_was_given();
+    the_troubled_script_is_answered();
+}
+
+/// And for the vector of the get that found nothing.
+pub fn the_vector_was_other()
+    ensures { TheVectorWasOther }
+{
+    damage_was_given();
+    the_troubled_script_is_answered();
+}
+
+/// The reader broke at a fragment that is missing, or that its line read and found damaged.
+pub fn the_break_is_caused()
+    ensures { TheBreakIsCaused }
+{
+    breaks_are_caused();
+    the_troubled_script_is_answered();
+}
+
+/// So did the get behind it.
+pub fn the_broken_get_is_caused()
+    ensures { TheBrokenGetIsCaused }
+{
+    gets_are_caused();
+    the_troubled_script_is_answered();
+}
+
+/// The last get found nothing that fits, or read the vector and found it damaged.
+pub fn the_damaged_miss_is_caused()
+    ensures { TheDamagedMissIsCaused }
+{
+    misses_are_caused();
+    the_troubled_script_is_answered();
 }
