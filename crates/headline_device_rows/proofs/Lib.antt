@@ -5,3 +5,5 @@ mod Along
 mod Script
 mod Tells
 mod Sentences
+mod Displacing
+mod Gone

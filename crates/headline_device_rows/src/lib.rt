@@ -5,6 +5,7 @@ ghost use Rattle.headline_device_rows.specs.Steps.{ABreakIsAStep, ABrokenGetIsAS
 ghost use Rattle.headline_device_rows.specs.History.{TheTroubledScriptIsARun, TheTroubledScriptIsAnswered};
 ghost use Rattle.headline_device_rows.specs.Told.{TheTroubledScriptHasAnAccount, TheTroubledScriptIsConcluded};
 ghost use Rattle.headline_device_rows.specs.Sentences.{NoCountIsAbove, NoDamageInMemory, NoFaultInMemory, NoneStopsInMemory, TheBreakIsCaused, TheBrokenGetIsCaused, TheDamagedMissIsCaused, TheFlushWasRefused, TheFragmentStaysOther, TheFragmentWasOther, TheGetOnFileIsWhole, TheVectorWasOther};
+ghost use Rattle.headline_device_rows.specs.CrowdedSteps.{ADisplacedBreakIsAStep, ADisplacedGetIsAStep, ADisplacedMissIsAStep, ADisplacementIsAStep, AFragmentIsAStep, AHitOfItIsAStep, ALostCloseIsAStep, APutBesideItIsAStep, AVectorDisplacesToo, AVectorIsDisplaced, AnAbsenceIsAStep, AnOpeningIsAStep};
 
 use headline::{
     breaks_are_caused, counts_are_reached, damage_was_given, faults_were_refused, gets_are_caused,
@@ -192,3 +193,63 @@ pub fn the_damaged_miss_is_caused()
     misses_are_caused();
     the_troubled_script_is_answered();
 }
+
+/// A writer is opened.
+pub fn an_opening_is_a_step()
+    ensures { AnOpeningIsAStep }
+{}
+
+/// It is given a fragment.
+pub fn a_fragment_is_a_step()
+    ensures { AFragmentIsAStep }
+{}
+
+/// A byte is put beside it.
+pub fn a_put_beside_it_is_a_step()
+    ensures { APutBesideItIsAStep }
+{}
+
+/// And hit.
+pub fn a_hit_of_it_is_a_step()
+    ensures { AHitOfItIsAStep }
+{}
+
+/// A fragment of the writer displaces it.
+pub fn a_displacement_is_a_step()
+    ensures { ADisplacementIsAStep }
+{}
+
+/// Its reader breaks.
+pub fn a_displaced_break_is_a_step()
+    ensures { ADisplacedBreakIsAStep }
+{}
+
+/// So does a get.
+pub fn a_displaced_get_is_a_step()
+    ensures { ADisplacedGetIsAStep }
+{}
+
+/// A vector displaces a fragment of the writer.
+pub fn a_vector_displaces_too()
+    ensures { AVectorDisplacesToo }
+{}
+
+/// And is displaced by another.
+pub fn a_vector_is_displaced()
+    ensures { AVectorIsDisplaced }
+{}
+
+/// The writer closes in vain.
+pub fn a_lost_close_is_a_step()
+    ensures { ALostCloseIsAStep }
+{}
+
+/// A get finds nothing.
+pub fn a_displaced_miss_is_a_step()
+    ensures { ADisplacedMissIsAStep }
+{}
+
+/// There is nothing to be removed.
+pub fn an_absence_is_a_step()
+    ensures { AnAbsenceIsAStep }
+{}
