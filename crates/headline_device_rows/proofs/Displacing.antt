@@ -1,11 +1,10 @@
 -- Pieces are placed in a segment of four slots, and displace one another.
-use Rattle.std.proofs.Common.{◌≡◌, ◌∙◌, ℕ, ◌<◌, ◌≤◌, List, [], ◌∷◌, ◌++◌, length, refl, sym, ap, subst, arith, lit<, lit≤, true, false, Some, None}
+use Rattle.std.proofs.Common.{◌≡◌, ◌∙◌, ℕ, ◌<◌, ◌≤◌, List, [], ◌∷◌, length, refl, sym, ap, subst, arith, lit<, lit≤, true, false, Some}
 use Rattle.std.specs.Prelude.{◌+◌, ◌*◌, ◌/◌, All, Contains, take}
 use Rattle.std.proofs.lemmas.List.Elements.{All-from_recursion}
 use native.Mathlib.Nat.{mod-one}
 use Rattle.tape_base.specs.declared.pieces.PieceId.{PieceId}
 use Rattle.tape_base.proofs.Bytes.{bytes_by_test}
-use Rattle.cache_model.specs.declared.record.Rec.{Rec}
 use Rattle.cache_model.specs.declared.record.Rec.TheVariants as rec
 use Rattle.cache_model.specs.Given
 use Rattle.cache_model.specs.Legal
@@ -14,7 +13,7 @@ use Rattle.cache_model.specs.Permit.{Done}
 use Rattle.cache_model.specs.Room.{MayDisplace, bucket_of_piece, is_full_for, is_full_with, rows_left, rows_of_segment, segment_of_piece}
 use Rattle.cache_model.specs.State.{Row, State, after_all, fragment_piece, row_of, vector_piece}
 use Rattle.headline_rows.specs.Script.{silent}
-use Rattle.headline_device_rows.specs.Crowded.{byte_records, crowded_key, displaced_so, first_data_records, four_of, nothing_records, second_data_records, third_data_records, writer_piece}
+use Rattle.headline_device_rows.specs.Crowded.{byte_records, crowded_key, displaced_so, four_of, nothing_records, second_data_records, third_data_records, writer_piece}
 use Rattle.headline_device_rows.specs.CrowdedSteps.{ADisplacementIsAStep, AFragmentIsAStep, APutBesideItIsAStep, AVectorDisplacesToo, AVectorIsDisplaced, AnOpeningIsAStep, crowded_first, crowded_get, crowded_nothing, crowded_opened, crowded_read}
 use Rattle.headline_device_rows.proofs.Blocks.{no_fields}
 

@@ -29,7 +29,7 @@ use Rattle.headline_device_rows.specs.Troubled.{fragment_damage, line_to_flush, 
 use Rattle.headline_device_rows.proofs.Along.{AreAnsweredBy, AreTakeableBy, begun_by_step, are_answered, are_takeable, outline_by, outline_is, run_by, run_is}
 use Rattle.headline_device_rows.proofs.Script.{are_read, steps_with}
 
-no_newline : (bytes : List ℕ) → list_any (nat_eq 10) bytes ≡ false → Contains bytes 10 → ⊥
+pub no_newline : (bytes : List ℕ) → list_any (nat_eq 10) bytes ≡ false → Contains bytes 10 → ⊥
 no_newline bytes none has =
     let some : list_any (nat_eq 10) bytes ≡ true = list_any-from_Contains nat_eq_equiv 10 bytes has in
     cc
@@ -37,7 +37,7 @@ no_newline bytes none has =
 is_line_to_get : IsLine line_to_get
 is_line_to_get = record { short = lit≤ tt; clear = no_newline line_to_get refl }
 
-is_line_to_read_on : IsLine line_to_read_on
+pub is_line_to_read_on : IsLine line_to_read_on
 is_line_to_read_on = record { short = lit≤ tt; clear = no_newline line_to_read_on refl }
 
 is_line_to_put : IsLine line_to_put
@@ -218,7 +218,7 @@ went_out = record {
 }
 
 -- any step may, once a session was begun
-all_takeable : (sessions : ℕ) (steps : List Step) → 0 < sessions → AreTakeableBy sessions steps
+pub all_takeable : (sessions : ℕ) (steps : List Step) → 0 < sessions → AreTakeableBy sessions steps
 all_takeable sessions [] some = tt
 all_takeable sessions (asks ∷ steps) some = ((λ needs. some), all_takeable (sessions + begun_by_step asks) steps (omega (arith, some)))
 

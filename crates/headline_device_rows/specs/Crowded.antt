@@ -1,15 +1,14 @@
 -- A script of thirteen lines on a directory of one segment of four slots, and what each line did: the fifth piece that is live
 -- displaces one, and so does each one behind it. No call of the device is made. The key is written out, so that names of pieces
 -- compare; digests stay names.
-use Rattle.std.specs.Prelude.{ℕ, ◌≡◌, refl, List, [], ◌∷◌, ◌++◌, codes, length, Option, Some, None}
+use Rattle.std.specs.Prelude.{ℕ, refl, List, [], ◌∷◌, codes, length, Some}
 use Rattle.std.proofs.Math.Dec.{lit≤, lit<}
-use Rattle.tape_base.specs.declared.digests.Digest.{Digest}
 use Rattle.tape_base.specs.declared.geometries.Geometry.{Geometry}
 use Rattle.tape_base.specs.declared.keys.Key.{Key}
 use Rattle.tape_base.specs.declared.pieces.PieceId.{PieceId}
 use Rattle.tape_base.specs.Digest.{digest_of}
 use Rattle.doc_header.specs.Document.{digest_of_document}
-use Rattle.fragment_table.specs.Table.{TableRow, made_row, total_length}
+use Rattle.fragment_table.specs.Table.{made_row}
 use Rattle.alternate_vector.specs.Alternates.{Stored}
 use Rattle.alternate_vector.specs.Spelling.{vector_bytes}
 use Rattle.cache_model.specs.declared.answer.ReadAnswer.TheVariants as read
@@ -18,7 +17,7 @@ use Rattle.cache_model.specs.declared.cause.Cause.TheVariants as cause
 use Rattle.cache_model.specs.declared.record.Rec.{Rec}
 use Rattle.cache_model.specs.declared.record.Rec.TheVariants as rec
 use Rattle.cache_model.specs.Legal.{format_records}
-use Rattle.cache_model.specs.Permit.{Reason, Lost}
+use Rattle.cache_model.specs.Permit.{Lost}
 use Rattle.cache_model.specs.State.{fragment_piece, vector_piece}
 use Rattle.script_run.specs.Turn.{Turn}
 use Rattle.headline_rows.specs.Script.{silent, silent_turn}

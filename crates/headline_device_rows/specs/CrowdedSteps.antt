@@ -1,5 +1,5 @@
 -- Each line of the crowded script is a step of its session.
-use Rattle.std.specs.Prelude.{List, [], ◌∷◌, None, Some}
+use Rattle.std.specs.Prelude.{[], ◌∷◌, None, Some}
 use Rattle.cache_model.specs.Legal.{IsStep, format_records}
 use Rattle.cache_model.specs.Permit.{Commit, Finish, Fragment, Look, Lost, ReadOn, Remove, Weigh, Write}
 use Rattle.cache_model.specs.State.{State, after_all, nothing_yet}

@@ -5,3 +5,5 @@ pub mod Told
 pub mod Sentences
 pub mod Crowded
 pub mod CrowdedSteps
+pub mod CrowdedTold
+pub mod CrowdedSentences

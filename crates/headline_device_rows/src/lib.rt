@@ -6,10 +6,14 @@ ghost use Rattle.headline_device_rows.specs.History.{TheTroubledScriptIsARun, Th
 ghost use Rattle.headline_device_rows.specs.Told.{TheTroubledScriptHasAnAccount, TheTroubledScriptIsConcluded};
 ghost use Rattle.headline_device_rows.specs.Sentences.{NoCountIsAbove, NoDamageInMemory, NoFaultInMemory, NoneStopsInMemory, TheBreakIsCaused, TheBrokenGetIsCaused, TheDamagedMissIsCaused, TheFlushWasRefused, TheFragmentStaysOther, TheFragmentWasOther, TheGetOnFileIsWhole, TheVectorWasOther};
 ghost use Rattle.headline_device_rows.specs.CrowdedSteps.{ADisplacedBreakIsAStep, ADisplacedGetIsAStep, ADisplacedMissIsAStep, ADisplacementIsAStep, AFragmentIsAStep, AHitOfItIsAStep, ALostCloseIsAStep, APutBesideItIsAStep, AVectorDisplacesToo, AVectorIsDisplaced, AnAbsenceIsAStep, AnOpeningIsAStep};
+ghost use Rattle.headline_device_rows.specs.CrowdedTold.{TheCrowdedScriptHasAnAccount, TheCrowdedScriptIsARun, TheCrowdedScriptIsAnswered, TheCrowdedScriptIsConcluded};
+ghost use Rattle.headline_device_rows.specs.CrowdedSentences.{TheAbsenceIsCaused, TheBreakWasDisplaced, TheDisplacedBreakIsCaused, TheDisplacedGetIsCaused, TheDisplacedMissIsCaused, TheDisplacementWasTold, TheGetWasDisplaced, TheGivingUpWasAnswered, TheLossIsCaused, TheLostWasDisplaced, TheVectorWasLost};
 
 use headline::{
-    breaks_are_caused, counts_are_reached, damage_was_given, faults_were_refused, gets_are_caused,
-    got_is_whole, misses_are_caused, no_false_damage, no_false_faults, pairs_are_doubted,
+    absences_are_caused, break_was_displaced, breaks_are_caused, counts_are_reached,
+    damage_was_given, displaced_was_told, faults_were_refused, get_was_displaced, gets_are_caused,
+    giving_up_was_answered, got_is_whole, losses_are_caused, lost_was_displaced, misses_are_caused,
+    no_false_damage, no_false_faults, pairs_are_doubted, vector_was_lost,
 };
 use headline_rows::{
     a_hit_is_a_step, a_miss_is_a_step, a_piece_is_a_step, a_put_is_a_step, the_put_holds,
@@ -253,3 +257,141 @@ pub fn a_displaced_miss_is_a_step()
 pub fn an_absence_is_a_step()
     ensures { AnAbsenceIsAStep }
 {}
+
+/// The lines of the crowded script have a legal history, written out by hand.
+pub fn the_crowded_script_is_a_run()
+    ensures { TheCrowdedScriptIsARun }
+{
+    an_opening_is_a_step();
+    a_fragment_is_a_step();
+    a_put_beside_it_is_a_step();
+    a_hit_of_it_is_a_step();
+    a_displacement_is_a_step();
+    a_displaced_break_is_a_step();
+    a_displaced_get_is_a_step();
+    a_vector_displaces_too();
+    a_vector_is_displaced();
+    a_lost_close_is_a_step();
+    a_displaced_miss_is_a_step();
+    an_absence_is_a_step();
+}
+
+/// By these turns each line is answered so.
+pub fn the_crowded_script_is_answered()
+    ensures { TheCrowdedScriptIsAnswered }
+{}
+
+/// The run has an account, with these lines, turns and answers.
+pub fn the_crowded_script_has_an_account()
+    ensures { TheCrowdedScriptHasAnAccount }
+{
+    the_crowded_script_is_a_run();
+    the_crowded_script_is_answered();
+}
+
+/// What the top call concludes with the status Done holds of its logs.
+pub fn the_crowded_script_is_concluded()
+    ensures { TheCrowdedScriptIsConcluded }
+{
+    the_crowded_script_is_a_run();
+    the_crowded_script_is_answered();
+}
+
+/// The reader broke at a piece that an earlier line recorded as displaced.
+pub fn the_break_was_displaced()
+    ensures { TheBreakWasDisplaced }
+{
+    break_was_displaced();
+    the_crowded_script_is_answered();
+}
+
+/// By the records it is missing.
+pub fn the_displaced_break_is_caused()
+    ensures { TheDisplacedBreakIsCaused }
+{
+    breaks_are_caused();
+    the_crowded_script_is_answered();
+}
+
+/// So did the get behind it.
+pub fn the_get_was_displaced()
+    ensures { TheGetWasDisplaced }
+{
+    get_was_displaced();
+    the_crowded_script_is_answered();
+}
+
+/// By the records that piece is missing.
+pub fn the_displaced_get_is_caused()
+    ensures { TheDisplacedGetIsCaused }
+{
+    gets_are_caused();
+    the_crowded_script_is_answered();
+}
+
+/// The writer lost a fragment that a line recorded as displaced.
+pub fn the_lost_was_displaced()
+    ensures { TheLostWasDisplaced }
+{
+    lost_was_displaced();
+    the_crowded_script_is_answered();
+}
+
+/// It is the first one of the put that is missing.
+pub fn the_loss_is_caused()
+    ensures { TheLossIsCaused }
+{
+    losses_are_caused();
+    the_crowded_script_is_answered();
+}
+
+/// The line that recorded that the put was given up was a refused close.
+pub fn the_giving_up_was_answered()
+    ensures { TheGivingUpWasAnswered }
+{
+    giving_up_was_answered();
+    an_opening_is_a_step();
+    a_fragment_is_a_step();
+    a_put_beside_it_is_a_step();
+    a_hit_of_it_is_a_step();
+    a_displacement_is_a_step();
+    a_displaced_break_is_a_step();
+    a_displaced_get_is_a_step();
+    a_vector_displaces_too();
+    a_vector_is_displaced();
+    a_lost_close_is_a_step();
+    a_displaced_miss_is_a_step();
+    an_absence_is_a_step();
+}
+
+/// The last get told a displacement that a line recorded.
+pub fn the_displacement_was_told()
+    ensures { TheDisplacementWasTold }
+{
+    displaced_was_told();
+    the_crowded_script_is_answered();
+}
+
+/// It was that of the key's last vector.
+pub fn the_vector_was_lost()
+    ensures { TheVectorWasLost }
+{
+    vector_was_lost();
+    the_crowded_script_is_answered();
+}
+
+/// By the records nothing of the key fits.
+pub fn the_displaced_miss_is_caused()
+    ensures { TheDisplacedMissIsCaused }
+{
+    misses_are_caused();
+    the_crowded_script_is_answered();
+}
+
+/// Nor is there anything to be removed.
+pub fn the_absence_is_caused()
+    ensures { TheAbsenceIsCaused }
+{
+    absences_are_caused();
+    the_crowded_script_is_answered();
+}
