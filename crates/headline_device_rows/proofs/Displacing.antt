@@ -13,8 +13,8 @@ use Rattle.cache_model.specs.Permit.{Done}
 use Rattle.cache_model.specs.Room.{MayDisplace, bucket_of_piece, is_full_for, is_full_with, rows_left, rows_of_segment, segment_of_piece}
 use Rattle.cache_model.specs.State.{Row, State, after_all, fragment_piece, row_of, vector_piece}
 use Rattle.headline_rows.specs.Script.{silent}
-use Rattle.headline_device_rows.specs.Crowded.{byte_records, crowded_key, displaced_so, four_of, nothing_records, second_data_records, third_data_records, writer_piece}
-use Rattle.headline_device_rows.specs.CrowdedSteps.{ADisplacementIsAStep, AFragmentIsAStep, APutBesideItIsAStep, AVectorDisplacesToo, AVectorIsDisplaced, AnOpeningIsAStep, crowded_first, crowded_get, crowded_nothing, crowded_opened, crowded_read}
+use Rattle.headline_device_rows.specs.Displacing.{byte_records, displacing_key, displaced_so, four_of, nothing_records, second_data_records, third_data_records, writer_piece}
+use Rattle.headline_device_rows.specs.DisplacingSteps.{ADisplacementIsAStep, AFragmentIsAStep, APutBesideItIsAStep, AVectorDisplacesToo, AVectorIsDisplaced, AnOpeningIsAStep, displacing_first, displacing_get, displacing_nothing, displacing_opened, displacing_read}
 use Rattle.headline_device_rows.proofs.Blocks.{no_fields}
 
 -- where the segment is not full nothing goes
@@ -62,7 +62,7 @@ fragment_is_a_step = record {
       };
       unmarked = refl;
       place = record { small = lit≤ tt; room = refl; below = lit< tt };
-      displaces = free_for crowded_opened (writer_piece 1) refl;
+      displaces = free_for displacing_opened (writer_piece 1) refl;
       is = refl;
     }),
     refl,
@@ -77,7 +77,7 @@ fragment_is_a_step = record {
 
 -- behind its first records
 abbrev byte_state : ℕ → State
-byte_state n = after_all crowded_first (take n byte_records)
+byte_state n = after_all displacing_first (take n byte_records)
 
 only_one : (index : ℕ) → 0 < index → index ≤ 1 → index ≡ 1
 only_one index some most = omega arith
@@ -116,7 +116,7 @@ put_beside_it_is_a_step = record {
           };
           unmarked = refl;
           place = record { small = lit≤ tt; room = refl; below = lit< tt };
-          displaces = free_for (byte_state 1) (fragment_piece crowded_key 2 1) (simp mod-one);
+          displaces = free_for (byte_state 1) (fragment_piece displacing_key 2 1) (simp mod-one);
           is = refl;
         }),
         refl,
@@ -130,7 +130,7 @@ put_beside_it_is_a_step = record {
           unmarked = refl;
           whole = λ index some most. rw (only_one index some most) (_, refl);
           place = record { small = lit≤ tt; room = refl; below = lit< tt };
-          displaces = free_for (byte_state 3) (vector_piece crowded_key 2) (simp mod-one);
+          displaces = free_for (byte_state 3) (vector_piece displacing_key 2) (simp mod-one);
           is = refl;
         }),
         refl,
@@ -167,10 +167,10 @@ gone_for s piece id row found has many are segment buckets full slot =
 
 -- behind the first fragment of the line
 abbrev second_state : State
-second_state = after_all crowded_read (take 2 second_data_records)
+second_state = after_all displacing_read (take 2 second_data_records)
 
-byte_goes : MayDisplace silent second_state (writer_piece 3) (displaced_so (fragment_piece crowded_key 2 1) ∷ [])
-byte_goes = gone_for second_state (writer_piece 3) (fragment_piece crowded_key 2 1) _ refl (1, lit< tt, refl) refl (simp mod-one) (mod-one _) refl
+byte_goes : MayDisplace silent second_state (writer_piece 3) (displaced_so (fragment_piece displacing_key 2 1) ∷ [])
+byte_goes = gone_for second_state (writer_piece 3) (fragment_piece displacing_key 2 1) _ refl (1, lit< tt, refl) refl (simp mod-one) (mod-one _) refl
     (simp mod-one) (simp mod-one)
 
 pub displacement_is_a_step : ADisplacementIsAStep
@@ -191,7 +191,7 @@ displacement_is_a_step = record {
       };
       unmarked = refl;
       place = record { small = lit≤ tt; room = refl; below = lit< tt };
-      displaces = free_for crowded_read (writer_piece 2) (simp mod-one);
+      displaces = free_for displacing_read (writer_piece 2) (simp mod-one);
       is = refl;
     }),
     refl,
@@ -200,7 +200,7 @@ displacement_is_a_step = record {
         Done,
         Legal.DoesFragment.places refl (record {
           w = _;
-          displaced = displaced_so (fragment_piece crowded_key 2 1) ∷ [];
+          displaced = displaced_so (fragment_piece displacing_key 2 1) ∷ [];
           cut = record {
             writing = record { quiet = refl; found = refl; is_open = refl };
             next = refl;
@@ -227,10 +227,10 @@ displacement_is_a_step = record {
 
 -- behind the opening of put 3
 abbrev nothing_state : State
-nothing_state = after_all crowded_get (take 1 nothing_records)
+nothing_state = after_all displacing_get (take 1 nothing_records)
 
-third_goes : MayDisplace silent nothing_state (vector_piece crowded_key 3) (displaced_so (writer_piece 3) ∷ [])
-third_goes = gone_for nothing_state (vector_piece crowded_key 3) (writer_piece 3) _ refl (3, lit< tt, refl) refl (simp mod-one) refl refl
+third_goes : MayDisplace silent nothing_state (vector_piece displacing_key 3) (displaced_so (writer_piece 3) ∷ [])
+third_goes = gone_for nothing_state (vector_piece displacing_key 3) (writer_piece 3) _ refl (3, lit< tt, refl) refl (simp mod-one) refl refl
     (simp mod-one) (simp mod-one)
 
 pub vector_displaces_too : AVectorDisplacesToo
@@ -281,10 +281,10 @@ vector_displaces_too = record {
 
 -- behind the first fragment of the line
 abbrev third_state : State
-third_state = after_all crowded_nothing (take 2 third_data_records)
+third_state = after_all displacing_nothing (take 2 third_data_records)
 
-vector_goes : MayDisplace silent third_state (writer_piece 5) (displaced_so (vector_piece crowded_key 3) ∷ [])
-vector_goes = gone_for third_state (writer_piece 5) (vector_piece crowded_key 3) _ refl (2, lit< tt, refl) refl (simp mod-one) (mod-one _) refl
+vector_goes : MayDisplace silent third_state (writer_piece 5) (displaced_so (vector_piece displacing_key 3) ∷ [])
+vector_goes = gone_for third_state (writer_piece 5) (vector_piece displacing_key 3) _ refl (2, lit< tt, refl) refl (simp mod-one) (mod-one _) refl
     (simp mod-one) (simp mod-one)
 
 pub vector_is_displaced : AVectorIsDisplaced
@@ -305,7 +305,7 @@ vector_is_displaced = record {
       };
       unmarked = refl;
       place = record { small = lit≤ tt; room = refl; below = lit< tt };
-      displaces = free_for crowded_nothing (writer_piece 4) (simp mod-one);
+      displaces = free_for displacing_nothing (writer_piece 4) (simp mod-one);
       is = refl;
     }),
     refl,
@@ -314,7 +314,7 @@ vector_is_displaced = record {
         Done,
         Legal.DoesFragment.places refl (record {
           w = _;
-          displaced = displaced_so (vector_piece crowded_key 3) ∷ [];
+          displaced = displaced_so (vector_piece displacing_key 3) ∷ [];
           cut = record {
             writing = record { quiet = refl; found = refl; is_open = refl };
             next = refl;

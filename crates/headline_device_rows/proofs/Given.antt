@@ -20,7 +20,7 @@ use Rattle.cache_model.specs.Verdict.{digest_in, live_vector_of, lookup_verdict,
 use Rattle.script_run.specs.Asked.{get_intents}
 use Rattle.headline_rows.specs.Script.{get_records, hit_records, row_of_a}
 use Rattle.headline_rows.specs.Steps.{ThePutHolds, fragment_row, held_state, vector_row}
-use Rattle.headline_device_rows.specs.Troubled.{break_records, broken_get_records, calls_of_break, calls_of_damaged_miss, calls_of_get, calls_of_hit, damaged_miss_records, device_with, fault_records, fragment_block, fragment_damage, next_buffer_records, other_block, other_digest, vector_block}
+use Rattle.headline_device_rows.specs.Troubled.{damaged_break_records, broken_get_records, calls_of_break, calls_of_damaged_miss, calls_of_get, calls_of_hit, damaged_miss_records, device_with, fault_records, fragment_block, fragment_damage, next_buffer_records, other_block, other_digest, vector_block}
 use Rattle.headline_device_rows.specs.Steps.{ABreakIsAStep, ABrokenGetIsAStep, ADamagedMissIsAStep, AGetReadsBoth, AHitReadsTheVector, FragmentDiffers, VectorDiffers, state_behind_break, state_behind_broken_get, state_behind_flush, state_behind_get, state_behind_hit}
 use Rattle.headline_device_rows.proofs.Blocks.{digest_of_fragment, digest_of_vector, fragment_is_block, fragment_is_bytes, vector_is_block, vector_is_bytes}
 
@@ -157,9 +157,9 @@ get_leaves holds key = ap (λ (s : State). after_all s (get_records key)) (hit_l
 
 break_leaves : ThePutHolds → (key : Key) → state_behind_break key ≡ broken_state key (reader_at key 1 2 1 ∷ []) 4
 break_leaves holds key =
-    let broken : after_all (whole_state key (reader_at key 1 2 1 ∷ []) 4) (break_records key) ≡ broken_state key (reader_at key 1 2 1 ∷ []) 4 =
+    let broken : after_all (whole_state key (reader_at key 1 2 1 ∷ []) 4) (damaged_break_records key) ≡ broken_state key (reader_at key 1 2 1 ∷ []) 4 =
     simp (same_key-same key) in
-    ap (λ (s : State). after_all s (break_records key)) (get_leaves holds key) ∙ broken
+    ap (λ (s : State). after_all s (damaged_break_records key)) (get_leaves holds key) ∙ broken
 
 broken_get_leaves : ThePutHolds → (key : Key) → state_behind_broken_get key ≡ broken_state key (reader_at key 1 2 1 ∷ []) 5
 broken_get_leaves holds key = ap (λ (s : State). after_all s (broken_get_records key)) (break_leaves holds key)
@@ -259,7 +259,7 @@ fragment_is_damaged key differ = record {
 
 pub break_is_a_step : ThePutHolds → ABreakIsAStep
 break_is_a_step holds key differ =
-    subst (λ (s : State). IsStep (device_with calls_of_break) s (ReadOn 2 ∷ []) (break_records key) None) (sym (get_leaves holds key)) (record {
+    subst (λ (s : State). IsStep (device_with calls_of_break) s (ReadOn 2 ∷ []) (damaged_break_records key) None) (sym (get_leaves holds key)) (record {
       grows = more (_ ∷ _ ∷ []) _ (
         Done,
         Legal.DoesReadOn.reads_on (next.Broke (fragment_damage key))

@@ -5,8 +5,8 @@ use Rattle.cache_model.specs.Legal
 use Rattle.cache_model.specs.Legal.{AreLiveTo, IsNextAsListed, more, nothing}
 use Rattle.cache_model.specs.declared.answer.NextAnswer.TheVariants as next
 use Rattle.cache_model.specs.Permit.{Done, Fails, Lost}
-use Rattle.headline_device_rows.specs.Crowded.{crowded_out}
-use Rattle.headline_device_rows.specs.CrowdedSteps.{ADisplacedBreakIsAStep, ADisplacedGetIsAStep, ADisplacedMissIsAStep, AHitOfItIsAStep, ALostCloseIsAStep, AnAbsenceIsAStep}
+use Rattle.headline_device_rows.specs.Displacing.{displaced_cause}
+use Rattle.headline_device_rows.specs.DisplacingSteps.{ADisplacedBreakIsAStep, ADisplacedGetIsAStep, ADisplacedMissIsAStep, AHitOfItIsAStep, ALostCloseIsAStep, AnAbsenceIsAStep}
 
 pub hit_of_it_is_a_step : AHitOfItIsAStep
 hit_of_it_is_a_step = record {
@@ -33,7 +33,7 @@ pub displaced_break_is_a_step : ADisplacedBreakIsAStep
 displaced_break_is_a_step = record {
   grows = more (_ ∷ []) _ (
     Done,
-    Legal.DoesReadOn.reads_on (next.Broke crowded_out) (record {
+    Legal.DoesReadOn.reads_on (next.Broke displaced_cause) (record {
       r = _;
       before = [];
       quiet = refl;
@@ -66,7 +66,7 @@ displaced_get_is_a_step = record {
   )
       (more (_ ∷ []) _ (
         Done,
-        Legal.DoesReadAll.reads_on (next.Broke crowded_out) refl (record {
+        Legal.DoesReadAll.reads_on (next.Broke displaced_cause) refl (record {
           r = _;
           before = [];
           quiet = refl;

@@ -7,6 +7,6 @@ mod Tells
 mod Sentences
 mod Displacing
 mod Gone
-mod CrowdedScript
-mod CrowdedTells
-mod CrowdedSentences
+mod DisplacingScript
+mod DisplacingTells
+mod DisplacingSentences

@@ -16,7 +16,7 @@ use Rattle.headline.specs.Troubles.{CountsAreReached, NoFalseDamage, NoFalseFaul
 use Rattle.headline.specs.Verdicts.{BreaksAreCaused, GetsAreCaused, MissesAreCaused}
 use Rattle.headline_rows.specs.Script.{body_of_a, fragment_digest, key_of_a, name_of_reader, vector_digest}
 use Rattle.headline_device_rows.specs.History.{TheTroubledScriptIsAnswered, each_answered, troubled_answers}
-use Rattle.headline_device_rows.specs.Sentences.{NoCountIsAbove, NoDamageInMemory, NoFaultInMemory, NoneStopsInMemory, TheBreakIsCaused, TheBrokenGetIsCaused, TheDamagedMissIsCaused, TheFlushWasRefused, TheFragmentStaysOther, TheFragmentWasOther, TheGetOnFileIsWhole, TheVectorWasOther}
+use Rattle.headline_device_rows.specs.Sentences.{NoCountIsAbove, NoDamageInMemory, NoFaultInMemory, NoneStopsInMemory, TheTroubledBreakIsCaused, TheTroubledGetIsCaused, TheDamagedMissIsCaused, TheFlushWasRefused, TheFragmentStaysOther, TheFragmentWasOther, TheGetOnFileIsWhole, TheVectorWasOther}
 use Rattle.headline_device_rows.specs.Told.{TellsTroubled, file_device, memory_device, troubled_logs}
 use Rattle.headline_device_rows.specs.Troubled.{fragment_damage, other_digest, troubled_lines, vector_damage}
 use Rattle.headline_device_rows.proofs.Script.{flush_is_read, get_is_read, next_is_read, sessions_are}
@@ -104,11 +104,11 @@ vector_was_other law said a tells =
     (vector_digest key_of_a) other_digest file_device
     (damaged_miss said a tells) refl (file_behind (take 9 troubled_lines) sessions_are.at_damaged_miss)
 
-pub break_is_caused : BreaksAreCaused → TheTroubledScriptIsAnswered → TheBreakIsCaused
+pub break_is_caused : BreaksAreCaused → TheTroubledScriptIsAnswered → TheTroubledBreakIsCaused
 break_is_caused law said a tells =
     law troubled_logs a (take 7 troubled_lines) name_of_reader (fragment_damage key_of_a) (breaking said a tells)
 
-pub broken_get_is_caused : GetsAreCaused → TheTroubledScriptIsAnswered → TheBrokenGetIsCaused
+pub broken_get_is_caused : GetsAreCaused → TheTroubledScriptIsAnswered → TheTroubledGetIsCaused
 broken_get_is_caused law said a tells =
     law troubled_logs a (take 8 troubled_lines) key_of_a [] (fragment_damage key_of_a) (broken_get said a tells)
 

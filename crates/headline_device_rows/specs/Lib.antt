@@ -3,7 +3,7 @@ pub mod Steps
 pub mod History
 pub mod Told
 pub mod Sentences
-pub mod Crowded
-pub mod CrowdedSteps
-pub mod CrowdedTold
-pub mod CrowdedSentences
+pub mod Displacing
+pub mod DisplacingSteps
+pub mod DisplacingTold
+pub mod DisplacingSentences

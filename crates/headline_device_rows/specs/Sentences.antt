@@ -59,13 +59,13 @@ TheVectorWasOther = (a : Account troubled_logs) → TellsTroubled a
     → WasGiven a.turns (take 9 troubled_lines) file_device 65 other_digest × (vector_digest key_of_a ≢ other_digest)
 
 -- by the records the reader's next fragment is missing, or that line read it, and it is damaged so
-abbrev pub TheBreakIsCaused : Type 0
-TheBreakIsCaused = (a : Account troubled_logs) → TellsTroubled a
+abbrev pub TheTroubledBreakIsCaused : Type 0
+TheTroubledBreakIsCaused = (a : Account troubled_logs) → TellsTroubled a
     → BreakIsCaused a.turns (take 7 troubled_lines) name_of_reader (fragment_damage key_of_a)
 
 -- so it is of a fragment that the hit alternate lists, where all before it are live
-abbrev pub TheBrokenGetIsCaused : Type 0
-TheBrokenGetIsCaused = (a : Account troubled_logs) → TellsTroubled a
+abbrev pub TheTroubledGetIsCaused : Type 0
+TheTroubledGetIsCaused = (a : Account troubled_logs) → TellsTroubled a
     → GetIsCaused a.turns (take 8 troubled_lines) key_of_a [] (fragment_damage key_of_a)
 
 -- by the records nothing of the key fits, or the last get read the key's vector, and that is damaged so

@@ -8,7 +8,7 @@ use Rattle.cache_model.specs.State.{State, after_all}
 use Rattle.script_run.specs.Asked.{get_intents}
 use Rattle.headline_rows.specs.Script.{fragment_digest, get_records, hit_records, vector_digest}
 use Rattle.headline_rows.specs.Steps.{state_of_put}
-use Rattle.headline_device_rows.specs.Troubled.{break_records, broken_get_records, device_with, calls_of_break, calls_of_damaged_miss, calls_of_flush, calls_of_get, calls_of_hit, damaged_miss_records, fault_records, next_buffer_records, other_digest, refused_call}
+use Rattle.headline_device_rows.specs.Troubled.{damaged_break_records, broken_get_records, device_with, calls_of_break, calls_of_damaged_miss, calls_of_flush, calls_of_get, calls_of_hit, damaged_miss_records, fault_records, next_buffer_records, other_digest, refused_call}
 
 -- behind the flush that is refused
 abbrev pub state_behind_fault : Key → State
@@ -28,7 +28,7 @@ state_behind_get key = after_all (state_behind_hit key) (get_records key)
 
 -- behind the break
 abbrev pub state_behind_break : Key → State
-state_behind_break key = after_all (state_behind_get key) (break_records key)
+state_behind_break key = after_all (state_behind_get key) (damaged_break_records key)
 
 -- behind the get that breaks
 abbrev pub state_behind_broken_get : Key → State
@@ -64,7 +64,7 @@ VectorDiffers key = vector_digest key ≢ other_digest
 -- the reader is given the zeros for the fragment, and breaks
 abbrev pub ABreakIsAStep : Type 0
 ABreakIsAStep = (key : Key) → FragmentDiffers key
-    → IsStep (device_with calls_of_break) (state_behind_get key) (ReadOn 2 ∷ []) (break_records key) None
+    → IsStep (device_with calls_of_break) (state_behind_get key) (ReadOn 2 ∷ []) (damaged_break_records key) None
 
 -- behind that a get breaks at it
 abbrev pub ABrokenGetIsAStep : Type 0

@@ -94,8 +94,8 @@ abbrev pub fragment_damage : Key → Cause
 fragment_damage key = cause.Damaged 64 (fragment_digest key) other_digest
 
 -- the actor's reader breaks at it
-abbrev pub break_records : Key → List Rec
-break_records key =
+abbrev pub damaged_break_records : Key → List Rec
+damaged_break_records key =
     rec.Damaged (fragment_piece key 1 1) 64 (fragment_digest key) other_digest ∷ rec.Broke 2 (fragment_damage key) ∷ []
 
 -- so does a get behind that, which finds it damaged
@@ -167,7 +167,7 @@ turn_of_get_on_file key = turn_with (calls_of_get key) (get_records key) None bo
 
 -- the line that reads on, and breaks
 abbrev pub turn_of_break : Key → Turn
-turn_of_break key = turn_with calls_of_break (break_records key) None []
+turn_of_break key = turn_with calls_of_break (damaged_break_records key) None []
 
 -- the get that breaks
 abbrev pub turn_of_broken_get : Key → Turn

@@ -4,10 +4,10 @@
 ghost use Rattle.headline_device_rows.specs.Steps.{ABreakIsAStep, ABrokenGetIsAStep, ADamagedMissIsAStep, AFlushIsAStep, AGetReadsBoth, AHitReadsTheVector, ARefusedFlushIsAStep};
 ghost use Rattle.headline_device_rows.specs.History.{TheTroubledScriptIsARun, TheTroubledScriptIsAnswered};
 ghost use Rattle.headline_device_rows.specs.Told.{TheTroubledScriptHasAnAccount, TheTroubledScriptIsConcluded};
-ghost use Rattle.headline_device_rows.specs.Sentences.{NoCountIsAbove, NoDamageInMemory, NoFaultInMemory, NoneStopsInMemory, TheBreakIsCaused, TheBrokenGetIsCaused, TheDamagedMissIsCaused, TheFlushWasRefused, TheFragmentStaysOther, TheFragmentWasOther, TheGetOnFileIsWhole, TheVectorWasOther};
-ghost use Rattle.headline_device_rows.specs.CrowdedSteps.{ADisplacedBreakIsAStep, ADisplacedGetIsAStep, ADisplacedMissIsAStep, ADisplacementIsAStep, AFragmentIsAStep, AHitOfItIsAStep, ALostCloseIsAStep, APutBesideItIsAStep, AVectorDisplacesToo, AVectorIsDisplaced, AnAbsenceIsAStep, AnOpeningIsAStep};
-ghost use Rattle.headline_device_rows.specs.CrowdedTold.{TheCrowdedScriptHasAnAccount, TheCrowdedScriptIsARun, TheCrowdedScriptIsAnswered, TheCrowdedScriptIsConcluded};
-ghost use Rattle.headline_device_rows.specs.CrowdedSentences.{TheAbsenceIsCaused, TheBreakWasDisplaced, TheDisplacedBreakIsCaused, TheDisplacedGetIsCaused, TheDisplacedMissIsCaused, TheDisplacementWasTold, TheGetWasDisplaced, TheGivingUpWasAnswered, TheLossIsCaused, TheLostWasDisplaced, TheVectorWasLost};
+ghost use Rattle.headline_device_rows.specs.Sentences.{NoCountIsAbove, NoDamageInMemory, NoFaultInMemory, NoneStopsInMemory, TheTroubledBreakIsCaused, TheTroubledGetIsCaused, TheDamagedMissIsCaused, TheFlushWasRefused, TheFragmentStaysOther, TheFragmentWasOther, TheGetOnFileIsWhole, TheVectorWasOther};
+ghost use Rattle.headline_device_rows.specs.DisplacingSteps.{ADisplacedBreakIsAStep, ADisplacedGetIsAStep, ADisplacedMissIsAStep, ADisplacementIsAStep, AFragmentIsAStep, AHitOfItIsAStep, ALostCloseIsAStep, APutBesideItIsAStep, AVectorDisplacesToo, AVectorIsDisplaced, AnAbsenceIsAStep, AnOpeningIsAStep};
+ghost use Rattle.headline_device_rows.specs.DisplacingTold.{TheDisplacingScriptHasAnAccount, TheDisplacingScriptIsARun, TheDisplacingScriptIsAnswered, TheDisplacingScriptIsConcluded};
+ghost use Rattle.headline_device_rows.specs.DisplacingSentences.{TheDisplacedAbsenceIsCaused, TheBreakWasDisplaced, TheDisplacedBreakIsCaused, TheDisplacedGetIsCaused, TheDisplacedMissIsCaused, TheDisplacementWasTold, TheGetWasDisplaced, TheLostPutWasAnswered, TheLossIsCaused, TheLostWasDisplaced, TheVectorWasLost};
 
 use headline::{
     absences_are_caused, break_was_displaced, breaks_are_caused, counts_are_reached,
@@ -175,16 +175,16 @@ pub fn the_vector_was_other()
 }
 
 /// The reader broke at a fragment that is missing, or that its line read and found damaged.
-pub fn the_break_is_caused()
-    ensures { TheBreakIsCaused }
+pub fn the_troubled_break_is_caused()
+    ensures { TheTroubledBreakIsCaused }
 {
     breaks_are_caused();
     the_troubled_script_is_answered();
 }
 
 /// So did the get behind it.
-pub fn the_broken_get_is_caused()
-    ensures { TheBrokenGetIsCaused }
+pub fn the_troubled_get_is_caused()
+    ensures { TheTroubledGetIsCaused }
 {
     gets_are_caused();
     the_troubled_script_is_answered();
@@ -258,9 +258,9 @@ pub fn an_absence_is_a_step()
     ensures { AnAbsenceIsAStep }
 {}
 
-/// The lines of the crowded script have a legal history, written out by hand.
-pub fn the_crowded_script_is_a_run()
-    ensures { TheCrowdedScriptIsARun }
+/// The lines of the displacing script have a legal history, written out by hand.
+pub fn the_displacing_script_is_a_run()
+    ensures { TheDisplacingScriptIsARun }
 {
     an_opening_is_a_step();
     a_fragment_is_a_step();
@@ -277,24 +277,24 @@ pub fn the_crowded_script_is_a_run()
 }
 
 /// By these turns each line is answered so.
-pub fn the_crowded_script_is_answered()
-    ensures { TheCrowdedScriptIsAnswered }
+pub fn the_displacing_script_is_answered()
+    ensures { TheDisplacingScriptIsAnswered }
 {}
 
 /// The run has an account, with these lines, turns and answers.
-pub fn the_crowded_script_has_an_account()
-    ensures { TheCrowdedScriptHasAnAccount }
+pub fn the_displacing_script_has_an_account()
+    ensures { TheDisplacingScriptHasAnAccount }
 {
-    the_crowded_script_is_a_run();
-    the_crowded_script_is_answered();
+    the_displacing_script_is_a_run();
+    the_displacing_script_is_answered();
 }
 
 /// What the top call concludes with the status Done holds of its logs.
-pub fn the_crowded_script_is_concluded()
-    ensures { TheCrowdedScriptIsConcluded }
+pub fn the_displacing_script_is_concluded()
+    ensures { TheDisplacingScriptIsConcluded }
 {
-    the_crowded_script_is_a_run();
-    the_crowded_script_is_answered();
+    the_displacing_script_is_a_run();
+    the_displacing_script_is_answered();
 }
 
 /// The reader broke at a piece that an earlier line recorded as displaced.
@@ -302,7 +302,7 @@ pub fn the_break_was_displaced()
     ensures { TheBreakWasDisplaced }
 {
     break_was_displaced();
-    the_crowded_script_is_answered();
+    the_displacing_script_is_answered();
 }
 
 /// By the records it is missing.
@@ -310,7 +310,7 @@ pub fn the_displaced_break_is_caused()
     ensures { TheDisplacedBreakIsCaused }
 {
     breaks_are_caused();
-    the_crowded_script_is_answered();
+    the_displacing_script_is_answered();
 }
 
 /// So did the get behind it.
@@ -318,7 +318,7 @@ pub fn the_get_was_displaced()
     ensures { TheGetWasDisplaced }
 {
     get_was_displaced();
-    the_crowded_script_is_answered();
+    the_displacing_script_is_answered();
 }
 
 /// By the records that piece is missing.
@@ -326,7 +326,7 @@ pub fn the_displaced_get_is_caused()
     ensures { TheDisplacedGetIsCaused }
 {
     gets_are_caused();
-    the_crowded_script_is_answered();
+    the_displacing_script_is_answered();
 }
 
 /// The writer lost a fragment that a line recorded as displaced.
@@ -334,7 +334,7 @@ pub fn the_lost_was_displaced()
     ensures { TheLostWasDisplaced }
 {
     lost_was_displaced();
-    the_crowded_script_is_answered();
+    the_displacing_script_is_answered();
 }
 
 /// It is the first one of the put that is missing.
@@ -342,12 +342,12 @@ pub fn the_loss_is_caused()
     ensures { TheLossIsCaused }
 {
     losses_are_caused();
-    the_crowded_script_is_answered();
+    the_displacing_script_is_answered();
 }
 
 /// The line that recorded that the put was given up was a refused close.
-pub fn the_giving_up_was_answered()
-    ensures { TheGivingUpWasAnswered }
+pub fn the_lost_put_was_answered()
+    ensures { TheLostPutWasAnswered }
 {
     giving_up_was_answered();
     an_opening_is_a_step();
@@ -369,7 +369,7 @@ pub fn the_displacement_was_told()
     ensures { TheDisplacementWasTold }
 {
     displaced_was_told();
-    the_crowded_script_is_answered();
+    the_displacing_script_is_answered();
 }
 
 /// It was that of the key's last vector.
@@ -377,7 +377,7 @@ pub fn the_vector_was_lost()
     ensures { TheVectorWasLost }
 {
     vector_was_lost();
-    the_crowded_script_is_answered();
+    the_displacing_script_is_answered();
 }
 
 /// By the records nothing of the key fits.
@@ -385,13 +385,13 @@ pub fn the_displaced_miss_is_caused()
     ensures { TheDisplacedMissIsCaused }
 {
     misses_are_caused();
-    the_crowded_script_is_answered();
+    the_displacing_script_is_answered();
 }
 
 /// Nor is there anything to be removed.
-pub fn the_absence_is_caused()
-    ensures { TheAbsenceIsCaused }
+pub fn the_displaced_absence_is_caused()
+    ensures { TheDisplacedAbsenceIsCaused }
 {
     absences_are_caused();
-    the_crowded_script_is_answered();
+    the_displacing_script_is_answered();
 }

@@ -1,4 +1,4 @@
--- The crowded script as a whole: its legal history, what its lines answer, what its run is known by, and its account.
+-- The displacing script as a whole: its legal history, what its lines answer, what its run is known by, and its account.
 use Rattle.std.specs.Prelude.{◌≡◌, true, List, [], ◌∷◌, codes, None}
 use Rattle.device_log.specs.Image.{blank}
 use Rattle.device_log.specs.Streams.{SourceRead, GaveBytes, CameToEnd, SinkWrite, TookBytes}
@@ -13,38 +13,38 @@ use Rattle.run_promise.specs.Lines.{answers_of}
 use Rattle.run_promise.specs.declared.status.Status.TheVariants as status
 use Rattle.headline.specs.Account.{Account, IsConcluded, RunLogs}
 use Rattle.headline.specs.Endings.{IsAccountOf}
-use Rattle.headline_device_rows.specs.Crowded.{crowded_lines, crowded_out, crowded_turns}
+use Rattle.headline_device_rows.specs.Displacing.{displacing_lines, displaced_cause, displacing_turns}
 use Rattle.headline_device_rows.specs.History.{each_answered}
 
 -- each line does all that it must, and no more
-abbrev pub TheCrowdedScriptIsARun : Type 0
-TheCrowdedScriptIsARun = IsRun fresh crowded_lines crowded_turns
+abbrev pub TheDisplacingScriptIsARun : Type 0
+TheDisplacingScriptIsARun = IsRun fresh displacing_lines displacing_turns
 
 -- what each line answers
-abbrev pub crowded_answers : List StepAnswer
-crowded_answers =
+abbrev pub displacing_answers : List StepAnswer
+displacing_answers =
     answer.Formatted 1 64 16
     ∷ answer.Writer 1
     ∷ answer.Took 4
     ∷ answer.Put 2 1 1
     ∷ answer.Hit 2 1
     ∷ answer.Took 8
-    ∷ answer.Broken crowded_out
-    ∷ answer.Broken crowded_out
+    ∷ answer.Broken displaced_cause
+    ∷ answer.Broken displaced_cause
     ∷ answer.Put 3 0 0
     ∷ answer.Took 8
-    ∷ answer.Refused (refused.Lost 3 crowded_out) None
-    ∷ answer.Miss crowded_out
-    ∷ answer.Absent crowded_out
+    ∷ answer.Refused (refused.Lost 3 displaced_cause) None
+    ∷ answer.Miss displaced_cause
+    ∷ answer.Absent displaced_cause
     ∷ []
 
 -- by the turns the lines are answered so
-abbrev pub TheCrowdedScriptIsAnswered : Type 0
-TheCrowdedScriptIsAnswered = answers_of fresh crowded_lines crowded_turns ≡ each_answered crowded_answers
+abbrev pub TheDisplacingScriptIsAnswered : Type 0
+TheDisplacingScriptIsAnswered = answers_of fresh displacing_lines displacing_turns ≡ each_answered displacing_answers
 
 -- a device in memory of 64 blocks, of which nothing was asked but its size
-abbrev pub crowded_device : Device
-crowded_device = record {
+abbrev pub displacing_device : Device
+displacing_device = record {
   size = 64;
   trust = 2;
   number = 0;
@@ -58,12 +58,12 @@ crowded_device = record {
 }
 
 -- the text of the script, and then its end
-abbrev pub crowded_reads : List SourceRead
-crowded_reads = CameToEnd ∷ GaveBytes (spelled crowded_lines) ∷ []
+abbrev pub displacing_reads : List SourceRead
+displacing_reads = CameToEnd ∷ GaveBytes (spelled displacing_lines) ∷ []
 
 -- the answers, the last one first
-abbrev pub crowded_writes : List SinkWrite
-crowded_writes =
+abbrev pub displacing_writes : List SinkWrite
+displacing_writes =
     TookBytes (codes "absent displaced 0 4\n")
     ∷ TookBytes (codes "miss displaced 0 4\n")
     ∷ TookBytes (codes "refused lost 3 displaced 0 4\n")
@@ -80,29 +80,29 @@ crowded_writes =
     ∷ []
 
 -- nothing was read, written or attached before
-abbrev pub crowded_logs : RunLogs
-crowded_logs = record {
+abbrev pub displacing_logs : RunLogs
+displacing_logs = record {
   first = [];
-  read = crowded_reads;
+  read = displacing_reads;
   old = [];
-  new = crowded_writes;
+  new = displacing_writes;
   bay = record { before = []; now = [] };
   before = record { names = []; returned = [] };
-  now = record { names = codes "mem:a" ∷ []; returned = crowded_device ∷ [] };
+  now = record { names = codes "mem:a" ∷ []; returned = displacing_device ∷ [] };
 }
 
 -- its lines are those of the script, with their answers, and its legal history has them all, with the turns that were worked
 -- by hand
-pub record TellsCrowded (a : Account crowded_logs) : Type 0 where
-  pub lines_are : a.lines ≡ crowded_lines
-  pub answers_are : a.answers ≡ each_answered crowded_answers
-  pub told_are : a.told ≡ crowded_lines
-  pub turns_are : a.turns ≡ crowded_turns
+pub record TellsDisplacing (a : Account displacing_logs) : Type 0 where
+  pub lines_are : a.lines ≡ displacing_lines
+  pub answers_are : a.answers ≡ each_answered displacing_answers
+  pub told_are : a.told ≡ displacing_lines
+  pub turns_are : a.turns ≡ displacing_turns
 
 -- the run has such an account, which is tied to it with the status Done
-abbrev pub TheCrowdedScriptHasAnAccount : Type 0
-TheCrowdedScriptHasAnAccount = (a : Account crowded_logs) × TellsCrowded a × IsAccountOf crowded_logs status.Done a
+abbrev pub TheDisplacingScriptHasAnAccount : Type 0
+TheDisplacingScriptHasAnAccount = (a : Account displacing_logs) × TellsDisplacing a × IsAccountOf displacing_logs status.Done a
 
 -- what `cache_main` concludes with the status Done holds of it
-abbrev pub TheCrowdedScriptIsConcluded : Type 0
-TheCrowdedScriptIsConcluded = IsConcluded crowded_logs status.Done
+abbrev pub TheDisplacingScriptIsConcluded : Type 0
+TheDisplacingScriptIsConcluded = IsConcluded displacing_logs status.Done

@@ -1,4 +1,4 @@
--- The account of the crowded script, and what is concluded of it.
+-- The account of the displacing script, and what is concluded of it.
 use Rattle.std.proofs.Common.{◌≡◌, [], ◌∷◌, refl, sym, subst, lit<, lit≤, inl}
 use Rattle.std.specs.Prelude.{drop}
 use Rattle.std.specs.Fmt.{digits}
@@ -16,17 +16,17 @@ use Rattle.run_promise.specs.Story.{Taken, SinkTook, told_by, told_by_records}
 use Rattle.run_promise.specs.Top.{EachBack}
 use Rattle.headline.specs.Account.{ComeBackFrom}
 use Rattle.headline.specs.Endings.{AreTakeable}
-use Rattle.headline_device_rows.specs.Crowded.{crowded_lines, crowded_turns, line_to_close, line_to_format_small, line_to_get_object, line_to_open_reader, line_to_open_writer, line_to_put_byte, line_to_put_nothing, line_to_remove_object, line_to_write_last, line_to_write_one, line_to_write_two}
-use Rattle.headline_device_rows.specs.CrowdedTold.{TheCrowdedScriptHasAnAccount, TheCrowdedScriptIsARun, TheCrowdedScriptIsAnswered, TheCrowdedScriptIsConcluded, crowded_answers, crowded_device, crowded_logs, crowded_reads, crowded_writes}
+use Rattle.headline_device_rows.specs.Displacing.{displacing_lines, displacing_turns, line_to_close, line_to_format_small, line_to_get_object, line_to_open_reader, line_to_open_writer, line_to_put_byte, line_to_put_nothing, line_to_remove_object, line_to_write_last, line_to_write_one, line_to_write_two}
+use Rattle.headline_device_rows.specs.DisplacingTold.{TheDisplacingScriptHasAnAccount, TheDisplacingScriptIsARun, TheDisplacingScriptIsAnswered, TheDisplacingScriptIsConcluded, displacing_answers, displacing_device, displacing_logs, displacing_reads, displacing_writes}
 use Rattle.headline_device_rows.specs.History.{each_answered}
 use Rattle.headline_device_rows.proofs.Along.{AreAnsweredBy, are_answered, are_takeable, outline_by, outline_is, run_by, run_is}
-use Rattle.headline_device_rows.proofs.CrowdedScript.{are_read, crowded_script}
+use Rattle.headline_device_rows.proofs.DisplacingScript.{are_read, displacing_script}
 use Rattle.headline_device_rows.proofs.Tells.{all_takeable, is_line_to_read_on, no_newline}
 
 get_is_line : IsLine line_to_get_object
 get_is_line = record { short = lit≤ tt; clear = no_newline line_to_get_object refl }
 
-each_is_line : AreLines crowded_lines
+each_is_line : AreLines displacing_lines
 each_is_line = (
   record { short = lit≤ tt; clear = no_newline line_to_format_small refl },
   (
@@ -62,10 +62,10 @@ each_is_line = (
   ),
 )
 
-taken_lines : Taken (text_read crowded_reads) crowded_lines []
+taken_lines : Taken (text_read displacing_reads) displacing_lines []
 taken_lines = record { all = refl; each = each_is_line; within = lit≤ tt }
 
-each_is_answered : AreAnsweredBy blank_outline crowded_script crowded_answers
+each_is_answered : AreAnsweredBy blank_outline displacing_script displacing_answers
 each_is_answered = (
   record { session = λ needs. absurd needs; none = λ h. refl; fixed = refl },
   (
@@ -104,45 +104,45 @@ each_is_answered = (
   ),
 )
 
-answered_each : AreAnswered blank_outline crowded_lines (each_answered crowded_answers)
-answered_each = are_answered blank_outline crowded_lines crowded_script crowded_answers are_read each_is_answered
+answered_each : AreAnswered blank_outline displacing_lines (each_answered displacing_answers)
+answered_each = are_answered blank_outline displacing_lines displacing_script displacing_answers are_read each_is_answered
 
 -- ---- the device
 
-outline_behind : outline_of blank_outline crowded_lines (each_answered crowded_answers) ≡ outline_by blank_outline crowded_script crowded_answers
-outline_behind = outline_is blank_outline crowded_lines crowded_script crowded_answers are_read
+outline_behind : outline_of blank_outline displacing_lines (each_answered displacing_answers) ≡ outline_by blank_outline displacing_script displacing_answers
+outline_behind = outline_is blank_outline displacing_lines displacing_script displacing_answers are_read
 
-run_behind_script : run_after fresh crowded_lines crowded_turns ≡ run_by fresh crowded_script crowded_turns
-run_behind_script = run_is fresh crowded_lines crowded_script crowded_turns are_read
+run_behind_script : run_after fresh displacing_lines displacing_turns ≡ run_by fresh displacing_script displacing_turns
+run_behind_script = run_is fresh displacing_lines displacing_script displacing_turns are_read
 
-answers_come_back : ComeBackFrom crowded_logs (all_told (outline_of blank_outline crowded_lines (each_answered crowded_answers)))
-answers_come_back = subst (λ (o : Outline). ComeBackFrom crowded_logs (all_told o)) (sym outline_behind) (record {
-  devices = crowded_device ∷ [];
+answers_come_back : ComeBackFrom displacing_logs (all_told (outline_of blank_outline displacing_lines (each_answered displacing_answers)))
+answers_come_back = subst (λ (o : Outline). ComeBackFrom displacing_logs (all_told o)) (sym outline_behind) (record {
+  devices = displacing_device ∷ [];
   returned = refl;
   told = (record { made = record { later = []; is = refl }; all = λ h. cc; counted = lit≤ tt; unharmed = λ h. refl }, tt);
 })
 
-records_come_back : ComeBackFrom crowded_logs (harms_of (run_after fresh crowded_lines crowded_turns))
-records_come_back = subst (λ (run : Run). ComeBackFrom crowded_logs (harms_of run)) (sym run_behind_script) (record {
-  devices = crowded_device ∷ [];
+records_come_back : ComeBackFrom displacing_logs (harms_of (run_after fresh displacing_lines displacing_turns))
+records_come_back = subst (λ (run : Run). ComeBackFrom displacing_logs (harms_of run)) (sym run_behind_script) (record {
+  devices = displacing_device ∷ [];
   returned = refl;
   told = (record { made = record { later = []; is = refl }; all = λ h. cc; counted = lit≤ tt; unharmed = λ h. refl }, tt);
 })
 
-back_by_answers : EachBack crowded_logs.before crowded_logs.now (told_by (outline_of blank_outline crowded_lines (each_answered crowded_answers)))
-back_by_answers = subst (λ (o : Outline). EachBack crowded_logs.before crowded_logs.now (told_by o)) (sym outline_behind) (record {
+back_by_answers : EachBack displacing_logs.before displacing_logs.now (told_by (outline_of blank_outline displacing_lines (each_answered displacing_answers)))
+back_by_answers = subst (λ (o : Outline). EachBack displacing_logs.before displacing_logs.now (told_by o)) (sym outline_behind) (record {
   back = record {
-    devices = crowded_device ∷ [];
+    devices = displacing_device ∷ [];
     returned = refl;
     reached = (record { made = record { later = []; is = refl }; all = λ h. cc; counted = lit≤ tt; unharmed = λ h. refl }, tt);
   };
   attached = refl;
 })
 
-back_by_records : EachBack crowded_logs.before crowded_logs.now (told_by_records (run_after fresh crowded_lines crowded_turns))
-back_by_records = subst (λ (run : Run). EachBack crowded_logs.before crowded_logs.now (told_by_records run)) (sym run_behind_script) (record {
+back_by_records : EachBack displacing_logs.before displacing_logs.now (told_by_records (run_after fresh displacing_lines displacing_turns))
+back_by_records = subst (λ (run : Run). EachBack displacing_logs.before displacing_logs.now (told_by_records run)) (sym run_behind_script) (record {
   back = record {
-    devices = crowded_device ∷ [];
+    devices = displacing_device ∷ [];
     returned = refl;
     reached = (record { made = record { later = []; is = refl }; all = λ h. refl; counted = lit≤ tt; unharmed = λ h. refl }, tt);
   };
@@ -151,29 +151,29 @@ back_by_records = subst (λ (run : Run). EachBack crowded_logs.before crowded_lo
 
 -- ---- what was written
 
-went_out : SinkTook [] crowded_writes (texts_of (each_answered crowded_answers))
+went_out : SinkTook [] displacing_writes (texts_of (each_answered displacing_answers))
 unfolding cause_line displaced_text formatted_line hit_line lost_text number_line put_line refused_line shown encode_with digits taken_by refused_writes
 went_out = record { taken = refl; unfailed = refl }
 
-lines_are_takeable : AreTakeable 0 crowded_lines
-lines_are_takeable = are_takeable 0 crowded_lines crowded_script are_read ((λ needs. absurd needs), all_takeable 1 (drop 1 crowded_script) (lit< tt))
+lines_are_takeable : AreTakeable 0 displacing_lines
+lines_are_takeable = are_takeable 0 displacing_lines displacing_script are_read ((λ needs. absurd needs), all_takeable 1 (drop 1 displacing_script) (lit< tt))
 
 -- ---- the account
 
-pub has_account : TheCrowdedScriptIsARun → TheCrowdedScriptIsAnswered → TheCrowdedScriptHasAnAccount
+pub has_account : TheDisplacingScriptIsARun → TheDisplacingScriptIsAnswered → TheDisplacingScriptHasAnAccount
 has_account legal said = (
   record {
-    reads = crowded_reads;
+    reads = displacing_reads;
     since = refl;
-    lines = crowded_lines;
+    lines = displacing_lines;
     held = [];
     taken = taken_lines;
-    answers = each_answered crowded_answers;
+    answers = each_answered displacing_answers;
     each = answered_each;
-    told = crowded_lines;
+    told = displacing_lines;
     left = [];
     are = refl;
-    turns = crowded_turns;
+    turns = displacing_turns;
     legal = legal;
     rest = [];
     says = sym said;
@@ -185,19 +185,19 @@ has_account legal said = (
   record { sent = went_out; takeable = lines_are_takeable; ends = ((_, refl), refl); back = back_by_answers; alone = λ h. back_by_records },
 )
 
-pub is_concluded : TheCrowdedScriptIsARun → TheCrowdedScriptIsAnswered → TheCrowdedScriptIsConcluded
+pub is_concluded : TheDisplacingScriptIsARun → TheDisplacingScriptIsAnswered → TheDisplacingScriptIsConcluded
 is_concluded legal said = record {
   held = [];
   given = 13;
   story = record {
-    reads = crowded_reads;
+    reads = displacing_reads;
     since = refl;
-    lines = crowded_lines;
-    answers = each_answered crowded_answers;
+    lines = displacing_lines;
+    answers = each_answered displacing_answers;
     taken = taken_lines;
     counted = refl;
     text = went_out;
     outline = record { each = answered_each; devices = back_by_answers; behind = record { ended = (_, refl); none = refl } };
-    records = inl (record { turns = crowded_turns; legal = legal; says = sym said; devices = back_by_records; known = tt });
+    records = inl (record { turns = displacing_turns; legal = legal; says = sym said; devices = back_by_records; known = tt });
   };
 }

@@ -1,11 +1,8 @@
-use Rattle.script_run.specs.Run.{fresh}
-use Rattle.headline_device_rows.specs.Crowded.{crowded_lines, crowded_turns}
-use Rattle.headline_device_rows.proofs.Along.{are_run}
-use Rattle.headline_device_rows.proofs.CrowdedScript.{are_read, are_taken, crowded_script}
-use Rattle.headline_device_rows.proofs.the_crowded_script_is_a_run.Goals as goal
+use Rattle.headline_device_rows.proofs.DisplacingSentences.{giving_up_was_answered}
+use Rattle.headline_device_rows.proofs.the_lost_put_was_answered.Goals as goal
 
 pub returns : goal.returns
-returns c = are_run fresh crowded_lines crowded_script crowded_turns are_read (are_taken (record {
+returns c = giving_up_was_answered (record {
   opening = c.an_opening_is_a_step.ensures;
   fragment = c.a_fragment_is_a_step.ensures;
   byte = c.a_put_beside_it_is_a_step.ensures;
@@ -18,4 +15,4 @@ returns c = are_run fresh crowded_lines crowded_script crowded_turns are_read (a
   close = c.a_lost_close_is_a_step.ensures;
   miss = c.a_displaced_miss_is_a_step.ensures;
   absence = c.an_absence_is_a_step.ensures;
-}))
+}) c.giving_up_was_answered.ensures

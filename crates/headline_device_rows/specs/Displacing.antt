@@ -73,8 +73,8 @@ abbrev pub line_to_remove_object : List ℕ
 line_to_remove_object = codes "remove key:01000000000000000000000000000000"
 
 -- the writer's fragments displace that of a put, one another, and the vector of the last put
-abbrev pub crowded_lines : List (List ℕ)
-crowded_lines =
+abbrev pub displacing_lines : List (List ℕ)
+displacing_lines =
     line_to_format_small
     ∷ line_to_open_writer
     ∷ line_to_write_one
@@ -91,12 +91,12 @@ crowded_lines =
     ∷ []
 
 -- the actor that writes
-abbrev pub name_of_writer : List ℕ
-name_of_writer = codes "w"
+abbrev pub writer_name : List ℕ
+writer_name = codes "w"
 
 -- the key of the object
-abbrev pub crowded_key : Key
-crowded_key = record { number = 1 }
+abbrev pub displacing_key : Key
+displacing_key = record { number = 1 }
 
 -- four bytes of one value
 abbrev pub four_of : ℕ → List ℕ
@@ -105,8 +105,8 @@ four_of byte = byte ∷ byte ∷ byte ∷ byte ∷ []
 -- ---- what each line recorded
 
 -- the numbers of the first line, and five alternates
-abbrev pub crowded_geometry : Geometry
-crowded_geometry = record {
+abbrev pub displacing_geometry : Geometry
+displacing_geometry = record {
   segments = 1;
   buckets = 1;
   content = 64;
@@ -136,8 +136,8 @@ abbrev pub cut_so : (put index : ℕ) → List ℕ → Rec
 cut_so put index payload = rec.Cut put index (length payload) (digest_of payload)
 
 -- why it is that a piece is not live, in a segment with four that are
-abbrev pub crowded_out : Cause
-crowded_out = cause.Displaced 0 4
+abbrev pub displaced_cause : Cause
+displaced_cause = cause.Displaced 0 4
 
 -- a piece makes room
 abbrev pub displaced_so : PieceId → Rec
@@ -145,11 +145,11 @@ displaced_so id = rec.Displaced id 0 4
 
 -- a fragment of the writer
 abbrev pub writer_piece : (index : ℕ) → PieceId
-writer_piece index = fragment_piece crowded_key 1 index
+writer_piece index = fragment_piece displacing_key 1 index
 
 -- the writer is the first actor, and has put 1
 abbrev pub opening_records : List Rec
-opening_records = rec.WriteOpened (record { 0 = 1 }) 1 crowded_key [] [] 0 ∷ []
+opening_records = rec.WriteOpened (record { 0 = 1 }) 1 displacing_key [] [] 0 ∷ []
 
 -- its first fragment takes the first block of the buffer
 abbrev pub first_data_records : List Rec
@@ -169,16 +169,16 @@ alternate_of_byte = record {
 -- put 2 takes two blocks
 abbrev pub byte_records : List Rec
 byte_records =
-    rec.WriteOpened (record { 0 = 0 }) 2 crowded_key [] [] 0
+    rec.WriteOpened (record { 0 = 0 }) 2 displacing_key [] [] 0
     ∷ cut_so 2 1 (97 ∷ [])
-    ∷ placed_so (fragment_piece crowded_key 2 1) 65 0 (97 ∷ [])
-    ∷ placed_so (vector_piece crowded_key 2) 66 0 (vector_bytes (alternate_of_byte ∷ []))
-    ∷ rec.Committed 2 crowded_key 1 (alternate_of_byte ∷ [])
+    ∷ placed_so (fragment_piece displacing_key 2 1) 65 0 (97 ∷ [])
+    ∷ placed_so (vector_piece displacing_key 2) 66 0 (vector_bytes (alternate_of_byte ∷ []))
+    ∷ rec.Committed 2 displacing_key 1 (alternate_of_byte ∷ [])
     ∷ []
 
 -- the second actor reads it
 abbrev pub reader_records : List Rec
-reader_records = rec.ReadOpened 1 (record { 0 = 2 }) crowded_key [] (read.Hit 2) ∷ []
+reader_records = rec.ReadOpened 1 (record { 0 = 2 }) displacing_key [] (read.Hit 2) ∷ []
 
 -- the writer's third fragment displaces that of put 2
 abbrev pub second_data_records : List Rec
@@ -186,18 +186,18 @@ second_data_records =
     cut_so 1 2 (four_of 98)
     ∷ placed_so (writer_piece 2) 67 4 (four_of 98)
     ∷ cut_so 1 3 (four_of 99)
-    ∷ displaced_so (fragment_piece crowded_key 2 1)
+    ∷ displaced_so (fragment_piece displacing_key 2 1)
     ∷ placed_so (writer_piece 3) 68 8 (four_of 99)
     ∷ []
 
 -- the reader breaks
 abbrev pub displaced_break_records : List Rec
-displaced_break_records = rec.Broke 1 crowded_out ∷ []
+displaced_break_records = rec.Broke 1 displaced_cause ∷ []
 
 -- so does a get
 abbrev pub displaced_get_records : List Rec
 displaced_get_records =
-    rec.ReadOpened 2 (record { 0 = 0 }) crowded_key [] (read.Hit 2) ∷ rec.Broke 2 crowded_out ∷ rec.ReadClosed 2 ∷ []
+    rec.ReadOpened 2 (record { 0 = 0 }) displacing_key [] (read.Hit 2) ∷ rec.Broke 2 displaced_cause ∷ rec.ReadClosed 2 ∷ []
 
 -- what the vector of put 3 lists
 abbrev pub alternate_of_nothing : Stored
@@ -206,10 +206,10 @@ alternate_of_nothing = record { put = 3; pin = 0; length = 0; request = []; resp
 -- put 3 has a vector alone, which displaces the writer's third fragment
 abbrev pub nothing_records : List Rec
 nothing_records =
-    rec.WriteOpened (record { 0 = 0 }) 3 crowded_key [] [] 0
+    rec.WriteOpened (record { 0 = 0 }) 3 displacing_key [] [] 0
     ∷ displaced_so (writer_piece 3)
-    ∷ placed_so (vector_piece crowded_key 3) 69 0 (vector_bytes (alternate_of_nothing ∷ []))
-    ∷ rec.Committed 3 crowded_key 0 (alternate_of_nothing ∷ [])
+    ∷ placed_so (vector_piece displacing_key 3) 69 0 (vector_bytes (alternate_of_nothing ∷ []))
+    ∷ rec.Committed 3 displacing_key 0 (alternate_of_nothing ∷ [])
     ∷ []
 
 -- the writer's fifth fragment displaces that vector
@@ -218,17 +218,17 @@ third_data_records =
     cut_so 1 4 (four_of 100)
     ∷ placed_so (writer_piece 4) 70 12 (four_of 100)
     ∷ cut_so 1 5 (four_of 101)
-    ∷ displaced_so (vector_piece crowded_key 3)
+    ∷ displaced_so (vector_piece displacing_key 3)
     ∷ placed_so (writer_piece 5) 71 16 (four_of 101)
     ∷ []
 
 -- the writer cannot close without its third fragment, and is given up
 abbrev pub lost_records : List Rec
-lost_records = rec.Aborted 1 crowded_key ∷ []
+lost_records = rec.Aborted 1 displacing_key ∷ []
 
 -- a get finds nothing
 abbrev pub displaced_miss_records : List Rec
-displaced_miss_records = rec.ReadOpened 3 (record { 0 = 0 }) crowded_key [] (read.Miss crowded_out) ∷ []
+displaced_miss_records = rec.ReadOpened 3 (record { 0 = 0 }) displacing_key [] (read.Miss displaced_cause) ∷ []
 
 -- ---- the turns
 
@@ -237,9 +237,9 @@ abbrev pub turn_of_close : Turn
 turn_of_close = record { added = lost_records; refused = Some (Lost 1 3); device = silent; given = [] }
 
 -- what each line did; the removal recorded nothing
-abbrev pub crowded_turns : List Turn
-crowded_turns =
-    silent_turn (format_records crowded_geometry) []
+abbrev pub displacing_turns : List Turn
+displacing_turns =
+    silent_turn (format_records displacing_geometry) []
     ∷ silent_turn opening_records []
     ∷ silent_turn first_data_records []
     ∷ silent_turn byte_records []
