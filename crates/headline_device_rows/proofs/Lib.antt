@@ -10,3 +10,7 @@ mod Gone
 mod DisplacingScript
 mod DisplacingTells
 mod DisplacingSentences
+mod PassedSteps
+mod PassedScript
+mod PassedTells
+mod PassedSentences

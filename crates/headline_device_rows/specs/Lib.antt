@@ -7,3 +7,5 @@ pub mod Displacing
 pub mod DisplacingSteps
 pub mod DisplacingTold
 pub mod DisplacingSentences
+pub mod Passed
+pub mod PassedSentences

@@ -4,16 +4,19 @@
 ghost use Rattle.headline_device_rows.specs.Steps.{ABreakIsAStep, ABrokenGetIsAStep, ADamagedMissIsAStep, AFlushIsAStep, AGetReadsBoth, AHitReadsTheVector, ARefusedFlushIsAStep};
 ghost use Rattle.headline_device_rows.specs.History.{TheTroubledScriptIsARun, TheTroubledScriptIsAnswered};
 ghost use Rattle.headline_device_rows.specs.Told.{TheTroubledScriptHasAnAccount, TheTroubledScriptIsConcluded};
+ghost use Rattle.headline_device_rows.specs.Passed.{ThePassedScriptHasAnAccount, ThePassedScriptIsARun, ThePassedScriptIsAnswered, ThePassedScriptIsConcluded};
+ghost use Rattle.headline_device_rows.specs.PassedSentences.{TheBreakWasPassed, TheGetWasPassed, TheVectorWasPassed};
 ghost use Rattle.headline_device_rows.specs.Sentences.{NoCountIsAbove, NoDamageInMemory, NoFaultInMemory, NoneStopsInMemory, TheTroubledBreakIsCaused, TheTroubledGetIsCaused, TheDamagedMissIsCaused, TheFlushWasRefused, TheFragmentStaysOther, TheFragmentWasOther, TheGetOnFileIsWhole, TheVectorWasOther};
 ghost use Rattle.headline_device_rows.specs.DisplacingSteps.{ADisplacedBreakIsAStep, ADisplacedGetIsAStep, ADisplacedMissIsAStep, ADisplacementIsAStep, AFragmentIsAStep, AHitOfItIsAStep, ALostCloseIsAStep, APutBesideItIsAStep, AVectorDisplacesToo, AVectorIsDisplaced, AnAbsenceIsAStep, AnOpeningIsAStep};
 ghost use Rattle.headline_device_rows.specs.DisplacingTold.{TheDisplacingScriptHasAnAccount, TheDisplacingScriptIsARun, TheDisplacingScriptIsAnswered, TheDisplacingScriptIsConcluded};
 ghost use Rattle.headline_device_rows.specs.DisplacingSentences.{TheDisplacedAbsenceIsCaused, TheBreakWasDisplaced, TheDisplacedBreakIsCaused, TheDisplacedGetIsCaused, TheDisplacedMissIsCaused, TheDisplacementWasTold, TheGetWasDisplaced, TheLostPutWasAnswered, TheLossIsCaused, TheLostWasDisplaced, TheVectorWasLost};
 
 use headline::{
-    absences_are_caused, break_was_displaced, breaks_are_caused, counts_are_reached,
-    damage_was_given, displaced_was_told, faults_were_refused, get_was_displaced, gets_are_caused,
-    giving_up_was_answered, got_is_whole, losses_are_caused, lost_was_displaced, misses_are_caused,
-    no_false_damage, no_false_faults, pairs_are_doubted, vector_was_lost,
+    absences_are_caused, break_was_displaced, break_was_passed, breaks_are_caused,
+    counts_are_reached, damage_was_given, displaced_was_told, faults_were_refused,
+    get_was_displaced, get_was_passed, gets_are_caused, giving_up_was_answered, got_is_whole,
+    losses_are_caused, lost_was_displaced, misses_are_caused, no_false_damage, no_false_faults,
+    pairs_are_doubted, passed_was_placed, vector_was_lost,
 };
 use headline_rows::{
     a_hit_is_a_step, a_miss_is_a_step, a_piece_is_a_step, a_put_is_a_step, the_put_holds,
@@ -394,4 +397,54 @@ pub fn the_displaced_absence_is_caused()
 {
     absences_are_caused();
     the_displacing_script_is_answered();
+}
+
+/// The lines of the passed script have a legal history, written out by hand.
+pub fn the_passed_script_is_a_run()
+    ensures { ThePassedScriptIsARun }
+{}
+
+/// By these turns each line is answered so.
+pub fn the_passed_script_is_answered()
+    ensures { ThePassedScriptIsAnswered }
+{}
+
+/// The run has an account, with these lines, turns and answers.
+pub fn the_passed_script_has_an_account()
+    ensures { ThePassedScriptHasAnAccount }
+{
+    the_passed_script_is_a_run();
+    the_passed_script_is_answered();
+}
+
+/// What the top call concludes with the status Done holds of its logs.
+pub fn the_passed_script_is_concluded()
+    ensures { ThePassedScriptIsConcluded }
+{
+    the_passed_script_is_a_run();
+    the_passed_script_is_answered();
+}
+
+/// The reader broke at a fragment that is below the floor.
+pub fn the_break_was_passed()
+    ensures { TheBreakWasPassed }
+{
+    break_was_passed();
+    the_passed_script_is_answered();
+}
+
+/// So did the get behind it.
+pub fn the_get_was_passed()
+    ensures { TheGetWasPassed }
+{
+    get_was_passed();
+    the_passed_script_is_answered();
+}
+
+/// Before the last get the key's vector is.
+pub fn the_vector_was_passed()
+    ensures { TheVectorWasPassed }
+{
+    passed_was_placed();
+    the_passed_script_is_answered();
 }
