@@ -68,8 +68,11 @@ steps_take run (bytes ∷ lines) [] turns reads is = absurd reads
 steps_take run (bytes ∷ lines) (asks ∷ steps) [] reads is = absurd is
 steps_take run (bytes ∷ lines) (asks ∷ steps) (turn ∷ turns) reads is =
     let rest : IsRun (after_step run turn asks) lines turns =
-    subst (λ (r : LineAnswer). IsRun (after_reading run turn r) lines turns) reads.0 is.1 in
-    (subst (λ (r : LineAnswer). ReadingTakes run turn r) reads.0 is.0, steps_take (after_step run turn asks) lines steps turns reads.1 rest)
+    subst (λ (r : LineAnswer). IsRun (after_reading run turn r) lines turns) reads.0 is.1 in (
+      subst (λ (r : LineAnswer). ReadingTakes run turn r) reads.0 is.0,
+      steps_take
+          (after_step run turn asks) lines steps turns reads.1 rest,
+    )
 
 abbrev pub run_by : Run → List Step → List Turn → Run
 run_by run [] turns = run

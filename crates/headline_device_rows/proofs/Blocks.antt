@@ -60,7 +60,8 @@ is_one_block doc payload few =
 pub small_block : (doc : Doc) (payload : List ℕ) → IsBytes payload → IsBytes (document_bytes doc payload)
 small_block doc payload small =
     let pad : ℕ = padding_of (length payload) in
-    IsBytes-append (header_bytes doc payload ++ payload) (replicate {A = ℕ} pad 0) (document_small doc payload small) (zeros_are_bytes pad)
+    IsBytes-append (header_bytes doc payload ++ payload) (replicate {A = ℕ} pad 0) (document_small doc payload small)
+    (zeros_are_bytes pad)
 
 -- ---- those of the put
 

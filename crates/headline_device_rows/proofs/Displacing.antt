@@ -170,7 +170,8 @@ abbrev second_state : State
 second_state = after_all displacing_read (take 2 second_data_records)
 
 byte_goes : MayDisplace silent second_state (writer_piece 3) (displaced_so (fragment_piece displacing_key 2 1) ∷ [])
-byte_goes = gone_for second_state (writer_piece 3) (fragment_piece displacing_key 2 1) _ refl (1, lit< tt, refl) refl (simp mod-one) (mod-one _) refl
+byte_goes = gone_for second_state (writer_piece 3) (fragment_piece displacing_key 2 1) _ refl (1, lit< tt, refl) refl (simp mod-one)
+    (mod-one _) refl
     (simp mod-one) (simp mod-one)
 
 pub displacement_is_a_step : ADisplacementIsAStep
@@ -230,7 +231,8 @@ abbrev nothing_state : State
 nothing_state = after_all displacing_get (take 1 nothing_records)
 
 third_goes : MayDisplace silent nothing_state (vector_piece displacing_key 3) (displaced_so (writer_piece 3) ∷ [])
-third_goes = gone_for nothing_state (vector_piece displacing_key 3) (writer_piece 3) _ refl (3, lit< tt, refl) refl (simp mod-one) refl refl
+third_goes = gone_for nothing_state (vector_piece displacing_key 3) (writer_piece 3) _ refl (3, lit< tt, refl) refl
+    (simp mod-one) refl refl
     (simp mod-one) (simp mod-one)
 
 pub vector_displaces_too : AVectorDisplacesToo
@@ -284,7 +286,8 @@ abbrev third_state : State
 third_state = after_all displacing_nothing (take 2 third_data_records)
 
 vector_goes : MayDisplace silent third_state (writer_piece 5) (displaced_so (vector_piece displacing_key 3) ∷ [])
-vector_goes = gone_for third_state (writer_piece 5) (vector_piece displacing_key 3) _ refl (2, lit< tt, refl) refl (simp mod-one) (mod-one _) refl
+vector_goes = gone_for third_state (writer_piece 5) (vector_piece displacing_key 3) _ refl (2, lit< tt, refl) refl (simp mod-one)
+    (mod-one _) refl
     (simp mod-one) (simp mod-one)
 
 pub vector_is_displaced : AVectorIsDisplaced

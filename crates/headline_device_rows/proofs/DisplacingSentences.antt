@@ -46,22 +46,26 @@ module _ (said : TheDisplacingScriptIsAnswered) (a : Account displacing_logs) (t
 
   breaking : HistoryTells a (take 6 displacing_lines) (step.Next name_of_reader) (answer.Broken displaced_cause)
   breaking =
-      history _ _ (drop 7 displacing_lines) (take 6 (each_answered displacing_answers)) (drop 7 (each_answered displacing_answers)) _ _ next_is_read
+      history _ _ (drop 7 displacing_lines) (take 6 (each_answered displacing_answers))
+      (drop 7 (each_answered displacing_answers)) _ _ next_is_read
       refl refl refl
 
   broken_get : HistoryTells a (take 7 displacing_lines) (step.Get displacing_key []) (answer.Broken displaced_cause)
   broken_get =
-      history _ _ (drop 8 displacing_lines) (take 7 (each_answered displacing_answers)) (drop 8 (each_answered displacing_answers)) _ _ get_is_read
+      history _ _ (drop 8 displacing_lines) (take 7 (each_answered displacing_answers))
+      (drop 8 (each_answered displacing_answers)) _ _ get_is_read
       refl refl refl
 
   closing : HistoryTells a (take 10 displacing_lines) (step.Close writer_name) (answer.Refused (refused.Lost 3 displaced_cause) None)
   closing =
-      history _ _ (drop 11 displacing_lines) (take 10 (each_answered displacing_answers)) (drop 11 (each_answered displacing_answers)) _ _ close_is_read
+      history _ _ (drop 11 displacing_lines) (take 10 (each_answered displacing_answers))
+      (drop 11 (each_answered displacing_answers)) _ _ close_is_read
       refl refl refl
 
   missing : HistoryTells a (take 11 displacing_lines) (step.Get displacing_key []) (answer.Miss displaced_cause)
   missing =
-      history _ _ (drop 12 displacing_lines) (take 11 (each_answered displacing_answers)) (drop 12 (each_answered displacing_answers)) _ _ get_is_read
+      history _ _ (drop 12 displacing_lines) (take 11 (each_answered displacing_answers))
+      (drop 12 (each_answered displacing_answers)) _ _ get_is_read
       refl refl refl
 
   absent : HistoryTells a (take 12 displacing_lines) (step.Remove displacing_key) (answer.Absent displaced_cause)
@@ -73,13 +77,15 @@ pub break_was_displaced : BreakWasDisplaced → TheDisplacingScriptIsAnswered �
 break_was_displaced law said a tells = law displacing_logs a (take 6 displacing_lines) name_of_reader 0 4 (breaking said a tells)
 
 pub displaced_break_is_caused : BreaksAreCaused → TheDisplacingScriptIsAnswered → TheDisplacedBreakIsCaused
-displaced_break_is_caused law said a tells = law displacing_logs a (take 6 displacing_lines) name_of_reader displaced_cause (breaking said a tells)
+displaced_break_is_caused law said a tells = law displacing_logs a (take 6 displacing_lines) name_of_reader displaced_cause
+    (breaking said a tells)
 
 pub get_was_displaced : GetWasDisplaced → TheDisplacingScriptIsAnswered → TheGetWasDisplaced
 get_was_displaced law said a tells = law displacing_logs a (take 7 displacing_lines) displacing_key [] 0 4 (broken_get said a tells)
 
 pub displaced_get_is_caused : GetsAreCaused → TheDisplacingScriptIsAnswered → TheDisplacedGetIsCaused
-displaced_get_is_caused law said a tells = law displacing_logs a (take 7 displacing_lines) displacing_key [] displaced_cause (broken_get said a tells)
+displaced_get_is_caused law said a tells = law displacing_logs a (take 7 displacing_lines) displacing_key [] displaced_cause
+    (broken_get said a tells)
 
 pub lost_was_displaced : LostWasDisplaced → TheDisplacingScriptIsAnswered → TheLostWasDisplaced
 lost_was_displaced law said a tells =
@@ -91,16 +97,19 @@ loss_is_caused law said a tells =
 
 pub displacement_was_told : DisplacedWasTold → TheDisplacingScriptIsAnswered → TheDisplacementWasTold
 displacement_was_told law said a tells =
-    law displacing_logs a (take 11 displacing_lines) (step.Get displacing_key []) (answer.Miss displaced_cause) 0 4 (missing said a tells) refl
+    law displacing_logs a (take 11 displacing_lines) (step.Get displacing_key []) (answer.Miss displaced_cause) 0 4
+    (missing said a tells) refl
 
 pub vector_was_lost : VectorWasLost → TheDisplacingScriptIsAnswered → TheVectorWasLost
 vector_was_lost law said a tells =
-    law displacing_logs a (take 11 displacing_lines) (step.Get displacing_key []) (answer.Miss displaced_cause) displacing_key 0 4 (Misses.MissesKey.gets [])
+    law displacing_logs a (take 11 displacing_lines) (step.Get displacing_key []) (answer.Miss displaced_cause) displacing_key 0 4
+    (Misses.MissesKey.gets [])
     (missing said a tells)
 
 pub displaced_miss_is_caused : MissesAreCaused → TheDisplacingScriptIsAnswered → TheDisplacedMissIsCaused
 displaced_miss_is_caused law said a tells =
-    law displacing_logs a (take 11 displacing_lines) (step.Get displacing_key []) displacing_key [] displaced_cause Reads.AsksFor.gets (missing said a tells)
+    law displacing_logs a (take 11 displacing_lines)
+    (step.Get displacing_key []) displacing_key [] displaced_cause Reads.AsksFor.gets (missing said a tells)
 
 pub absence_is_caused : AbsencesAreCaused → TheDisplacingScriptIsAnswered → TheDisplacedAbsenceIsCaused
 absence_is_caused law said a tells = law displacing_logs a (take 12 displacing_lines) displacing_key displaced_cause (absent said a tells)
@@ -114,7 +123,8 @@ module _ (steps : DisplacingStepwise) where
       (reads_front n displacing_lines displacing_script are_read)
       (takes_front n fresh displacing_script displacing_turns (are_taken steps))
 
-  giving_up_recorded : (a : Account displacing_logs) → TellsDisplacing a → RecordsBehind a (take 10 displacing_lines) (rec.Aborted 1 displacing_key)
+  giving_up_recorded : (a : Account displacing_logs) → TellsDisplacing a → RecordsBehind a (take 10 displacing_lines)
+      (rec.Aborted 1 displacing_key)
   giving_up_recorded a tells = record {
     bytes = line_to_close;
     later = drop 11 displacing_lines;
@@ -131,4 +141,5 @@ module _ (steps : DisplacingStepwise) where
 
 pub giving_up_was_answered : DisplacingStepwise → GivingUpWasAnswered → TheLostPutWasAnswered
 unfolding giving_up_recorded
-giving_up_was_answered steps law a tells = law displacing_logs a (take 10 displacing_lines) 1 displacing_key (giving_up_recorded steps a tells)
+giving_up_was_answered steps law a tells = law displacing_logs a (take 10 displacing_lines) 1 displacing_key
+    (giving_up_recorded steps a tells)

@@ -109,7 +109,8 @@ answered_each = are_answered blank_outline displacing_lines displacing_script di
 
 -- ---- the device
 
-outline_behind : outline_of blank_outline displacing_lines (each_answered displacing_answers) ≡ outline_by blank_outline displacing_script displacing_answers
+outline_behind : outline_of blank_outline displacing_lines (each_answered displacing_answers)
+    ≡ outline_by blank_outline displacing_script displacing_answers
 outline_behind = outline_is blank_outline displacing_lines displacing_script displacing_answers are_read
 
 run_behind_script : run_after fresh displacing_lines displacing_turns ≡ run_by fresh displacing_script displacing_turns
@@ -129,7 +130,8 @@ records_come_back = subst (λ (run : Run). ComeBackFrom displacing_logs (harms_o
   told = (record { made = record { later = []; is = refl }; all = λ h. cc; counted = lit≤ tt; unharmed = λ h. refl }, tt);
 })
 
-back_by_answers : EachBack displacing_logs.before displacing_logs.now (told_by (outline_of blank_outline displacing_lines (each_answered displacing_answers)))
+back_by_answers : EachBack displacing_logs.before displacing_logs.now
+    (told_by (outline_of blank_outline displacing_lines (each_answered displacing_answers)))
 back_by_answers = subst (λ (o : Outline). EachBack displacing_logs.before displacing_logs.now (told_by o)) (sym outline_behind) (record {
   back = record {
     devices = displacing_device ∷ [];
@@ -139,15 +141,17 @@ back_by_answers = subst (λ (o : Outline). EachBack displacing_logs.before displ
   attached = refl;
 })
 
-back_by_records : EachBack displacing_logs.before displacing_logs.now (told_by_records (run_after fresh displacing_lines displacing_turns))
-back_by_records = subst (λ (run : Run). EachBack displacing_logs.before displacing_logs.now (told_by_records run)) (sym run_behind_script) (record {
-  back = record {
-    devices = displacing_device ∷ [];
-    returned = refl;
-    reached = (record { made = record { later = []; is = refl }; all = λ h. refl; counted = lit≤ tt; unharmed = λ h. refl }, tt);
-  };
-  attached = refl;
-})
+back_by_records : EachBack displacing_logs.before displacing_logs.now
+    (told_by_records (run_after fresh displacing_lines displacing_turns))
+back_by_records = subst (λ (run : Run). EachBack displacing_logs.before displacing_logs.now (told_by_records run))
+    (sym run_behind_script) (record {
+      back = record {
+        devices = displacing_device ∷ [];
+        returned = refl;
+        reached = (record { made = record { later = []; is = refl }; all = λ h. refl; counted = lit≤ tt; unharmed = λ h. refl }, tt);
+      };
+      attached = refl;
+    })
 
 -- ---- what was written
 
@@ -156,7 +160,8 @@ unfolding cause_line displaced_text formatted_line hit_line lost_text number_lin
 went_out = record { taken = refl; unfailed = refl }
 
 lines_are_takeable : AreTakeable 0 displacing_lines
-lines_are_takeable = are_takeable 0 displacing_lines displacing_script are_read ((λ needs. absurd needs), all_takeable 1 (drop 1 displacing_script) (lit< tt))
+lines_are_takeable = are_takeable 0 displacing_lines displacing_script are_read
+    ((λ needs. absurd needs), all_takeable 1 (drop 1 displacing_script) (lit< tt))
 
 -- ---- the account
 
@@ -182,7 +187,14 @@ has_account legal said = (
     recorded = records_come_back;
   },
   record { lines_are = refl; answers_are = refl; told_are = refl; turns_are = refl },
-  record { sent = went_out; takeable = lines_are_takeable; ends = ((_, refl), refl); back = back_by_answers; alone = λ h. back_by_records },
+  record {
+    sent = went_out;
+    takeable = lines_are_takeable;
+    ends = ((_, refl), refl);
+    back = back_by_answers;
+    alone =
+        λ h. back_by_records;
+  },
 )
 
 pub is_concluded : TheDisplacingScriptIsARun → TheDisplacingScriptIsAnswered → TheDisplacingScriptIsConcluded

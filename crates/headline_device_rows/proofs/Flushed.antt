@@ -13,7 +13,8 @@ use Rattle.headline_device_rows.proofs.Blocks.{both_are_two, digest_of_fragment,
 
 pub refused_flush_is_a_step : ThePutHolds → ARefusedFlushIsAStep
 refused_flush_is_a_step holds key =
-    subst (λ (s : State). IsStep (device_with (refused_call ∷ [])) s (Flush ∷ []) fault_records (Some (Faulted 1))) (sym (holds key)) (record {
+    subst (λ (s : State). IsStep (device_with (refused_call ∷ [])) s (Flush ∷ []) fault_records (Some (Faulted 1))) (sym (holds key))
+    (record {
       grows = more (_ ∷ []) _ (
         Fails (Faulted 1),
         Legal.DoesFlush.stops 1 (record {

@@ -46,7 +46,15 @@ broken_state key readers next_reader = record (whole_state key readers next_read
 
 -- a reader that hit the put, and the index that it takes next
 abbrev reader_at : Key → (actor reader index : ℕ) → ReaderRow
-reader_at key actor reader index = record { actor = actor; reader = reader; key = key; put = 1; table = Some (row_of_a ∷ []); next = index }
+reader_at key actor reader index = record {
+  actor = actor;
+  reader = reader;
+  key = key;
+  put = 1;
+  table = Some (row_of_a ∷ []);
+  next =
+      index;
+}
 
 -- ---- what stands
 
@@ -103,7 +111,8 @@ module _ (key : Key) (events : List Call) where
   looks_up readers number among =
       let s : State = whole_state key readers number in
       let given : IsRead (device_with events) s (vector_row key) = Given.IsRead.given (vector_block key)
-      (record { written = lit< tt; given = among; whole = vector_is_block key; of_bytes = vector_is_bytes key }) (sym (digest_of_vector key)) in
+      (record { written = lit< tt; given = among; whole = vector_is_block key; of_bytes = vector_is_bytes key })
+      (sym (digest_of_vector key)) in
       let live : IsReadWhereLive (device_with events) s (live_vector_of s key) = rw (vector_is_live key readers number) given in
       subst (λ (answer : ReadAnswer). IsLookup (device_with events) s key [] [] answer) (is_found key readers number)
       (Legal.IsLookup.verdict live)
@@ -113,7 +122,8 @@ module _ (key : Key) (events : List Call) where
   looks_up_again readers number among =
       let s : State = broken_state key readers number in
       let given : IsRead (device_with events) s (vector_row key) = Given.IsRead.given (vector_block key)
-      (record { written = lit< tt; given = among; whole = vector_is_block key; of_bytes = vector_is_bytes key }) (sym (digest_of_vector key)) in
+      (record { written = lit< tt; given = among; whole = vector_is_block key; of_bytes = vector_is_bytes key })
+      (sym (digest_of_vector key)) in
       let live : IsReadWhereLive (device_with events) s (live_vector_of s key) = rw (vector_stays_live key readers number) given in
       subst (λ (answer : ReadAnswer). IsLookup (device_with events) s key [] [] answer) (stays_found key readers number)
       (Legal.IsLookup.verdict live)
@@ -123,7 +133,8 @@ module _ (key : Key) (events : List Call) where
   gives readers number actor reader among =
       let s : State = whole_state key readers number in
       let given : IsRead (device_with events) s (fragment_row key) = Given.IsRead.given (fragment_block key)
-      (record { written = lit< tt; given = among; whole = fragment_is_block key; of_bytes = fragment_is_bytes key }) (sym (digest_of_fragment key)) in
+      (record { written = lit< tt; given = among; whole = fragment_is_block key; of_bytes = fragment_is_bytes key })
+      (sym (digest_of_fragment key)) in
       let live : IsReadWhereLive (device_with events) s (live_row_of s (fragment_piece key 1 1)) =
       rw (fragment_is_live key readers number) given in
       subst (λ (answer : NextAnswer). IsReading (device_with events) s (reader_at key actor reader 1) [] answer)
@@ -135,7 +146,8 @@ module _ (key : Key) (events : List Call) where
   ends readers number actor reader = Legal.IsReading.verdict tt (λ entry row listed live. absurd cc)
 
   breaks : (readers : List ReaderRow) (number actor reader : ℕ)
-      → IsReading (device_with events) (broken_state key readers number) (reader_at key actor reader 1) [] (next.Broke (fragment_damage key))
+      → IsReading (device_with events) (broken_state key readers number) (reader_at key actor reader 1) []
+      (next.Broke (fragment_damage key))
   breaks readers number actor reader =
       let s : State = broken_state key readers number in
       let live : IsReadWhereLive (device_with events) s (live_row_of s (fragment_piece key 1 1)) =
@@ -157,7 +169,8 @@ get_leaves holds key = ap (λ (s : State). after_all s (get_records key)) (hit_l
 
 break_leaves : ThePutHolds → (key : Key) → state_behind_break key ≡ broken_state key (reader_at key 1 2 1 ∷ []) 4
 break_leaves holds key =
-    let broken : after_all (whole_state key (reader_at key 1 2 1 ∷ []) 4) (damaged_break_records key) ≡ broken_state key (reader_at key 1 2 1 ∷ []) 4 =
+    let broken : after_all (whole_state key (reader_at key 1 2 1 ∷ []) 4) (damaged_break_records key) ≡ broken_state key
+    (reader_at key 1 2 1 ∷ []) 4 =
     simp (same_key-same key) in
     ap (λ (s : State). after_all s (damaged_break_records key)) (get_leaves holds key) ∙ broken
 
@@ -166,7 +179,8 @@ broken_get_leaves holds key = ap (λ (s : State). after_all s (broken_get_record
 
 pub hit_reads_the_vector : ThePutHolds → AHitReadsTheVector
 hit_reads_the_vector holds key =
-    subst (λ (s : State). IsStep (device_with (calls_of_hit key)) s (Look 1 key [] ∷ []) (hit_records key) None) (sym (flush_leaves holds key))
+    subst (λ (s : State). IsStep (device_with (calls_of_hit key)) s (Look 1 key [] ∷ []) (hit_records key) None)
+    (sym (flush_leaves holds key))
     (record {
       grows = more (_ ∷ []) _ (
         Done,
@@ -215,7 +229,15 @@ reads_all key =
     (more (_ ∷ []) _ (
       Done,
       Legal.DoesReadAll.reads_on (next.Ended 1) refl
-          (record { r = _; before = []; quiet = refl; reading = refl; right = ends key (calls_of_get key) (readers_of_get key 2) 4 0 3; is = refl })
+          (record {
+            r = _;
+            before = [];
+            quiet = refl;
+            reading = refl;
+            right = ends key (calls_of_get key)
+                (readers_of_get key 2) 4 0 3;
+            is = refl;
+          })
           refl,
       refl,
     )
@@ -223,7 +245,8 @@ reads_all key =
 
 pub get_reads_both : ThePutHolds → AGetReadsBoth
 get_reads_both holds key =
-    subst (λ (s : State). IsStep (device_with (calls_of_get key)) s (get_intents s key []) (get_records key) None) (sym (hit_leaves holds key))
+    subst (λ (s : State). IsStep (device_with (calls_of_get key)) s (get_intents s key []) (get_records key) None)
+    (sym (hit_leaves holds key))
     (record {
       grows = more (_ ∷ []) _ (
         Done,
@@ -259,7 +282,8 @@ fragment_is_damaged key differ = record {
 
 pub break_is_a_step : ThePutHolds → ABreakIsAStep
 break_is_a_step holds key differ =
-    subst (λ (s : State). IsStep (device_with calls_of_break) s (ReadOn 2 ∷ []) (damaged_break_records key) None) (sym (get_leaves holds key)) (record {
+    subst (λ (s : State). IsStep (device_with calls_of_break) s (ReadOn 2 ∷ []) (damaged_break_records key) None)
+    (sym (get_leaves holds key)) (record {
       grows = more (_ ∷ _ ∷ []) _ (
         Done,
         Legal.DoesReadOn.reads_on (next.Broke (fragment_damage key))

@@ -182,9 +182,23 @@ are_taken = (
                                 (
                                   record { packs = refl; unsynced = refl; content = refl; moment = refl; legal = fills_six; own = refl },
                                   (
-                                    record { packs = refl; unsynced = refl; content = refl; moment = refl; legal = flushes_five; own = refl },
+                                    record {
+                                      packs = refl;
+                                      unsynced = refl;
+                                      content = refl;
+                                      moment = refl;
+                                      legal = flushes_five;
+                                      own = refl;
+                                    },
                                     (
-                                      record { packs = refl; unsynced = refl; content = refl; moment = refl; legal = misses_object; own = refl },
+                                      record {
+                                        packs = refl;
+                                        unsynced = refl;
+                                        content = refl;
+                                        moment = refl;
+                                        legal = misses_object;
+                                        own = refl;
+                                      },
                                       tt,
                                     ),
                                   ),

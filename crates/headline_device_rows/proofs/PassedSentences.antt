@@ -37,7 +37,8 @@ module _ (said : ThePassedScriptIsAnswered) (a : Account passed_logs) (tells : T
 
   breaking : HistoryTells a (take 14 passed_lines) (step.Next name_of_reader) (answer.Broken fragment_passed)
   breaking =
-      history _ _ (drop 15 passed_lines) (take 14 (each_answered passed_answers)) (drop 15 (each_answered passed_answers)) _ _ next_is_read
+      history _ _ (drop 15 passed_lines) (take 14 (each_answered passed_answers))
+      (drop 15 (each_answered passed_answers)) _ _ next_is_read
       refl refl refl
 
   broken_get : HistoryTells a (take 15 passed_lines) (step.Get passed_key []) (answer.Broken fragment_passed)

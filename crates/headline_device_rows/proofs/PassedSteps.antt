@@ -136,7 +136,8 @@ free_of_few s piece less =
 
 -- ---- steps
 
-pub opens_filler : IsStep silent (passed_state 1) (Write 1 filler_key [] [] 0 ∷ []) (rec.WriteOpened (record { 0 = 1 }) 1 filler_key [] [] 0 ∷ []) None
+pub opens_filler : IsStep silent (passed_state 1) (Write 1 filler_key [] [] 0 ∷ [])
+    (rec.WriteOpened (record { 0 = 1 }) 1 filler_key [] [] 0 ∷ []) None
 opens_filler = record {
   grows = more (_ ∷ []) _ (
     Done,
@@ -188,7 +189,8 @@ fills_one = record {
   synced = λ on. cc;
 }
 
-pub opens_object : IsStep silent (passed_state 3) (Write 2 passed_key [] [] 0 ∷ []) (rec.WriteOpened (record { 0 = 2 }) 2 passed_key [] [] 0 ∷ []) None
+pub opens_object : IsStep silent (passed_state 3) (Write 2 passed_key [] [] 0 ∷ [])
+    (rec.WriteOpened (record { 0 = 2 }) 2 passed_key [] [] 0 ∷ []) None
 opens_object = record {
   grows = more (_ ∷ []) _ (
     Done,
@@ -240,7 +242,8 @@ writes_object = record {
   synced = λ on. cc;
 }
 
-pub flushes_one : IsStep (device_with (Wrote 0 (filler_block 1 32 0 ++ passed_block) ∷ [])) (passed_state 5) (Flush ∷ []) (rec.Began 40 16 ∷ []) None
+pub flushes_one : IsStep (device_with (Wrote 0 (filler_block 1 32 0 ++ passed_block) ∷ [])) (passed_state 5) (Flush ∷ [])
+    (rec.Began 40 16 ∷ []) None
 flushes_one = record {
   grows = more (_ ∷ []) _ (
     Done,
@@ -251,8 +254,18 @@ flushes_one = record {
       takes = record {
         bytes = filler_block 1 32 0 ++ passed_block;
         written = inl refl;
-        whole = ap (λ (n : ℕ). n / 512) (both_are (filler_block 1 32 0) (passed_block) 2048 2048 (filler_is_four 1 32 0) (passed_is_four));
-        holds = ((λ within. ap document_digest (take_at (filler_block 1 32 0) (passed_block) 2048 (filler_is_four 1 32 0)) ∙ filler_digest 1 32 0), ((λ within. ap document_digest (second_part (filler_block 1 32 0) (passed_block) 2048 2048 (filler_is_four 1 32 0) (passed_is_four)) ∙ passed_digest), tt));
+        whole = ap (λ (n : ℕ). n / 512) (both_are (filler_block 1 32 0) (passed_block) 2048 2048 (filler_is_four 1 32 0)
+            (passed_is_four));
+        holds = (
+          (λ within. ap document_digest (take_at (filler_block 1 32 0) (passed_block) 2048 (filler_is_four 1 32 0))
+              ∙ filler_digest 1 32 0),
+          (
+            (λ within. ap document_digest
+                (second_part (filler_block 1 32 0) (passed_block) 2048 2048 (filler_is_four 1 32 0) (passed_is_four))
+                ∙ passed_digest),
+            tt,
+          ),
+        );
       };
       are = tt;
       is = refl;
@@ -321,7 +334,8 @@ fills_two = record {
   synced = λ on. cc;
 }
 
-pub flushes_two : IsStep (device_with (Wrote 8 (listing_block ++ filler_block 2 41 1409) ∷ [])) (passed_state 8) (Flush ∷ []) (rec.Began 45 21 ∷ []) None
+pub flushes_two : IsStep (device_with (Wrote 8 (listing_block ++ filler_block 2 41 1409) ∷ [])) (passed_state 8) (Flush ∷ [])
+    (rec.Began 45 21 ∷ []) None
 flushes_two = record {
   grows = more (_ ∷ []) _ (
     Done,
@@ -332,8 +346,24 @@ flushes_two = record {
       takes = record {
         bytes = listing_block ++ filler_block 2 41 1409;
         written = inl refl;
-        whole = ap (λ (n : ℕ). n / 512) (both_are (listing_block) (filler_block 2 41 1409) 512 2048 (listing_is_block) (filler_is_four 2 41 1409));
-        holds = ((λ within. absurd (omega (arith, within))), ((λ within. absurd (omega (arith, within))), ((λ within. ap document_digest (take_at (listing_block) (filler_block 2 41 1409) 512 (listing_is_block)) ∙ listing_digest), ((λ within. ap document_digest (second_part (listing_block) (filler_block 2 41 1409) 512 2048 (listing_is_block) (filler_is_four 2 41 1409)) ∙ filler_digest 2 41 1409), tt))));
+        whole = ap (λ (n : ℕ). n / 512) (both_are (listing_block) (filler_block 2 41 1409) 512 2048 (listing_is_block)
+            (filler_is_four 2 41 1409));
+        holds = (
+          (λ within. absurd (omega (arith, within))),
+          (
+            (λ within. absurd (omega (arith, within))),
+            (
+              (λ within. ap document_digest (take_at (listing_block) (filler_block 2 41 1409) 512 (listing_is_block))
+                  ∙ listing_digest),
+              (
+                (λ within. ap document_digest
+                    (second_part (listing_block) (filler_block 2 41 1409) 512 2048 (listing_is_block) (filler_is_four 2 41 1409))
+                    ∙ filler_digest 2 41 1409),
+                tt,
+              ),
+            ),
+          ),
+        );
       };
       are = tt;
       is = refl;
@@ -346,7 +376,8 @@ flushes_two = record {
   synced = λ on. cc;
 }
 
-pub fills_three : IsStep silent (passed_state 9) (Fragment 1 3 filling ∷ Fragment 1 4 filling ∷ []) (filled_so (filler_piece 3) 45 2818 ++ filled_so (filler_piece 4) 49 4227) None
+pub fills_three : IsStep silent (passed_state 9) (Fragment 1 3 filling ∷ Fragment 1 4 filling ∷ [])
+    (filled_so (filler_piece 3) 45 2818 ++ filled_so (filler_piece 4) 49 4227) None
 fills_three = record {
   grows = more (_ ∷ _ ∷ []) _ (
     Done,
@@ -396,7 +427,8 @@ fills_three = record {
   synced = λ on. cc;
 }
 
-pub flushes_three : IsStep (device_with (Wrote 13 (filler_block 3 45 2818 ++ filler_block 4 49 4227) ∷ [])) (passed_state 10) (Flush ∷ []) (rec.Began 53 29 ∷ []) None
+pub flushes_three : IsStep (device_with (Wrote 13 (filler_block 3 45 2818 ++ filler_block 4 49 4227) ∷ [])) (passed_state 10)
+    (Flush ∷ []) (rec.Began 53 29 ∷ []) None
 flushes_three = record {
   grows = more (_ ∷ []) _ (
     Done,
@@ -407,8 +439,29 @@ flushes_three = record {
       takes = record {
         bytes = filler_block 3 45 2818 ++ filler_block 4 49 4227;
         written = inl refl;
-        whole = ap (λ (n : ℕ). n / 512) (both_are (filler_block 3 45 2818) (filler_block 4 49 4227) 2048 2048 (filler_is_four 3 45 2818) (filler_is_four 4 49 4227));
-        holds = ((λ within. absurd (omega (arith, within))), ((λ within. absurd (omega (arith, within))), ((λ within. absurd (omega (arith, within))), ((λ within. absurd (omega (arith, within))), ((λ within. ap document_digest (take_at (filler_block 3 45 2818) (filler_block 4 49 4227) 2048 (filler_is_four 3 45 2818)) ∙ filler_digest 3 45 2818), ((λ within. ap document_digest (second_part (filler_block 3 45 2818) (filler_block 4 49 4227) 2048 2048 (filler_is_four 3 45 2818) (filler_is_four 4 49 4227)) ∙ filler_digest 4 49 4227), tt))))));
+        whole = ap (λ (n : ℕ). n / 512) (both_are (filler_block 3 45 2818) (filler_block 4 49 4227) 2048 2048
+            (filler_is_four 3 45 2818) (filler_is_four 4 49 4227));
+        holds = (
+          (λ within. absurd (omega (arith, within))),
+          (
+            (λ within. absurd (omega (arith, within))),
+            (
+              (λ within. absurd (omega (arith, within))),
+              (
+                (λ within. absurd (omega (arith, within))),
+                (
+                  (λ within. ap document_digest (take_at (filler_block 3 45 2818) (filler_block 4 49 4227) 2048
+                      (filler_is_four 3 45 2818)) ∙ filler_digest 3 45 2818),
+                  (
+                    (λ within. ap document_digest (second_part (filler_block 3 45 2818) (filler_block 4 49 4227) 2048 2048
+                        (filler_is_four 3 45 2818) (filler_is_four 4 49 4227)) ∙ filler_digest 4 49 4227),
+                    tt,
+                  ),
+                ),
+              ),
+            ),
+          ),
+        );
       };
       are = tt;
       is = refl;
@@ -450,7 +503,8 @@ fills_five = record {
   synced = λ on. cc;
 }
 
-pub flushes_four : IsStep (device_with (Wrote 21 (filler_block 5 53 5636) ∷ [])) (passed_state 12) (Flush ∷ []) (rec.Began 64 40 ∷ []) None
+pub flushes_four : IsStep (device_with (Wrote 21 (filler_block 5 53 5636) ∷ [])) (passed_state 12) (Flush ∷ [])
+    (rec.Began 64 40 ∷ []) None
 flushes_four = record {
   grows = more (_ ∷ []) _ (
     Done,
@@ -462,7 +516,29 @@ flushes_four = record {
         bytes = filler_block 5 53 5636;
         written = inl refl;
         whole = ap (λ (n : ℕ). n / 512) (filler_is_four 5 53 5636);
-        holds = ((λ within. absurd (omega (arith, within))), ((λ within. absurd (omega (arith, within))), ((λ within. absurd (omega (arith, within))), ((λ within. absurd (omega (arith, within))), ((λ within. absurd (omega (arith, within))), ((λ within. absurd (omega (arith, within))), ((λ within. ap document_digest (alone (filler_block 5 53 5636) 2048 (filler_is_four 5 53 5636)) ∙ filler_digest 5 53 5636), tt)))))));
+        holds = (
+          (λ within. absurd (omega (arith, within))),
+          (
+            (λ within. absurd (omega (arith, within))),
+            (
+              (λ within. absurd (omega (arith, within))),
+              (
+                (λ within. absurd (omega (arith, within))),
+                (
+                  (λ within. absurd (omega (arith, within))),
+                  (
+                    (λ within. absurd (omega (arith, within))),
+                    (
+                      (λ within. ap document_digest (alone (filler_block 5 53 5636) 2048 (filler_is_four 5 53 5636))
+                          ∙ filler_digest 5 53 5636),
+                      tt,
+                    ),
+                  ),
+                ),
+              ),
+            ),
+          ),
+        );
       };
       are = tt;
       is = refl;
@@ -475,7 +551,8 @@ flushes_four = record {
   synced = λ on. cc;
 }
 
-pub hits_object : IsStep (device_with (Read 8 listing_block ∷ [])) (passed_state 13) (Look 3 passed_key [] ∷ []) (rec.ReadOpened 1 (record { 0 = 3 }) passed_key [] (read.Hit 2) ∷ []) None
+pub hits_object : IsStep (device_with (Read 8 listing_block ∷ [])) (passed_state 13) (Look 3 passed_key [] ∷ [])
+    (rec.ReadOpened 1 (record { 0 = 3 }) passed_key [] (read.Hit 2) ∷ []) None
 hits_object = record {
   grows = more (_ ∷ []) _ (
     Done,
@@ -517,7 +594,8 @@ breaks_off = record {
   synced = λ on. cc;
 }
 
-pub gets_broken : IsStep (device_with (Read 8 listing_block ∷ [])) (passed_state 15) (get_intents (passed_state 15) passed_key []) passed_get_records None
+pub gets_broken : IsStep (device_with (Read 8 listing_block ∷ [])) (passed_state 15)
+    (get_intents (passed_state 15) passed_key []) passed_get_records None
 gets_broken = record {
   grows = more (_ ∷ []) _ (
     Done,
@@ -593,7 +671,32 @@ flushes_five = record {
         bytes = filler_block 6 64 7045;
         written = inl refl;
         whole = ap (λ (n : ℕ). n / 512) (filler_is_four 6 64 7045);
-        holds = ((λ within. absurd (omega (arith, within))), ((λ within. absurd (omega (arith, within))), ((λ within. absurd (omega (arith, within))), ((λ within. absurd (omega (arith, within))), ((λ within. absurd (omega (arith, within))), ((λ within. absurd (omega (arith, within))), ((λ within. absurd (omega (arith, within))), ((λ within. ap document_digest (alone (filler_block 6 64 7045) 2048 (filler_is_four 6 64 7045)) ∙ filler_digest 6 64 7045), tt))))))));
+        holds = (
+          (λ within. absurd (omega (arith, within))),
+          (
+            (λ within. absurd (omega (arith, within))),
+            (
+              (λ within. absurd (omega (arith, within))),
+              (
+                (λ within. absurd (omega (arith, within))),
+                (
+                  (λ within. absurd (omega (arith, within))),
+                  (
+                    (λ within. absurd (omega (arith, within))),
+                    (
+                      (λ within. absurd (omega (arith, within))),
+                      (
+                        (λ within. ap document_digest (alone (filler_block 6 64 7045) 2048 (filler_is_four 6 64 7045))
+                            ∙ filler_digest 6 64 7045),
+                        tt,
+                      ),
+                    ),
+                  ),
+                ),
+              ),
+            ),
+          ),
+        );
       };
       are = tt;
       is = refl;
@@ -606,7 +709,8 @@ flushes_five = record {
   synced = λ on. cc;
 }
 
-pub misses_object : IsStep silent (passed_state 18) (get_intents (passed_state 18) passed_key []) (rec.ReadOpened 3 (record { 0 = 0 }) passed_key [] (read.Miss vector_passed) ∷ []) None
+pub misses_object : IsStep silent (passed_state 18) (get_intents (passed_state 18) passed_key [])
+    (rec.ReadOpened 3 (record { 0 = 0 }) passed_key [] (read.Miss vector_passed) ∷ []) None
 misses_object = record {
   grows = more (_ ∷ []) _ (
     Done,

@@ -82,7 +82,13 @@ each_is_line = (
                         is_line_to_fill,
                         (
                           is_line_to_flush,
-                          (is_line_to_follow_object, (is_line_to_take_next, (is_line_to_get_passed, (is_line_to_fill, (is_line_to_flush, (is_line_to_get_passed, tt)))))),
+                          (
+                            is_line_to_follow_object,
+                            (
+                              is_line_to_take_next,
+                              (is_line_to_get_passed, (is_line_to_fill, (is_line_to_flush, (is_line_to_get_passed, tt)))),
+                            ),
+                          ),
                         ),
                       ),
                     ),
@@ -165,7 +171,8 @@ answered_each = are_answered blank_outline passed_lines passed_script passed_ans
 
 -- ---- the device
 
-outline_behind : outline_of blank_outline passed_lines (each_answered passed_answers) ≡ outline_by blank_outline passed_script passed_answers
+outline_behind : outline_of blank_outline passed_lines (each_answered passed_answers)
+    ≡ outline_by blank_outline passed_script passed_answers
 outline_behind = outline_is blank_outline passed_lines passed_script passed_answers are_read
 
 run_behind_script : run_after fresh passed_lines passed_turns ≡ run_by fresh passed_script passed_turns
@@ -185,25 +192,36 @@ records_come_back = subst (λ (run : Run). ComeBackFrom passed_logs (harms_of ru
   told = (record { made = record { later = []; is = refl }; all = λ h. cc; counted = lit≤ tt; unharmed = λ h. refl }, tt);
 })
 
-back_by_answers : EachBack passed_logs.before passed_logs.now (told_by (outline_of blank_outline passed_lines (each_answered passed_answers)))
+back_by_answers : EachBack passed_logs.before passed_logs.now
+    (told_by (outline_of blank_outline passed_lines (each_answered passed_answers)))
 back_by_answers = subst (λ (o : Outline). EachBack passed_logs.before passed_logs.now (told_by o)) (sym outline_behind) (record {
   back = record {
     devices = passed_device ∷ [];
     returned = refl;
-    reached = (record { made = record { later = passed_device.past; is = refl }; all = λ h. cc; counted = lit≤ tt; unharmed = λ h. refl }, tt);
+    reached = (
+      record {
+        made = record { later = passed_device.past; is = refl };
+        all = λ h. cc;
+        counted = lit≤ tt;
+        unharmed =
+            λ h. refl;
+      },
+      tt,
+    );
   };
   attached = refl;
 })
 
 back_by_records : EachBack passed_logs.before passed_logs.now (told_by_records (run_after fresh passed_lines passed_turns))
-back_by_records = subst (λ (run : Run). EachBack passed_logs.before passed_logs.now (told_by_records run)) (sym run_behind_script) (record {
-  back = record {
-    devices = passed_device ∷ [];
-    returned = refl;
-    reached = (record { made = record { later = []; is = refl }; all = λ h. refl; counted = lit≤ tt; unharmed = λ h. refl }, tt);
-  };
-  attached = refl;
-})
+back_by_records = subst (λ (run : Run). EachBack passed_logs.before passed_logs.now (told_by_records run)) (sym run_behind_script)
+    (record {
+      back = record {
+        devices = passed_device ∷ [];
+        returned = refl;
+        reached = (record { made = record { later = []; is = refl }; all = λ h. refl; counted = lit≤ tt; unharmed = λ h. refl }, tt);
+      };
+      attached = refl;
+    })
 
 -- ---- what was written
 
@@ -212,7 +230,8 @@ unfolding cause_line flushed_line formatted_line hit_line number_line passed_tex
 went_out = record { taken = refl; unfailed = refl }
 
 lines_are_takeable : AreTakeable 0 passed_lines
-lines_are_takeable = are_takeable 0 passed_lines passed_script are_read ((λ needs. absurd needs), all_takeable 1 (drop 1 passed_script) (lit< tt))
+lines_are_takeable = are_takeable 0 passed_lines passed_script are_read
+    ((λ needs. absurd needs), all_takeable 1 (drop 1 passed_script) (lit< tt))
 
 -- ---- the account
 
@@ -238,7 +257,14 @@ has_account legal said = (
     recorded = records_come_back;
   },
   record { lines_are = refl; answers_are = refl; told_are = refl; turns_are = refl },
-  record { sent = went_out; takeable = lines_are_takeable; ends = ((_, refl), refl); back = back_by_answers; alone = λ h. back_by_records },
+  record {
+    sent = went_out;
+    takeable = lines_are_takeable;
+    ends = ((_, refl), refl);
+    back = back_by_answers;
+    alone =
+        λ h. back_by_records;
+  },
 )
 
 pub is_concluded : ThePassedScriptIsARun → ThePassedScriptIsAnswered → ThePassedScriptIsConcluded

@@ -138,7 +138,14 @@ are_taken steps key fragment vector = (
                 (
                   record { packs = refl; unsynced = refl; content = refl; moment = refl; legal = steps.broken_get key; own = refl },
                   (
-                    record { packs = refl; unsynced = refl; content = refl; moment = refl; legal = steps.damaged_miss key vector; own = refl },
+                    record {
+                      packs = refl;
+                      unsynced = refl;
+                      content = refl;
+                      moment = refl;
+                      legal = steps.damaged_miss key vector;
+                      own = refl;
+                    },
                     (
                       (script_geometry, has_numbers, refl),
                       (
@@ -148,7 +155,15 @@ are_taken steps key fragment vector = (
                           (
                             record { packs = refl; unsynced = refl; content = refl; moment = refl; legal = steps.hit key; own = refl },
                             (
-                              record { packs = refl; unsynced = refl; content = refl; moment = refl; legal = steps.piece key; own = (_, refl, refl) },
+                              record {
+                                packs = refl;
+                                unsynced = refl;
+                                content = refl;
+                                moment = refl;
+                                legal = steps.piece key;
+                                own =
+                                    (_, refl, refl);
+                              },
                               tt,
                             ),
                           ),
@@ -193,7 +208,14 @@ pub record SessionsAre : Type 0 where
   pub at_damaged_miss : sessions_begun (take 9 troubled_lines) ≡ 1
 
 begun_before : (n : ℕ) → sessions_begun (take n troubled_lines) ≡ begun_by_steps (take n (steps_with key_of_a))
-begun_before n = begun_are (take n troubled_lines) (take n (steps_with key_of_a)) (reads_front n troubled_lines (steps_with key_of_a) are_read)
+begun_before n = begun_are (take n troubled_lines) (take n (steps_with key_of_a))
+    (reads_front n troubled_lines (steps_with key_of_a) are_read)
 
 pub sessions_are : SessionsAre
-sessions_are = record { at_fault = begun_before 3; at_break = begun_before 7; at_broken_get = begun_before 8; at_damaged_miss = begun_before 9 }
+sessions_are = record {
+  at_fault = begun_before 3;
+  at_break = begun_before 7;
+  at_broken_get = begun_before 8;
+  at_damaged_miss =
+      begun_before 9;
+}

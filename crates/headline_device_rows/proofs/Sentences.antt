@@ -41,27 +41,32 @@ module _ (said : TheTroubledScriptIsAnswered) (a : Account troubled_logs) (tells
 
   refused_flush : HistoryTells a (take 3 troubled_lines) step.Flush (answer.DeviceFault 1 None)
   refused_flush =
-      history _ _ (drop 4 troubled_lines) (take 3 (each_answered troubled_answers)) (drop 4 (each_answered troubled_answers)) _ _ flush_is_read
+      history _ _ (drop 4 troubled_lines) (take 3 (each_answered troubled_answers))
+      (drop 4 (each_answered troubled_answers)) _ _ flush_is_read
       refl refl refl
 
   get_on_file : HistoryTells a (take 6 troubled_lines) (step.Get key_of_a []) (answer.Got 1 1 body_of_a)
   get_on_file =
-      history _ _ (drop 7 troubled_lines) (take 6 (each_answered troubled_answers)) (drop 7 (each_answered troubled_answers)) _ _ get_is_read
+      history _ _ (drop 7 troubled_lines) (take 6 (each_answered troubled_answers))
+      (drop 7 (each_answered troubled_answers)) _ _ get_is_read
       refl refl refl
 
   breaking : HistoryTells a (take 7 troubled_lines) (step.Next name_of_reader) (answer.Broken (fragment_damage key_of_a))
   breaking =
-      history _ _ (drop 8 troubled_lines) (take 7 (each_answered troubled_answers)) (drop 8 (each_answered troubled_answers)) _ _ next_is_read
+      history _ _ (drop 8 troubled_lines) (take 7 (each_answered troubled_answers))
+      (drop 8 (each_answered troubled_answers)) _ _ next_is_read
       refl refl refl
 
   broken_get : HistoryTells a (take 8 troubled_lines) (step.Get key_of_a []) (answer.Broken (fragment_damage key_of_a))
   broken_get =
-      history _ _ (drop 9 troubled_lines) (take 8 (each_answered troubled_answers)) (drop 9 (each_answered troubled_answers)) _ _ get_is_read
+      history _ _ (drop 9 troubled_lines) (take 8 (each_answered troubled_answers))
+      (drop 9 (each_answered troubled_answers)) _ _ get_is_read
       refl refl refl
 
   damaged_miss : HistoryTells a (take 9 troubled_lines) (step.Get key_of_a []) (answer.Miss (vector_damage key_of_a))
   damaged_miss =
-      history _ _ (drop 10 troubled_lines) (take 9 (each_answered troubled_answers)) (drop 10 (each_answered troubled_answers)) _ _ get_is_read
+      history _ _ (drop 10 troubled_lines) (take 9 (each_answered troubled_answers))
+      (drop 10 (each_answered troubled_answers)) _ _ get_is_read
       refl refl refl
 
 -- ---- which device is which

@@ -163,7 +163,13 @@ records_come_back = subst (λ (run : Run). ComeBackFrom troubled_logs (harms_of 
   devices = file_device ∷ memory_device ∷ [];
   returned = refl;
   told = (
-    record { made = record { later = []; is = refl }; all = λ h. cc; counted = lit≤ tt; unharmed = λ h. absurd (omega (arith, h.trusted)) },
+    record {
+      made = record { later = []; is = refl };
+      all = λ h. cc;
+      counted = lit≤ tt;
+      unharmed = λ h. absurd
+          (omega (arith, h.trusted));
+    },
     (record { made = record { later = []; is = refl }; all = λ h. cc; counted = lit≤ tt; unharmed = λ h. refl }, tt),
   );
 })
@@ -189,7 +195,13 @@ back_by_records =
         devices = file_device ∷ memory_device ∷ [];
         returned = refl;
         reached = (
-          record { made = record { later = []; is = refl }; all = λ h. refl; counted = lit≤ tt; unharmed = λ h. absurd (omega (arith, h.trusted)) },
+          record {
+            made = record { later = []; is = refl };
+            all = λ h. refl;
+            counted = lit≤ tt;
+            unharmed = λ h. absurd
+                (omega (arith, h.trusted));
+          },
           (record { made = record { later = []; is = refl }; all = λ h. refl; counted = lit≤ tt; unharmed = λ h. refl }, tt),
         );
       };
@@ -252,7 +264,14 @@ has_account legal said fragment vector = (
     recorded = records_come_back;
   },
   record { lines_are = refl; answers_are = refl; told_are = refl; turns_are = refl },
-  record { sent = went_out; takeable = lines_are_takeable; ends = ((_, refl), refl); back = back_by_answers; alone = λ h. back_by_records },
+  record {
+    sent = went_out;
+    takeable = lines_are_takeable;
+    ends = ((_, refl), refl);
+    back = back_by_answers;
+    alone =
+        λ h. back_by_records;
+  },
 )
 
 pub is_concluded : TheTroubledScriptIsARun → TheTroubledScriptIsAnswered → TheTroubledScriptIsConcluded
@@ -268,6 +287,12 @@ is_concluded legal said fragment vector = record {
     counted = refl;
     text = went_out;
     outline = record { each = answered_each; devices = back_by_answers; behind = record { ended = (_, refl); none = refl } };
-    records = inl (record { turns = troubled_turns; legal = legal fragment vector; says = sym said; devices = back_by_records; known = tt });
+    records = inl (record {
+      turns = troubled_turns;
+      legal = legal fragment vector;
+      says = sym said;
+      devices = back_by_records;
+      known = tt;
+    });
   };
 }

@@ -17,7 +17,8 @@ use Rattle.headline_device_rows.specs.DisplacingTold.{TellsDisplacing, displacin
 
 -- an earlier line recorded that the piece at which the reader broke was displaced so, and no record since is of a loss of it
 abbrev pub TheBreakWasDisplaced : Type 0
-TheBreakWasDisplaced = (a : Account displacing_logs) → TellsDisplacing a → BrokeDisplaced a.turns (take 6 displacing_lines) name_of_reader 0 4
+TheBreakWasDisplaced = (a : Account displacing_logs) → TellsDisplacing a → BrokeDisplaced a.turns
+    (take 6 displacing_lines) name_of_reader 0 4
 
 -- by the records that piece is missing, or the line read it, and it is damaged
 abbrev pub TheDisplacedBreakIsCaused : Type 0
@@ -26,7 +27,8 @@ TheDisplacedBreakIsCaused = (a : Account displacing_logs) → TellsDisplacing a
 
 -- of the alternate that the get behind it hit a fragment was displaced so, and all before it are live
 abbrev pub TheGetWasDisplaced : Type 0
-TheGetWasDisplaced = (a : Account displacing_logs) → TellsDisplacing a → GetDisplaced a.turns (take 7 displacing_lines) displacing_key [] 0 4
+TheGetWasDisplaced = (a : Account displacing_logs) → TellsDisplacing a → GetDisplaced a.turns
+    (take 7 displacing_lines) displacing_key [] 0 4
 
 -- by the records such a fragment is missing, or the line read it, and it is damaged
 abbrev pub TheDisplacedGetIsCaused : Type 0
@@ -55,7 +57,8 @@ TheDisplacementWasTold = (a : Account displacing_logs) → TellsDisplacing a
 
 -- it was that of the vector of the key's last commit
 abbrev pub TheVectorWasLost : Type 0
-TheVectorWasLost = (a : Account displacing_logs) → TellsDisplacing a → VectorWasDisplaced a.turns (take 11 displacing_lines) displacing_key 0 4
+TheVectorWasLost = (a : Account displacing_logs) → TellsDisplacing a → VectorWasDisplaced a.turns
+    (take 11 displacing_lines) displacing_key 0 4
 
 -- by the records nothing of the key fits for that cause, or the line read the vector, and it is damaged
 abbrev pub TheDisplacedMissIsCaused : Type 0
@@ -64,4 +67,5 @@ TheDisplacedMissIsCaused = (a : Account displacing_logs) → TellsDisplacing a
 
 -- the removal found no live vector, for that cause
 abbrev pub TheDisplacedAbsenceIsCaused : Type 0
-TheDisplacedAbsenceIsCaused = (a : Account displacing_logs) → TellsDisplacing a → AbsenceIsCaused a.turns (take 12 displacing_lines) displacing_key displaced_cause
+TheDisplacedAbsenceIsCaused = (a : Account displacing_logs) → TellsDisplacing a → AbsenceIsCaused a.turns
+    (take 12 displacing_lines) displacing_key displaced_cause

@@ -69,7 +69,8 @@ ABreakIsAStep = (key : Key) → FragmentDiffers key
 -- behind that a get breaks at it
 abbrev pub ABrokenGetIsAStep : Type 0
 ABrokenGetIsAStep = (key : Key)
-    → IsStep (device_with (calls_of_hit key)) (state_behind_break key) (get_intents (state_behind_break key) key []) (broken_get_records key) None
+    → IsStep (device_with (calls_of_hit key)) (state_behind_break key) (get_intents (state_behind_break key) key [])
+    (broken_get_records key) None
 
 -- a get is given the zeros for the vector, and finds nothing
 abbrev pub ADamagedMissIsAStep : Type 0
