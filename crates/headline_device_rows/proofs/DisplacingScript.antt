@@ -25,7 +25,8 @@ unfolding reading_of step_of verb_of format_of format_of_numbers alternates_kept
 format_is_read = refl
 
 opening_is_read : reading_of line_to_open_writer ≡ line.Step (step.OpenWrite writer_name displacing_key 0 [] [])
-unfolding reading_of step_of verb_of open_write_of take_actor actor_of_word object_of key_in take_number number_below number_of_word key_of_bytes decode_pairs
+unfolding reading_of step_of verb_of open_write_of take_actor actor_of_word object_of key_in take_number number_below
+    number_of_word key_of_bytes decode_pairs
 opening_is_read = refl
 
 one_is_read : reading_of line_to_write_one ≡ line.Step (step.Feed writer_name (four_of 97))

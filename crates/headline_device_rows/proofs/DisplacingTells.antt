@@ -156,7 +156,8 @@ back_by_records = subst (λ (run : Run). EachBack displacing_logs.before displac
 -- ---- what was written
 
 went_out : SinkTook [] displacing_writes (texts_of (each_answered displacing_answers))
-unfolding cause_line displaced_text formatted_line hit_line lost_text number_line put_line refused_line shown encode_with digits taken_by refused_writes
+unfolding cause_line displaced_text formatted_line hit_line lost_text number_line put_line refused_line shown
+    encode_with digits taken_by refused_writes
 went_out = record { taken = refl; unfailed = refl }
 
 lines_are_takeable : AreTakeable 0 displacing_lines

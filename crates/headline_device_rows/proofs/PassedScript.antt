@@ -26,7 +26,8 @@ unfolding reading_of step_of verb_of format_of format_of_numbers alternates_kept
 format_is_read = refl
 
 filler_is_read : reading_of line_to_open_filler ≡ line.Step (step.OpenWrite (codes "v") filler_key 0 [] [])
-unfolding reading_of step_of verb_of open_write_of take_actor actor_of_word object_of key_in take_number number_below number_of_word key_of_bytes decode_pairs
+unfolding reading_of step_of verb_of open_write_of take_actor actor_of_word object_of key_in take_number number_below
+    number_of_word key_of_bytes decode_pairs
 filler_is_read = refl
 
 fill_is_read : reading_of line_to_fill ≡ line.Step (step.Feed (codes "v") filling)
@@ -38,7 +39,8 @@ unfolding reading_of step_of verb_of data_of take_actor actor_of_word body_of_wo
 twice_is_read = refl
 
 object_is_read : reading_of line_to_open_object ≡ line.Step (step.OpenWrite writer_name passed_key 0 [] [])
-unfolding reading_of step_of verb_of open_write_of take_actor actor_of_word object_of key_in take_number number_below number_of_word key_of_bytes decode_pairs
+unfolding reading_of step_of verb_of open_write_of take_actor actor_of_word object_of key_in take_number number_below
+    number_of_word key_of_bytes decode_pairs
 object_is_read = refl
 
 write_is_read : reading_of line_to_write_object ≡ line.Step (step.Feed writer_name filling)

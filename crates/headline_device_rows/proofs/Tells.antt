@@ -216,7 +216,8 @@ joined : (front d e f a b g h i : List ℕ) → (((((((front ++ d) ++ e) ++ f) +
 joined front d e f a b g h i = simp append_assoc
 
 went_out : SinkTook [] troubled_writes (texts_of (each_answered troubled_answers))
-unfolding cause_line fault_line flushed_line formatted_line got_line hit_line number_line piece_line put_line shown encode_with digits taken_by refused_writes
+unfolding cause_line fault_line flushed_line formatted_line got_line hit_line number_line piece_line put_line shown
+    encode_with digits taken_by refused_writes
 went_out = record {
   taken = joined (texts_of (take 7 (each_answered troubled_answers))) (answer_line (answer.Broken (fragment_damage key_of_a)))
       (answer_line (answer.Broken (fragment_damage key_of_a)))

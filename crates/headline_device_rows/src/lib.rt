@@ -1,4 +1,5 @@
-//! Runs whose devices make calls, worked by hand, and what the laws of `headline` say of them.
+//! Runs worked by hand, on devices that make calls, in a segment that is full and on a tape that comes round, and what the
+//! laws of `headline` say of them.
 #![tactic(auto)]
 
 ghost use Rattle.headline_device_rows.specs.Steps.{ABreakIsAStep, ABrokenGetIsAStep, ADamagedMissIsAStep, AFlushIsAStep, AGetReadsBoth, AHitReadsTheVector, ARefusedFlushIsAStep};
