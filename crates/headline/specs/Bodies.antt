@@ -47,7 +47,7 @@ taken_told (answer.DeviceFault count took) = took
 taken_told _ = None
 
 -- the actor writes a put, and in the line behind these its writer took so many bytes of the body, behind what it had taken
-pub record TookBytes (turns : List Turn) (lines : List (List ℕ)) (bytes name body : List ℕ) (count : ℕ) : Type 0 where
+pub record TookOfBody (turns : List Turn) (lines : List (List ℕ)) (bytes name body : List ℕ) (count : ℕ) : Type 0 where
   pub did : DidBefore turns lines
   pub put : ℕ
   pub writes : put_written_by (run_after fresh lines did.earlier) name ≡ Some put
@@ -58,4 +58,4 @@ pub record TookBytes (turns : List Turn) (lines : List (List ℕ)) (bytes name b
 abbrev pub DataTookItsBytes : Type 0
 DataTookItsBytes = (l : RunLogs) (a : Account l) (lines : List (List ℕ)) (name body : List ℕ) (said : StepAnswer) (count : ℕ)
     → (at : HistoryTells a lines (step.Feed name body) said) → taken_told said ≡ Some count
-    → TookBytes a.turns lines at.bytes name body count × (said ≡ answer.Took count → count ≡ length body)
+    → TookOfBody a.turns lines at.bytes name body count × (said ≡ answer.Took count → count ≡ length body)

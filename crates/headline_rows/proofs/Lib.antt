@@ -3,7 +3,7 @@ mod Missed
 mod PutIn
 mod Gotten
 mod Readings
-mod Along
+pub mod Along
 mod Script
 mod Tells
 mod Fine

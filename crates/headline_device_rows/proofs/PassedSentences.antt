@@ -1,0 +1,61 @@
+-- The laws of `headline` at the passed script.
+use Rattle.std.proofs.Common.{◌≡◌, ◌∙◌, ℕ, List, [], ◌∷◌, ◌++◌, length, refl}
+use Rattle.std.specs.Prelude.{Option, Some, take, drop, false}
+use Rattle.script_lang.specs.declared.line.LineAnswer.TheVariants as line
+use Rattle.script_lang.specs.declared.step.Step.{Step}
+use Rattle.script_lang.specs.declared.step.Step.TheVariants as step
+use Rattle.script_lang.specs.declared.answer.StepAnswer.{StepAnswer}
+use Rattle.script_lang.specs.declared.answer.StepAnswer.TheVariants as answer
+use Rattle.script_lang.specs.Grammar.{reading_of}
+use Rattle.headline.specs.Account.{Account, HistoryTells}
+use Rattle.headline.specs.Breaks.{BreakWasPassed, GetWasPassed}
+use Rattle.headline.specs.Misses
+use Rattle.headline.specs.Standing.{PassedWasPlaced}
+use Rattle.headline_rows.specs.Script.{name_of_reader}
+use Rattle.headline_device_rows.specs.History.{each_answered}
+use Rattle.headline_device_rows.specs.Passed.{TellsPassed, ThePassedScriptIsAnswered, fragment_passed, passed_answers, passed_key, passed_lines, passed_logs, vector_passed}
+use Rattle.headline_device_rows.specs.PassedSentences.{TheBreakWasPassed, TheGetWasPassed, TheVectorWasPassed}
+use Rattle.headline_device_rows.proofs.PassedScript.{get_is_read, next_is_read}
+
+-- one line of the script, with its answer
+module _ (said : ThePassedScriptIsAnswered) (a : Account passed_logs) (tells : TellsPassed a) where
+  history : (before : List (List ℕ)) (bytes : List ℕ) (later : List (List ℕ)) (front rest : List (Option StepAnswer)) (asks : Step)
+      (told : StepAnswer)
+      → reading_of bytes ≡ line.Step asks → passed_lines ≡ before ++ bytes ∷ later
+      → each_answered passed_answers ≡ front ++ Some told ∷ rest → length front ≡ length before
+      → HistoryTells a before asks told
+  history before bytes later front rest asks told reading lines answers many = record {
+    bytes = bytes;
+    reading = reading;
+    later = later;
+    lines_are = tells.told_are ∙ lines;
+    front = front;
+    rest = rest;
+    answers_are = rw (tells.told_are, tells.turns_are) (said ∙ answers);
+    as_many = many;
+  }
+
+  breaking : HistoryTells a (take 14 passed_lines) (step.Next name_of_reader) (answer.Broken fragment_passed)
+  breaking =
+      history _ _ (drop 15 passed_lines) (take 14 (each_answered passed_answers))
+      (drop 15 (each_answered passed_answers)) _ _ next_is_read
+      refl refl refl
+
+  broken_get : HistoryTells a (take 15 passed_lines) (step.Get passed_key []) (answer.Broken fragment_passed)
+  broken_get =
+      history _ _ (drop 16 passed_lines) (take 15 (each_answered passed_answers)) (drop 16 (each_answered passed_answers)) _ _ get_is_read
+      refl refl refl
+
+  missing : HistoryTells a (take 18 passed_lines) (step.Get passed_key []) (answer.Miss vector_passed)
+  missing = history _ _ [] (take 18 (each_answered passed_answers)) [] _ _ get_is_read refl refl refl
+
+pub break_was_passed : BreakWasPassed → ThePassedScriptIsAnswered → TheBreakWasPassed
+break_was_passed law said a tells = law passed_logs a (take 14 passed_lines) name_of_reader 36 40 false (breaking said a tells)
+
+pub get_was_passed : GetWasPassed → ThePassedScriptIsAnswered → TheGetWasPassed
+get_was_passed law said a tells = law passed_logs a (take 15 passed_lines) passed_key [] 36 40 false (broken_get said a tells)
+
+pub vector_was_passed : PassedWasPlaced → ThePassedScriptIsAnswered → TheVectorWasPassed
+vector_was_passed law said a tells =
+    law passed_logs a (take 18 passed_lines) (step.Get passed_key []) (answer.Miss vector_passed) passed_key 40 44 false
+    (Misses.MissesKey.gets []) (missing said a tells)

@@ -1,0 +1,18 @@
+use Rattle.headline_device_rows.proofs.DisplacingSentences.{giving_up_was_answered}
+use Rattle.headline_device_rows.proofs.the_lost_put_was_answered.Goals as goal
+
+pub returns : goal.returns
+returns c = giving_up_was_answered (record {
+  opening = c.an_opening_is_a_step.ensures;
+  fragment = c.a_fragment_is_a_step.ensures;
+  byte = c.a_put_beside_it_is_a_step.ensures;
+  hit = c.a_hit_of_it_is_a_step.ensures;
+  displacement = c.a_displacement_is_a_step.ensures;
+  break = c.a_displaced_break_is_a_step.ensures;
+  get = c.a_displaced_get_is_a_step.ensures;
+  nothing = c.a_vector_displaces_too.ensures;
+  vector = c.a_vector_is_displaced.ensures;
+  close = c.a_lost_close_is_a_step.ensures;
+  miss = c.a_displaced_miss_is_a_step.ensures;
+  absence = c.an_absence_is_a_step.ensures;
+}) c.giving_up_was_answered.ensures
