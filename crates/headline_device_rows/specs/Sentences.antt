@@ -6,7 +6,7 @@ use Rattle.script_lang.specs.declared.answer.StepAnswer.{StepAnswer}
 use Rattle.script_laws.specs.Runs.{answers_damage, answers_fault}
 use Rattle.run_promise.specs.Outline.{count_in}
 use Rattle.headline.specs.Account.{Account, HistoryTells, RunAnswers, sessions_begun}
-use Rattle.headline.specs.Causes.{WasGiven, WasRefusedInLine}
+use Rattle.headline.specs.Causes.{WasGiven, WasKept, WasRefusedInLine}
 use Rattle.headline.specs.Reads.{IsWholePut}
 use Rattle.headline.specs.Verdicts.{BreakIsCaused, GetIsCaused, MissIsCaused}
 use Rattle.headline_rows.specs.Script.{body_of_a, fragment_digest, key_of_a, name_of_reader, vector_digest}
@@ -43,20 +43,23 @@ TheGetOnFileIsWhole = (a : Account troubled_logs) → TellsTroubled a
     → IsWholePut a.turns (take 6 troubled_lines) key_of_a [] 1 1 body_of_a
 
 -- for the line at which the reader broke the file gave, in it or before it, a document of the told digest from the fragment's
--- block on, and that is not the fragment's
+-- block on, and that is not the fragment's, with which a record had placed it there
 abbrev pub TheFragmentWasOther : Type 0
 TheFragmentWasOther = (a : Account troubled_logs) → TellsTroubled a
-    → WasGiven a.turns (take 7 troubled_lines) file_device 64 other_digest × (fragment_digest key_of_a ≢ other_digest)
+    → (given : WasGiven a.turns (take 7 troubled_lines) file_device 64 other_digest) × (fragment_digest key_of_a ≢ other_digest)
+    × WasKept given.earlier given.did.earlier given.did.turn 64 (fragment_digest key_of_a) other_digest
 
 -- so it did for the get behind it, which broke at the same fragment
 abbrev pub TheFragmentStaysOther : Type 0
 TheFragmentStaysOther = (a : Account troubled_logs) → TellsTroubled a
-    → WasGiven a.turns (take 8 troubled_lines) file_device 64 other_digest × (fragment_digest key_of_a ≢ other_digest)
+    → (given : WasGiven a.turns (take 8 troubled_lines) file_device 64 other_digest) × (fragment_digest key_of_a ≢ other_digest)
+    × WasKept given.earlier given.did.earlier given.did.turn 64 (fragment_digest key_of_a) other_digest
 
 -- and for the get that found nothing from the vector's block on
 abbrev pub TheVectorWasOther : Type 0
 TheVectorWasOther = (a : Account troubled_logs) → TellsTroubled a
-    → WasGiven a.turns (take 9 troubled_lines) file_device 65 other_digest × (vector_digest key_of_a ≢ other_digest)
+    → (given : WasGiven a.turns (take 9 troubled_lines) file_device 65 other_digest) × (vector_digest key_of_a ≢ other_digest)
+    × WasKept given.earlier given.did.earlier given.did.turn 65 (vector_digest key_of_a) other_digest
 
 -- by the records the reader's next fragment is missing, or that line read it, and it is damaged so
 abbrev pub TheTroubledBreakIsCaused : Type 0
