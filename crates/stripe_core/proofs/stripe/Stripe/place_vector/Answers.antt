@@ -1,4 +1,4 @@
-use Rattle.std.proofs.Common.{◌∙◌, ap, ◌≡◌, ◌+◌, Ok, Err, sym, subst, arith, length, true}
+use Rattle.std.proofs.Common.{◌∙◌, ap, ◌≡◌, ◌+◌, Ok, Err, sym, subst, arith, true}
 use Rattle.std.proofs.lemmas.Bool.{eq-eqb}
 use Rattle.logged_disk.specs.Device.{TellsAll}
 use Rattle.cache_model.specs.State.{State}
