@@ -119,7 +119,7 @@ pub record LooksAt (s : State) (before after : Device) (i at end : ℕ) (old new
   pub looks : (row : Row) → slice_get old.due.items i ≡ Some (candidate_of row) → MayBeCopied s row → LooksOn s before after row at end old new
 
 -- the pieces of these rows were looked at within the budget, and so many blocks of memory are taken
-pub record HasLooked (s : State) (before after : Device) (rows : List Row) (end : ℕ) (a : Ahead) : Type 0 where
+pub record HasLookedAhead (s : State) (before after : Device) (rows : List Row) (end : ℕ) (a : Ahead) : Type 0 where
   pub outcomes : List Outcome
   pub fates : AreFates rows outcomes a.fates.items
   pub stand : StandFrom 0 rows outcomes a.bytes.items

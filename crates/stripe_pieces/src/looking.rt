@@ -7,7 +7,7 @@ ghost use Rattle.cache_model.specs.State.{Row};
 ghost use Rattle.stripe_actors.specs.Actors.{AreActors};
 ghost use Rattle.stripe_due.specs.Finding.{candidate_of};
 ghost use Rattle.stripe_pieces.specs.Ahead.{IsMadeFor, LooksAhead};
-ghost use Rattle.stripe_pieces.specs.Looks.{AreOfRows, Comes, HasCandidates, HasLooked, HasRow, IsJudgedAs, IsNextToLook, LooksAt, MayBeCopied, StaysMade};
+ghost use Rattle.stripe_pieces.specs.Looks.{AreOfRows, Comes, HasCandidates, HasLookedAhead, HasRow, IsJudgedAs, IsNextToLook, LooksAt, MayBeCopied, StaysMade};
 
 use crate::Pieces;
 use crate::ahead::{Ahead, Fate};
@@ -60,7 +60,7 @@ impl<D: Disk, R: Directory + Drop, C: Chronicle> Pieces<D, R, C> {
         ensures keeps { OnlyReads self.old self.new }
         ensures made { StaysMade (state_now self.old).geometry ahead.old ahead.new }
         ensures looked { (rows : List Row) → AreOfRows (state_now self.old) ahead.old.due.items rows
-            → (end : ℕ) × HasLooked (state_now self.old) (seen_now self.old).device
+            → (end : ℕ) × HasLookedAhead (state_now self.old) (seen_now self.old).device
             (seen_now self.new).device rows end ahead.new }
     {
         ahead.fates.clear();

@@ -5,7 +5,7 @@ use Rattle.cache_model.specs.Kept.{state_of}
 use Rattle.cache_model.specs.State.{Row, State}
 use Rattle.stripe_due.specs.Finding.{candidate_of, most_passed}
 use Rattle.stripe_pieces.specs.Ahead.{IsMadeFor}
-use Rattle.stripe_pieces.specs.Looks.{HasCandidateRows, HasCandidates, HasLooked, IsNextToLook, LooksOn, MayBeCopied, blocks_kept}
+use Rattle.stripe_pieces.specs.Looks.{HasCandidateRows, HasCandidates, HasLookedAhead, IsNextToLook, LooksOn, MayBeCopied, blocks_kept}
 use Rattle.stripe_pieces.specs.Pieces.{seen_now, state_now}
 use Rattle.stripe_pieces.proofs.Kept.{IsNext, choice_there, next_row, tape_on, taken_on}
 use Rattle.logged_disk.proofs.GoingOn.{asked_further, asked_nothing}
@@ -88,7 +88,7 @@ loop-i-preserved g c =
       room = subst (λ (t : State). c.look_at-at.result ≤ budget_of t.geometry) same e.looks.room;
       looked = λ rows of.
           let n = next_row s due rows c.loop-i.i of within in
-          subst (λ xs. HasLooked s before.device after.device xs c.look_at-at.result c.look_at-at.new.ahead) (sym n.next)
+          subst (λ xs. HasLookedAhead s before.device after.device xs c.look_at-at.result c.look_at-at.new.ahead) (sym n.next)
           (looked_more s before.device mid.device after.device (take c.loop-i.i rows) n.row c.loop-i.at c.look_at-at.result c.loop-i.ahead c.look_at-at.new.ahead e.keeps.asked
           inv.seen (inv.looked rows of) (looks rows n));
     }
