@@ -99,7 +99,7 @@ answer_keeps_readers s reader (next.Broke why) = refl
 
 -- ---- memory
 
-before_last : (u : ℕ) → 1 ≤ u → u ≡ u - 1 + 1
+pub before_last : (u : ℕ) → 1 ≤ u → u ≡ u - 1 + 1
 before_last u h = omega arith
 
 -- one unit less, for one record

@@ -2,6 +2,7 @@ pub mod Counting
 mod Rowed
 mod Sparing
 mod Doings
+mod Ready
 mod Naming
 mod NoneDisplaced
 mod Asked

@@ -1,7 +1,7 @@
 -- Pieces that are copied into the buffer, one behind the other.
 use Rattle.std.proofs.Common.{◌≡◌, ℕ, ◌+◌, ◌-◌, ◌*◌, ◌<◌, ◌≤◌, List, [], ◌∷◌, refl, sym, ◌∙◌, ap, subst, arith, Bool, drop, length, suc, take}
 use Rattle.std.proofs.Math.ListN.{get_or}
-use Rattle.std.proofs.lemmas.List.{drop_more, get_or_default}
+use Rattle.std.proofs.lemmas.List.{drop_all, drop_more, get_or_default}
 use Rattle.evacuator.specs.declared.choosing.Candidate.{Candidate}
 use Rattle.doc_header.specs.Reading.{document_digest}
 use Rattle.doc_header.specs.Moving.{moved_to}
@@ -17,7 +17,7 @@ use Rattle.stripe_pieces.specs.Copying.{AreCopyable, AreToldCopied, IsCopyable, 
 use Rattle.stripe_pieces.specs.Covers.{Uses}
 use Rattle.stripe_pieces.specs.Held.{IsHeld}
 use Rattle.stripe_pieces.specs.Standing.{AreStanding}
-use Rattle.stripe_pieces.proofs.Flushes.{with_records-append}
+use Rattle.stripe_pieces.proofs.Flushes.{with_records-append, with_records-nil}
 use Rattle.stripe_pieces.proofs.Moving.{moved_is_held}
 use Rattle.stripe_pieces.proofs.Telling.{state_behind}
 
@@ -149,3 +149,17 @@ module _ (packed : Bool) (k mid new : Kept) (c seen next : Seen) (room left now 
         (apart (λ xs ys. AreToldCopied contents (state_of mid) at xs ys memory) (h.told contents told (subst TellsAll h.device tells))).0)
         (h.contents contents told before);
   }
+
+-- all of them are behind
+pub all_copied : (packed : Bool) (k new : Kept) (c seen : Seen) (room left : ℕ) (cs : List Candidate) (fs : List Fate) (memory : List ℕ) (i at : ℕ)
+    → HasCopied packed k new c seen room left cs fs memory i at → length cs ≤ i → new ≡ with_records k (copied_of (state_of k) 0 cs fs memory)
+all_copied packed k new c seen room left cs fs memory i at h end =
+    sym (with_records-nil new)
+    ∙ subst (λ ds. with_records new (copied_of (state_of new) at ds (drop i fs) memory) ≡ with_records k (copied_of (state_of k) 0 cs fs memory)) (drop_all i cs end) h.adds
+
+-- the next one is among those that are left
+pub copies_left : (fs : List Fate) (i : ℕ) (f : Fate) → i < length fs → f ≡ get_or fs i f → copies_by f ≤ copies_among (drop i fs)
+copies_left fs i f within here =
+    let first : copies_among (drop i fs) ≡ copies_by f + copies_among (drop (i + 1) fs) =
+    ap copies_among (drop_more fs i f within ∙ ap (λ y. y ∷ drop (i + 1) fs) (sym here)) in
+    omega (arith, first)

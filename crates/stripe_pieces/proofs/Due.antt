@@ -22,7 +22,7 @@ use Rattle.cache_model.proofs.Written.{due_are_written, passes}
 use Rattle.stripe_due.specs.Finding.{candidate_of, due_candidates, most_passed}
 use Rattle.stripe_pieces.specs.declared.ahead.Ahead.{Ahead}
 use Rattle.stripe_pieces.specs.Ahead.{LooksAhead}
-use Rattle.stripe_pieces.specs.Looks.{AreOfRows, HasLooked, MayBeCopied}
+use Rattle.stripe_pieces.specs.Looks.{AreOfRows, HasLookedAhead, MayBeCopied}
 
 -- ---- each may be copied
 
@@ -95,7 +95,7 @@ due_are_few s now candidates sound are =
 -- ---- so it is looked at
 
 pub looks_by : (now : ℕ) (s : State) (before after : Device) (end : ℕ) (a : Ahead) → IsSound s → a.due.items ≡ due_candidates s now
-    → HasLooked s before after (due_pieces s now) end a → LooksAhead now s before after a
+    → HasLookedAhead s before after (due_pieces s now) end a → LooksAhead now s before after a
 looks_by now s before after end a sound due h = record {
   outcomes = h.outcomes;
   due = due;

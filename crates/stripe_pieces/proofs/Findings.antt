@@ -2,7 +2,7 @@
 use Rattle.std.proofs.Common.{◌≡◌, ℕ, ◌*◌, ◌/◌, ◌<◌, ◌≤◌, List, [], ◌∷◌, refl, sym, ◌∙◌, ap, subst, arith, length, inl, inr, Result, Ok, Err, ◌⊎◌}
 use Rattle.std.proofs.lemmas.Bool.{leb-true}
 use Rattle.device_log.proofs.Spans.{span_same}
-use Rattle.std.specs.Prelude.{Some, IsOk}
+use Rattle.std.specs.Prelude.{None, Some, IsOk}
 use Rattle.std.specs.List.{AllByRecursion}
 use Rattle.device_log.specs.Calls.{Call, Read, RefusedCall, ToRead}
 use Rattle.edge_io.specs.Causes.{Rose}
@@ -22,6 +22,7 @@ use Rattle.cache_model.specs.declared.record.Rec.TheVariants as rec
 use Rattle.cache_model.specs.State.{State, Row, floor_now, live_row_of, row_in, state_after}
 use Rattle.cache_model.specs.Permit.{IsAmong, Permit}
 use Rattle.cache_model.specs.Given.{CountsRead, Denied, IsGiven, Trouble, block_at, effects_told}
+use Rattle.cache_model.specs.Verdict.{cause_of_piece}
 use Rattle.cache_model.proofs.Lists.{found_row, own_piece}
 use Rattle.stripe_pieces.specs.declared.answer.Found.{Found}
 use Rattle.stripe_pieces.specs.declared.answer.Found.TheVariants as found
@@ -277,3 +278,14 @@ finds_fault s c new id place blocks count kept bytes into e held r read ok is =
     let here : ReadsBlocks c new r.row.place r.row.blocks (Err e) bytes =
     subst (λ n. ReadsBlocks c new r.row.place n (Err e) bytes) (sym r.blocks_is) (subst (λ p. ReadsBlocks c new p blocks (Err e) bytes) (sym r.place_is) read) in
     fault_by s c new id r.row count bytes into e held r.live here (subst (λ n. n < s.cursor) (sym r.place_is) below) is
+
+-- of a piece that is not live
+pub finds_nothing : (s : State) (c : Seen) (id : PieceId) (into : List ℕ) → live_row_of s id ≡ None → Finds s c c id (found.Missing (cause_of_piece s id)) into
+finds_nothing s c id into none = record {
+  seen = none_seen c.device c.device refl;
+  faults = subst (λ o. HasEffects c.device.past c.device.past (effects_told (found_records o (found.Missing (cause_of_piece s id))))) (sym none)
+      (effects_none c.device.past c.device.past refl);
+  counted = subst (λ o. TellsCount o c.device.faults (found.Missing (cause_of_piece s id))) (sym none) tt;
+  contents = λ told contents stands. subst (λ o. HasPayload contents o (found.Missing (cause_of_piece s id)) into) (sym none) tt;
+  answers = λ p covers. subst (λ o. IsFoundAs p s id o (found.Missing (cause_of_piece s id)) into) (sym none) refl;
+}

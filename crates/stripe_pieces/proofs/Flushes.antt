@@ -1,6 +1,6 @@
 -- A flush, by its records and by what the cyclone did.
-use Rattle.std.proofs.Common.{◌≡◌, ℕ, ◌+◌, ◌-◌, ◌<◌, ◌≤◌, List, [], ◌∷◌, ◌++◌, refl, ◌∙◌, ap, arith, zero, suc, Result, append_assoc, append-nil}
-use Rattle.std.proofs.lemmas.Bool.{le-leb, lt-leb}
+use Rattle.std.proofs.Common.{◌≡◌, ℕ, ◌+◌, ◌-◌, ◌<◌, ◌≤◌, List, [], ◌∷◌, ◌++◌, refl, ◌∙◌, ap, arith, zero, suc, inl, inr, Result, append_assoc, append-nil}
+use Rattle.std.proofs.lemmas.Bool.{le-leb, leb-true, lt-leb}
 use Rattle.edge_io.specs.declared.source.Failed.{Failed}
 use Rattle.stripe_pieces.specs.Records.{SparesPieces}
 use Rattle.agg_buffer.specs.Buffer.{next_place_of}
@@ -19,6 +19,7 @@ use Rattle.cache_model.specs.Tape.{IsSound}
 use Rattle.cache_model.proofs.Sound.{later_leaves}
 use Rattle.cache_model.proofs.Steps.{after_all-append}
 use Rattle.stripe_pieces.specs.Covers.{Uses}
+use Rattle.stripe_pieces.specs.Flush.{WritesNothing}
 use Rattle.stripe_pieces.specs.Held.{IsHeld}
 use Rattle.stripe_pieces.proofs.Going.{alike_is_held, device_may_change, shows_same}
 
@@ -103,3 +104,8 @@ some_filled s c next cursor held at from some =
     by : (n : ℕ) → s.filled ≡ n → 0 < n
     by zero e = absurd (some (omega (arith, at, from, held.filled, e)))
     by (suc n) e = omega arith
+
+-- then it is written out, where its copies end below the limit
+pub writes_some : (s : State) → 0 < s.filled → copies_end s < limit → WritesNothing s → ⊥
+writes_some s some below (inl none) = omega (arith, some, none)
+writes_some s some below (inr ended) = let above : limit ≤ copies_end s = leb-true limit (copies_end s) ended in omega (arith, below, above)

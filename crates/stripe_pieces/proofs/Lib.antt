@@ -12,12 +12,15 @@ pub mod Candidates
 pub mod Covering
 pub mod Effects
 pub mod Flushes
+mod Uses
 mod Telling
 mod Told
 mod Readied
 mod LiveBehind
 mod ToldCopies
 mod Looked
+mod Adding
+mod GoneOn
 mod Copied
 mod Rooms
 mod Pushing

@@ -20,7 +20,7 @@ use Rattle.cache_model.proofs.SoundFlush.{aside_of}
 use Rattle.stripe_pieces.specs.declared.ahead.Ahead.{Ahead}
 use Rattle.stripe_pieces.specs.declared.ahead.Fate.{Fate}
 use Rattle.stripe_pieces.specs.Ahead.{AreFates, IsFate, StandFrom, StandsAt, blocks_taken_by, taken_by_all}
-use Rattle.stripe_pieces.specs.Looks.{HasLooked, LooksOn}
+use Rattle.stripe_pieces.specs.Looks.{HasLookedAhead, LooksOn}
 use Rattle.stripe_pieces.specs.Standing.{AreAsSeen, IsAsSeen}
 use Rattle.stripe_pieces.specs.Faults.{CountsUpTo, HasEffects, effects_among, effects_of}
 use Rattle.stripe_pieces.proofs.Effects.{effects_none, effects_then}
@@ -149,7 +149,7 @@ counted_later before after (o ∷ outcomes) last h = (later_count before after o
 
 -- ---- one piece more
 
-pub looked_none : (s : State) (device : Device) (a : Ahead) → a.fates.items ≡ [] → s.fault ≤ device.faults → HasLooked s device device [] 0 a
+pub looked_none : (s : State) (device : Device) (a : Ahead) → a.fates.items ≡ [] → s.fault ≤ device.faults → HasLookedAhead s device device [] 0 a
 looked_none s device a none low = record {
   outcomes = [];
   fates = subst (AreFates [] []) (sym none) tt;
@@ -165,7 +165,7 @@ looked_none s device a none low = record {
 }
 
 pub looked_more : (s : State) (before mid after : Device) (rows : List Row) (row : Row) (at end : ℕ) (old new : Ahead) → IsAsked mid after → SeenStays before mid
-    → HasLooked s before mid rows at old → LooksOn s mid after row at end old new → HasLooked s before after (rows ++ row ∷ []) end new
+    → HasLookedAhead s before mid rows at old → LooksOn s mid after row at end old new → HasLookedAhead s before after (rows ++ row ∷ []) end new
 looked_more s before mid after rows row at end old new asked stays h k =
     let last : mid.faults ≤ after.faults = asked.later in
     let pair : ArePaired rows h.outcomes = paired rows h.outcomes old.fates.items h.fates in

@@ -67,7 +67,7 @@ live_entry_goes s t c new id place found held h out gone =
     let live : IsLiveAt s id place = live_at s id place h in
     taken_is_held s t c new id live.row held live.live gone out.same (entry_goes s c new id place found live held out) out.turning
 
-no_row : (o : Option Row) → option_map (λ (row : Row). row.place) o ≡ None → o ≡ None
+pub no_row : (o : Option Row) → option_map (λ (row : Row). row.place) o ≡ None → o ≡ None
 no_row None h = refl
 no_row (Some row) h = cc
 

@@ -1,5 +1,6 @@
 -- What is told of the pieces that were looked at before a flush leaves the others held.
 use Rattle.std.proofs.Common.{◌≡◌, ℕ, ◌+◌, ◌≤◌, Bool, List, [], ◌∷◌, refl, sym, ◌∙◌, ap, subst, arith, drop, length, suc}
+use Rattle.std.proofs.lemmas.List.{drop_all}
 use Rattle.tape_base.specs.declared.pieces.PieceId.{PieceId}
 use Rattle.evacuator.specs.declared.choosing.Candidate.{Candidate}
 use Rattle.cyclone.specs.Cyclone.{Seen, SameButRows}
@@ -13,7 +14,7 @@ use Rattle.stripe_pieces.specs.declared.ahead.Fate.{Fate}
 use Rattle.stripe_pieces.specs.Held.{IsHeld}
 use Rattle.stripe_pieces.specs.Standing.{AreStanding}
 use Rattle.stripe_pieces.specs.Copying.{AreTellable, told_of_piece, told_of_pieces}
-use Rattle.stripe_pieces.proofs.Flushes.{state_of-with_records}
+use Rattle.stripe_pieces.proofs.Flushes.{state_of-with_records, with_records-nil}
 use Rattle.stripe_pieces.proofs.Going.{alike_is_held}
 
 -- that a piece is not saved
@@ -63,3 +64,12 @@ nothing_told k c room done cs fs held told = record {
   contents = λ contents stands. stands;
   spends = omega arith;
 }
+
+-- of all of them
+pub all_told : (k new : Kept) (c seen : Seen) (room left : ℕ) (done : Bool) (cs : List Candidate) (fs : List Fate) (i : ℕ) → HasTold k new c seen room left done cs fs i
+    → length cs ≤ i → (new ≡ with_records k (told_of_pieces done cs fs)) × (room ≤ left + length (told_of_pieces done cs fs))
+all_told k new c seen room left done cs fs i h end =
+    let none : drop i cs ≡ [] = drop_all i cs end in
+    let adds = subst (λ ds. with_records new (told_of_pieces done ds (drop i fs)) ≡ with_records k (told_of_pieces done cs fs)) none h.adds in
+    let spends = subst (λ ds. room + length (told_of_pieces done ds (drop i fs)) ≤ left + length (told_of_pieces done cs fs)) none h.spends in
+    (sym (with_records-nil new) ∙ adds, omega (arith, spends))

@@ -1,10 +1,11 @@
 -- What is found of a piece, and what is recorded where it is not.
-use Rattle.std.specs.Prelude.{ℕ, ◌≡◌, ◌≢◌, ◌*◌, ◌≤◌, List, [], ◌∷◌, length, take, Option, Some, None, IfSome}
+use Rattle.std.specs.Prelude.{ℕ, ◌≡◌, ◌≢◌, ◌*◌, ◌<◌, ◌≤◌, ◌^◌, List, [], ◌∷◌, length, take, Option, Some, None, IfSome}
 use Rattle.tape_base.specs.declared.pieces.PieceId.{PieceId}
 use Rattle.tape_base.specs.declared.digests.Digest.{Digest}
+use Rattle.tape_base.specs.Geometry.{budget_of}
 use Rattle.logged_disk.specs.Device.{TellsAll}
 use Rattle.doc_header.specs.Reading.{document_digest, payload_of}
-use Rattle.cyclone.specs.Cyclone.{Seen}
+use Rattle.cyclone.specs.Cyclone.{BlocksStand, Seen}
 use Rattle.cache_model.specs.declared.cause.Cause.{Cause}
 use Rattle.cache_model.specs.declared.cause.Cause.TheVariants as cause
 use Rattle.cache_model.specs.declared.record.Rec.{Rec}
@@ -47,6 +48,19 @@ pub record IsRecorded (s : State) (id : PieceId) (place blocks : ℕ) (digest : 
   pub place_is : row.place ≡ place
   pub blocks_is : row.blocks ≡ blocks
   pub digest_is : row.digest ≡ digest
+
+-- a live piece as it is to be read: some blocks, no more than half a buffer, and they stand
+pub record IsToBeRead (s : State) (c : Seen) (id : PieceId) (place blocks : ℕ) (digest : Digest) : Type 0 where
+  pub recorded : IsRecorded s id place blocks digest
+  pub some : 0 < blocks
+  pub few : blocks ≤ budget_of s.geometry
+  pub stored : BlocksStand c place blocks
+
+-- some blocks stand in front of the bytes, and their length is small
+pub record HasBlocks (blocks : ℕ) (into : List ℕ) : Type 0 where
+  pub some : 0 < blocks
+  pub within : 512 * blocks ≤ length into
+  pub few : 512 * blocks ≤ 2 ^ 31
 
 -- what a judgement of bytes that were read records
 abbrev pub judged_records : PieceId → ℕ → Found → List Rec

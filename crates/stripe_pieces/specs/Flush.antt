@@ -1,7 +1,8 @@
 -- What a flush adds to the records, and what it answers.
-use Rattle.std.specs.Prelude.{ℕ, ◌≡◌, ◌≤◌, List, Some, Result, Ok, Err}
+use Rattle.std.specs.Prelude.{ℕ, ◌≡◌, ◌≤◌, ◌⊎◌, true, List, Some, Result, Ok, Err, IfErr, IfOk, OnOk}
 use Rattle.std.specs.List.{AllByRecursion}
 use Rattle.tape_base.specs.declared.pieces.PieceId.{PieceId}
+use Rattle.tape_base.specs.Geometry.{budget_of}
 use Rattle.device_log.specs.Calls.{Call}
 use Rattle.logged_disk.specs.Device.{DeviceState as Device, TellsAll}
 use Rattle.cache_model.specs.declared.record.Rec.{Rec}
@@ -9,7 +10,7 @@ use Rattle.cache_model.specs.declared.record.Rec.TheVariants as rec
 use Rattle.cache_model.specs.State.{Row, State, floor_now, live_row_of}
 use Rattle.cache_model.specs.Kept.{Kept, state_of, with_records}
 use Rattle.cache_model.specs.Permit.{Permit, End, Done, Fails, Exhausted, Faulted, Flush}
-use Rattle.cache_model.specs.Room.{copies_end, limit}
+use Rattle.cache_model.specs.Room.{copies_end, is_flush_exhausted, limit}
 use Rattle.cache_model.specs.Given.{effects_told}
 use Rattle.cache_model.specs.Legal.{Does}
 use Rattle.stripe_pieces.specs.declared.answer.Flushed.{Flushed}
@@ -68,6 +69,17 @@ pub record TellsFlush (s t : State) (flushed : Flushed) : Type 0 where
 abbrev pub StopsWith : State → ℕ → Stop → Type 0
 StopsWith s faults (stop.DeviceFault count) = count ≡ faults
 StopsWith s faults (stop.Exhausted number) = (number ≡ copies_end s) × (limit ≤ number)
+
+-- what a flush answers between these two states, over a device that counts so many faults then
+pub record AnswersFlush (s t : State) (faults : ℕ) (result : Result Flushed Stop) : Type 0 where
+  pub tells : IfOk result (TellsFlush s t)
+  pub stops : IfErr result (StopsWith s faults)
+  -- half of the buffer at least is free then
+  pub room : OnOk result (t.filled ≤ budget_of t.geometry)
+
+-- a flush writes nothing: the buffer is empty, or its copies might reach the end of the tape
+abbrev pub WritesNothing : State → Type 0
+WritesNothing s = (s.filled ≡ 0) ⊎ (is_flush_exhausted s ≡ true)
 
 -- a flush at a moment, over a device that had made these calls before, and that stands so then: the records that it
 -- added, and that in any step at that moment that covers it these are the records of a flush

@@ -1,6 +1,7 @@
 pub mod Held
 pub mod Standing
 pub mod Displaced
+pub mod Pushes
 pub mod Records
 pub mod Pieces
 pub mod This
@@ -12,5 +13,7 @@ pub mod Copying
 pub mod Looks
 pub mod Flush
 pub mod Place
+pub mod Load
 pub mod Find
 pub mod Units
+pub mod Calls

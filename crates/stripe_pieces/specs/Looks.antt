@@ -1,6 +1,7 @@
 -- How what is due is looked at, piece by piece.
-use Rattle.std.specs.Prelude.{ℕ, ◌≡◌, ◌≢◌, ◌+◌, ◌-◌, ◌*◌, ◌≤◌, ◌==◌, Bool, false, not, if◌then◌else◌, List, [], ◌∷◌, ◌++◌, map, slice_index, slice_index_or, take, Some}
+use Rattle.std.specs.Prelude.{ℕ, ◌≡◌, ◌≢◌, ◌+◌, ◌-◌, ◌*◌, ◌<◌, ◌≤◌, ◌==◌, Bool, false, not, if◌then◌else◌, List, [], ◌∷◌, ◌++◌, length, map, nat_le, slice_get, slice_index, slice_index_or, take, Some}
 use Rattle.std.specs.List.{AllByRecursion}
+use Rattle.tape_base.specs.declared.geometries.Geometry.{Geometry}
 use Rattle.tape_base.specs.Geometry.{budget_of}
 use Rattle.logged_disk.specs.Device.{DeviceState as Device, IsAfter, TellsAll, seen as content_of}
 use Rattle.doc_header.specs.Reading.{document_digest}
@@ -10,11 +11,11 @@ use Rattle.cache_model.specs.State.{Row, State, after_all, live_row_of}
 use Rattle.cache_model.specs.Permit.{Permit}
 use Rattle.cache_model.specs.Given.{IsWritten}
 use Rattle.cache_model.specs.Outcomes.{AreOutcomes, Copied, IsOutcome, Outcome, front_of, records_of}
-use Rattle.stripe_due.specs.Finding.{candidate_of}
+use Rattle.stripe_due.specs.Finding.{candidate_of, most_passed}
 use Rattle.stripe_pieces.specs.declared.ahead.Ahead.{Ahead}
 use Rattle.stripe_pieces.specs.declared.ahead.Fate.{Fate}
 use Rattle.stripe_pieces.specs.declared.ahead.Fate.TheVariants as fate
-use Rattle.stripe_pieces.specs.Ahead.{AreFates, IsFate, StandFrom, StandsAt, blocks_taken_by, taken_by_all}
+use Rattle.stripe_pieces.specs.Ahead.{AreFates, IsFate, IsMadeFor, StandFrom, StandsAt, blocks_taken_by, taken_by_all}
 use Rattle.stripe_pieces.specs.Faults.{CountsUpTo, HasEffects, effects_among, effects_of}
 use Rattle.stripe_pieces.specs.Covers.{Covers}
 use Rattle.cache_model.specs.Damage.{TellNoDamage}
@@ -40,6 +41,18 @@ pub record HasRow (s : State) (c : Candidate) : Type 0 where
   pub row : Row
   pub may : MayBeCopied s row
   pub is : c ≡ candidate_of row
+
+-- what is due stands in memory that is made for it: such pieces, and no more than the floor passes
+pub record HasCandidates (s : State) (a : Ahead) : Type 0 where
+  pub ahead : IsMadeFor s.geometry a
+  pub rows : HasCandidateRows s a.due.items
+  pub few : length a.due.items ≤ most_passed s.geometry
+
+-- the memory is as before, and the same is due and is kept
+pub record StaysMade (g : Geometry) (old new : Ahead) : Type 0 where
+  pub ahead : IsMadeFor g new
+  pub due : new.due ≡ old.due
+  pub kept : new.kept ≡ old.kept
 
 -- how many blocks of memory the piece at an index takes
 abbrev pub blocks_kept : List Candidate → List Bool → ℕ → ℕ
@@ -91,8 +104,22 @@ pub record LooksOn (s : State) (before after : Device) (row : Row) (at end : ℕ
   pub is : (p : Permit) (t : State) → Covers p before.past after.past → IsBeside s before t
       → IsOutcome p t (budget_of s.geometry - at) row outcome
 
+-- the piece at an index is the next one: so many blocks of memory are taken, and by them the budget keeps it or does not
+pub record IsNextToLook (s : State) (i at : ℕ) (a : Ahead) : Type 0 where
+  pub within : i < length a.due.items
+  pub fates : length a.fates.items ≡ i
+  pub room : at ≤ budget_of s.geometry
+  pub choice : slice_get a.kept.items i ≡ Some (nat_le (slice_index (blocks_of_all a.due.items) i + at) (budget_of s.geometry))
+
+-- it was looked at, over a device at these two moments: what came of it is noted, and so many blocks are taken then
+pub record LooksAt (s : State) (before after : Device) (i at end : ℕ) (old new : Ahead) : Type 0 where
+  pub fates : length new.fates.items ≡ i + 1
+  pub taken : end ≡ at + blocks_kept old.due.items old.kept.items i
+  pub room : end ≤ budget_of s.geometry
+  pub looks : (row : Row) → slice_get old.due.items i ≡ Some (candidate_of row) → MayBeCopied s row → LooksOn s before after row at end old new
+
 -- the pieces of these rows were looked at within the budget, and so many blocks of memory are taken
-pub record HasLooked (s : State) (before after : Device) (rows : List Row) (end : ℕ) (a : Ahead) : Type 0 where
+pub record HasLookedAhead (s : State) (before after : Device) (rows : List Row) (end : ℕ) (a : Ahead) : Type 0 where
   pub outcomes : List Outcome
   pub fates : AreFates rows outcomes a.fates.items
   pub stand : StandFrom 0 rows outcomes a.bytes.items

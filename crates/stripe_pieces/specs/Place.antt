@@ -1,5 +1,5 @@
 -- Where a piece goes: the flush that it needs before it, what its entry displaces, and the records of its place.
-use Rattle.std.specs.Prelude.{ℕ, ◌≡◌, ◌+◌, ◌<◌, ◌≤◌, Bool, false, true, if◌then◌else◌, List, [], ◌∷◌, ◌++◌, length, None, Result, Ok, Err, MatchBool}
+use Rattle.std.specs.Prelude.{ℕ, ◌≡◌, ◌+◌, ◌<◌, ◌≤◌, Bool, false, true, if◌then◌else◌, List, [], ◌∷◌, ◌++◌, length, None, Result, Ok, Err, IfErr, MatchBool, OnErr, OnOk}
 use Rattle.tape_base.specs.declared.pieces.PieceId.{PieceId}
 use Rattle.tape_base.specs.declared.digests.Digest.{Digest}
 use Rattle.tape_base.specs.Blocks.{blocks_of}
@@ -25,7 +25,7 @@ use Rattle.stripe_pieces.specs.Displaced.{PushesOut}
 use Rattle.stripe_pieces.specs.Faults.{HasEffects}
 use Rattle.stripe_pieces.specs.Covers.{Covers, SpendsFirst}
 use Rattle.cache_model.specs.Damage.{TellNoDamage}
-use Rattle.stripe_pieces.specs.Flush.{AreOfFlush, EachWasLive, stop_end}
+use Rattle.stripe_pieces.specs.Flush.{AreOfFlush, EachWasLive, StopsWith, stop_end}
 
 -- ---- room
 
@@ -43,6 +43,12 @@ pub record RoomsAsAsked (now : ℕ) (old new : Kept) (before : List Call) (after
   pub unharmed : TellsAll after → TellNoDamage added
   pub faults : HasEffects before after.past (effects_told added)
   pub does : (p : Permit) → p.now ≡ now → Covers p before after.past → RoomIsMade p (state_of old) bytes added result
+
+-- what is answered then, between these two states: room is there, or there was none
+pub record AnswersRoom (s t : State) (faults bytes : ℕ) (result : Result (Unit {0}) Stop) : Type 0 where
+  pub room : OnOk result (has_room t bytes ≡ true)
+  pub full : OnErr result (has_room s bytes ≡ false)
+  pub stops : IfErr result (StopsWith s faults)
 
 -- where a piece of so many bytes would end; or where it has no room, where the copies of the flush before it end at the latest
 abbrev pub exhausted_number : State → ℕ → ℕ
@@ -105,6 +111,11 @@ place_end (Err why) = stop_end why
 pub record IsNewPiece (s : State) (id : PieceId) (payload : List ℕ) : Type 0 where
   pub nowhere : row_of s id ≡ None
   pub small : blocks_of (length payload) ≤ budget_of s.geometry
+
+-- and one for which there is room
+pub record HasBufferRoom (s : State) (id : PieceId) (payload : List ℕ) : Type 0 where
+  pub new : IsNewPiece s id payload
+  pub room : has_room s (length payload) ≡ true
 
 -- ---- a fragment
 

@@ -1,11 +1,9 @@
 // What a flush copies ahead of the cursor: what was looked at before the buffer is written is told of
 // behind that, and copied into the next buffer.
-ghost use Rattle.std.specs.Prelude.{◌≡◌, ◌+◌, ◌≤◌, ◌<◌, ◌^◌, false, true, [], ◌∷◌, ◌++◌, length};
-ghost use Rattle.cyclone.specs.Cyclone.{HasBuffer, SameButRows};
-ghost use Rattle.cache_model.specs.Kept.{with_records};
+ghost use Rattle.std.specs.Prelude.{◌≡◌, ◌+◌, false, true, [], ◌∷◌, ◌++◌, length};
+ghost use Rattle.call_laws.specs.Contents.{AnyContents};
 ghost use Rattle.cache_model.specs.State.{cursor_next, floor_next};
 ghost use Rattle.cache_model.specs.declared.record.Rec.TheVariants.{Began, Fault};
-ghost use Rattle.stripe_pieces.specs.Covers.{Uses};
 ghost use Rattle.logged_disk.specs.Device.{TellsAll};
 ghost use Rattle.stripe_pieces.specs.Copying.{AreCopyable, AreTellable, AreToldCopied, IsCopyable, IsCopyableWhereCopied, IsTellable, IsToldCopied, IsToldRow, begun_behind, blocks_for, copied_by, copied_of, copied_record, copies_among, copies_by, done_records, left_records, told_of_piece, told_of_pieces};
 ghost use Rattle.stripe_pieces.specs.declared.answer.Stop.TheVariants.{DeviceFault};
@@ -20,35 +18,30 @@ use logged_disk::Disk;
 use tape_base::BLOCK;
 
 impl<D: Disk, R: Directory + Drop, C: Chronicle> Pieces<D, R, C> {
-    ghost use Rattle.stripe_pieces.specs.Pieces.{ArePieces, GoOn, GoOnWith, kept_now, seen_now, state_now};
+    ghost use Rattle.stripe_pieces.specs.Pieces.{seen_now, state_now};
+    ghost use Rattle.stripe_pieces.specs.Calls.{AddsRecords, ArePrepared, IsWrittenBefore, TellsOf};
 
     /// Behind a buffer that was written: tells what is not copied, begins the next buffer, and copies
     /// what was read into it.
     pub(crate) fn go_on(&mut self, next: u64, ahead: &Ahead)
-        requires pieces { ArePieces self.old }
-        requires next { next ≡ cursor_next (state_now self.old) }
-        requires below { next < 2 ^ 62 }
-        requires written { HasBuffer (seen_now self.old) }
+        requires ready { ArePrepared
+            (length (told_of_pieces true ahead.now.due.items ahead.now.fates.items) + 1
+            + copies_among ahead.now.fates.items) (copies_among ahead.now.fates.items) self.old }
+        requires out { IsWrittenBefore next self.old }
         requires told { AreTellable true (state_now self.old)
             (seen_now self.old).device.faults ahead.now.due.items ahead.now.fates.items }
         requires copied { AreCopyable R.purges (begun_behind (state_now self.old)
             (told_of_pieces true ahead.now.due.items ahead.now.fates.items)) 0 ahead.now.due.items
             ahead.now.fates.items ahead.now.bytes.items }
-        requires records { length (told_of_pieces true ahead.now.due.items ahead.now.fates.items) + 1 + copies_among ahead.now.fates.items ≤ C.room self.old.chronicle }
-        requires entries { copies_among ahead.now.fates.items ≤ (seen_now self.old).spare }
-        ensures pieces { GoOnWith (λ contents. TellsAll (seen_now self.old).device
+        ensures { AddsRecords (λ contents. TellsAll (seen_now self.old).device
             → AreToldCopied contents (begun_behind (state_now self.old)
             (told_of_pieces true ahead.now.due.items ahead.now.fates.items)) 0 ahead.now.due.items
-            ahead.now.fates.items ahead.now.bytes.items) self.old self.new }
-        ensures adds { kept_now self.new ≡ with_records (kept_now self.old)
+            ahead.now.fates.items ahead.now.bytes.items)
             (done_records (state_now self.old) ahead.now.due.items ahead.now.fates.items
-            ahead.now.bytes.items) }
-        ensures still { (seen_now self.new).device ≡ (seen_now self.old).device }
-        ensures uses { Uses
+            ahead.now.bytes.items)
             (length (told_of_pieces true ahead.now.due.items ahead.now.fates.items) + 1
-            + copies_among ahead.now.fates.items) (copies_among ahead.now.fates.items) 0 0
-            (C.room self.old.chronicle) (C.room self.new.chronicle) (seen_now self.old)
-            (seen_now self.new) }
+            + copies_among ahead.now.fates.items) (copies_among ahead.now.fates.items)
+            self.old self.new }
     {
         self.tell(ahead, true);
         self.begin(next);
@@ -57,18 +50,10 @@ impl<D: Disk, R: Directory + Drop, C: Chronicle> Pieces<D, R, C> {
 
     // The next buffer begins, and that is recorded.
     fn begin(&mut self, next: u64)
-        requires pieces { ArePieces self.old }
-        requires next { next ≡ cursor_next (state_now self.old) }
-        requires below { next < 2 ^ 62 }
-        requires written { HasBuffer (seen_now self.old) }
-        requires record { 1 ≤ C.room self.old.chronicle }
-        ensures pieces { GoOn self.old self.new }
-        ensures adds { let s = state_now self.old in
-            kept_now self.new ≡ with_records (kept_now self.old)
-            (Began (cursor_next s) (floor_next s) ∷ []) }
-        ensures still { (seen_now self.new).device ≡ (seen_now self.old).device }
-        ensures uses { Uses 1 0 0 0 (C.room self.old.chronicle) (C.room self.new.chronicle)
-            (seen_now self.old) (seen_now self.new) }
+        requires ready { ArePrepared 1 0 self.old }
+        requires out { IsWrittenBefore next self.old }
+        ensures { let s = state_now self.old in
+            AddsRecords AnyContents (Began (cursor_next s) (floor_next s) ∷ []) 1 0 self.old self.new }
     {
         self.cyclone.begin_next();
         records::began(&mut self.chronicle, next, self.cyclone.floor());
@@ -76,19 +61,16 @@ impl<D: Disk, R: Directory + Drop, C: Chronicle> Pieces<D, R, C> {
 
     /// Behind a buffer that the device refused: tells of damage and of faults, this one the last.
     pub(crate) fn stop(&mut self, ahead: &Ahead) -> Stop
-        requires pieces { ArePieces self.old }
+        requires ready { ArePrepared
+            (length (told_of_pieces false ahead.now.due.items ahead.now.fates.items) + 1) 0 self.old }
         requires told { AreTellable false (state_now self.old)
             (seen_now self.old).device.faults ahead.now.due.items ahead.now.fates.items }
-        requires records { length (told_of_pieces false ahead.now.due.items ahead.now.fates.items) + 1 ≤ C.room self.old.chronicle }
-        ensures pieces { GoOn self.old self.new }
-        ensures adds { kept_now self.new ≡ with_records (kept_now self.old)
+        ensures keeps { AddsRecords AnyContents
             (told_of_pieces false ahead.now.due.items ahead.now.fates.items ++ Fault
-            (seen_now self.old).device.faults ∷ []) }
+            (seen_now self.old).device.faults ∷ [])
+            (length (told_of_pieces false ahead.now.due.items ahead.now.fates.items) + 1) 0
+            self.old self.new }
         ensures why { result ≡ DeviceFault (seen_now self.old).device.faults }
-        ensures still { (seen_now self.new).device ≡ (seen_now self.old).device }
-        ensures uses { Uses (length (told_of_pieces false ahead.now.due.items ahead.now.fates.items)
-            + 1) 0 0 0 (C.room self.old.chronicle) (C.room self.new.chronicle) (seen_now self.old)
-            (seen_now self.new) }
     {
         let count = self.cyclone.disk().faults();
         self.tell(ahead, false);
@@ -99,15 +81,12 @@ impl<D: Disk, R: Directory + Drop, C: Chronicle> Pieces<D, R, C> {
     // Records what came of each piece that is not copied; that it is not saved only of a flush that is
     // done.
     fn tell(&mut self, ahead: &Ahead, done: bool)
-        requires pieces { ArePieces self.old }
+        requires ready { ArePrepared
+            (length (told_of_pieces done ahead.now.due.items ahead.now.fates.items)) 0 self.old }
         requires told { AreTellable done (state_now self.old)
             (seen_now self.old).device.faults ahead.now.due.items ahead.now.fates.items }
-        requires records { length (told_of_pieces done ahead.now.due.items ahead.now.fates.items) ≤ C.room self.old.chronicle }
-        ensures pieces { GoOn self.old self.new }
-        ensures adds { kept_now self.new ≡ with_records (kept_now self.old)
-            (told_of_pieces done ahead.now.due.items ahead.now.fates.items) }
-        ensures rest { SameButRows (seen_now self.old) (seen_now self.new) }
-        ensures room { C.room self.old.chronicle ≤ C.room self.new.chronicle + length (told_of_pieces done ahead.now.due.items ahead.now.fates.items) }
+        ensures { TellsOf (told_of_pieces done ahead.now.due.items ahead.now.fates.items)
+            self.old self.new }
     {
         for i in 0..ahead.due.len() {
             self.tell_of(ahead.due[i], ahead.fates[i], done);
@@ -115,15 +94,10 @@ impl<D: Disk, R: Directory + Drop, C: Chronicle> Pieces<D, R, C> {
     }
 
     fn tell_of(&mut self, candidate: Candidate, fate: Fate, done: bool)
-        requires pieces { ArePieces self.old }
+        requires ready { ArePrepared (length (told_of_piece done candidate fate)) 0 self.old }
         requires told { IsTellable (state_now self.old)
             (seen_now self.old).device.faults candidate fate }
-        requires records { length (told_of_piece done candidate fate) ≤ C.room self.old.chronicle }
-        ensures pieces { GoOn self.old self.new }
-        ensures adds { kept_now self.new ≡ with_records (kept_now self.old)
-            (told_of_piece done candidate fate) }
-        ensures rest { SameButRows (seen_now self.old) (seen_now self.new) }
-        ensures room { C.room self.old.chronicle ≤ C.room self.new.chronicle + length (told_of_piece done candidate fate) }
+        ensures { TellsOf (told_of_piece done candidate fate) self.old self.new }
     {
         let Candidate { id, place, .. } = candidate;
         match fate {
@@ -138,13 +112,9 @@ impl<D: Disk, R: Directory + Drop, C: Chronicle> Pieces<D, R, C> {
     }
 
     fn leave(&mut self, candidate: Candidate, fault: bool, done: bool)
-        requires pieces { ArePieces self.old }
-        requires records { length (left_records done candidate fault) ≤ C.room self.old.chronicle }
-        ensures pieces { GoOn self.old self.new }
-        ensures adds { kept_now self.new ≡ with_records (kept_now self.old)
-            (left_records done candidate fault) }
+        requires { ArePrepared (length (left_records done candidate fault)) 0 self.old }
+        ensures keeps { TellsOf (left_records done candidate fault) self.old self.new }
         ensures cyclone { self.new.cyclone ≡ self.old.cyclone }
-        ensures room { C.room self.old.chronicle ≤ C.room self.new.chronicle + length (left_records done candidate fault) }
     {
         if done {
             records::unsaved(&mut self.chronicle, candidate.id, candidate.place, fault);
@@ -153,21 +123,16 @@ impl<D: Disk, R: Directory + Drop, C: Chronicle> Pieces<D, R, C> {
 
     // Copies the documents that stand in memory into the buffer.
     fn copy(&mut self, ahead: &Ahead)
-        requires pieces { ArePieces self.old }
+        requires ready { ArePrepared (copies_among ahead.now.fates.items)
+            (copies_among ahead.now.fates.items) self.old }
         requires copied { AreCopyable R.purges (state_now self.old) 0 ahead.now.due.items
             ahead.now.fates.items ahead.now.bytes.items }
-        requires records { copies_among ahead.now.fates.items ≤ C.room self.old.chronicle }
-        requires entries { copies_among ahead.now.fates.items ≤ (seen_now self.old).spare }
-        ensures pieces { GoOnWith (λ contents. TellsAll (seen_now self.old).device
+        ensures { AddsRecords (λ contents. TellsAll (seen_now self.old).device
             → AreToldCopied contents (state_now self.old) 0 ahead.now.due.items
-            ahead.now.fates.items ahead.now.bytes.items) self.old self.new }
-        ensures adds { kept_now self.new ≡ with_records (kept_now self.old)
+            ahead.now.fates.items ahead.now.bytes.items)
             (copied_of (state_now self.old) 0 ahead.now.due.items ahead.now.fates.items
-            ahead.now.bytes.items) }
-        ensures still { (seen_now self.new).device ≡ (seen_now self.old).device }
-        ensures uses { Uses (copies_among ahead.now.fates.items)
-            (copies_among ahead.now.fates.items) 0 0 (C.room self.old.chronicle)
-            (C.room self.new.chronicle) (seen_now self.old) (seen_now self.new) }
+            ahead.now.bytes.items) (copies_among ahead.now.fates.items)
+            (copies_among ahead.now.fates.items) self.old self.new }
     {
         let mut at = 0;
         for i in 0..ahead.due.len() {
@@ -184,18 +149,12 @@ impl<D: Disk, R: Directory + Drop, C: Chronicle> Pieces<D, R, C> {
 
     // Copies a piece, where its document was read and is its own.
     fn copy_one(&mut self, candidate: Candidate, fate: Fate, bytes: &[u8])
-        requires pieces { ArePieces self.old }
+        requires ready { ArePrepared (copies_by fate) (copies_by fate) self.old }
         requires copied { IsCopyableWhereCopied R.purges (state_now self.old) candidate fate bytes.now }
-        requires records { copies_by fate ≤ C.room self.old.chronicle }
-        requires entries { copies_by fate ≤ (seen_now self.old).spare }
-        ensures pieces { GoOnWith (λ contents. TellsAll (seen_now self.old).device
+        ensures { AddsRecords (λ contents. TellsAll (seen_now self.old).device
             → IsToldCopied contents (state_now self.old) candidate fate bytes.now)
-            self.old self.new }
-        ensures adds { kept_now self.new ≡ with_records (kept_now self.old)
-            (copied_by (state_now self.old) candidate fate bytes.now) }
-        ensures still { (seen_now self.new).device ≡ (seen_now self.old).device }
-        ensures uses { Uses (copies_by fate) (copies_by fate) 0 0 (C.room self.old.chronicle)
-            (C.room self.new.chronicle) (seen_now self.old) (seen_now self.new) }
+            (copied_by (state_now self.old) candidate fate bytes.now) (copies_by fate)
+            (copies_by fate) self.old self.new }
     {
         match fate {
             Fate::Copied { pinned } => self.move_here(candidate, pinned, bytes),
@@ -206,17 +165,11 @@ impl<D: Disk, R: Directory + Drop, C: Chronicle> Pieces<D, R, C> {
     }
 
     fn move_here(&mut self, candidate: Candidate, pinned: bool, bytes: &[u8])
-        requires pieces { ArePieces self.old }
+        requires ready { ArePrepared 1 1 self.old }
         requires copied { IsCopyable R.purges (state_now self.old) candidate bytes.now }
-        requires record { 1 ≤ C.room self.old.chronicle }
-        requires entry { 1 ≤ (seen_now self.old).spare }
-        ensures pieces { GoOnWith (λ contents. TellsAll (seen_now self.old).device
-            → IsToldRow contents (state_now self.old) candidate bytes.now) self.old self.new }
-        ensures adds { kept_now self.new ≡ with_records (kept_now self.old)
-            (copied_record (state_now self.old) candidate bytes.now ∷ []) }
-        ensures still { (seen_now self.new).device ≡ (seen_now self.old).device }
-        ensures uses { Uses 1 1 0 0 (C.room self.old.chronicle) (C.room self.new.chronicle)
-            (seen_now self.old) (seen_now self.new) }
+        ensures { AddsRecords (λ contents. TellsAll (seen_now self.old).device
+            → IsToldRow contents (state_now self.old) candidate bytes.now)
+            (copied_record (state_now self.old) candidate bytes.now ∷ []) 1 1 self.old self.new }
     {
         let Candidate {
             id,

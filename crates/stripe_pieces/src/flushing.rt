@@ -1,16 +1,14 @@
 // How the buffer is written out, and room made for a piece.
-ghost use Rattle.std.specs.Prelude.{◌≡◌, ◌+◌, ◌*◌, ◌≤◌, true, false, IfOk, IfErr, OnOk, OnErr};
+ghost use Rattle.std.specs.Prelude.{◌≡◌, ◌+◌, ◌*◌, ◌≤◌, true};
 ghost use Rattle.tape_base.specs.Blocks.{blocks_of};
 ghost use Rattle.tape_base.specs.Geometry.{budget_of};
 ghost use Rattle.cache_model.specs.State.{floor_now};
 ghost use Rattle.cache_model.specs.Legal.{IsQuiet};
-ghost use Rattle.cache_model.specs.Room.{has_room, is_flush_exhausted};
-ghost use Rattle.stripe_actors.specs.Actors.{AreActors};
+ghost use Rattle.cache_model.specs.Room.{has_room};
+ghost use Rattle.call_laws.specs.Contents.{AnyContents};
 ghost use Rattle.stripe_due.specs.Finding.{most_passed};
-ghost use Rattle.stripe_pieces.specs.Ahead.{IsMadeFor};
-ghost use Rattle.stripe_pieces.specs.Covers.{Uses};
-ghost use Rattle.stripe_pieces.specs.Flush.{FlushesAsAsked, StopsWith, TellsFlush};
-ghost use Rattle.stripe_pieces.specs.Place.{RoomsAsAsked};
+ghost use Rattle.stripe_pieces.specs.Flush.{AnswersFlush, FlushesAsAsked, WritesNothing};
+ghost use Rattle.stripe_pieces.specs.Place.{AnswersRoom, RoomsAsAsked};
 
 use crate::ahead::Ahead;
 use crate::answer::{Flushed, Stop};
@@ -24,39 +22,22 @@ use tape_base::{LIMIT, blocks_of};
 // No piece that is placed or copied ends at the limit: a buffer is written out only where the half of
 // the next one that takes the copies ends below it.
 impl<D: Disk, R: Directory + Drop, C: Chronicle> Pieces<D, R, C> {
-    ghost use Rattle.stripe_pieces.specs.Pieces.{ArePieces, GoOn, kept_now, seen_now, state_now};
+    ghost use Rattle.stripe_pieces.specs.Pieces.{ArePieces, kept_now, seen_now, state_now};
+    ghost use Rattle.stripe_pieces.specs.Calls.{FlushesAtMost, MayBeFlushed};
 
     /// Writes the buffer out where it is not empty, begins the next one, and copies into it what is
     /// due at a moment. What is due is read before the buffer is written.
     pub fn flush(&mut self, now: u64, actors: &Actors, ahead: &mut Ahead) -> Result<Flushed, Stop>
-        requires pieces { ArePieces self.old }
+        requires ready { let g = (state_now self.old).geometry in
+            MayBeFlushed (2 * most_passed g + 1) (budget_of g) actors.now ahead.old self.old }
         requires quiet { IsQuiet (state_now self.old) }
-        requires actors { AreActors (state_now self.old) actors.now }
-        requires ahead { IsMadeFor (state_now self.old).geometry ahead.old }
-        requires records { 2 * most_passed (state_now self.old).geometry + 1
-            ≤ C.room self.old.chronicle }
-        requires entries { budget_of (state_now self.old).geometry ≤ (seen_now self.old).spare }
-        requires calls { 1 ≤ (seen_now self.old).device.calls }
-        requires blocks { (seen_now self.old).geometry.agg ≤ (seen_now self.old).device.blocks }
-        ensures pieces { GoOn self.old self.new }
+        ensures keeps { let g = (seen_now self.old).geometry in
+            FlushesAtMost AnyContents (WritesNothing (state_now self.old)) (2 * most_passed g + 1)
+            (budget_of g) ahead.new self.old self.new }
         ensures does { FlushesAsAsked now (kept_now self.old) (kept_now self.new)
             (seen_now self.old).device.past (seen_now self.new).device result }
-        ensures tells { IfOk result (TellsFlush (state_now self.old) (state_now self.new)) }
-        ensures stops { IfErr result (StopsWith (state_now self.old)
-            (seen_now self.new).device.faults) }
-        ensures ahead { IsMadeFor (state_now self.old).geometry ahead.new }
-        ensures uses { let g = (seen_now self.old).geometry in
-            Uses (2 * most_passed g + 1) (budget_of g) 1 g.agg (C.room self.old.chronicle)
-            (C.room self.new.chronicle) (seen_now self.old) (seen_now self.new) }
-        // Half of the buffer at least is free then.
-        ensures room { OnOk result ((state_now self.new).filled
-            ≤ budget_of (state_now self.new).geometry) }
-        // An empty buffer asks no device.
-        ensures still { (state_now self.old).filled ≡ 0
-            → (seen_now self.new).device ≡ (seen_now self.old).device }
-        // Nor does one whose copies might reach the end of the tape.
-        ensures ended { is_flush_exhausted (state_now self.old) ≡ true
-            → (seen_now self.new).device ≡ (seen_now self.old).device }
+        ensures answers { AnswersFlush (state_now self.old) (state_now self.new)
+            (seen_now self.new).device.faults result }
     {
         let blocks = (self.cyclone.next_place() - self.cyclone.cursor()) as u32;
         if blocks == 0 {
@@ -100,30 +81,17 @@ impl<D: Disk, R: Directory + Drop, C: Chronicle> Pieces<D, R, C> {
         actors: &Actors,
         ahead: &mut Ahead,
     ) -> Result<(), Stop>
-        requires pieces { ArePieces self.old }
+        requires ready { let g = (state_now self.old).geometry in
+            MayBeFlushed (2 * most_passed g + 1) (budget_of g) actors.now ahead.old self.old }
         requires quiet { IsQuiet (state_now self.old) }
-        requires actors { AreActors (state_now self.old) actors.now }
-        requires ahead { IsMadeFor (state_now self.old).geometry ahead.old }
         requires small { blocks_of bytes ≤ budget_of (state_now self.old).geometry }
-        requires size { bytes ≤ 2147483648 }
-        requires records { 2 * most_passed (state_now self.old).geometry + 1
-            ≤ C.room self.old.chronicle }
-        requires entries { budget_of (state_now self.old).geometry ≤ (seen_now self.old).spare }
-        requires calls { 1 ≤ (seen_now self.old).device.calls }
-        requires blocks { (seen_now self.old).geometry.agg ≤ (seen_now self.old).device.blocks }
-        ensures pieces { GoOn self.old self.new }
+        ensures keeps { let g = (seen_now self.old).geometry in
+            FlushesAtMost AnyContents (has_room (state_now self.old) bytes ≡ true)
+            (2 * most_passed g + 1) (budget_of g) ahead.new self.old self.new }
         ensures does { RoomsAsAsked now (kept_now self.old) (kept_now self.new)
             (seen_now self.old).device.past (seen_now self.new).device bytes result }
-        ensures room { OnOk result (has_room (state_now self.new) bytes ≡ true) }
-        ensures full { OnErr result (has_room (state_now self.old) bytes ≡ false) }
-        ensures stops { IfErr result (StopsWith (state_now self.old)
-            (seen_now self.new).device.faults) }
-        ensures ahead { IsMadeFor (state_now self.old).geometry ahead.new }
-        ensures still { has_room (state_now self.old) bytes ≡ true
-            → (seen_now self.new).device ≡ (seen_now self.old).device }
-        ensures uses { let g = (seen_now self.old).geometry in
-            Uses (2 * most_passed g + 1) (budget_of g) 1 g.agg (C.room self.old.chronicle)
-            (C.room self.new.chronicle) (seen_now self.old) (seen_now self.new) }
+        ensures answers { AnswersRoom (state_now self.old) (state_now self.new)
+            (seen_now self.new).device.faults bytes result }
     {
         if blocks_of(bytes) <= self.cyclone.room() {
             return Ok(());

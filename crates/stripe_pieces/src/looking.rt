@@ -1,15 +1,13 @@
 // What a flush is to copy ahead of the cursor is found, and what the budget keeps of it is read into
 // memory.
-ghost use Rattle.std.specs.Prelude.{◌≡◌, ◌+◌, ◌*◌, ◌≤◌, ◌<◌, ℕ, List, length, take, slice_get, slice_index, Some, nat_le};
+ghost use Rattle.std.specs.Prelude.{◌≡◌, ◌*◌, ◌≤◌, ◌<◌, ℕ, List, length, take};
 ghost use Rattle.tape_base.specs.Geometry.{budget_of};
-ghost use Rattle.logged_disk.specs.Device.{IsAsked, SeenStays};
 ghost use Rattle.evacuator.specs.Choice.{CandidatesRise, IsChoice, blocks_of_all};
-ghost use Rattle.cyclone.specs.Cyclone.{SameTape};
 ghost use Rattle.cache_model.specs.State.{Row};
 ghost use Rattle.stripe_actors.specs.Actors.{AreActors};
-ghost use Rattle.stripe_due.specs.Finding.{candidate_of, most_passed};
+ghost use Rattle.stripe_due.specs.Finding.{candidate_of};
 ghost use Rattle.stripe_pieces.specs.Ahead.{IsMadeFor, LooksAhead};
-ghost use Rattle.stripe_pieces.specs.Looks.{AreOfRows, Comes, HasCandidateRows, HasRow, IsJudgedAs, HasLooked, LooksOn, MayBeCopied, blocks_kept};
+ghost use Rattle.stripe_pieces.specs.Looks.{AreOfRows, Comes, HasCandidates, HasLookedAhead, HasRow, IsJudgedAs, IsNextToLook, LooksAt, MayBeCopied, StaysMade};
 
 use crate::Pieces;
 use crate::ahead::{Ahead, Fate};
@@ -25,17 +23,14 @@ use tape_base::{BLOCK, floor_of};
 
 impl<D: Disk, R: Directory + Drop, C: Chronicle> Pieces<D, R, C> {
     ghost use Rattle.stripe_pieces.specs.Pieces.{ArePieces, seen_now, state_now};
+    ghost use Rattle.stripe_pieces.specs.Calls.{OnlyReads};
 
     /// Finds what is due at a moment, and reads what the budget keeps of it.
     pub(crate) fn look_ahead(&mut self, now: u64, actors: &Actors, ahead: &mut Ahead)
         requires pieces { ArePieces self.old }
         requires actors { AreActors (state_now self.old) actors.now }
         requires ahead { IsMadeFor (state_now self.old).geometry ahead.old }
-        ensures pieces { ArePieces self.new }
-        ensures chronicle { self.new.chronicle ≡ self.old.chronicle }
-        ensures same { SameTape (seen_now self.old) (seen_now self.new) }
-        ensures asked { IsAsked (seen_now self.old).device (seen_now self.new).device }
-        ensures seen { SeenStays (seen_now self.old).device (seen_now self.new).device }
+        ensures keeps { OnlyReads self.old self.new }
         ensures ahead { IsMadeFor (state_now self.old).geometry ahead.new }
         ensures looks { LooksAhead now (state_now self.old) (seen_now self.old).device
             (seen_now self.new).device ahead.new }
@@ -58,21 +53,14 @@ impl<D: Disk, R: Directory + Drop, C: Chronicle> Pieces<D, R, C> {
     // Reads the pieces that are kept, one behind the other into memory, and notes what came of each.
     fn read_kept(&mut self, ahead: &mut Ahead)
         requires pieces { ArePieces self.old }
-        requires ahead { IsMadeFor (state_now self.old).geometry ahead.old }
-        requires rows { HasCandidateRows (state_now self.old) ahead.old.due.items }
-        requires few { length ahead.old.due.items ≤ most_passed (state_now self.old).geometry }
+        requires candidates { HasCandidates (state_now self.old) ahead.old }
         requires choice { IsChoice (budget_of (state_now self.old).geometry)
             (blocks_of_all ahead.old.due.items)
             (take (length ahead.old.due.items) ahead.old.kept.items) }
-        ensures pieces { ArePieces self.new }
-        ensures chronicle { self.new.chronicle ≡ self.old.chronicle }
-        ensures same { SameTape (seen_now self.old) (seen_now self.new) }
-        ensures asked { IsAsked (seen_now self.old).device (seen_now self.new).device }
-        ensures seen { SeenStays (seen_now self.old).device (seen_now self.new).device }
-        ensures ahead { IsMadeFor (state_now self.old).geometry ahead.new }
-        ensures due { ahead.new.due.items ≡ ahead.old.due.items }
+        ensures keeps { OnlyReads self.old self.new }
+        ensures made { StaysMade (state_now self.old).geometry ahead.old ahead.new }
         ensures looked { (rows : List Row) → AreOfRows (state_now self.old) ahead.old.due.items rows
-            → (end : ℕ) × HasLooked (state_now self.old) (seen_now self.old).device
+            → (end : ℕ) × HasLookedAhead (state_now self.old) (seen_now self.old).device
             (seen_now self.new).device rows end ahead.new }
     {
         ahead.fates.clear();
@@ -85,30 +73,12 @@ impl<D: Disk, R: Directory + Drop, C: Chronicle> Pieces<D, R, C> {
     // Reads a piece behind those before it, if it is kept, and notes what came of it.
     fn look_at(&mut self, i: usize, at: usize, ahead: &mut Ahead) -> usize
         requires pieces { ArePieces self.old }
-        requires ahead { IsMadeFor (state_now self.old).geometry ahead.old }
-        requires within { i < length ahead.old.due.items }
-        requires few { length ahead.old.due.items ≤ most_passed (state_now self.old).geometry }
-        requires rows { HasCandidateRows (state_now self.old) ahead.old.due.items }
-        requires fates { length ahead.old.fates.items ≡ i }
-        requires room { at ≤ budget_of (state_now self.old).geometry }
-        requires choice { slice_get ahead.old.kept.items i
-            ≡ Some (nat_le (slice_index (blocks_of_all ahead.old.due.items) i + at)
-            (budget_of (state_now self.old).geometry)) }
-        ensures pieces { ArePieces self.new }
-        ensures chronicle { self.new.chronicle ≡ self.old.chronicle }
-        ensures same { SameTape (seen_now self.old) (seen_now self.new) }
-        ensures asked { IsAsked (seen_now self.old).device (seen_now self.new).device }
-        ensures seen { SeenStays (seen_now self.old).device (seen_now self.new).device }
-        ensures ahead { IsMadeFor (state_now self.old).geometry ahead.new }
-        ensures due { ahead.new.due ≡ ahead.old.due }
-        ensures kept { ahead.new.kept ≡ ahead.old.kept }
-        ensures fates { length ahead.new.fates.items ≡ i + 1 }
-        ensures taken { result ≡ at + blocks_kept ahead.old.due.items ahead.old.kept.items i }
-        ensures room { result ≤ budget_of (state_now self.old).geometry }
-        ensures looks { (row : Row) → slice_get ahead.old.due.items i ≡ Some (candidate_of row)
-            → MayBeCopied (state_now self.old) row
-            → LooksOn (state_now self.old) (seen_now self.old).device
-            (seen_now self.new).device row at result ahead.old ahead.new }
+        requires candidates { HasCandidates (state_now self.old) ahead.old }
+        requires next { IsNextToLook (state_now self.old) i at ahead.old }
+        ensures keeps { OnlyReads self.old self.new }
+        ensures made { StaysMade (state_now self.old).geometry ahead.old ahead.new }
+        ensures looks { LooksAt (state_now self.old) (seen_now self.old).device
+            (seen_now self.new).device i at result ahead.old ahead.new }
     {
         if !ahead.kept[i] {
             ahead.fates.push(Fate::NoRoom).unwrap();
@@ -126,11 +96,7 @@ impl<D: Disk, R: Directory + Drop, C: Chronicle> Pieces<D, R, C> {
         requires pieces { ArePieces self.old }
         requires row { HasRow (state_now self.old) candidate }
         requires into { length into.old ≡ 512 * candidate.blocks }
-        ensures pieces { ArePieces self.new }
-        ensures chronicle { self.new.chronicle ≡ self.old.chronicle }
-        ensures same { SameTape (seen_now self.old) (seen_now self.new) }
-        ensures asked { IsAsked (seen_now self.old).device (seen_now self.new).device }
-        ensures seen { SeenStays (seen_now self.old).device (seen_now self.new).device }
+        ensures keeps { OnlyReads self.old self.new }
         ensures comes { (row : Row) → candidate ≡ candidate_of row
             → MayBeCopied (state_now self.old) row
             → Comes (state_now self.old) (seen_now self.old).device

@@ -2,11 +2,10 @@
 ghost use Rattle.std.specs.Prelude.{◌≡◌, ◌*◌, ◌<◌, ◌≤◌, ◌^◌, [], IfOk, IfErr, OnOk, OnErr};
 ghost use Rattle.cache_model.specs.Kept.{all_of};
 ghost use Rattle.cache_model.specs.Legal.{format_records};
-ghost use Rattle.cyclone.specs.Cyclone.{IsCyclone, SameButRoom, seen_cyclone};
-ghost use Rattle.logged_disk.specs.Device.{Affords, Keeps};
-ghost use Rattle.stripe_pieces.specs.Units.{entries_of_unit, records_of_unit};
+ghost use Rattle.cyclone.specs.Cyclone.{IsCyclone, seen_cyclone};
+ghost use Rattle.logged_disk.specs.Device.{Affords};
+ghost use Rattle.stripe_pieces.specs.Units.{records_of_unit};
 ghost use Rattle.stripe_pieces.specs.This.{is_this};
-ghost use Rattle.call_laws.specs.Contents.{Contents};
 
 use crate::records;
 use cache_chronicle::Chronicle;
@@ -39,7 +38,8 @@ pub struct Pieces<D: Disk, R: Directory + Drop, C: Chronicle> {
 }
 
 impl<D: Disk, R: Directory + Drop, C: Chronicle> Pieces<D, R, C> {
-    ghost use Rattle.stripe_pieces.specs.Pieces.{ArePieces, GoOn, Stand, kept_now, live_place_of, seen_now, state_now};
+    ghost use Rattle.stripe_pieces.specs.Pieces.{ArePieces, kept_now, live_place_of, seen_now, state_now};
+    ghost use Rattle.stripe_pieces.specs.Calls.{HasGrown, IsFormatted, OnlyGrows};
 
     /// Begins a session on an empty content area. A refusal gives back the device and the chronicle.
     pub fn format(
@@ -50,10 +50,7 @@ impl<D: Disk, R: Directory + Drop, C: Chronicle> Pieces<D, R, C> {
     ) -> Result<Pieces<D, R, C>, (AllocError, D, C)>
         requires sized { g.content ≤ (D.state disk).size }
         requires empty { C.kept chronicle ≡ all_of [] }
-        ensures pieces { IfOk result ArePieces }
-        ensures records { IfOk result (λ p. kept_now p ≡ all_of (format_records g)) }
-        ensures contents { IfOk result (λ p. (contents : Contents) → Stand contents p) }
-        ensures device { IfOk result (λ p. (seen_now p).device ≡ D.state disk) }
+        ensures formatted { IfOk result (IsFormatted g (D.state disk)) }
         ensures back { IfErr result (λ r. (r.1 ≡ disk) × (C.kept r.2 ≡ all_of [])) }
     {
         let mut chronicle = chronicle;
@@ -83,19 +80,10 @@ impl<D: Disk, R: Directory + Drop, C: Chronicle> Pieces<D, R, C> {
     /// least so many flushes.
     pub fn prepare(&mut self, units: u32, flushes: u32) -> Result<(), AllocError>
         requires { ArePieces self.old }
-        ensures pieces { GoOn self.old self.new }
-        ensures records { kept_now self.new ≡ kept_now self.old }
-        ensures same { SameButRoom (seen_now self.old) (seen_now self.new) }
-        ensures record { OnOk result (records_of_unit (seen_now self.old).geometry * units ≤ C.room self.new.chronicle) }
-        ensures room { C.room self.old.chronicle ≤ C.room self.new.chronicle }
-        ensures spare { OnOk result (entries_of_unit (seen_now self.old).geometry * units
-            ≤ (seen_now self.new).spare) }
-        ensures device { let old = (seen_now self.old).device in
-            OnOk result (Affords flushes (flushes * (seen_now self.old).geometry.agg) old
-            (seen_now self.new).device) }
+        ensures keeps { OnlyGrows self.old self.new }
+        ensures grown { OnOk result (HasGrown units flushes self.old self.new) }
         ensures none { OnErr result (Affords 0 0 (seen_now self.old).device
             (seen_now self.new).device) }
-        ensures keeps { Keeps 0 0 (seen_now self.old).device (seen_now self.new).device }
     {
         let g = self.cyclone.geometry();
         let entries = (g.agg as usize / 2 + 1) * units as usize;

@@ -6,6 +6,7 @@ ghost use Rattle.cache_model.specs.Legal.{answer_record, format_records};
 ghost use Rattle.cache_model.specs.declared.record.Rec.TheVariants.{Aborted, Began, Committed, Damaged, Fault, Moved, Placed, ReadClosed, ReadOpened, Removed, Unsaved, WriteOpened};
 ghost use Rattle.stripe_pieces.specs.Displaced.{displaced_of};
 ghost use Rattle.stripe_pieces.specs.Place.{cut_record_of};
+ghost use Rattle.stripe_pieces.specs.Pushes.{Pushes};
 
 use alternate_vector::{Fields, Vector};
 use cache_chronicle::Chronicle;
@@ -30,8 +31,7 @@ pub fn formatted<C: Chronicle>(chronicle: &mut C, g: &Geometry)
 /// A buffer begins.
 pub fn began<C: Chronicle>(chronicle: &mut C, cursor: u64, floor: u64)
     requires { 1 ≤ C.room chronicle.old }
-    ensures kept { C.kept chronicle.new ≡ with_records (C.kept chronicle.old) (Began cursor floor ∷ []) }
-    ensures room { C.room chronicle.old ≤ C.room chronicle.new + 1 }
+    ensures { Pushes C.Chronicle (Began cursor floor ∷ []) 1 chronicle.old chronicle.new }
 {
     chronicle.push(Rec::Began { cursor, floor });
 }
@@ -39,8 +39,7 @@ pub fn began<C: Chronicle>(chronicle: &mut C, cursor: u64, floor: u64)
 /// The device refused a call.
 pub fn fault<C: Chronicle>(chronicle: &mut C, count: u64)
     requires { 1 ≤ C.room chronicle.old }
-    ensures kept { C.kept chronicle.new ≡ with_records (C.kept chronicle.old) (Fault count ∷ []) }
-    ensures room { C.room chronicle.old ≤ C.room chronicle.new + 1 }
+    ensures { Pushes C.Chronicle (Fault count ∷ []) 1 chronicle.old chronicle.new }
 {
     chronicle.push(Rec::Fault { count });
 }
@@ -48,8 +47,7 @@ pub fn fault<C: Chronicle>(chronicle: &mut C, count: u64)
 /// A fragment was cut, of so many bytes with that digest; a vector is none.
 pub fn cut<C: Chronicle>(chronicle: &mut C, id: PieceId, length: u32, digest: Digest)
     requires { 1 ≤ C.room chronicle.old }
-    ensures kept { C.kept chronicle.new ≡ with_records (C.kept chronicle.old) (cut_record_of id length digest) }
-    ensures room { C.room chronicle.old ≤ C.room chronicle.new + 1 }
+    ensures { Pushes C.Chronicle (cut_record_of id length digest) 1 chronicle.old chronicle.new }
 {
     if id.index != 0 {
         chronicle.push(Rec::Cut {
@@ -64,9 +62,9 @@ pub fn cut<C: Chronicle>(chronicle: &mut C, id: PieceId, length: u32, digest: Di
 /// The pieces that stood at these places were displaced.
 pub fn displaced<C: Chronicle>(chronicle: &mut C, displaced: &Displaced)
     requires { length displaced.now.told.places ≤ C.room chronicle.old }
-    ensures kept { C.kept chronicle.new ≡ with_records (C.kept chronicle.old)
-        (displaced_of (state_of (C.kept chronicle.old)) displaced.now.told) }
-    ensures room { C.room chronicle.old ≤ C.room chronicle.new + length displaced.now.told.places }
+    ensures { let told = displaced.now.told in
+        Pushes C.Chronicle (displaced_of (state_of (C.kept chronicle.old)) told)
+        (length told.places) chronicle.old chronicle.new }
 {
     for i in 0..displaced.len() {
         if let Some(piece) = chronicle.last_at(displaced.place(i)) {
@@ -82,9 +80,8 @@ pub fn displaced<C: Chronicle>(chronicle: &mut C, displaced: &Displaced)
 /// A piece is placed, in so many blocks.
 pub fn placed<C: Chronicle>(chronicle: &mut C, doc: &Doc, blocks: u32, digest: Digest)
     requires { 1 ≤ C.room chronicle.old }
-    ensures kept { let d = doc.now in C.kept chronicle.new ≡ with_records (C.kept chronicle.old)
-        (Placed d.id d.place blocks digest d.pin ∷ []) }
-    ensures room { C.room chronicle.old ≤ C.room chronicle.new + 1 }
+    ensures { let d = doc.now in Pushes C.Chronicle (Placed d.id d.place blocks digest d.pin ∷ []) 1
+        chronicle.old chronicle.new }
 {
     chronicle.push(Rec::Placed {
         piece: doc.id,
@@ -104,8 +101,8 @@ pub fn damaged<C: Chronicle>(
     found: Digest,
 )
     requires { 1 ≤ C.room chronicle.old }
-    ensures kept { C.kept chronicle.new ≡ with_records (C.kept chronicle.old) (Damaged piece place kept found ∷ []) }
-    ensures room { C.room chronicle.old ≤ C.room chronicle.new + 1 }
+    ensures { Pushes C.Chronicle (Damaged piece place kept found ∷ []) 1
+        chronicle.old chronicle.new }
 {
     chronicle.push(Rec::Damaged {
         piece,
@@ -118,8 +115,7 @@ pub fn damaged<C: Chronicle>(
 /// A piece that was to be copied ahead was not: it does not fit, or the device refused to give it.
 pub fn unsaved<C: Chronicle>(chronicle: &mut C, piece: PieceId, place: u64, fault: bool)
     requires { 1 ≤ C.room chronicle.old }
-    ensures kept { C.kept chronicle.new ≡ with_records (C.kept chronicle.old) (Unsaved piece place fault ∷ []) }
-    ensures room { C.room chronicle.old ≤ C.room chronicle.new + 1 }
+    ensures { Pushes C.Chronicle (Unsaved piece place fault ∷ []) 1 chronicle.old chronicle.new }
 {
     chronicle.push(Rec::Unsaved {
         piece,
@@ -131,8 +127,8 @@ pub fn unsaved<C: Chronicle>(chronicle: &mut C, piece: PieceId, place: u64, faul
 /// A piece was copied ahead.
 pub fn moved<C: Chronicle>(chronicle: &mut C, piece: PieceId, from: u64, place: u64, digest: Digest)
     requires { 1 ≤ C.room chronicle.old }
-    ensures kept { C.kept chronicle.new ≡ with_records (C.kept chronicle.old) (Moved piece from place digest ∷ []) }
-    ensures room { C.room chronicle.old ≤ C.room chronicle.new + 1 }
+    ensures { Pushes C.Chronicle (Moved piece from place digest ∷ []) 1
+        chronicle.old chronicle.new }
 {
     chronicle.push(Rec::Moved {
         piece,
@@ -151,8 +147,8 @@ pub fn committed<C: Chronicle>(
     alternates: Vector,
 )
     requires { 1 ≤ C.room chronicle.old }
-    ensures kept { C.kept chronicle.new ≡ with_records (C.kept chronicle.old) (Committed put key length alternates ∷ []) }
-    ensures room { C.room chronicle.old ≤ C.room chronicle.new + 1 }
+    ensures { Pushes C.Chronicle (Committed put key length alternates ∷ []) 1
+        chronicle.old chronicle.new }
 {
     chronicle.push(Rec::Committed {
         put,
@@ -165,8 +161,7 @@ pub fn committed<C: Chronicle>(
 /// An object was removed.
 pub fn removed<C: Chronicle>(chronicle: &mut C, put: u64, key: Key)
     requires { 1 ≤ C.room chronicle.old }
-    ensures kept { C.kept chronicle.new ≡ with_records (C.kept chronicle.old) (Removed put key ∷ []) }
-    ensures room { C.room chronicle.old ≤ C.room chronicle.new + 1 }
+    ensures { Pushes C.Chronicle (Removed put key ∷ []) 1 chronicle.old chronicle.new }
 {
     chronicle.push(Rec::Removed { put, key });
 }
@@ -182,8 +177,8 @@ pub fn write_opened<C: Chronicle>(
     pin: u64,
 )
     requires { 1 ≤ C.room chronicle.old }
-    ensures kept { C.kept chronicle.new ≡ with_records (C.kept chronicle.old) (WriteOpened actor put key request response pin ∷ []) }
-    ensures room { C.room chronicle.old ≤ C.room chronicle.new + 1 }
+    ensures { Pushes C.Chronicle (WriteOpened actor put key request response pin ∷ []) 1
+        chronicle.old chronicle.new }
 {
     chronicle.push(Rec::WriteOpened {
         actor,
@@ -198,8 +193,7 @@ pub fn write_opened<C: Chronicle>(
 /// A writer gives up.
 pub fn aborted<C: Chronicle>(chronicle: &mut C, put: u64, key: Key)
     requires { 1 ≤ C.room chronicle.old }
-    ensures kept { C.kept chronicle.new ≡ with_records (C.kept chronicle.old) (Aborted put key ∷ []) }
-    ensures room { C.room chronicle.old ≤ C.room chronicle.new + 1 }
+    ensures { Pushes C.Chronicle (Aborted put key ∷ []) 1 chronicle.old chronicle.new }
 {
     chronicle.push(Rec::Aborted { put, key });
 }
@@ -214,8 +208,8 @@ pub fn read_opened<C: Chronicle>(
     answer: ReadAnswer,
 )
     requires { 1 ≤ C.room chronicle.old }
-    ensures kept { C.kept chronicle.new ≡ with_records (C.kept chronicle.old) (ReadOpened reader actor key request answer ∷ []) }
-    ensures room { C.room chronicle.old ≤ C.room chronicle.new + 1 }
+    ensures { Pushes C.Chronicle (ReadOpened reader actor key request answer ∷ []) 1
+        chronicle.old chronicle.new }
 {
     chronicle.push(Rec::ReadOpened {
         reader,
@@ -229,8 +223,7 @@ pub fn read_opened<C: Chronicle>(
 /// A reader was answered.
 pub fn answered<C: Chronicle>(chronicle: &mut C, reader: u64, answer: NextAnswer)
     requires { 1 ≤ C.room chronicle.old }
-    ensures kept { C.kept chronicle.new ≡ with_records (C.kept chronicle.old) (answer_record reader answer ∷ []) }
-    ensures room { C.room chronicle.old ≤ C.room chronicle.new + 1 }
+    ensures { Pushes C.Chronicle (answer_record reader answer ∷ []) 1 chronicle.old chronicle.new }
 {
     chronicle.push(answer_record(reader, answer));
 }
@@ -253,8 +246,7 @@ fn answer_record(reader: u64, answer: NextAnswer) -> Rec
 /// A reader was closed.
 pub fn read_closed<C: Chronicle>(chronicle: &mut C, reader: u64)
     requires { 1 ≤ C.room chronicle.old }
-    ensures kept { C.kept chronicle.new ≡ with_records (C.kept chronicle.old) (ReadClosed reader ∷ []) }
-    ensures room { C.room chronicle.old ≤ C.room chronicle.new + 1 }
+    ensures { Pushes C.Chronicle (ReadClosed reader ∷ []) 1 chronicle.old chronicle.new }
 {
     chronicle.push(Rec::ReadClosed { reader });
 }

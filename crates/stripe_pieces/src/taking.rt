@@ -1,14 +1,13 @@
 // How pieces go before they are passed.
-ghost use Rattle.std.specs.Prelude.{◌≡◌, ◌≤◌, ℕ, List, [], ◌∷◌, Some, IsSome};
+ghost use Rattle.std.specs.Prelude.{◌≡◌, ℕ, List, [], ◌∷◌, Some, IsSome};
 ghost use Rattle.alternate_vector.specs.Alternates.{Stored};
 ghost use Rattle.cyclone.specs.Cyclone.{SameButRows};
-ghost use Rattle.cache_model.specs.Kept.{with_records};
 ghost use Rattle.cache_model.specs.State.{State, state_after, vector_piece};
 ghost use Rattle.cache_model.specs.Verdict.{live_vector_of, vector_of};
 ghost use Rattle.cache_model.specs.declared.record.Rec.TheVariants.{Committed, Damaged, Removed};
 ghost use Rattle.stripe_pieces.specs.Held.{IsHeld};
 ghost use Rattle.stripe_pieces.specs.Records.{IsWithout};
-ghost use Rattle.stripe_pieces.specs.Covers.{Uses};
+ghost use Rattle.call_laws.specs.Contents.{AnyContents};
 
 use crate::{Pieces, records};
 use alternate_vector::Vector;
@@ -18,20 +17,15 @@ use logged_disk::Disk;
 use tape_base::{Digest, Key, PieceId};
 
 impl<D: Disk, R: Directory + Drop, C: Chronicle> Pieces<D, R, C> {
-    ghost use Rattle.stripe_pieces.specs.Pieces.{ArePieces, GoOn, kept_now, live_place_of, seen_now, state_now};
+    ghost use Rattle.stripe_pieces.specs.Pieces.{ArePieces, live_place_of, seen_now, state_now};
+    ghost use Rattle.stripe_pieces.specs.Calls.{AddsRecords, ArePrepared};
 
     /// Records that the bytes of a live piece are not its own, and takes its entry out.
     pub fn damage(&mut self, id: PieceId, place: u64, kept: Digest, found: Digest)
-        requires pieces { ArePieces self.old }
-        requires record { 1 ≤ C.room self.old.chronicle }
+        requires ready { ArePrepared 1 0 self.old }
         requires live { live_place_of (state_now self.old) id ≡ Some place }
-        ensures pieces { GoOn self.old self.new }
-        ensures adds { kept_now self.new ≡ with_records (kept_now self.old)
-            (Damaged id place kept found ∷ []) }
+        ensures keeps { AddsRecords AnyContents (Damaged id place kept found ∷ []) 1 0 self.old self.new }
         ensures rest { SameButRows (seen_now self.old) (seen_now self.new) }
-        ensures still { (seen_now self.new).device ≡ (seen_now self.old).device }
-        ensures uses { Uses 1 0 0 0 (C.room self.old.chronicle) (C.room self.new.chronicle)
-            (seen_now self.old) (seen_now self.new) }
     {
         self.cyclone.take_out(id, place);
         records::damaged(&mut self.chronicle, id, place, kept, found);
@@ -70,14 +64,9 @@ impl<D: Disk, R: Directory + Drop, C: Chronicle> Pieces<D, R, C> {
     /// Records that a put of so many bytes is complete, and what its vector lists. The key's vector
     /// before it goes.
     pub fn commit(&mut self, put: u64, key: Key, length: u64, alternates: Vector)
-        requires pieces { ArePieces self.old }
-        requires record { 1 ≤ C.room self.old.chronicle }
-        ensures pieces { GoOn self.old self.new }
-        ensures adds { kept_now self.new
-            ≡ with_records (kept_now self.old) (Committed put key length alternates ∷ []) }
-        ensures still { (seen_now self.new).device ≡ (seen_now self.old).device }
-        ensures uses { Uses 1 0 0 0 (C.room self.old.chronicle) (C.room self.new.chronicle)
-            (seen_now self.old) (seen_now self.new) }
+        requires { ArePrepared 1 0 self.old }
+        ensures { AddsRecords AnyContents (Committed put key length alternates ∷ []) 1 0 self.old
+            self.new }
     {
         self.take_earlier(put, key);
         records::committed(&mut self.chronicle, put, key, length, alternates);
@@ -85,16 +74,10 @@ impl<D: Disk, R: Directory + Drop, C: Chronicle> Pieces<D, R, C> {
 
     /// Records that a key's live vector was removed, takes it out, and gives its put.
     pub fn remove(&mut self, key: Key) -> u64
-        requires pieces { ArePieces self.old }
-        requires record { 1 ≤ C.room self.old.chronicle }
+        requires ready { ArePrepared 1 0 self.old }
         requires live { IsSome (live_vector_of (state_now self.old) key) }
-        ensures pieces { GoOn self.old self.new }
-        ensures adds { kept_now self.new ≡ with_records (kept_now self.old)
-            (Removed result key ∷ []) }
+        ensures keeps { AddsRecords AnyContents (Removed result key ∷ []) 1 0 self.old self.new }
         ensures put { vector_of (state_now self.old) key ≡ Some (vector_piece key result) }
-        ensures still { (seen_now self.new).device ≡ (seen_now self.old).device }
-        ensures uses { Uses 1 0 0 0 (C.room self.old.chronicle) (C.room self.new.chronicle)
-            (seen_now self.old) (seen_now self.new) }
     {
         let vector = self.chronicle.vector_of(key).unwrap();
         self.take_entry(vector);

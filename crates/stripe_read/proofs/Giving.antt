@@ -12,6 +12,7 @@ use Rattle.cache_model.specs.declared.cause.Cause.{Cause}
 use Rattle.cache_model.specs.declared.cause.Cause.TheVariants as cause
 use Rattle.cache_model.specs.declared.answer.NextAnswer.TheVariants as next
 use Rattle.cache_model.specs.State.{Closed, GivenUp, Open, PutRow, ReaderRow, Row, State, Writing, after_all, live_row_of, put_of}
+use Rattle.cache_model.specs.Kept.{Kept, state_of, with_records}
 use Rattle.cache_model.specs.Verdict.{cause_of_piece, digest_in, next_piece, next_row, reader_verdict, verdict_at_end, verdict_of_followed, verdict_of_fragment, verdict_of_writing}
 use Rattle.cache_model.specs.Permit.{Done, Permit, ReadOn}
 use Rattle.cache_model.specs.Given.{IsReadWhereLive}
@@ -33,9 +34,10 @@ use Rattle.stripe_read.specs.Readers.{IsStripeReaderOf, row_of_reader, row_of_re
 use Rattle.stripe_read.specs.Fetches.{Fetches, IsFetched, IsOtherPiece}
 use Rattle.stripe_read.specs.Nexts.{BreakIsCounted, GivesFragment, GivesToldPayload, HasNext, IsBehindPiece, IsNextPayload, NextIsOther, ReadsOn, answer_noted, index_behind, next_listed_length, piece_trouble, reading_adds}
 use Rattle.stripe_vectors.proofs.Counting.{cause_counted}
+use Rattle.stripe_vectors.proofs.Finding.{found_same}
 use Rattle.stripe_vectors.proofs.Seeing.{seen_before, seen_none}
 use Rattle.stripe_read.proofs.Comparing.{is_read, unlike_row}
-use Rattle.stripe_read.proofs.Staying.{is_gave}
+use Rattle.stripe_read.proofs.Staying.{is_gave, two_calls}
 
 -- ---- verdicts
 
@@ -83,20 +85,23 @@ no_trouble (Some row) index size = refl
 not_missing : (size : ℕ) (why : Cause) → found.Found size ≡ found.Missing why → ⊥
 not_missing size why h = cc
 
+-- its record
+given_adds : (s : State) (r : Reader) (entry : TableRow) (size : ℕ) → next_row s (row_of_reader r) ≡ Some entry
+    → reading_adds s r (piece.Piece r.next size) ≡ answer_record r.reader (next.Gave r.next entry.length) ∷ []
+given_adds s r entry size cut =
+    ap (λ recs. recs ++ answer_record r.reader (next.Gave r.next (next_listed_length s r)) ∷ [])
+    (no_trouble (live_next s (row_of_reader r)) r.next size)
+    ∙ ap (λ o. answer_record r.reader (next.Gave r.next (unwrap_or (option_map (λ (x : TableRow). x.length) o) 0)) ∷ []) cut
+
 -- a fragment that is given
 module _ (p : Permit) (s : State) (r : Reader) (entry : TableRow) (size : ℕ) (into : List ℕ) (cut : next_row s (row_of_reader r) ≡ Some entry) where
-  given_adds : reading_adds s r (piece.Piece r.next size) ≡ answer_record r.reader (next.Gave r.next entry.length) ∷ []
-  given_adds =
-      ap (λ recs. recs ++ answer_record r.reader (next.Gave r.next (next_listed_length s r)) ∷ []) (no_trouble (live_next s (row_of_reader r)) r.next size)
-      ∙ ap (λ o. answer_record r.reader (next.Gave r.next (unwrap_or (option_map (λ (x : TableRow). x.length) o) 0)) ∷ []) cut
-
   given_does : NotesAsAsked r.reader (next.Gave r.next entry.length) → (o : Option Row) (own : IsStripeReaderOf s r) → IsQuiet s → live_row_of s (next_piece (row_of_reader r)) ≡ o → IsFetched p s (next_piece (row_of_reader r)) o entry (found.Found size) into
       → Does p s (ReadOn r.reader) (reading_adds s r (piece.Piece r.next size)) Done
   given_does notes None own quiet live h = absurd (not_missing size (cause_of_piece s (next_piece (row_of_reader r))) h)
   given_does notes (Some row) own quiet live h =
       let mine : ReaderRow = row_of_reader_by own.actor r in
       let was : IsReadWhereLive p s (live_next s mine) = subst (IsReadWhereLive p s) (sym (next_live s mine entry cut ∙ live)) (is_read p s row size into h.0) in
-      subst (λ recs. Does p s (ReadOn r.reader) recs Done) (sym given_adds)
+      subst (λ recs. Does p s (ReadOn r.reader) recs Done) (sym (given_adds s r entry size cut))
       (notes p s mine [] quiet own.found
       (subst (IsReading p s mine []) (verdict_live s mine entry row cut live) (IsReading.verdict was (next_as_listed s mine entry row cut live h.1))))
 
@@ -112,11 +117,16 @@ module _ (p : Permit) (s : State) (r : Reader) (entry : TableRow) (size : ℕ) (
     listed = h.1;
   }
 
+-- the records of one that is not
+broken_adds : (s : State) (r : Reader) (entry : TableRow) (why : Cause) → next_row s (row_of_reader r) ≡ Some entry → (o : Option Row)
+    → live_row_of s (next_piece (row_of_reader r)) ≡ o
+    → reading_adds s r (piece.Broken why) ≡ piece_trouble o (piece.Broken why) ++ answer_record r.reader (next.Broke why) ∷ []
+broken_adds s r entry why cut o live =
+    ap (λ x. piece_trouble x (piece.Broken why) ++ answer_record r.reader (next.Broke why) ∷ [])
+    (next_live s (row_of_reader r) entry cut ∙ live)
+
 -- a fragment that is not
 module _ (p : Permit) (s : State) (r : Reader) (entry : TableRow) (why : Cause) (into : List ℕ) (cut : next_row s (row_of_reader r) ≡ Some entry) where
-  broken_adds : (o : Option Row) → live_row_of s (next_piece (row_of_reader r)) ≡ o → reading_adds s r (piece.Broken why) ≡ piece_trouble o (piece.Broken why) ++ answer_record r.reader (next.Broke why) ∷ []
-  broken_adds o live = ap (λ x. piece_trouble x (piece.Broken why) ++ answer_record r.reader (next.Broke why) ∷ []) (next_live s (row_of_reader r) entry cut ∙ live)
-
   broken_reading : (own : IsStripeReaderOf s r) (o : Option Row) → live_row_of s (next_piece (row_of_reader r)) ≡ o → IsFetched p s (next_piece (row_of_reader r)) o entry (found.Missing why) into
       → IsReading p s (row_of_reader_by own.actor r) (piece_trouble o (piece.Broken why)) (next.Broke why)
   broken_reading own None gone h =
@@ -130,7 +140,35 @@ module _ (p : Permit) (s : State) (r : Reader) (entry : TableRow) (why : Cause) 
       → Does p s (ReadOn r.reader) (reading_adds s r (piece.Broken why)) Done
   broken_does notes own quiet h =
       let o : Option Row = live_row_of s (next_piece (row_of_reader r)) in
-      subst (λ recs. Does p s (ReadOn r.reader) recs Done) (sym (broken_adds o refl)) (notes p s (row_of_reader_by own.actor r) (piece_trouble o (piece.Broken why)) quiet own.found (broken_reading own o refl h))
+      subst (λ recs. Does p s (ReadOn r.reader) recs Done) (sym (broken_adds s r entry why cut o refl))
+      (notes p s (row_of_reader_by own.actor r) (piece_trouble o (piece.Broken why)) quiet own.found (broken_reading own o refl h))
+
+-- ---- behind the call of the piece
+
+trouble_same : (o : Option Row) (why : Cause) → found_records o (found.Missing why) ≡ piece_trouble o (piece.Broken why)
+trouble_same None why = refl
+trouble_same (Some row) why = refl
+
+module _ (k k1 k2 : Kept) (r : Reader) (id : PieceId) (cut : ℕ) (digest : Digest) where
+  pub piece_kept : (size : ℕ) → HasNext (state_of k) r cut digest → k1 ≡ with_records k (find_adds (state_of k) id (found.Found size))
+      → k2 ≡ with_records k1 (answer_record r.reader (next.Gave r.next cut) ∷ [])
+      → k2 ≡ with_records k (reading_adds (state_of k) r (piece.Piece r.next size))
+  piece_kept size has adds notes =
+      notes
+      ∙ (ap (λ x. with_records x (answer_record r.reader (next.Gave r.next cut) ∷ []))
+      (found_same k k1 (live_row_of (state_of k) id) size adds)
+      ∙ (ap (λ n. with_records k (answer_record r.reader (next.Gave r.next n) ∷ [])) (sym has.length_is)
+      ∙ ap (with_records k) (sym (given_adds (state_of k) r has.row size has.found))))
+
+  pub broken_kept : (why : Cause) → HasNext (state_of k) r cut digest → id ≡ next_piece (row_of_reader r)
+      → k1 ≡ with_records k (find_adds (state_of k) id (found.Missing why))
+      → k2 ≡ with_records k1 (answer_record r.reader (next.Broke why) ∷ [])
+      → k2 ≡ with_records k (reading_adds (state_of k) r (piece.Broken why))
+  broken_kept why has id_is adds notes =
+      two_calls k k1 k2 (find_adds (state_of k) id (found.Missing why)) (answer_record r.reader (next.Broke why) ∷ []) adds notes
+      ∙ (ap (λ recs. with_records k (recs ++ answer_record r.reader (next.Broke why) ∷ [])) (trouble_same (live_row_of (state_of k) id) why)
+      ∙ ap (with_records k) (sym
+      (broken_adds (state_of k) r has.row why has.found (live_row_of (state_of k) id) (ap (live_row_of (state_of k)) (sym id_is)))))
 
 -- ---- what the device gave
 

@@ -6,4 +6,5 @@ mod Looking
 mod Beginning
 mod Choosing
 mod Harmless
-mod Owning
+mod Nexts
+pub mod Owning

@@ -26,7 +26,7 @@ use Rattle.stripe_actors.specs.Actors.{ActorsSeen, AreActors}
 use Rattle.stripe_actors.specs.ActorLaws.{number_in}
 use Rattle.stripe_actors.proofs.Telling.{followed_same}
 use Rattle.stripe_vectors.specs.declared.reading.KeyVector.TheVariants as vector
-use Rattle.stripe_vectors.specs.Reading.{FindsVector, IsVectorFound, ReadIsListed, VectorIsReadAs, trouble_records}
+use Rattle.stripe_vectors.specs.Reading.{FindsVector, IsVectorFound, ReadIsListed, VectorIsReadAs, trouble_records, vector_adds}
 use Rattle.stripe_read.specs.declared.opening.Chosen.{Chosen}
 use Rattle.stripe_read.specs.declared.opening.Looked.{Looked}
 use Rattle.stripe_read.specs.declared.opening.Looked.TheVariants as looked
@@ -77,6 +77,18 @@ no_match_by s key (Some (Complete put)) row h =
 live_is_no_match : (s : State) (key : Key) (row : Row) → live_vector_of s key ≡ Some row → (id : PieceId) × (cause_of_miss s key ≡ no_match s id)
 live_is_no_match s key row h = no_match_by s key (last_vector s key) row h
 
+-- what is answered there is no hit, so it has no fragments
+table_by : (s : State) (key : Key) (request : List Field) (found : Looked) (o : Option PutRow)
+    → answer_of_looked found ≡ unwrap_or (option_map follow_answer o) (read.Miss (cause_of_miss s key)) → HasTable s key request found
+table_by s key request (looked.Hit chosen) None is = cc
+table_by s key request (looked.Hit chosen) (Some row) is = cc
+table_by s key request (looked.Follow put) o is = tt
+table_by s key request (looked.Miss why) o is = tt
+
+otherwise_table : (s : State) (key : Key) (request : List Field) (found : Looked) → answer_of_looked found ≡ otherwise s key request
+    → HasTable s key request found
+otherwise_table s key request found is = table_by s key request found (followed s key request) is
+
 -- ---- what is recorded
 
 otherwise_by : (s : State) (key : Key) (o : Option Row) (f : Option PutRow) → live_vector_of s key ≡ o → lookup_trouble o (unwrap_or (option_map follow_answer f) (read.Miss (cause_of_miss s key))) ≡ []
@@ -115,6 +127,19 @@ read_same k new key list is = read_by k new (live_vector_of (state_of k) key) li
 pub same_adds : (k new : Kept) (key : Key) (request : List Field) (found : Looked) → new ≡ k → answer_of_looked found ≡ otherwise (state_of k) key request → new ≡ with_records k (lookup_adds (state_of k) key (answer_of_looked found))
 same_adds k new key request found same is =
     same ∙ (sym (nothing_recorded k (with_records k []) refl) ∙ ap (with_records k) (sym (ap (lookup_adds (state_of k) key) is ∙ otherwise_adds (state_of k) key request)))
+
+-- a vector in trouble
+trouble_by : (o : Option Row) (why : Cause) → trouble_records o (vector.Trouble why) ≡ lookup_trouble o (read.Miss why)
+trouble_by None why = refl
+trouble_by (Some row) why = refl
+
+pub trouble_adds : (s : State) (key : Key) (why : Cause) → vector_adds s key (vector.Trouble why) ≡ lookup_adds s key (read.Miss why)
+trouble_adds s key why = trouble_by (live_vector_of s key) why
+
+-- an alternate that is hit
+pub matched_adds : (k new : Kept) (key : Key) (put : ℕ) → new ≡ k → new ≡ with_records k (lookup_adds (state_of k) key (read.Hit put))
+matched_adds k new key put same =
+    same ∙ (sym (nothing_recorded k (with_records k []) refl) ∙ ap (with_records k) (sym (hit_adds (state_of k) key put)))
 
 -- ---- the verdict
 
@@ -189,10 +214,12 @@ module _ (s : State) (old new : Device) (key : Key) (request : List Field) where
       inl (verdict_found p s key request found (subst (IsReadWhereLive p s) (sym live) tt) (verdict_otherwise s key request (ap (last_match request) (no_alternates s key live)) ∙ sym is)
       (ap (lookup_adds s key) is ∙ otherwise_adds s key request) table)
 
-  pub absent_looks : (found : Looked) → answer_of_looked found ≡ otherwise s key request → HasTable s key request found → FindsVector s old new key vector.Absent → LooksUp s old new key request found
-  absent_looks found is table f = record {
+  pub absent_looks : (found : Looked) → answer_of_looked found ≡ otherwise s key request → FindsVector s old new key vector.Absent
+      → LooksUp s old new key request found
+  absent_looks found is f = record {
     seen = f.seen;
-    answers = λ p covers each. absent_in p found is table (live_vector_of s key) refl (f.answers p covers);
+    answers =
+        λ p covers each. absent_in p found is (otherwise_table s key request found is) (live_vector_of s key) refl (f.answers p covers);
     counted = otherwise_counted new.faults s key request (answer_of_looked found) is;
   }
 
@@ -225,12 +252,14 @@ module _ (s : State) (old new : Device) (key : Key) (request : List Field) where
     | inr collide ↦ inr collide
   ]
 
-  pub unmatched_looks : ReadIsListed → (found : Looked) (list : List Stored) → answer_of_looked found ≡ otherwise s key request → HasTable s key request found → IsChosen (last_match request list) None
+  pub unmatched_looks : ReadIsListed → (found : Looked) (list : List Stored) → answer_of_looked found ≡ otherwise s key request
+      → IsChosen (last_match request list) None
       → FindsVector s old new key (vector.Read list) → LooksUp s old new key request found
-  unmatched_looks law found list is table none f = record {
+  unmatched_looks law found list is none f = record {
     seen = f.seen;
     answers = λ p covers each.
-        unmatched_in p found list is table (no_choice (last_match request list) none) (live_vector_of s key) refl (f.answers p covers)
+        unmatched_in p found list is (otherwise_table s key request found is) (no_choice (last_match request list) none)
+        (live_vector_of s key) refl (f.answers p covers)
         (read_listed law list f p each);
     counted = otherwise_counted new.faults s key request (answer_of_looked found) is;
   }

@@ -1,7 +1,7 @@
 -- What the calls of one reader leave of others.
 use Rattle.std.proofs.Common.{◌≡◌, ℕ, ◌+◌, List, [], ◌∷◌, ◌++◌, refl, sym, ◌∙◌, ap, subst, Bool, true, false, cond}
 use Rattle.std.specs.declared.alloc.AllocError.{AllocError}
-use Rattle.std.specs.Prelude.{Option, Some, None, Result, Ok, Err, IfOk, IsOk, OnErr, ◌==◌, option_map, find}
+use Rattle.std.specs.Prelude.{Option, Some, None, Result, Ok, Err, IfErr, IfOk, OnErr, OnOk, ◌==◌, option_map, find}
 use Rattle.std.specs.List.{AllByRecursion}
 use Rattle.std.proofs.lemmas.Bool.{eqb-true}
 use Rattle.std.proofs.lemmas.List.{append-nil}
@@ -30,7 +30,7 @@ use Rattle.stripe_read.specs.declared.reading.NextPiece.TheVariants as piece
 use Rattle.stripe_read.specs.Readers.{IsOpenStripeReader, IsStripeReaderOf, row_of_reader}
 use Rattle.stripe_read.specs.Lookups as lookups
 use Rattle.stripe_read.specs.Nexts as nexts
-use Rattle.stripe_read.specs.Others.{AddsOfReader, IsRecordOfReader, LeavesReadersBut}
+use Rattle.stripe_read.specs.Others.{AddsOfReader, IsRecordOfReader, LeavesReadersBut, ReadersAddOwn}
 use Rattle.stripe_read.proofs.Staying.{state_behind}
 
 -- ---- one record, and several
@@ -118,10 +118,11 @@ readers_stay s t r same = (
 
 -- ---- the records of each call
 
-pub owns_none : (reader : ℕ) (old new : Kept) → new ≡ old → AddsOfReader reader old new
+owns_none : (reader : ℕ) (old new : Kept) → new ≡ old → AddsOfReader reader old new
 owns_none reader old new h = record { added = []; adds = h ∙ sym (ap (λ recs. let k : Kept = record { told = old.told; base = old.base; since = recs } in k) (append-nil old.since)); own = tt }
 
-pub owns : (reader : ℕ) (old new : Kept) (added : List Rec) → new ≡ with_records old added → AllByRecursion (IsRecordOfReader reader) added → AddsOfReader reader old new
+owns : (reader : ℕ) (old new : Kept) (added : List Rec) → new ≡ with_records old added → AllByRecursion (IsRecordOfReader reader) added
+    → AddsOfReader reader old new
 owns reader old new added adds own = record { added = added; adds = adds; own = own }
 
 own_cause : (reader : ℕ) (row : Row) (why : Cause) → AllByRecursion (IsRecordOfReader reader) (records_of_trouble row why)
@@ -159,16 +160,18 @@ own_answer reader (next.Broke why) = refl
 
 -- a reader that opens
 pub owns_open : (old new : Kept) (who : Actor) (key : Key) (request : List Field) (result : Result Opened AllocError)
-    → IfOk result (λ opened. new ≡ with_records old (lookups.opening_adds (state_of old) who key request (lookups.answer_of_opened opened))) → IsOk result → AddsOfReader (state_of old).next_reader old new
-owns_open old new who key request (Ok opened) adds ok =
+    → IfOk result (λ opened. new ≡ with_records old (lookups.opening_adds (state_of old) who key request (lookups.answer_of_opened opened)))
+    → OnErr result (new ≡ old) → AddsOfReader (state_of old).next_reader old new
+owns_open old new who key request (Ok opened) adds err =
     let answer = lookups.answer_of_opened opened in
     owns (state_of old).next_reader old new _ adds
     (each_push (IsRecordOfReader (state_of old).next_reader) (lookups.lookup_adds (state_of old) key answer) (rec.ReadOpened (state_of old).next_reader who key request answer)
     (own_look_trouble (state_of old).next_reader (live_vector_of (state_of old) key) answer) refl)
-owns_open old new who key request (Err e) adds ok = cc
+owns_open old new who key request (Err e) adds err = owns_none (state_of old).next_reader old new err
 
 -- a reader that reads on
-pub owns_read : (old new : Kept) (r : Reader) (answer : NextPiece) → new ≡ with_records old (nexts.reading_adds (state_of old) r answer) → AddsOfReader r.reader old new
+owns_read : (old new : Kept) (r : Reader) (answer : NextPiece) → new ≡ with_records old (nexts.reading_adds (state_of old) r answer)
+    → AddsOfReader r.reader old new
 owns_read old new r answer adds =
     let noted = nexts.answer_noted (nexts.next_listed_length (state_of old) r) answer in
     owns r.reader old new _ adds
@@ -181,3 +184,13 @@ pub owns_read_or_none : (old new : Kept) (r : Reader) (result : Result NextPiece
     → OnErr result (new ≡ old) → AddsOfReader r.reader old new
 owns_read_or_none old new r (Ok answer) adds err = owns_read old new r answer adds
 owns_read_or_none old new r (Err e) adds err = owns_none r.reader old new err
+
+-- a reader that is closed
+pub owns_close : (old new : Kept) (r : Reader) (result : Result (Unit {0}) (AllocError × Reader))
+    → OnOk result (new ≡ with_records old (rec.ReadClosed r.reader ∷ []))
+    → IfErr result (λ e. new ≡ old) → AddsOfReader r.reader old new
+owns_close old new r (Ok u) adds err = owns r.reader old new _ adds (refl, tt)
+owns_close old new r (Err e) adds err = owns_none r.reader old new err
+
+pub readers_add_own : ReadersAddOwn
+readers_add_own = record { opens = owns_open; reads = owns_read_or_none; closes = owns_close }

@@ -2,7 +2,7 @@
 use Rattle.std.proofs.Common.{◌≡◌, ℕ, ◌+◌, List, [], ◌∷◌, ◌++◌, refl, sym, ◌∙◌, ap, subst, arith, Bool, true, false, cond}
 use Rattle.std.specs.Prelude.{Option, Some, None, is_some, option_map, find, ◌==◌}
 use Rattle.std.proofs.lemmas.Bool.{eq-eqb}
-use Rattle.std.proofs.lemmas.List.{append-nil, append_assoc}
+use Rattle.std.proofs.lemmas.List.{append_assoc}
 use Rattle.cache_model.specs.declared.cause.Cause.{Cause}
 use Rattle.cache_model.specs.declared.cause.Cause.TheVariants as cause
 use Rattle.cache_model.specs.declared.answer.NextAnswer.{NextAnswer}
@@ -18,6 +18,7 @@ use Rattle.cache_model.proofs.ByNumber.{find-changed}
 use Rattle.stripe_pieces.specs.declared.answer.Found.{Found}
 use Rattle.stripe_pieces.specs.declared.answer.Found.TheVariants as found
 use Rattle.stripe_pieces.specs.Find.{found_records, records_of_trouble}
+use Rattle.stripe_vectors.proofs.Finding.{found_same}
 use Rattle.stripe_read.specs.declared.reader.Reader.{Reader}
 use Rattle.stripe_read.specs.Readers.{IsOpenStripeReader, IsStripeReaderOf, row_of_reader_by}
 
@@ -161,6 +162,12 @@ pub broken_behind : (k k1 k2 : Kept) (o : Option Row) (answer : Found) (reader :
 broken_behind k k1 k2 o answer reader why e f = leaves_both (state_of k) (state_of k1) (state_of k2) (found_behind k k1 o answer e) (told_behind k1 k2 reader (next.Broke why) f refl)
 
 -- what was found is not recorded
-pub found_same : (k k1 : Kept) (o : Option Row) (size : ℕ) → k1 ≡ with_records k (found_records o (found.Found size)) → k1 ≡ k
-found_same k k1 None size is = is ∙ ap (λ recs. let new : Kept = record { told = k.told; base = k.base; since = recs } in new) (append-nil k.since)
-found_same k k1 (Some row) size is = is ∙ ap (λ recs. let new : Kept = record { told = k.told; base = k.base; since = recs } in new) (append-nil k.since)
+pub found_nothing : (k : Kept) (o : Option Row) (size : ℕ) → k ≡ with_records k (found_records o (found.Found size))
+found_nothing k o size = sym (found_same k (with_records k (found_records o (found.Found size))) o size refl)
+
+-- ---- a reader that is closed
+
+pub closed_quiet : (k k1 k2 : Kept) (reader : ℕ) → k1 ≡ k → k2 ≡ with_records k1 (rec.ReadClosed reader ∷ []) → IsQuiet (state_of k)
+    → IsQuiet (state_of k2)
+closed_quiet k k1 k2 reader same adds quiet =
+    subst IsQuiet (sym (state_behind k1 k2 (rec.ReadClosed reader ∷ []) adds)) (subst (λ (x : Kept). IsQuiet (state_of x)) (sym same) quiet)

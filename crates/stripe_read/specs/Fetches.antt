@@ -1,12 +1,17 @@
 -- What is read of the fragment that a reader takes next.
-use Rattle.std.specs.Prelude.{ℕ, ◌≡◌, ◌≢◌, List, Option, Some, None}
+use Rattle.std.specs.Prelude.{ℕ, ◌≡◌, ◌≢◌, ◌+◌, ◌≤◌, ◌⊎◌, List, Option, Some, None, Result, IfOk, OnErr}
+use Rattle.std.specs.declared.alloc.AllocError.{AllocError}
 use Rattle.tape_base.specs.declared.digests.Digest.{Digest}
 use Rattle.tape_base.specs.declared.pieces.PieceId.{PieceId}
 use Rattle.logged_disk.specs.Device.{TellsAll}
+use Rattle.logged_disk.specs.declared.device.Disk.{Ghosts as DiskGhosts}
+use Rattle.dir_table.specs.declared.directory.Directory.{Ghosts as DirectoryGhosts}
+use Rattle.cache_chronicle.specs.declared.chronicle.Chronicle.{Ghosts as ChronicleGhosts}
 use Rattle.fragment_table.specs.Table.{TableRow}
 use Rattle.cyclone.specs.Cyclone.{Seen}
 use Rattle.cache_model.specs.declared.cause.Cause.TheVariants as cause
 use Rattle.cache_model.specs.State.{Row, State, live_row_of}
+use Rattle.cache_model.specs.Kept.{with_records}
 use Rattle.cache_model.specs.Verdict.{cause_of_piece, digest_in, payload_of_piece}
 use Rattle.cache_model.specs.Permit.{Permit}
 use Rattle.cache_model.specs.Given.{IsDocumentOf}
@@ -15,9 +20,13 @@ use Rattle.call_laws.specs.Contents.{Contents}
 use Rattle.stripe_pieces.specs.declared.answer.Found.{Found}
 use Rattle.stripe_pieces.specs.declared.answer.Found.TheVariants as found
 use Rattle.stripe_pieces.specs.Covers.{AllReadIsSeen, Covers}
-use Rattle.stripe_pieces.specs.Find.{HasPayload, records_of_trouble}
+use Rattle.stripe_pieces.specs.Find.{HasPayload, find_adds, records_of_trouble}
 use Rattle.stripe_pieces.specs.Standing.{AreStanding}
+use Rattle.stripe_pieces.specs.Still.{IsStill}
 use Rattle.stripe_pieces.specs.Pieces.{live_place_of}
+use Rattle.stripe_core.specs.declared.stripe.Stripe.{Stripe}
+use Rattle.stripe_core.specs.Between.{Between, Proceeds}
+use Rattle.stripe_core.specs.Stripe.{IsStripe, kept_in, seen_in, state_in, units_in}
 use Rattle.stripe_read.specs.declared.fetching.Unlike.{Unlike}
 
 -- where the records tell the digest of a live piece's payload, it is the one that is listed
@@ -55,3 +64,27 @@ pub record Fetches (s : State) (old new : Seen) (id : PieceId) (listed : Digest)
   pub contents : TellsAll new.device → (contents : Contents) → AreStanding contents s old → HasPayload contents (live_row_of s id) answer into
   pub answers : (p : Permit) (entry : TableRow) → Covers p old.device.past new.device.past → digest_in entry ≡ listed
       → IsFetched p s id (live_row_of s id) entry answer into
+
+-- ---- what a stripe makes of it
+
+module _ {D R C : Type 0} {d : DiskGhosts D} {r : DirectoryGhosts R} {c : ChronicleGhosts C} where
+  -- what fetching a piece comes to
+  pub record FetchesPiece (id : PieceId) (listed : Digest) (old new : Stripe D R C d r c) (result : Result Found AllocError) (into : List ℕ) : Type 0 where
+    pub stripe : IsStripe new
+    pub proceeds : Proceeds old new
+    pub unharmed : Between old new ⊎ IsOtherPiece (state_in old) id listed
+    pub adds : IfOk result (λ answer. kept_in new ≡ with_records (kept_in old) (find_adds (state_in old) id answer))
+    pub fetches : IfOk result (λ answer. Fetches (state_in old) (seen_in old) (seen_in new) id listed answer into)
+    pub err : OnErr result (kept_in new ≡ kept_in old)
+    pub untouched : OnErr result (IsStill (seen_in old).device (seen_in new).device)
+    pub unit : units_in old ≤ units_in new + 2
+
+  -- what comparing a piece that was found with the digest that is listed comes to; the device is not asked
+  pub record ComparesPiece (id : PieceId) (listed : Digest) (size : ℕ) (old new : Stripe D R C d r c) (answer : Found) : Type 0 where
+    pub stripe : IsStripe new
+    pub proceeds : Proceeds old new
+    pub unharmed : Between old new ⊎ IsOtherPiece (state_in old) id listed
+    pub adds : kept_in new ≡ with_records (kept_in old) (find_adds (state_in old) id answer)
+    pub compares : IsCompared (state_in old) id listed size answer
+    pub still : (seen_in new).device ≡ (seen_in old).device
+    pub unit : units_in old ≤ units_in new + 1

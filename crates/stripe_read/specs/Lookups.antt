@@ -1,16 +1,21 @@
 -- What a lookup answers, and what is recorded.
-use Rattle.std.specs.Prelude.{ℕ, ◌≡◌, ◌⊎◌, List, [], ◌∷◌, ◌++◌, Option, Some, None, option_map, unwrap_or}
+use Rattle.std.specs.Prelude.{ℕ, ◌≡◌, ◌+◌, ◌≤◌, ◌⊎◌, List, [], ◌∷◌, ◌++◌, Option, Some, None, option_map, unwrap_or, Result, IfOk, IsOk, OnErr}
+use Rattle.std.specs.declared.alloc.AllocError.{AllocError}
 use Rattle.tape_base.specs.declared.actors.Actor.{Actor}
 use Rattle.tape_base.specs.declared.keys.Key.{Key}
 use Rattle.fragment_table.specs.Table.{Table, total_length}
 use Rattle.alternate_vector.specs.Field.{Field}
 use Rattle.alternate_vector.specs.Alternates.{Stored}
 use Rattle.logged_disk.specs.Device.{DeviceState as Device}
+use Rattle.logged_disk.specs.declared.device.Disk.{Ghosts as DiskGhosts}
+use Rattle.dir_table.specs.declared.directory.Directory.{Ghosts as DirectoryGhosts}
+use Rattle.cache_chronicle.specs.declared.chronicle.Chronicle.{Ghosts as ChronicleGhosts}
 use Rattle.cache_model.specs.declared.answer.ReadAnswer.{ReadAnswer}
 use Rattle.cache_model.specs.declared.answer.ReadAnswer.TheVariants as read
 use Rattle.cache_model.specs.declared.record.Rec.{Rec}
 use Rattle.cache_model.specs.declared.record.Rec.TheVariants as rec
 use Rattle.cache_model.specs.State.{Row, State, table_of_hit}
+use Rattle.cache_model.specs.Kept.{with_records}
 use Rattle.cache_model.specs.Verdict.{cause_of_miss, follow_answer, followed, live_vector_of}
 use Rattle.cache_model.specs.Permit.{Done, Look, Permit}
 use Rattle.cache_model.specs.Legal.{Does, IsLookup}
@@ -18,15 +23,20 @@ use Rattle.cache_model.specs.Pair.{IsKeyPair}
 use Rattle.cache_model.specs.Vectors.{AreVectors, IsVectorAs}
 use Rattle.call_laws.specs.Contents.{Untold}
 use Rattle.stripe_pieces.specs.Covers.{AllReadIsSeen, Covers}
-use Rattle.stripe_core.specs.Counts.{CauseIsCounted}
 use Rattle.stripe_pieces.specs.Find.{records_of_trouble}
+use Rattle.stripe_pieces.specs.Still.{IsStill, IsUnwritten}
+use Rattle.stripe_core.specs.declared.stripe.Stripe.{Stripe}
+use Rattle.stripe_core.specs.Acts.{IsFollowable}
+use Rattle.stripe_core.specs.Between.{Continues, Rests}
+use Rattle.stripe_core.specs.Counts.{CauseIsCounted}
+use Rattle.stripe_core.specs.Stripe.{kept_in, seen_in, state_in, units_in}
 use Rattle.stripe_read.specs.declared.reader.Reader.{Reader}
 use Rattle.stripe_read.specs.declared.opening.Chosen.{Chosen}
 use Rattle.stripe_read.specs.declared.opening.Looked.{Looked}
 use Rattle.stripe_read.specs.declared.opening.Looked.TheVariants as looked
 use Rattle.stripe_read.specs.declared.opening.Opened.{Opened}
 use Rattle.stripe_read.specs.declared.opening.Opened.TheVariants as opened
-use Rattle.stripe_read.specs.Readers.{IsStripeReaderOf, rows_hit}
+use Rattle.stripe_read.specs.Readers.{IsOpenStripeReader, IsStripeReaderOf, rows_hit}
 
 -- ---- what answers
 
@@ -127,3 +137,36 @@ pub record Opens (s t : State) (old new : Device) (who : Actor) (key : Key) (req
       × IfOpened (IsStripeReaderOf t) answer)
       ⊎ IsKeyPair (Untold new IsVectorAs) p s key
   pub counted : MissIsCounted new.faults s key (answer_of_opened answer)
+
+-- ---- what a stripe makes of it
+
+module _ {D R C : Type 0} {d : DiskGhosts D} {r : DirectoryGhosts R} {c : ChronicleGhosts C} where
+  -- what looking up a key comes to
+  pub record LooksUpKey (key : Key) (request : List Field) (old new : Stripe D R C d r c) (result : Result Looked AllocError) : Type 0 where
+    pub continues : Continues old new
+    pub adds : IfOk result (λ found. kept_in new ≡ with_records (kept_in old) (lookup_adds (state_in old) key (answer_of_looked found)))
+    pub looks : IfOk result (LooksUp (state_in old) (seen_in old).device (seen_in new).device key request)
+    pub follows : IfOk result (λ found. IsFollowable (state_in new) (answer_of_looked found))
+    pub err : OnErr result (kept_in new ≡ kept_in old)
+    pub unwritten : IsUnwritten (seen_in old).device (seen_in new).device
+    pub unit : units_in old ≤ units_in new + 1
+
+  -- what recording what was found comes to, and opening its reader; memory for it is there
+  pub record BeginsReading (who : Actor) (key : Key) (request : List Field) (found : Looked) (old new : Stripe D R C d r c) (result : Result Opened AllocError) : Type 0 where
+    pub continues : Continues old new
+    pub adds : IfOk result (λ answer. kept_in new
+        ≡ with_records (kept_in old) (rec.ReadOpened (state_in old).next_reader who key request (answer_of_looked found) ∷ []))
+    pub opens : IfOk result (λ answer. answer ≡ opened_as (state_in old).next_reader key found)
+    pub memory : IsOk result
+    pub still : IsStill (seen_in old).device (seen_in new).device
+
+  -- what opening a reader comes to
+  pub record OpensReaderInStripe (who : Actor) (key : Key) (request : List Field) (old new : Stripe D R C d r c) (result : Result Opened AllocError) : Type 0 where
+    pub rests : Rests old new
+    pub adds : IfOk result (λ answer. kept_in new
+        ≡ with_records (kept_in old) (opening_adds (state_in old) who key request (answer_of_opened answer)))
+    pub opens : IfOk result (Opens (state_in old) (state_in new) (seen_in old).device (seen_in new).device who key request)
+    pub reader : IfOk result (IfOpened (IsOpenStripeReader (state_in new)))
+    pub tells : IfOk result (TellsOpened (state_in old).next_reader)
+    pub err : OnErr result (kept_in new ≡ kept_in old)
+    pub unwritten : IsUnwritten (seen_in old).device (seen_in new).device

@@ -1,13 +1,18 @@
 -- What a reader is given, and what is recorded.
-use Rattle.std.specs.Prelude.{ℕ, ◌≡◌, ◌⊎◌, ◌+◌, IfSome, List, [], ◌∷◌, ◌++◌, Option, Some, None, length, option_map, take, unwrap_or}
+use Rattle.std.specs.Prelude.{ℕ, ◌≡◌, ◌⊎◌, ◌+◌, IfSome, List, [], ◌∷◌, ◌++◌, Option, Some, None, length, option_map, take, unwrap_or, Result, IfOk, OnErr}
+use Rattle.std.specs.declared.alloc.AllocError.{AllocError}
 use Rattle.tape_base.specs.declared.digests.Digest.{Digest}
 use Rattle.logged_disk.specs.Device.{TellsAll}
+use Rattle.logged_disk.specs.declared.device.Disk.{Ghosts as DiskGhosts}
+use Rattle.dir_table.specs.declared.directory.Directory.{Ghosts as DirectoryGhosts}
+use Rattle.cache_chronicle.specs.declared.chronicle.Chronicle.{Ghosts as ChronicleGhosts}
 use Rattle.fragment_table.specs.Table.{TableRow}
 use Rattle.cyclone.specs.Cyclone.{Seen}
 use Rattle.cache_model.specs.declared.answer.NextAnswer.{NextAnswer}
 use Rattle.cache_model.specs.declared.answer.NextAnswer.TheVariants as next
 use Rattle.cache_model.specs.declared.record.Rec.{Rec}
 use Rattle.cache_model.specs.State.{Row, State, live_row_of}
+use Rattle.cache_model.specs.Kept.{with_records}
 use Rattle.cache_model.specs.Verdict.{cause_of_piece, digest_in, next_piece, next_row}
 use Rattle.cache_model.specs.Permit.{Done, Permit, ReadOn}
 use Rattle.cache_model.specs.Legal.{Does, IsAsListed, IsUnlike, answer_record, live_next}
@@ -17,10 +22,14 @@ use Rattle.stripe_core.specs.Counts.{CauseIsCounted}
 use Rattle.cache_model.specs.Given.{IsDocumentOf}
 use Rattle.stripe_pieces.specs.Find.{records_of_trouble}
 use Rattle.stripe_pieces.specs.Standing.{AreStanding}
+use Rattle.stripe_pieces.specs.Still.{IsStill}
+use Rattle.stripe_core.specs.declared.stripe.Stripe.{Stripe}
+use Rattle.stripe_core.specs.Between.{Between, IsResting, Proceeds}
+use Rattle.stripe_core.specs.Stripe.{kept_in, seen_in, state_in}
 use Rattle.stripe_read.specs.declared.reader.Reader.{Reader}
 use Rattle.stripe_read.specs.declared.reading.NextPiece.{NextPiece}
 use Rattle.stripe_read.specs.declared.reading.NextPiece.TheVariants as piece
-use Rattle.stripe_read.specs.Readers.{IsStripeReaderOf, row_of_reader}
+use Rattle.stripe_read.specs.Readers.{IsOpenStripeReader, IsStripeReaderOf, row_of_reader}
 
 -- the row of the fragment that it takes next has this length and this digest
 pub record HasNext (s : State) (r : Reader) (length : ℕ) (digest : Digest) : Type 0 where
@@ -116,3 +125,20 @@ pub record IsBehindPiece (old : Reader) (answer : NextPiece) (new : Reader) : Ty
   pub put : new.put ≡ old.put
   pub table : new.table ≡ old.table
   pub next : new.next ≡ index_behind old.next answer
+
+-- ---- what a stripe makes of it
+
+module _ {D R C : Type 0} {d : DiskGhosts D} {r : DirectoryGhosts R} {c : ChronicleGhosts C} where
+  -- what reading the next fragment comes to, for a reader that was so and is so then
+  pub record ReadsNextInStripe (old new : Stripe D R C d r c) (was now : Reader) (result : Result NextPiece AllocError) (into : List ℕ) : Type 0 where
+    pub resting : IsResting new
+    pub proceeds : Proceeds old new
+    pub unharmed : Between old new ⊎ NextIsOther (state_in old) was
+    pub adds : IfOk result (λ answer. kept_in new ≡ with_records (kept_in old) (reading_adds (state_in old) was answer))
+    pub reads : IfOk result (λ answer. ReadsOn (state_in old) (seen_in old) (seen_in new) was answer into)
+    pub goes : IfOk result (λ answer. IsBehindPiece was answer now)
+    pub reader : IsOpenStripeReader (state_in new) now
+    pub keeps : IsStripeReaderOf (state_in old) was → IsStripeReaderOf (state_in new) now
+    pub err : OnErr result (kept_in new ≡ kept_in old)
+    pub same : OnErr result (now ≡ was)
+    pub untouched : OnErr result (IsStill (seen_in old).device (seen_in new).device)

@@ -1,12 +1,20 @@
 -- What the calls of one reader leave of other readers, and of writers.
-use Rattle.std.specs.Prelude.{ℕ, ◌≡◌, List}
+use Rattle.std.specs.Prelude.{ℕ, ◌≡◌, List, [], ◌∷◌, Result, IfErr, IfOk, OnErr, OnOk}
+use Rattle.std.specs.declared.alloc.AllocError.{AllocError}
 use Rattle.std.specs.List.{AllByRecursion}
+use Rattle.tape_base.specs.declared.actors.Actor.{Actor}
+use Rattle.tape_base.specs.declared.keys.Key.{Key}
+use Rattle.alternate_vector.specs.Field.{Field}
 use Rattle.cache_model.specs.declared.record.Rec.{Rec}
 use Rattle.cache_model.specs.declared.record.Rec.TheVariants as rec
 use Rattle.cache_model.specs.State.{State, reader_of}
 use Rattle.cache_model.specs.Kept.{Kept, state_of, with_records}
+use Rattle.stripe_read.specs.declared.opening.Opened.{Opened}
 use Rattle.stripe_read.specs.declared.reader.Reader.{Reader}
+use Rattle.stripe_read.specs.declared.reading.NextPiece.{NextPiece}
 use Rattle.stripe_read.specs.Readers.{IsOpenStripeReader, IsStripeReaderOf}
+use Rattle.stripe_read.specs.Lookups.{answer_of_opened, opening_adds}
+use Rattle.stripe_read.specs.Nexts.{reading_adds}
 
 -- the record speaks of no other reader and of no put, places nothing, and begins no session; a fault or
 -- a damaged piece may have been met on the way
@@ -39,6 +47,18 @@ pub record AddsOfReader (reader : ℕ) (old new : Kept) : Type 0 where
   pub added : List Rec
   pub adds : new ≡ with_records old added
   pub own : AllByRecursion (IsRecordOfReader reader) added
+
+-- what each call of a reader records, whatever it answers, is of that reader alone: of one that opens it is the next
+pub record ReadersAddOwn : Type 0 where
+  pub opens : (old new : Kept) (who : Actor) (key : Key) (request : List Field) (result : Result Opened AllocError)
+      → IfOk result (λ answer. new ≡ with_records old (opening_adds (state_of old) who key request (answer_of_opened answer)))
+      → OnErr result (new ≡ old) → AddsOfReader (state_of old).next_reader old new
+  pub reads : (old new : Kept) (r : Reader) (result : Result NextPiece AllocError)
+      → IfOk result (λ answer. new ≡ with_records old (reading_adds (state_of old) r answer))
+      → OnErr result (new ≡ old) → AddsOfReader r.reader old new
+  pub closes : (old new : Kept) (r : Reader) (result : Result (Unit {0}) (AllocError × Reader))
+      → OnOk result (new ≡ with_records old (rec.ReadClosed r.reader ∷ []))
+      → IfErr result (λ e. new ≡ old) → AddsOfReader r.reader old new
 
 -- other readers, all puts, and the geometry are as they were
 pub record LeavesReadersBut (reader : ℕ) (s t : State) : Type 0 where

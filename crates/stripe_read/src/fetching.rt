@@ -1,16 +1,12 @@
 // How the fragment that a reader takes next is read.
 ghost use Rattle.cache_model.specs.State.{most_fragments};
-ghost use Rattle.std.specs.Prelude.{◌≡◌, ◌+◌, ◌-◌, ◌*◌, ◌≤◌, ◌⊎◌, IfOk, IfSome, OnErr, None, length, option_map, slice_get};
+ghost use Rattle.std.specs.Prelude.{◌≡◌, ◌-◌, ◌*◌, ◌≤◌, IfSome, None, length, option_map, slice_get};
 ghost use Rattle.tape_base.specs.Geometry.{budget_of};
-ghost use Rattle.cache_model.specs.Kept.{with_records};
 ghost use Rattle.cache_model.specs.Verdict.{next_row};
 ghost use Rattle.open_directory.specs.Directory.{table_row};
-ghost use Rattle.stripe_pieces.specs.Find.{find_adds};
-ghost use Rattle.stripe_pieces.specs.Still.{IsStill};
-ghost use Rattle.stripe_core.specs.Stripe.{IsStripe, kept_in, seen_in, state_in, units_in};
-ghost use Rattle.stripe_core.specs.Between.{Between, Proceeds};
+ghost use Rattle.stripe_core.specs.Stripe.{IsStripe, state_in, units_in};
 ghost use Rattle.stripe_read.specs.Readers.{IsOpenStripeReader, row_of_reader};
-ghost use Rattle.stripe_read.specs.Fetches.{Fetches, IsCompared, IsOtherPiece, IsPieceAsListed, IsUnlikePiece};
+ghost use Rattle.stripe_read.specs.Fetches.{ComparesPiece, FetchesPiece, IsPieceAsListed, IsUnlikePiece};
 
 use crate::Reader;
 use cache_chronicle::Chronicle;
@@ -79,18 +75,7 @@ pub(crate) fn fetch<D: Disk, R: Directory + Drop, C: Chronicle>(
     requires stripe { IsStripe stripe.old }
     requires units { 2 ≤ units_in stripe.old }
     requires into { length into.old ≡ 512 * budget_of (state_in stripe.old).geometry }
-    ensures stripe { IsStripe stripe.new }
-    ensures proceeds { Proceeds stripe.old stripe.new }
-    ensures unharmed { Between stripe.old stripe.new
-        ⊎ IsOtherPiece (state_in stripe.old) id listed }
-    ensures adds { IfOk result (λ found. kept_in stripe.new
-        ≡ with_records (kept_in stripe.old) (find_adds (state_in stripe.old) id found)) }
-    ensures fetches { IfOk result (λ found. Fetches (state_in stripe.old)
-        (seen_in stripe.old) (seen_in stripe.new) id listed found into.new) }
-    ensures err { OnErr result (kept_in stripe.new ≡ kept_in stripe.old) }
-    ensures untouched { OnErr result (IsStill (seen_in stripe.old).device
-        (seen_in stripe.new).device) }
-    ensures unit { units_in stripe.old ≤ units_in stripe.new + 2 }
+    ensures { FetchesPiece id listed stripe.old stripe.new result into.new }
 {
     match stripe.find_piece(id, into)? {
         Found::Found { length: size } => Ok(compare(stripe, id, listed, size)),
@@ -107,15 +92,7 @@ fn compare<D: Disk, R: Directory + Drop, C: Chronicle>(
 ) -> Found
     requires stripe { IsStripe stripe.old }
     requires unit { 1 ≤ units_in stripe.old }
-    ensures stripe { IsStripe stripe.new }
-    ensures proceeds { Proceeds stripe.old stripe.new }
-    ensures unharmed { Between stripe.old stripe.new
-        ⊎ IsOtherPiece (state_in stripe.old) id listed }
-    ensures adds { kept_in stripe.new ≡ with_records (kept_in stripe.old)
-        (find_adds (state_in stripe.old) id result) }
-    ensures compares { IsCompared (state_in stripe.old) id listed size result }
-    ensures still { (seen_in stripe.new).device ≡ (seen_in stripe.old).device }
-    ensures unit { units_in stripe.old ≤ units_in stripe.new + 1 }
+    ensures { ComparesPiece id listed size stripe.old stripe.new result }
 {
     match mismatch(stripe, id, listed) {
         Some(Unlike { place, found }) => {

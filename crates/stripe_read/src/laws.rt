@@ -1,6 +1,11 @@
 // What the calls of one reader leave of others: laws, each the contract of a function with an empty
 // body.
-ghost use Rattle.stripe_read.specs.Others.{ReadsLeaveOtherReaders, StripeReadersStay};
+ghost use Rattle.stripe_read.specs.Others.{ReadersAddOwn, ReadsLeaveOtherReaders, StripeReadersStay};
+
+/// What a call of a reader records is of that reader alone, whatever it answers.
+pub fn readers_add_own()
+    ensures { ReadersAddOwn }
+{}
 
 /// Records of one reader leave the other readers, and all puts, as they are.
 pub fn reads_leave_others()

@@ -9,7 +9,7 @@ mod reader;
 mod reading;
 
 pub use closing::close_read;
-pub use laws::{readers_stay, reads_leave_others};
+pub use laws::{readers_add_own, readers_stay, reads_leave_others};
 pub use opening::{Opened, open_read};
 pub use reader::Reader;
 pub use reading::{NextPiece, read_next};

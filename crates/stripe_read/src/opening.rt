@@ -1,15 +1,10 @@
 // Readers open.
-ghost use Rattle.std.specs.Prelude.{◌≡◌, ◌+◌, ◌≤◌, [], ◌∷◌, Some, None, IfOk, IsOk, OnErr};
-ghost use Rattle.cache_model.specs.declared.record.Rec.TheVariants as rec;
-ghost use Rattle.cache_model.specs.Kept.{with_records};
+ghost use Rattle.std.specs.Prelude.{◌≡◌, ◌≤◌, Some, None, IfOk};
 ghost use Rattle.cache_model.specs.State.{last_match};
 ghost use Rattle.stripe_core.specs.Acts.{IsFollowable};
-ghost use Rattle.stripe_pieces.specs.Still.{IsStill, IsUnwritten};
-ghost use Rattle.stripe_core.specs.Stripe.{IsStripe, kept_in, seen_in, state_in, units_in};
-ghost use Rattle.stripe_core.specs.Between.{Continues, IsResting, Rests};
-ghost use Rattle.stripe_read.specs.Readers.{IsOpenStripeReader};
-ghost use Rattle.stripe_read.specs.Lookups.{HasTable, IfOpened, IsChosen, LooksUp, Opens, TellsOpened, answer_of_looked, answer_of_opened, lookup_adds, opened_as, opening_adds, otherwise};
-ghost use Rattle.stripe_read.specs.Others.{AddsOfReader};
+ghost use Rattle.stripe_core.specs.Stripe.{IsStripe, state_in, units_in};
+ghost use Rattle.stripe_core.specs.Between.{IsResting};
+ghost use Rattle.stripe_read.specs.Lookups.{BeginsReading, IsChosen, LooksUpKey, OpensReaderInStripe, answer_of_looked, opened_as, otherwise};
 
 use crate::Reader;
 use alternate_vector::{Fields, Vector};
@@ -65,19 +60,8 @@ pub fn open_read<D: Disk, R: Directory + Drop, C: Chronicle>(
     key: Key,
     request: Fields,
 ) -> Result<Opened, AllocError>
-    requires resting { IsResting stripe.old }
-    ensures rests { Rests stripe.old stripe.new }
-    ensures adds { IfOk result (λ opened. kept_in stripe.new
-        ≡ with_records (kept_in stripe.old)
-        (opening_adds (state_in stripe.old) actor key request (answer_of_opened opened))) }
-    ensures own { AddsOfReader (state_in stripe.old).next_reader (kept_in stripe.old)
-        (kept_in stripe.new) }
-    ensures opens { IfOk result (Opens (state_in stripe.old) (state_in stripe.new)
-        (seen_in stripe.old).device (seen_in stripe.new).device actor key request) }
-    ensures reader { IfOk result (IfOpened (IsOpenStripeReader (state_in stripe.new))) }
-    ensures tells { IfOk result (TellsOpened (state_in stripe.old).next_reader) }
-    ensures err { OnErr result (kept_in stripe.new ≡ kept_in stripe.old) }
-    ensures unwritten { IsUnwritten (seen_in stripe.old).device (seen_in stripe.new).device }
+    requires { IsResting stripe.old }
+    ensures { OpensReaderInStripe actor key request stripe.old stripe.new result }
 {
     stripe.prepare(None, 2)?;
     let looked = look_up(stripe, key, &request)?;
@@ -91,17 +75,7 @@ fn look_up<D: Disk, R: Directory + Drop, C: Chronicle>(
     request: &Fields,
 ) -> Result<Looked, AllocError>
     requires { IsStripe stripe.old }
-    ensures continues { Continues stripe.old stripe.new }
-    ensures adds { IfOk result (λ looked. kept_in stripe.new
-        ≡ with_records (kept_in stripe.old)
-        (lookup_adds (state_in stripe.old) key (answer_of_looked looked))) }
-    ensures looks { IfOk result (LooksUp (state_in stripe.old) (seen_in stripe.old).device
-        (seen_in stripe.new).device key request.now) }
-    ensures follows { IfOk result (λ looked. IsFollowable (state_in stripe.new)
-        (answer_of_looked looked)) }
-    ensures err { OnErr result (kept_in stripe.new ≡ kept_in stripe.old) }
-    ensures unwritten { IsUnwritten (seen_in stripe.old).device (seen_in stripe.new).device }
-    ensures unit { units_in stripe.old ≤ units_in stripe.new + 1 }
+    ensures { LooksUpKey key request.now stripe.old stripe.new result }
 {
     match read_vector(stripe, key)? {
         KeyVector::Trouble(why) => Ok(Looked::Miss(why)),
@@ -140,7 +114,6 @@ fn look_further<D: Disk, R: Directory + Drop, C: Chronicle>(
 ) -> Looked
     requires { IsStripe stripe.now }
     ensures answer { answer_of_looked result ≡ otherwise (state_in stripe.now) key request.now }
-    ensures table { HasTable (state_in stripe.now) key request.now result }
     ensures follows { IsFollowable (state_in stripe.now) (answer_of_looked result) }
 {
     match stripe.open_directory().follow(key, request) {
@@ -160,15 +133,7 @@ fn begin<D: Disk, R: Directory + Drop, C: Chronicle>(
     requires stripe { IsStripe stripe.old }
     requires unit { 1 ≤ units_in stripe.old }
     requires follows { IsFollowable (state_in stripe.old) (answer_of_looked looked) }
-    ensures continues { Continues stripe.old stripe.new }
-    ensures adds { IfOk result (λ opened. kept_in stripe.new
-        ≡ with_records (kept_in stripe.old)
-        (rec.ReadOpened (state_in stripe.old).next_reader actor key request
-        (answer_of_looked looked) ∷ [])) }
-    ensures opens { IfOk result (λ opened. opened
-        ≡ opened_as (state_in stripe.old).next_reader key looked) }
-    ensures memory { IsOk result }
-    ensures still { IsStill (seen_in stripe.old).device (seen_in stripe.new).device }
+    ensures { BeginsReading actor key request looked stripe.old stripe.new result }
 {
     let reader = stripe.start_read(actor, key, request, looked.answer())?;
     Ok(looked.opened(reader, key))

@@ -1,15 +1,11 @@
 // A reader is given the next fragment, or told why there is none.
-ghost use Rattle.std.specs.Prelude.{◌≡◌, ◌*◌, ◌≤◌, ◌⊎◌, ℕ, List, Some, None, IfOk, OnErr, length};
+ghost use Rattle.std.specs.Prelude.{◌≡◌, ◌*◌, ◌≤◌, ℕ, List, Some, None, Ok, length};
 ghost use Rattle.tape_base.specs.Geometry.{budget_of};
-ghost use Rattle.cache_model.specs.Kept.{with_records};
 ghost use Rattle.cache_model.specs.State.{most_fragments};
 ghost use Rattle.cache_model.specs.Verdict.{next_piece, next_row, verdict_at_end};
-ghost use Rattle.stripe_pieces.specs.Still.{IsStill};
-ghost use Rattle.stripe_core.specs.Stripe.{IsStripe, kept_in, seen_in, state_in, units_in};
-ghost use Rattle.stripe_core.specs.Between.{Between, IsResting, Proceeds, Rests};
-ghost use Rattle.stripe_read.specs.Readers.{IsOpenStripeReader, IsStripeReaderOf, row_of_reader, rows_hit};
-ghost use Rattle.stripe_read.specs.Nexts.{HasNext, IsBehindPiece, NextIsOther, ReadsOn, answer_noted, reading_adds};
-ghost use Rattle.stripe_read.specs.Others.{AddsOfReader};
+ghost use Rattle.stripe_core.specs.Stripe.{IsStripe, seen_in, state_in, units_in};
+ghost use Rattle.stripe_read.specs.Readers.{HasOpenReader, IsOpenStripeReader, row_of_reader, rows_hit};
+ghost use Rattle.stripe_read.specs.Nexts.{HasNext, ReadsNextInStripe, answer_noted};
 
 use crate::Reader;
 use crate::fetching::{fetch, next_row};
@@ -40,27 +36,9 @@ pub fn read_next<D: Disk, R: Directory + Drop, C: Chronicle>(
     reader: &mut Reader,
     into: &mut [u8],
 ) -> Result<NextPiece, AllocError>
-    requires resting { IsResting stripe.old }
-    requires reader { IsOpenStripeReader (state_in stripe.old) reader.old }
+    requires open { HasOpenReader stripe.old reader.old }
     requires into { length into.old ≡ 512 * budget_of (state_in stripe.old).geometry }
-    ensures resting { IsResting stripe.new }
-    ensures proceeds { Proceeds stripe.old stripe.new }
-    ensures unharmed { Between stripe.old stripe.new
-        ⊎ NextIsOther (state_in stripe.old) reader.old }
-    ensures adds { IfOk result (λ answer. kept_in stripe.new
-        ≡ with_records (kept_in stripe.old)
-        (reading_adds (state_in stripe.old) reader.old answer)) }
-    ensures own { AddsOfReader reader.old.reader (kept_in stripe.old) (kept_in stripe.new) }
-    ensures reads { IfOk result (λ answer. ReadsOn (state_in stripe.old) (seen_in stripe.old)
-        (seen_in stripe.new) reader.old answer into.new) }
-    ensures goes { IfOk result (λ answer. IsBehindPiece reader.old answer reader.new) }
-    ensures reader { IsOpenStripeReader (state_in stripe.new) reader.new }
-    ensures keeps { IsStripeReaderOf (state_in stripe.old) reader.old
-        → IsStripeReaderOf (state_in stripe.new) reader.new }
-    ensures err { OnErr result (kept_in stripe.new ≡ kept_in stripe.old) }
-    ensures same { OnErr result (reader.new ≡ reader.old) }
-    ensures untouched { OnErr result (IsStill (seen_in stripe.old).device
-        (seen_in stripe.new).device) }
+    ensures { ReadsNextInStripe stripe.old stripe.new reader.old reader.new result into.new }
 {
     stripe.prepare(None, 3)?;
     match next_row(stripe, reader) {
@@ -77,29 +55,12 @@ fn give<D: Disk, R: Directory + Drop, C: Chronicle>(
     digest: Digest,
     into: &mut [u8],
 ) -> Result<NextPiece, AllocError>
-    requires resting { IsResting stripe.old }
+    requires open { HasOpenReader stripe.old reader.old }
     requires units { 3 ≤ units_in stripe.old }
-    requires reader { IsOpenStripeReader (state_in stripe.old) reader.old }
     requires next { HasNext (state_in stripe.old) reader.old cut digest }
     requires few { reader.old.next ≤ most_fragments }
     requires into { length into.old ≡ 512 * budget_of (state_in stripe.old).geometry }
-    ensures resting { IsResting stripe.new }
-    ensures proceeds { Proceeds stripe.old stripe.new }
-    ensures unharmed { Between stripe.old stripe.new
-        ⊎ NextIsOther (state_in stripe.old) reader.old }
-    ensures adds { IfOk result (λ answer. kept_in stripe.new
-        ≡ with_records (kept_in stripe.old)
-        (reading_adds (state_in stripe.old) reader.old answer)) }
-    ensures reads { IfOk result (λ answer. ReadsOn (state_in stripe.old) (seen_in stripe.old)
-        (seen_in stripe.new) reader.old answer into.new) }
-    ensures goes { IfOk result (λ answer. IsBehindPiece reader.old answer reader.new) }
-    ensures reader { IsOpenStripeReader (state_in stripe.new) reader.new }
-    ensures keeps { IsStripeReaderOf (state_in stripe.old) reader.old
-        → IsStripeReaderOf (state_in stripe.new) reader.new }
-    ensures err { OnErr result (kept_in stripe.new ≡ kept_in stripe.old) }
-    ensures same { OnErr result (reader.new ≡ reader.old) }
-    ensures untouched { OnErr result (IsStill (seen_in stripe.old).device
-        (seen_in stripe.new).device) }
+    ensures { ReadsNextInStripe stripe.old stripe.new reader.old reader.new result into.new }
 {
     let index = reader.next;
     match fetch(stripe, reader.next_piece(), digest, into)? {
@@ -123,19 +84,11 @@ fn stop<D: Disk, R: Directory + Drop, C: Chronicle>(
     stripe: &mut Stripe<D, R, C>,
     reader: &Reader,
 ) -> NextPiece
-    requires resting { IsResting stripe.old }
+    requires open { HasOpenReader stripe.old reader.now }
     requires unit { 1 ≤ units_in stripe.old }
-    requires reader { IsOpenStripeReader (state_in stripe.old) reader.now }
     requires none { next_row (state_in stripe.old) (row_of_reader reader.now) ≡ None }
-    ensures rests { Rests stripe.old stripe.new }
-    ensures adds { kept_in stripe.new
-        ≡ with_records (kept_in stripe.old) (reading_adds (state_in stripe.old) reader.now result) }
-    ensures reads { (into : List ℕ) → ReadsOn (state_in stripe.old) (seen_in stripe.old)
-        (seen_in stripe.new) reader.now result into }
-    ensures goes { IsBehindPiece reader.now result reader.now }
-    ensures reader { IsOpenStripeReader (state_in stripe.new) reader.now }
-    ensures keeps { IsStripeReaderOf (state_in stripe.old) reader.now
-        → IsStripeReaderOf (state_in stripe.new) reader.now }
+    ensures reads { (into : List ℕ) → ReadsNextInStripe stripe.old stripe.new reader.now reader.now
+        (Ok result) into }
     ensures still { (seen_in stripe.new).device ≡ (seen_in stripe.old).device }
 {
     let answer = at_end(stripe, reader);

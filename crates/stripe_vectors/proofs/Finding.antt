@@ -1,6 +1,6 @@
 -- What was found of a live vector.
 use Rattle.std.proofs.Common.{◌≡◌, ℕ, List, refl, sym, ◌∙◌, ap, subst, arith, ◌≤◌, length, take}
-use Rattle.std.proofs.lemmas.List.{length-take}
+use Rattle.std.proofs.lemmas.List.{append-nil, length-take}
 use Rattle.std.specs.Prelude.{IfSome, min, Option, Some, None, IsSome, option_and_then, option_map}
 use Rattle.tape_base.specs.declared.keys.Key.{Key}
 use Rattle.tape_base.specs.declared.pieces.PieceId.{PieceId}
@@ -11,6 +11,7 @@ use Rattle.alternate_vector.proofs.Again.{vector_again}
 use Rattle.cyclone.specs.Cyclone.{Seen}
 use Rattle.cache_model.specs.declared.cause.Cause.{Cause}
 use Rattle.cache_model.specs.State.{Row, State, alternates_of, live_row_of}
+use Rattle.cache_model.specs.Kept.{Kept, state_of, with_records}
 use Rattle.cache_model.specs.Vectors.{AreVectors}
 use Rattle.cache_model.proofs.VectorLaws.{live_vector_is_listed}
 use Rattle.call_laws.specs.Contents.{contents_of_vectors, spelled_content}
@@ -18,12 +19,12 @@ use Rattle.cache_model.specs.Verdict.{live_vector_of, vector_of}
 use Rattle.cache_model.specs.Permit.{Permit}
 use Rattle.stripe_pieces.specs.Covers.{Covers}
 use Rattle.stripe_pieces.specs.declared.answer.Found.TheVariants as found
-use Rattle.stripe_pieces.specs.Find.{Finds, HasPayload, IsFoundAs}
+use Rattle.stripe_pieces.specs.Find.{Finds, HasPayload, IsFoundAs, find_adds, found_records}
 use Rattle.stripe_pieces.specs.Standing.{AreStanding}
 use Rattle.cache_model.specs.Given.{IsDocumentOf}
 use Rattle.stripe_pieces.proofs.Covering.{own_covers, own_permit}
 use Rattle.stripe_vectors.specs.declared.reading.KeyVector.TheVariants as answer
-use Rattle.stripe_vectors.specs.Reading.{FindsVector, IsVectorFound, VectorIsReadAs, alternates_spelled, spelled_in}
+use Rattle.stripe_vectors.specs.Reading.{FindsVector, IsVectorFound, VectorIsReadAs, alternates_spelled, spelled_in, trouble_records, vector_adds}
 
 -- ---- a piece that is live
 
@@ -78,3 +79,36 @@ missed_vector s old new id row why into key live vector finds =
       exact = λ tells. tt;
       answers = λ p covers. subst (λ o. IsVectorFound p s o (answer.Trouble why)) (sym there) (subst (λ o. IsFoundAs p s id o (found.Missing why) into) live (finds.answers p covers));
     }
+
+-- ---- what is recorded
+
+read_records : (o u : Option Row) (size : ℕ) (list : List Stored)
+    → found_records o (found.Found size) ≡ trouble_records u (answer.Read list)
+read_records None None size list = refl
+read_records None (Some row) size list = refl
+read_records (Some row) None size list = refl
+read_records (Some row) (Some other) size list = refl
+
+pub read_adds : (s : State) (id : PieceId) (size : ℕ) (key : Key) (list : List Stored)
+    → find_adds s id (found.Found size) ≡ vector_adds s key (answer.Read list)
+read_adds s id size key list = read_records (live_row_of s id) (live_vector_of s key) size list
+
+missed_records : (o : Option Row) (why : Cause) → found_records o (found.Missing why) ≡ trouble_records o (answer.Trouble why)
+missed_records None why = refl
+missed_records (Some row) why = refl
+
+pub missed_adds : (s : State) (id : PieceId) (why : Cause) (key : Key) → vector_of s key ≡ Some id
+    → find_adds s id (found.Missing why) ≡ vector_adds s key (answer.Trouble why)
+missed_adds s id why key vector =
+    missed_records (live_row_of s id) why
+    ∙ ap (λ o. trouble_records o (answer.Trouble why)) (sym (ap (option_and_then (live_row_of s)) vector))
+
+-- what was found is not recorded
+pub found_same : (k k1 : Kept) (o : Option Row) (size : ℕ) → k1 ≡ with_records k (found_records o (found.Found size)) → k1 ≡ k
+found_same k k1 None size is =
+    is ∙ ap (λ recs. let new : Kept = record { told = k.told; base = k.base; since = recs } in new) (append-nil k.since)
+found_same k k1 (Some row) size is =
+    is ∙ ap (λ recs. let new : Kept = record { told = k.told; base = k.base; since = recs } in new) (append-nil k.since)
+
+pub nothing_read : (k k1 : Kept) (id : PieceId) (size : ℕ) → k1 ≡ with_records k (find_adds (state_of k) id (found.Found size)) → k1 ≡ k
+nothing_read k k1 id size is = found_same k k1 (live_row_of (state_of k) id) size is

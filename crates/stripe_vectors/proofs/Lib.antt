@@ -3,3 +3,4 @@ pub mod Finding
 pub mod Listing
 pub mod Pins
 pub mod Seeing
+pub mod Wanting

@@ -1,21 +1,31 @@
 -- What is read of a key's vector, and what that says of the records.
-use Rattle.std.specs.Prelude.{ℕ, ◌≡◌, ◌*◌, ◌⊎◌, List, [], length, Option, Some, None, Result, Ok, Err}
+use Rattle.std.specs.Prelude.{ℕ, ◌≡◌, ◌+◌, ◌*◌, ◌≤◌, ◌⊎◌, List, [], length, Option, Some, None, IsSome, Result, Ok, Err, IfOk, OnErr}
+use Rattle.std.specs.declared.alloc.AllocError.{AllocError}
 use Rattle.hex.specs.Hex.{IsBytes}
 use Rattle.tape_base.specs.declared.keys.Key.{Key}
+use Rattle.tape_base.specs.declared.pieces.PieceId.{PieceId}
 use Rattle.logged_disk.specs.Device.{DeviceState as Device, TellsAll}
+use Rattle.logged_disk.specs.declared.device.Disk.{Ghosts as DiskGhosts}
+use Rattle.dir_table.specs.declared.directory.Directory.{Ghosts as DirectoryGhosts}
+use Rattle.cache_chronicle.specs.declared.chronicle.Chronicle.{Ghosts as ChronicleGhosts}
 use Rattle.doc_header.specs.Reading.{document_digest, payload_of}
 use Rattle.alternate_vector.specs.declared.fault.VectorFault.{VectorFault}
 use Rattle.alternate_vector.specs.Alternates.{Stored}
 use Rattle.alternate_vector.specs.Reading.{read_vector}
 use Rattle.cache_model.specs.declared.record.Rec.{Rec}
-use Rattle.cache_model.specs.State.{Row, State, alternates_of}
-use Rattle.cache_model.specs.Verdict.{live_vector_of}
+use Rattle.cache_model.specs.Kept.{with_records}
+use Rattle.cache_model.specs.State.{Row, State, alternates_of, live_row_of}
+use Rattle.cache_model.specs.Verdict.{live_vector_of, vector_of}
 use Rattle.cache_model.specs.Permit.{Permit}
 use Rattle.cache_model.specs.Given.{IsGiven, IsWritten, Trouble}
 use Rattle.cache_model.specs.Pair.{IsKeyPair}
 use Rattle.cache_model.specs.Vectors.{AreVectors, IsVectorAs}
 use Rattle.stripe_pieces.specs.Covers.{AllReadIsSeen, Covers}
 use Rattle.stripe_pieces.specs.Find.{records_of_trouble}
+use Rattle.stripe_pieces.specs.Still.{IsUnwritten}
+use Rattle.stripe_core.specs.declared.stripe.Stripe.{Stripe}
+use Rattle.stripe_core.specs.Stripe.{kept_in, room_for, seen_in, state_in, units_in}
+use Rattle.stripe_core.specs.Between.{Continues}
 use Rattle.stripe_vectors.specs.declared.reading.KeyVector.{KeyVector}
 use Rattle.stripe_vectors.specs.declared.reading.KeyVector.TheVariants as found
 
@@ -68,6 +78,28 @@ trouble_records (Some row) (found.Trouble why) = records_of_trouble row why
 -- the same by the key, whose vector is live or not
 abbrev pub vector_adds : State → Key → KeyVector → List Rec
 vector_adds s key answer = trouble_records (live_vector_of s key) answer
+
+-- ---- how a live vector is read
+
+-- the piece is the key's vector, and it is live
+pub record IsLiveVectorOf (s : State) (key : Key) (id : PieceId) : Type 0 where
+  pub vector : vector_of s key ≡ Some id
+  pub live : IsSome (live_row_of s id)
+
+module _ {D R C : Type 0} {d : DiskGhosts D} {r : DirectoryGhosts R} {c : ChronicleGhosts C} where
+  -- what reading a key's live vector comes to
+  pub record ReadsKeyVector (key : Key) (old new : Stripe D R C d r c) (result : Result KeyVector AllocError) : Type 0 where
+    pub continues : Continues old new
+    pub adds : IfOk result (λ answer. kept_in new ≡ with_records (kept_in old) (vector_adds (state_in old) key answer))
+    pub finds : IfOk result (FindsVector (state_in old) (seen_in old).device (seen_in new).device key)
+    -- what was read is what is seen, also where memory is wanting for it
+    pub seen : AllReadIsSeen (seen_in old).device (seen_in new).device
+    pub err : OnErr result (kept_in new ≡ kept_in old)
+    pub unwritten : IsUnwritten (seen_in old).device (seen_in new).device
+    pub row : (put : ℕ) → room_for put new.actors ≡ room_for put old.actors
+    pub unit : units_in old ≤ units_in new + 1
+
+-- ---- the law of what was read
 
 -- what was read is what the key has, or two documents of one SHA-256 are shown
 abbrev pub ReadIsListed : Type 0

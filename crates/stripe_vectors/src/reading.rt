@@ -9,7 +9,7 @@ ghost use Rattle.stripe_pieces.specs.Find.{HasRoomFor};
 ghost use Rattle.stripe_pieces.specs.Still.{IsUnwritten};
 ghost use Rattle.stripe_core.specs.Stripe.{IsStripe, kept_in, room_for, seen_in, state_in, units_in};
 ghost use Rattle.stripe_core.specs.Between.{Continues};
-ghost use Rattle.stripe_vectors.specs.Reading.{FindsVector, alternates_spelled, vector_adds};
+ghost use Rattle.stripe_vectors.specs.Reading.{FindsVector, IsLiveVectorOf, ReadsKeyVector, alternates_spelled, vector_adds};
 
 use alternate_vector::{Vector, VectorFault};
 use cache_chronicle::Chronicle;
@@ -78,19 +78,8 @@ fn read_live<D: Disk, R: Directory + Drop, C: Chronicle>(
     vector: PieceId,
 ) -> Result<KeyVector, AllocError>
     requires stripe { IsStripe stripe.old }
-    requires vector { vector_of (state_in stripe.old) key ≡ Some vector }
-    requires live { IsSome (live_row_of (state_in stripe.old) vector) }
-    ensures continues { Continues stripe.old stripe.new }
-    ensures adds { IfOk result (λ answer. kept_in stripe.new
-        ≡ with_records (kept_in stripe.old) (vector_adds (state_in stripe.old) key answer)) }
-    ensures finds { IfOk result (FindsVector (state_in stripe.old) (seen_in stripe.old).device
-        (seen_in stripe.new).device key) }
-    // What was read is what is seen, also where memory is wanting for it.
-    ensures seen { AllReadIsSeen (seen_in stripe.old).device (seen_in stripe.new).device }
-    ensures err { OnErr result (kept_in stripe.new ≡ kept_in stripe.old) }
-    ensures unwritten { IsUnwritten (seen_in stripe.old).device (seen_in stripe.new).device }
-    ensures row { (put : ℕ) → room_for put stripe.new.actors ≡ room_for put stripe.old.actors }
-    ensures unit { units_in stripe.old ≤ units_in stripe.new + 1 }
+    requires vector { IsLiveVectorOf (state_in stripe.old) key vector }
+    ensures { ReadsKeyVector key stripe.old stripe.new result }
 {
     let alloc = stripe.alloc();
     let blocks = stripe.chronicle().size_of(vector).unwrap();
@@ -106,20 +95,9 @@ fn read_through<D: Disk, R: Directory + Drop, C: Chronicle>(
     into: &mut [u8],
 ) -> Result<KeyVector, AllocError>
     requires stripe { IsStripe stripe.old }
-    requires vector { vector_of (state_in stripe.old) key ≡ Some vector }
+    requires vector { IsLiveVectorOf (state_in stripe.old) key vector }
     requires into { HasRoomFor (state_in stripe.old) vector into.old }
-    requires live { IsSome (live_row_of (state_in stripe.old) vector) }
-    ensures continues { Continues stripe.old stripe.new }
-    ensures adds { IfOk result (λ answer. kept_in stripe.new
-        ≡ with_records (kept_in stripe.old) (vector_adds (state_in stripe.old) key answer)) }
-    ensures finds { IfOk result (FindsVector (state_in stripe.old) (seen_in stripe.old).device
-        (seen_in stripe.new).device key) }
-    // What was read is what is seen, also where memory is wanting for it.
-    ensures seen { AllReadIsSeen (seen_in stripe.old).device (seen_in stripe.new).device }
-    ensures err { OnErr result (kept_in stripe.new ≡ kept_in stripe.old) }
-    ensures unwritten { IsUnwritten (seen_in stripe.old).device (seen_in stripe.new).device }
-    ensures row { (put : ℕ) → room_for put stripe.new.actors ≡ room_for put stripe.old.actors }
-    ensures unit { units_in stripe.old ≤ units_in stripe.new + 1 }
+    ensures { ReadsKeyVector key stripe.old stripe.new result }
 {
     let alloc = stripe.alloc();
     match stripe.find_piece(vector, into)? {

@@ -1,4 +1,5 @@
 use Rattle.stripe_core.specs.Stripe.{kept_in, seen_in, state_in}
+use Rattle.stripe_read.proofs.Owning.{owns_open}
 use Rattle.stripe_calls.proofs.Looking.{look_gives, look_serves}
 use Rattle.stripe_calls.proofs.Resting.{cache_keeps}
 use Rattle.stripe_calls.proofs.Words.{reader_adds}
@@ -17,7 +18,13 @@ returns-clause-gives g c = rw c.opened.ensures
     c.args.actor c.args.key c.args.request c.open_read.result c.open_read.ensures.adds c.open_read.ensures.opens c.open_read.ensures.reader c.open_read.ensures.tells c.open_read.ensures.err)
 
 pub returns-clause-own : goal.returns-clause-own
-returns-clause-own g c = reader_adds (state_in c.args.self.now.stripe).next_reader c.open_read.ensures.own
+returns-clause-own g c =
+    reader_adds (state_in c.args.self.now.stripe).next_reader
+    (owns_open (kept_in c.args.self.now.stripe) (kept_in c.open_read.new.stripe) c.args.actor c.args.key c.args.request
+    c.open_read.result c.open_read.ensures.adds c.open_read.ensures.err)
+
+pub returns-clause-stands : goal.returns-clause-stands
+returns-clause-stands g c = c.open_read.ensures.rests.contents
 
 pub returns-clause-keeps : goal.returns-clause-keeps
 returns-clause-keeps g c = cache_keeps _ _ c.open_read.ensures.rests

@@ -1,11 +1,13 @@
 use Rattle.stripe_core.specs.Stripe.{kept_in, seen_in, state_in}
+use Rattle.stripe_read.proofs.Owning.{owns_read_or_none}
 use Rattle.stripe_calls.proofs.Reading.{next_exact, next_gives, next_goes, next_serves, next_unharmed}
 use Rattle.stripe_calls.proofs.Resting.{cache_goes}
 use Rattle.stripe_calls.proofs.Words.{reader_adds, reader_is}
 use Rattle.stripe_calls.proofs.seam.StripeCacheCalls.read_next.Goals as goal
 
-pub read_next-requires-clause-reader : goal.read_next-requires-clause-reader
-read_next-requires-clause-reader g c = reader_is (state_in c.args.self.now.stripe) c.args.reader.now c.requires.reader
+pub read_next-requires-clause-open : goal.read_next-requires-clause-open
+read_next-requires-clause-open g c =
+    record { resting = c.requires.holds; reader = reader_is (state_in c.args.self.now.stripe) c.args.reader.now c.requires.reader }
 
 pub returns-clause-serves : goal.returns-clause-serves
 returns-clause-serves g c = λ now. rw c.given.ensures
@@ -35,7 +37,14 @@ returns-clause-unharmed g c =
     c.args.reader.now c.read_next.ensures.unharmed
 
 pub returns-clause-own : goal.returns-clause-own
-returns-clause-own g c = reader_adds c.args.reader.now.reader c.read_next.ensures.own
+returns-clause-own g c =
+    reader_adds c.args.reader.now.reader
+    (owns_read_or_none (kept_in c.args.self.now.stripe) (kept_in c.read_next.new.stripe) c.args.reader.now c.read_next.result
+    c.read_next.ensures.adds
+    c.read_next.ensures.err)
+
+pub returns-clause-stands : goal.returns-clause-stands
+returns-clause-stands g c = c.read_next.ensures.proceeds.contents
 
 pub returns-clause-reader : goal.returns-clause-reader
 returns-clause-reader g c = rw c.given.ensures

@@ -13,6 +13,7 @@ use Rattle.stripe_core.proofs.Naming.{named_behind, named_committed}
 use Rattle.stripe_core.proofs.Between.{between-tells}
 use Rattle.stripe_core.proofs.Continuing.{no_less}
 use Rattle.stripe_core.proofs.NoneDisplaced.{none_behind}
+use Rattle.stripe_core.proofs.Ready.{one_record_ready}
 use Rattle.stripe_core.proofs.stripe.Stripe.commit.Goals as goal
 
 pub returns-clause-continues : goal.returns-clause-continues
@@ -42,3 +43,6 @@ returns-clause-continues g c =
 
 pub returns-clause-does : goal.returns-clause-does
 returns-clause-does g c = λ lists p. commits p (state_in c.args.self.now) c.args.put c.args.key c.args.alternates c.requires.committing lists
+
+pub commit-requires : goal.commit-requires
+commit-requires g c = one_record_ready c.args.self.now.pieces c.args.self.now.units c.args.self.now.flushes c.requires.stripe.pieces c.requires.unit c.requires.stripe.spared

@@ -13,6 +13,7 @@ use Rattle.stripe_core.proofs.Naming.{find_leaves, named_with}
 use Rattle.logged_disk.proofs.GoingOn.{goes_further}
 use Rattle.stripe_core.proofs.Between.{between-adds, between-trans}
 use Rattle.stripe_core.proofs.NoneDisplaced.{find_displaces, none_with}
+use Rattle.stripe_core.proofs.Ready.{ready_with}
 use Rattle.stripe_core.proofs.stripe.Stripe.find_piece.Goals as goal
 
 pub returns-clause-continues : goal.returns-clause-continues
@@ -63,3 +64,8 @@ returns-clause-unwritten g c = record {
   goes = goes_further _ _ _ c.take_unit.ensures.still.goes c.find.ensures.unwritten.goes;
   seen = λ j. c.find.ensures.unwritten.seen j ∙ c.take_unit.ensures.still.seen j;
 }
+
+pub find-requires-clause-ready : goal.find-requires-clause-ready
+find-requires-clause-ready g c =
+    let t = c.take_unit.new.self in
+    ready_with t.pieces (units_in t) (flushes_in t) 1 0 c.take_unit.ensures.continues.stripe.pieces c.in_ok-take_unit.ensures.spared (omega arith) (omega arith)

@@ -6,13 +6,13 @@ use Rattle.stripe_core.proofs.stripe.Stripe.format.Goals as goal
 
 pub returns-in-Ok-format-clause-stripe : goal.returns-in-Ok-format-clause-stripe
 returns-in-Ok-format-clause-stripe g c = record {
-  pieces = c.in-Ok-format.ensures.pieces;
-  actors = subst (λ k. AreActors (state_of k) c.new-in-Ok-format.result) (sym c.in-Ok-format.ensures.records) (c.new-in-Ok-format.ensures c.args.g);
+  pieces = c.in-Ok-format.ensures.formatted.pieces;
+  actors = subst (λ k. AreActors (state_of k) c.new-in-Ok-format.result) (sym c.in-Ok-format.ensures.formatted.records) (c.new-in-Ok-format.ensures c.args.g);
   spared = record { for_records = omega arith; entries = omega arith; one_each = omega arith; calls = omega arith; blocks = omega arith };
-  named = rw c.in-Ok-format.ensures.records tt;
+  named = rw c.in-Ok-format.ensures.formatted.records tt;
   readers = omega arith;
-  ahead = rw c.in-Ok-format.ensures.records c.in-Ok.ensures;
-  none = rw c.in-Ok-format.ensures.records refl;
-  vectors = c.in-Ok-format.ensures.contents contents_of_vectors;
-  numbered = rw c.in-Ok-format.ensures.records (omega arith);
+  ahead = rw c.in-Ok-format.ensures.formatted.records c.in-Ok.ensures;
+  none = rw c.in-Ok-format.ensures.formatted.records refl;
+  vectors = c.in-Ok-format.ensures.formatted.contents contents_of_vectors;
+  numbered = rw c.in-Ok-format.ensures.formatted.records (omega arith);
 }

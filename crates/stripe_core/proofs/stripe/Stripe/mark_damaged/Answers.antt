@@ -7,6 +7,7 @@ use Rattle.stripe_core.proofs.Doings.{marks, one_less}
 use Rattle.stripe_core.proofs.Naming.{name_left, named_behind}
 use Rattle.stripe_core.proofs.Sparing.{actors_with, made_behind, numbered_others}
 use Rattle.stripe_core.proofs.NoneDisplaced.{none_behind}
+use Rattle.stripe_core.proofs.Ready.{one_record_ready}
 use Rattle.stripe_core.proofs.stripe.Stripe.mark_damaged.Goals as goal
 
 pub returns-clause-stripe : goal.returns-clause-stripe
@@ -15,19 +16,22 @@ returns-clause-stripe g c =
     let kept = kept_in c.args.self.now in
     let told = rec.Damaged c.args.id c.unwrap-place.result c.args.kept c.args.found in
     record {
-      pieces = c.damage.ensures.pieces.held;
-      actors = actors_with kept _ c.args.self.now.actors (told ∷ []) c.damage.ensures.adds (refl, tt) c.requires.stripe.actors;
-      spared = one_less c.args.self.now.units c.args.self.now.flushes _ _ (seen_in c.args.self.now) (seen_now c.damage.new.self) c.requires.unit c.requires.stripe.spared c.damage.ensures.uses;
-      named = named_behind kept _ told c.damage.ensures.adds (name_left s told refl c.requires.stripe.named);
+      pieces = c.damage.ensures.keeps.pieces.held;
+      actors = actors_with kept _ c.args.self.now.actors (told ∷ []) c.damage.ensures.keeps.adds (refl, tt) c.requires.stripe.actors;
+      spared = one_less c.args.self.now.units c.args.self.now.flushes _ _ (seen_in c.args.self.now) (seen_now c.damage.new.self) c.requires.unit c.requires.stripe.spared c.damage.ensures.keeps.uses;
+      named = named_behind kept _ told c.damage.ensures.keeps.adds (name_left s told refl c.requires.stripe.named);
       readers = omega (arith, c.requires.stripe.readers);
-      ahead = made_behind kept _ told c.args.self.now.ahead c.damage.ensures.adds refl c.requires.stripe.ahead;
-      none = none_behind kept _ told c.damage.ensures.adds refl c.requires.stripe.none;
-      vectors = c.damage.ensures.pieces.contents contents_of_vectors tt c.requires.stripe.vectors;
-      numbered = numbered_others kept _ (told ∷ []) c.damage.ensures.adds (refl, tt) c.requires.stripe.numbered;
+      ahead = made_behind kept _ told c.args.self.now.ahead c.damage.ensures.keeps.adds refl c.requires.stripe.ahead;
+      none = none_behind kept _ told c.damage.ensures.keeps.adds refl c.requires.stripe.none;
+      vectors = c.damage.ensures.keeps.pieces.contents contents_of_vectors tt c.requires.stripe.vectors;
+      numbered = numbered_others kept _ (told ∷ []) c.damage.ensures.keeps.adds (refl, tt) c.requires.stripe.numbered;
     }
 
 pub returns-clause-contents : goal.returns-clause-contents
-returns-clause-contents g c = c.damage.ensures.pieces.contents
+returns-clause-contents g c = c.damage.ensures.keeps.pieces.contents
 
 pub returns-clause-does : goal.returns-clause-does
 returns-clause-does g c = marks (state_in c.args.self.now) c.args.id c.args.kept c.args.found
+
+pub damage-requires-clause-ready : goal.damage-requires-clause-ready
+damage-requires-clause-ready g c = one_record_ready c.args.self.now.pieces c.args.self.now.units c.args.self.now.flushes c.requires.stripe.pieces c.requires.unit c.requires.stripe.spared

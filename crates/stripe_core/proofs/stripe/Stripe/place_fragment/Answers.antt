@@ -12,10 +12,11 @@ use Rattle.stripe_core.specs.Stripe.{AnswersOrWants, HasMemory, flushes_in, kept
 use Rattle.stripe_core.proofs.Asked.{stop_has_memory}
 use Rattle.stripe_pieces.proofs.Flushes.{state_of-with_records}
 use Rattle.stripe_pieces.proofs.Displacing.{displaced_puts, pushed_kinds}
-use Rattle.stripe_core.proofs.Naming.{displaced_leaves, begun_put, flush_leaves, fragment_named, fragment_new, named_with, small_size}
+use Rattle.stripe_core.proofs.Naming.{displaced_leaves, begun_put, flush_leaves, fragment_named, fragment_new, named_with}
 use Rattle.stripe_core.proofs.Sparing.{actors_with, answers_stop, flush_is_others, fragment_actors, fragment_readers, made_still, no_vector_id, numbered_by, numbered_others, placed_state, room_for_it, spent_by}
 use Rattle.stripe_core.proofs.Between.{between-adds}
 use Rattle.stripe_core.proofs.NoneDisplaced.{flush_displaces, none_placed, none_with, told_fragment}
+use Rattle.stripe_core.proofs.Ready.{ready_to_flush}
 use Rattle.stripe_core.proofs.stripe.Stripe.place_fragment.Goals as goal
 
 pub returns-in-Ok-clause-continues : goal.returns-in-Ok-clause-continues
@@ -36,32 +37,32 @@ returns-in-Ok-clause-continues g c =
     ap state_of does.adds ∙ (state_of-with_records kept does.added ∙ ap (after_all s) shape.is) in
     record {
       stripe = record {
-        pieces = c.place_fragment.ensures.pieces.held;
+        pieces = c.place_fragment.ensures.keeps.pieces.held;
         actors = subst (λ t. AreActors t c.cut.new.self) (sym behind)
             (fragment_actors purges s id c.args.pin c.args.start payload shape.room shape.piece shape.kinds kind shape.are
             c.reserve_cut.new.self c.cut.new.self c.in-Ok.placed.payload shape.payload_is c.cut.ensures.cuts (c.reserve_cut.ensures.step s c.requires.stripe.actors));
         spared = spent_by (nat_lt c.room.result c.blocks_of.result) (units_in c.args.self.now) (flushes_in c.args.self.now) c.one_where.result _ _ _ _ before after
-            c.one_where.ensures c.requires.spared c.place_fragment.ensures.uses (omega arith) (omega arith)
-            (λ none. c.place_fragment.ensures.still (room_for_it s before (length payload) c.blocks_of.result c.room.result c.requires.stripe.pieces c.blocks_of.ensures c.room.ensures none));
+            c.one_where.ensures c.requires.spared c.place_fragment.ensures.keeps.uses (omega arith) (omega arith)
+            (λ none. c.place_fragment.ensures.keeps.still (room_for_it s before (length payload) c.blocks_of.result c.room.result c.requires.stripe.pieces c.blocks_of.ensures c.room.ensures none));
         named =
             fragment_named s _ id _ _ c.args.pin c.args.start _ payload shape.room shape.are.displaced _ _ c.requires.fragment shape.kinds (displaced_leaves shape.are.displaced gone)
             (λ t. displaced_puts t shape.are.displaced gone) c.requires.stripe.named
             (begun_put s c.args.self.now.actors id.put c.requires.fragment.w c.requires.stripe.actors c.requires.fragment.next.writing.found)
             (behind ∙ placed_state purges s id c.args.pin c.args.start payload shape.room shape.piece shape.kinds kind shape.are);
         readers = omega (arith, c.requires.stripe.readers, c.reserve_cut.ensures.readers, c.cut.ensures.readers);
-        ahead = made_still s _ before after c.place_fragment.new.ahead c.requires.stripe.pieces c.place_fragment.ensures.pieces.held c.place_fragment.ensures.uses.same c.place_fragment.ensures.ahead;
+        ahead = made_still s _ before after c.place_fragment.new.ahead c.requires.stripe.pieces c.place_fragment.ensures.keeps.pieces.held c.place_fragment.ensures.keeps.uses.same c.place_fragment.ensures.keeps.ahead;
         none = ap (λ (t : State). t.displaced) (behind ∙ after_all-append s shape.room shape.piece)
             ∙ none_placed purges (after_all s shape.room) id c.args.pin c.args.start payload shape.piece shape.are;
-        vectors = c.in-Ok.ensures.pieces.contents contents_of_vectors
+        vectors = c.in-Ok.ensures.keeps.pieces.contents contents_of_vectors
             (λ tells. told_fragment s id c.args.start payload kind) c.requires.stripe.vectors;
         numbered =
             let same : (state_of new).next_reader ≡ s.next_reader =
             ap (λ (t : State). t.next_reader) behind ∙ fragment_readers purges s id c.args.pin c.args.start payload shape.room shape.piece shape.kinds kind shape.are in
             numbered_by kept new does.added 0 does.adds (omega (arith, same)) (omega arith) c.requires.stripe.numbered;
       };
-      between = between-adds _ _ kept _ does.added does.adds c.place_fragment.ensures.uses.goes does.faults does.unharmed;
-      contents = c.in-Ok.ensures.pieces.contents;
-      later = c.place_fragment.ensures.uses.later;
+      between = between-adds _ _ kept _ does.added does.adds c.place_fragment.ensures.keeps.uses.goes does.faults does.unharmed;
+      contents = c.in-Ok.ensures.keeps.pieces.contents;
+      later = c.place_fragment.ensures.keeps.uses.later;
     }
 
 pub returns-in-Err-clause-continues : goal.returns-in-Err-clause-continues
@@ -76,21 +77,21 @@ returns-in-Err-clause-continues g c =
     let others = flush_is_others does.added shape.kinds in
     record {
       stripe = record {
-        pieces = c.place_fragment.ensures.pieces.held;
+        pieces = c.place_fragment.ensures.keeps.pieces.held;
         actors = actors_with kept _ c.reserve_cut.new.self does.added does.adds others (c.reserve_cut.ensures.step s c.requires.stripe.actors);
         spared = spent_by (nat_lt c.room.result c.blocks_of.result) (units_in c.args.self.now) (flushes_in c.args.self.now) c.one_where.result _ _ _ _ before after
-            c.one_where.ensures c.requires.spared c.place_fragment.ensures.uses (omega arith) (omega arith)
-            (λ none. c.place_fragment.ensures.still (room_for_it s before (length payload) c.blocks_of.result c.room.result c.requires.stripe.pieces c.blocks_of.ensures c.room.ensures none));
+            c.one_where.ensures c.requires.spared c.place_fragment.ensures.keeps.uses (omega arith) (omega arith)
+            (λ none. c.place_fragment.ensures.keeps.still (room_for_it s before (length payload) c.blocks_of.result c.room.result c.requires.stripe.pieces c.blocks_of.ensures c.room.ensures none));
         named = named_with kept _ does.added does.adds (flush_leaves does.added shape.kinds) c.requires.stripe.named;
         readers = omega (arith, c.requires.stripe.readers, c.reserve_cut.ensures.readers);
-        ahead = made_still s _ before after c.place_fragment.new.ahead c.requires.stripe.pieces c.place_fragment.ensures.pieces.held c.place_fragment.ensures.uses.same c.place_fragment.ensures.ahead;
+        ahead = made_still s _ before after c.place_fragment.new.ahead c.requires.stripe.pieces c.place_fragment.ensures.keeps.pieces.held c.place_fragment.ensures.keeps.uses.same c.place_fragment.ensures.keeps.ahead;
         none = none_with kept _ does.added does.adds (flush_displaces does.added shape.kinds) c.requires.stripe.none;
-        vectors = c.in-Err.ensures.pieces.contents contents_of_vectors tt c.requires.stripe.vectors;
+        vectors = c.in-Err.ensures.keeps.pieces.contents contents_of_vectors tt c.requires.stripe.vectors;
         numbered = numbered_others kept _ does.added does.adds others c.requires.stripe.numbered;
       };
-      between = between-adds _ _ kept _ does.added does.adds c.place_fragment.ensures.uses.goes does.faults does.unharmed;
-      contents = c.in-Err.ensures.pieces.contents;
-      later = c.place_fragment.ensures.uses.later;
+      between = between-adds _ _ kept _ does.added does.adds c.place_fragment.ensures.keeps.uses.goes does.faults does.unharmed;
+      contents = c.in-Err.ensures.keeps.pieces.contents;
+      later = c.place_fragment.ensures.keeps.uses.later;
     }
 
 pub returns-in-Err-clause-does : goal.returns-in-Err-clause-does
@@ -110,7 +111,9 @@ pub place_fragment-requires-clause-new : goal.place_fragment-requires-clause-new
 place_fragment-requires-clause-new g c =
     fragment_new (state_in c.args.self.now) c.args.id c.args.pin c.args.start c.args.payload.now c.requires.fragment c.requires.stripe.named
 
-pub place_fragment-requires-clause-size : goal.place_fragment-requires-clause-size
-place_fragment-requires-clause-size g c =
-    let s = state_in c.args.self.now in
-    small_size s (length c.args.payload.now) (fragment_new s c.args.id c.args.pin c.args.start c.args.payload.now c.requires.fragment c.requires.stripe.named).small
+pub place_fragment-requires-clause-ready : goal.place_fragment-requires-clause-ready
+place_fragment-requires-clause-ready g c =
+    let t = c.args.self.now in
+    let stripe = c.requires.stripe in
+    ready_to_flush t.pieces (units_in t) (flushes_in t) _ _ stripe.pieces c.requires.spared (omega arith) (omega arith) c.reserve_cut.new.self t.ahead
+    (c.reserve_cut.ensures.step (state_in t) stripe.actors) stripe.ahead

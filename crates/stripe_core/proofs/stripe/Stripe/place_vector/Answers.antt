@@ -1,4 +1,4 @@
-use Rattle.std.proofs.Common.{◌∙◌, ap, ◌≡◌, ◌+◌, Ok, Err, sym, subst, arith, length, true}
+use Rattle.std.proofs.Common.{◌∙◌, ap, ◌≡◌, ◌+◌, Ok, Err, sym, subst, arith, true}
 use Rattle.std.proofs.lemmas.Bool.{eq-eqb}
 use Rattle.logged_disk.specs.Device.{TellsAll}
 use Rattle.cache_model.specs.State.{State}
@@ -12,11 +12,12 @@ use Rattle.stripe_core.specs.Stripe.{AnswersOrWants, flushes_in, kept_in, seen_i
 use Rattle.stripe_core.proofs.Between.{between-tells}
 use Rattle.stripe_pieces.proofs.Groups.{no_damage_adds, place_quiet, vector_group}
 use Rattle.stripe_pieces.proofs.Displacing.{displaced_puts, pushed_kinds}
-use Rattle.stripe_core.proofs.Naming.{displaced_leaves, begun_put, small_size, vector_named, vector_new}
+use Rattle.stripe_core.proofs.Naming.{displaced_leaves, begun_put, vector_named, vector_new}
 use Rattle.stripe_pieces.proofs.Flushes.{state_of-with_records}
 use Rattle.stripe_core.proofs.Sparing.{actors_with, answers_stop, made_still, numbered_others, spent_calm, vector_others, vector_state}
 use Rattle.stripe_core.proofs.Continuing.{no_less}
 use Rattle.stripe_core.proofs.NoneDisplaced.{none_placed}
+use Rattle.stripe_core.proofs.Ready.{ready_with}
 use Rattle.stripe_core.proofs.stripe.Stripe.place_vector.Goals as goal
 
 pub returns-in-Ok-clause-continues : goal.returns-in-Ok-clause-continues
@@ -33,28 +34,28 @@ returns-in-Ok-clause-continues g c =
     let others = vector_others purges s id c.args.pin c.args.start payload (Ok c.in-Ok.placed) places.added kind are in
     record {
       stripe = record {
-        pieces = c.place.ensures.pieces.held;
+        pieces = c.place.ensures.keeps.pieces.held;
         actors = actors_with kept _ c.args.self.now.actors places.added places.adds others c.requires.stripe.actors;
         spared = spent_calm (units_in c.args.self.now) (flushes_in c.args.self.now) _ _
-            (2 + purge_of (seen_in c.args.self.now).geometry) 1 (seen_in c.args.self.now) (seen_now c.place.new.self) c.requires.spared c.place.ensures.uses (omega arith) (omega arith);
+            (2 + purge_of (seen_in c.args.self.now).geometry) 1 (seen_in c.args.self.now) (seen_now c.place.new.self) c.requires.spared c.place.ensures.keeps.uses (omega arith) (omega arith);
         named = vector_named s _ id _ _ c.args.pin _ c.requires.vector.w are.displaced (displaced_leaves are.displaced gone) (displaced_puts s are.displaced gone)
             c.requires.stripe.named c.requires.vector.writing.quiet (begun_put s c.args.self.now.actors id.put c.requires.vector.w c.requires.stripe.actors c.requires.vector.writing.found)
             c.requires.vector.writing.found (rw c.requires.kind (omega arith))
             (ap state_of places.adds ∙ (state_of-with_records kept places.added ∙ vector_state purges s id c.args.pin c.args.start payload places.added are kind));
         readers = c.requires.stripe.readers;
-        ahead = made_still s _ (seen_in c.args.self.now) (seen_now c.place.new.self) c.args.self.now.ahead c.requires.stripe.pieces c.place.ensures.pieces.held
-            c.place.ensures.uses.same c.requires.stripe.ahead;
+        ahead = made_still s _ (seen_in c.args.self.now) (seen_now c.place.new.self) c.args.self.now.ahead c.requires.stripe.pieces c.place.ensures.keeps.pieces.held
+            c.place.ensures.keeps.uses.same c.requires.stripe.ahead;
         none = ap (λ (t : State). t.displaced) (ap state_of places.adds ∙ state_of-with_records kept places.added)
             ∙ none_placed purges s id c.args.pin c.args.start payload places.added are;
-        vectors = c.in-Ok.ensures.pieces.contents contents_of_vectors
-            (λ tells. c.requires.spelled (subst TellsAll c.place.ensures.still tells)) c.requires.stripe.vectors;
+        vectors = c.in-Ok.ensures.keeps.pieces.contents contents_of_vectors
+            (λ tells. c.requires.spelled (subst TellsAll c.place.ensures.keeps.still tells)) c.requires.stripe.vectors;
         numbered = numbered_others kept _ places.added places.adds others c.requires.stripe.numbered;
       };
-      between = between-tells _ _ kept _ places.added c.place.ensures.still places.adds
+      between = between-tells _ _ kept _ places.added c.place.ensures.keeps.still places.adds
           (place_quiet purges s id c.args.pin c.args.start payload (Ok c.in-Ok.placed) places.added are)
           (no_damage_adds purges s id c.args.pin c.args.start payload (Ok c.in-Ok.placed) places.added are);
-      contents = c.in-Ok.ensures.pieces.contents;
-      later = no_less _ _ c.place.ensures.still;
+      contents = c.in-Ok.ensures.keeps.pieces.contents;
+      later = no_less _ _ c.place.ensures.keeps.still;
     }
 
 pub returns-in-Ok-clause-does : goal.returns-in-Ok-clause-does
@@ -80,9 +81,13 @@ returns-in-Err-clause-does g c =
           (eq-eqb c.args.id.index 0 c.requires.kind) c.requires.vector.small places.are places.at;
     }))
 
-pub place-requires-clause-new : goal.place-requires-clause-new
-place-requires-clause-new g c =
-    vector_new (state_in c.args.self.now) c.args.id c.args.start c.args.payload.now c.requires.vector (eq-eqb c.args.id.index 0 c.requires.kind) c.requires.stripe.named
+pub place-requires-clause-fits : goal.place-requires-clause-fits
+place-requires-clause-fits g c = record {
+  new = vector_new (state_in c.args.self.now) c.args.id c.args.start c.args.payload.now c.requires.vector (eq-eqb c.args.id.index 0 c.requires.kind) c.requires.stripe.named;
+  room = c.requires.vector.room;
+}
 
-pub place-requires-clause-size : goal.place-requires-clause-size
-place-requires-clause-size g c = small_size (state_in c.args.self.now) (length c.args.payload.now) c.requires.vector.small
+pub place-requires-clause-ready : goal.place-requires-clause-ready
+place-requires-clause-ready g c =
+    let t = c.args.self.now in
+    ready_with t.pieces (units_in t) (flushes_in t) _ 1 c.requires.stripe.pieces c.requires.spared (omega arith) (omega arith)

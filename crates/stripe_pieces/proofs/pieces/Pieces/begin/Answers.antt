@@ -1,6 +1,7 @@
 use Rattle.std.proofs.lemmas.Grind.{common_steps}
-use Rattle.std.proofs.Common.{arith, [], ◌∷◌}
+use Rattle.std.proofs.Common.{◌≡◌, arith, [], ◌∷◌}
 use Rattle.cache_model.specs.declared.record.Rec.TheVariants as rec
+use Rattle.cache_model.specs.Kept.{with_records}
 use Rattle.cache_model.specs.State.{cursor_next, floor_next}
 use Rattle.logged_disk.proofs.Moments.{seen_image}
 use Rattle.cyclone.specs.Cyclone.{seen_cyclone}
@@ -9,13 +10,11 @@ use Rattle.stripe_pieces.specs.Records.{IsWrittenOut}
 use Rattle.stripe_pieces.proofs.Beginning.{begun_is_held}
 use Rattle.stripe_pieces.proofs.Standing.{standing_begun}
 use Rattle.stripe_pieces.proofs.Telling.{held_behind, stands_behind}
+use Rattle.stripe_pieces.proofs.Uses.{still_uses}
 use Rattle.stripe_pieces.proofs.pieces.Pieces.begin.Goals as goal
 
-pub returns-clause-adds : goal.returns-clause-adds
-returns-clause-adds g c = grind (arith, common_steps)
-
-pub returns-clause-pieces : goal.returns-clause-pieces
-returns-clause-pieces g c =
+pub returns : goal.returns
+returns g c =
     let s = state_now c.args.self.now in
     let disk = c.args.self.now.cyclone.disk in
     let old = seen_now c.args.self.now in
@@ -23,12 +22,17 @@ returns-clause-pieces g c =
     let kept = kept_now c.args.self.now in
     let new = g.C.Chronicle.kept c.began.new.chronicle in
     let recs = rec.Began (cursor_next s) (floor_next s) ∷ [] in
-    let adds = returns-clause-adds g c in
+    let adds : new ≡ with_records kept recs = grind (arith, common_steps) in
     let begins = c.begin_next.ensures.begins in
     let image = seen_image (g.D.Disk.state disk) (g.met.D.Disk.was_image disk) (g.met.D.Disk.is_log disk) in
-    let out : IsWrittenOut old = record { whole = image.whole; written = c.requires.written } in
+    let out : IsWrittenOut old = record { whole = image.whole; written = c.requires.out.written } in
     record {
-      held = held_behind kept new recs after adds (begun_is_held s old after c.requires.pieces out begins c.begin_next.ensures.turns);
-      contents = λ contents told stands.
-          stands_behind contents kept new recs after adds (standing_begun contents s old after c.requires.pieces out begins stands);
+      pieces = record {
+        held = held_behind kept new recs after adds (begun_is_held s old after c.requires.ready.pieces out begins c.begin_next.ensures.turns);
+        contents = λ contents told stands.
+            stands_behind contents kept new recs after adds (standing_begun contents s old after c.requires.ready.pieces out begins stands);
+      };
+      adds = adds;
+      still = begins.device;
+      uses = still_uses 1 0 _ _ old after begins.geometry begins.device c.began.ensures.room (omega (arith, begins.spare));
     }

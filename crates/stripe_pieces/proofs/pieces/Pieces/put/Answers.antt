@@ -1,7 +1,8 @@
 use Rattle.std.proofs.Common.{◌+◌, ap, arith, length}
 use Rattle.cyclone.specs.Cyclone.{seen_cyclone}
 use Rattle.dir_table.specs.Displacement.{Displacement, purge_of}
-use Rattle.stripe_pieces.specs.Pieces.{kept_now, seen_now}
+use Rattle.stripe_pieces.specs.Pieces.{kept_now, seen_now, state_now}
+use Rattle.stripe_pieces.proofs.Fitting.{small_in_bytes}
 use Rattle.stripe_pieces.proofs.Puts.{IsPutAs, IsToldOf, few_displaced, put_adds, put_is_held, put_stands, put_uses}
 use Rattle.stripe_pieces.proofs.pieces.Pieces.put.Goals as goal
 
@@ -30,8 +31,14 @@ told_of g c = record {
   placed_is = c.placed.ensures.kept;
 }
 
-pub returns-clause-pieces : goal.returns-clause-pieces
-returns-clause-pieces g c =
+pub overflow_cast-length : goal.overflow_cast-length
+overflow_cast-length g c = let few = small_in_bytes (state_now c.args.self.now).geometry (length c.args.payload.now) c.requires.fits.new.small in omega (arith, few)
+
+pub put-put-requires-clause-size : goal.put-put-requires-clause-size
+put-put-requires-clause-size g c = small_in_bytes (state_now c.args.self.now).geometry (length c.args.payload.now) c.requires.fits.new.small
+
+pub returns-clause-keeps : goal.returns-clause-keeps
+returns-clause-keeps g c =
     let purges = g.R.Directory.purges in
     let old = kept_now c.args.self.now in
     let cut = g.C.Chronicle.kept c.cut.new.chronicle in
@@ -40,24 +47,25 @@ returns-clause-pieces g c =
     let before = seen_now c.args.self.now in
     let after = seen_cyclone c.put-put.new.self in
     record {
-      held = put_is_held purges old cut displaced last before after c.args.doc.now c.args.payload.now c.put-put.result.payload c.put-put.result.document c.requires.pieces
-          c.requires.new c.requires.doc c.requires.room (put_as g c) (told_of g c);
-      contents = λ contents said stands.
-          put_stands purges old cut displaced last before after c.args.doc.now c.args.payload.now c.put-put.result.payload c.put-put.result.document c.requires.pieces
-          c.requires.new c.requires.doc c.requires.room (put_as g c) (told_of g c) contents c.requires.size said stands;
+      pieces = record {
+        held = put_is_held purges old cut displaced last before after c.args.doc.now c.args.payload.now c.put-put.result.payload c.put-put.result.document c.requires.ready.pieces
+            c.requires.fits.new c.requires.doc c.requires.fits.room (put_as g c) (told_of g c);
+        contents = λ contents said stands.
+            put_stands purges old cut displaced last before after c.args.doc.now c.args.payload.now c.put-put.result.payload c.put-put.result.document c.requires.ready.pieces
+            c.requires.fits.new c.requires.doc c.requires.fits.room (put_as g c) (told_of g c) contents (small_in_bytes (state_now c.args.self.now).geometry (length c.args.payload.now) c.requires.fits.new.small) said stands;
+      };
+      still = c.put-put.ensures.put.device;
+      uses =
+          let before = seen_now c.args.self.now in
+          let after = seen_cyclone c.put-put.new.self in
+          let few = few_displaced g.R.Directory.purges before after c.args.doc.now c.args.payload.now c.requires.ready.pieces.turning c.put-put.ensures.put in
+          let told = ap (λ (x : Displacement). length x.places) c.displaced.ensures in
+          put_uses g.R.Directory.purges before after c.args.doc.now c.args.payload.now (2 + purge_of before.geometry) (g.C.Chronicle.room c.args.self.now.chronicle)
+          (g.C.Chronicle.room c.placed.new.chronicle) c.put-put.ensures.put (omega (arith, c.cut.ensures.room, c.displaced-2.ensures.room, c.placed.ensures.room, few, told));
     }
 
 pub returns-clause-puts : goal.returns-clause-puts
 returns-clause-puts g c =
     put_adds g.R.Directory.purges (kept_now c.args.self.now) (g.C.Chronicle.kept c.cut.new.chronicle) (g.C.Chronicle.kept c.displaced-2.new.chronicle)
     (g.C.Chronicle.kept c.placed.new.chronicle) (seen_now c.args.self.now) (seen_cyclone c.put-put.new.self) c.args.doc.now c.args.payload.now c.put-put.result.payload
-    c.put-put.result.document c.requires.pieces c.requires.new c.requires.doc c.requires.room (put_as g c) (told_of g c)
-
-pub returns-clause-uses : goal.returns-clause-uses
-returns-clause-uses g c =
-    let before = seen_now c.args.self.now in
-    let after = seen_cyclone c.put-put.new.self in
-    let few = few_displaced g.R.Directory.purges before after c.args.doc.now c.args.payload.now c.requires.pieces.turning c.put-put.ensures.put in
-    let told = ap (λ (x : Displacement). length x.places) c.displaced.ensures in
-    put_uses g.R.Directory.purges before after c.args.doc.now c.args.payload.now (2 + purge_of before.geometry) (g.C.Chronicle.room c.args.self.now.chronicle)
-    (g.C.Chronicle.room c.placed.new.chronicle) c.put-put.ensures.put (omega (arith, c.cut.ensures.room, c.displaced-2.ensures.room, c.placed.ensures.room, few, told))
+    c.put-put.result.document c.requires.ready.pieces c.requires.fits.new c.requires.doc c.requires.fits.room (put_as g c) (told_of g c)

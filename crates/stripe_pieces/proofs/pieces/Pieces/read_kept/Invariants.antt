@@ -5,7 +5,7 @@ use Rattle.cyclone.specs.Cyclone.{SameTape}
 use Rattle.evacuator.specs.Choice.{blocks_of_all, kept_blocks}
 use Rattle.cache_model.specs.State.{Row}
 use Rattle.stripe_pieces.specs.Ahead.{IsMadeFor}
-use Rattle.stripe_pieces.specs.Looks.{AreOfRows, HasLooked}
+use Rattle.stripe_pieces.specs.Looks.{AreOfRows, HasLookedAhead}
 use Rattle.stripe_pieces.specs.Pieces.{ArePieces, seen_now, state_now}
 use Rattle.stripe_pieces.proofs.pieces.Pieces.read_kept.Given as goal
 
@@ -26,5 +26,5 @@ invariant-loop-i g l =
       fates : length l.ahead.fates.items ≡ l.i;
       at : l.at ≡ kept_blocks (take l.i (blocks_of_all l.fn.ahead.due.items)) (take l.i l.fn.ahead.kept.items);
       room : l.at ≤ budget_of s.geometry;
-      looked : (rows : List Row) → AreOfRows s l.fn.ahead.due.items rows → HasLooked s before.device after.device (take l.i rows) l.at l.ahead;
+      looked : (rows : List Row) → AreOfRows s l.fn.ahead.due.items rows → HasLookedAhead s before.device after.device (take l.i rows) l.at l.ahead;
     }
