@@ -1,0 +1,14 @@
+use Rattle.std.proofs.Common.{◌≤◌, length, drop}
+use Rattle.std.specs.List.{flat_map}
+use Rattle.cache_model.specs.State.{count_of_found}
+use Rattle.list_chronicle.specs.Tells.{IsCountIn}
+use Rattle.list_chronicle.proofs.found.count_found.Given as goal
+
+abbrev pub invariant-loop-left : goal.invariant-loop-left
+invariant-loop-left l = record {
+  within : l.left ≤ length l.list;
+  tells : IsCountIn (flat_map count_of_found (drop l.left l.list)) l.id l.count;
+}
+
+abbrev pub decreases-loop-left : goal.decreases-loop-left
+decreases-loop-left l = l.left
