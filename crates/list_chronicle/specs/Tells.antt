@@ -50,8 +50,8 @@ abbrev pub IsPieceIn : List (ℕ × PieceId) → ℕ → Option PieceId → Type
 IsPieceIn places place piece = piece ≡ lookup (λ p. p == place) places
 
 -- the payload of the fragment that was cut last
-abbrev pub IsCut : Option TableRow → Option Payload → Type 0
-IsCut cut payload = payload ≡ option_map kept_payload cut
+abbrev pub TellsCut : Option TableRow → Option Payload → Type 0
+TellsCut cut payload = payload ≡ option_map kept_payload cut
 
 -- of a key: its last commit or removal, and its put that was given up last
 pub record TellsKey (key : Key) (t : KeyTold) (s : State) : Type 0 where
@@ -64,7 +64,7 @@ pub record TellsPiece (id : PieceId) (t : PieceTold) (s : State) : Type 0 where
   pub loss : t.loss ≡ cause_of_loss s id
   pub count : IsCountIn s.counts id t.count
   pub key : TellsKey id.first t.key s
-  pub cut : IsCut s.last_cut t.last_cut
+  pub cut : TellsCut s.last_cut t.last_cut
 
 -- of a place: the piece that was placed there last, and whether one there was to be copied ahead and was not
 pub record TellsPlace (place : ℕ) (t : PlaceTold) (s : State) : Type 0 where

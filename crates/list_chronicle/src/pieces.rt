@@ -5,7 +5,7 @@ ghost use Rattle.cache_model.specs.State.{last_vector, vector_piece, without, wi
 ghost use Rattle.cache_model.specs.Verdict.{cause_of_loss};
 ghost use Rattle.cache_chronicle.specs.LivePieces.{kept_payload};
 ghost use Rattle.cache_chronicle.specs.Tables.{IsRowOfPiece};
-ghost use Rattle.list_chronicle.specs.Tells.{IsCountIn, IsCut, IsKeptIn, IsLastIn, TellsPiece, told_last};
+ghost use Rattle.list_chronicle.specs.Tells.{IsCountIn, TellsCut, IsKeptIn, IsLastIn, TellsPiece, told_last};
 
 use crate::found::{count_found, standing_found};
 use crate::keys::{KeyTold, LastOfKey};
@@ -101,7 +101,7 @@ fn standing_after(told: PieceTold, id: PieceId, rec: &Rec) -> Option<KeptPiece>
 
 // The payload of a piece that is placed: of a fragment that of what was cut last.
 fn payload_placed(piece: PieceId, last_cut: Option<Payload>) -> Option<Payload>
-    ensures { (s : State) → IsCut s.last_cut last_cut
+    ensures { (s : State) → TellsCut s.last_cut last_cut
         → result ≡ option_map kept_payload (payload_placed s piece) }
 {
     if piece.index == 0 { None } else { last_cut }
@@ -248,7 +248,7 @@ fn count_after(count: u32, id: PieceId, rec: &Rec) -> u32
 }
 
 fn cut_after(last_cut: Option<Payload>, rec: &Rec) -> Option<Payload>
-    ensures { (s : State) → IsCut s.last_cut last_cut → IsCut (state_after s rec.now).last_cut result }
+    ensures { (s : State) → TellsCut s.last_cut last_cut → TellsCut (state_after s rec.now).last_cut result }
 {
     match *rec {
         Rec::Formatted { .. } | Rec::Opened { .. } => None,
