@@ -13,3 +13,4 @@ mod PassedSteps
 mod PassedScript
 mod PassedTells
 mod PassedSentences
+mod PassedAgreeing

@@ -1,6 +1,6 @@
 -- The passed script as steps: how its lines are read, that each step is taken, and what it answers.
-use Rattle.std.proofs.Common.{◌≡◌, List, [], ◌∷◌, refl}
-use Rattle.std.specs.Prelude.{codes, replicate}
+use Rattle.std.proofs.Common.{◌≡◌, ℕ, List, [], ◌∷◌, refl}
+use Rattle.std.specs.Prelude.{codes, replicate, take}
 use Rattle.hex.specs.Hex.{decode_pairs}
 use Rattle.tape_base.specs.Geometry.{HasNumbers}
 use Rattle.tape_base.specs.Key.{key_of_bytes}
@@ -11,11 +11,12 @@ use Rattle.script_lang.specs.Tokens.{actor_of_word, number_of_word, number_below
 use Rattle.script_lang.specs.Verbs.{verb_of}
 use Rattle.script_lang.specs.Grammar.{alternates_kept, data_of, format_of, format_of_numbers, get_of, only_actor, open_read_of, open_write_of, reading_of, step_of, take_actor, take_number}
 use Rattle.script_run.specs.Run.{fresh}
+use Rattle.script_run.specs.Takes.{IsRun}
 use Rattle.headline_rows.specs.Script.{name_of_reader}
 use Rattle.headline_device_rows.specs.Displacing.{writer_name}
 use Rattle.headline_device_rows.specs.History.{each_answered}
 use Rattle.headline_device_rows.specs.Passed.{filler_key, filling, line_to_close_object, line_to_fill, line_to_fill_twice, line_to_follow_object, line_to_format_round, line_to_get_passed, line_to_open_filler, line_to_open_object, line_to_take_next, line_to_write_object, passed_answers, passed_key, passed_lines, passed_turns, round_geometry}
-use Rattle.headline_rows.proofs.Along.{AreRead, StepsTake, answers_by}
+use Rattle.headline_rows.proofs.Along.{AreRead, StepsTake, answers_by, are_run, reads_front, takes_front}
 use Rattle.headline_device_rows.proofs.PassedSteps.{breaks_off, closes_object, fills_five, fills_one, fills_six, fills_three, fills_two, flushes_five, flushes_four, flushes_one, flushes_three, flushes_two, gets_broken, hits_object, misses_object, opens_filler, opens_object, writes_object}
 use Rattle.headline_device_rows.proofs.Script.{flush_is_read}
 
@@ -47,7 +48,7 @@ write_is_read : reading_of line_to_write_object ≡ line.Step (step.Feed writer_
 unfolding reading_of step_of verb_of data_of take_actor actor_of_word body_of_word hex_body repeated_body number_of_word decode_pairs
 write_is_read = refl
 
-close_is_read : reading_of line_to_close_object ≡ line.Step (step.Close writer_name)
+pub close_is_read : reading_of line_to_close_object ≡ line.Step (step.Close writer_name)
 unfolding reading_of step_of verb_of only_actor take_actor actor_of_word
 close_is_read = refl
 
@@ -224,3 +225,9 @@ are_taken = (
 
 pub are_said : answers_by fresh passed_script passed_turns ≡ each_answered passed_answers
 are_said = refl
+
+-- the first lines of it are a run too
+pub front_is_run : (n : ℕ) → IsRun fresh (take n passed_lines) (take n passed_turns)
+front_is_run n =
+    are_run fresh (take n passed_lines) (take n passed_script) (take n passed_turns) (reads_front n passed_lines passed_script are_read)
+    (takes_front n fresh passed_script passed_turns are_taken)

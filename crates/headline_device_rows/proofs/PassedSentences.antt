@@ -1,21 +1,28 @@
 -- The laws of `headline` at the passed script.
 use Rattle.std.proofs.Common.{◌≡◌, ◌∙◌, ℕ, List, [], ◌∷◌, ◌++◌, length, refl}
 use Rattle.std.specs.Prelude.{Option, Some, take, drop, false}
+use Rattle.cache_model.specs.declared.answer.ReadAnswer.TheVariants as read
+use Rattle.cache_model.specs.declared.record.Rec.TheVariants as rec
 use Rattle.script_lang.specs.declared.line.LineAnswer.TheVariants as line
 use Rattle.script_lang.specs.declared.step.Step.{Step}
 use Rattle.script_lang.specs.declared.step.Step.TheVariants as step
 use Rattle.script_lang.specs.declared.answer.StepAnswer.{StepAnswer}
 use Rattle.script_lang.specs.declared.answer.StepAnswer.TheVariants as answer
 use Rattle.script_lang.specs.Grammar.{reading_of}
+use Rattle.reader_laws.specs.Along.{AreOfSession}
 use Rattle.headline.specs.Account.{Account, HistoryTells}
+use Rattle.headline.specs.Bodies.{ClosedPutStays}
 use Rattle.headline.specs.Breaks.{BreakWasPassed, GetWasPassed}
 use Rattle.headline.specs.Misses
+use Rattle.headline.specs.Reads.{DidBefore}
 use Rattle.headline.specs.Standing.{PassedWasPlaced}
-use Rattle.headline_rows.specs.Script.{name_of_reader}
+use Rattle.headline_rows.specs.Script.{name_of_reader, silent_turn}
+use Rattle.headline_rows.proofs.Along.{are_of_session, reads_front}
+use Rattle.headline_device_rows.specs.Displacing.{writer_name}
 use Rattle.headline_device_rows.specs.History.{each_answered}
-use Rattle.headline_device_rows.specs.Passed.{TellsPassed, ThePassedScriptIsAnswered, fragment_passed, passed_answers, passed_key, passed_lines, passed_logs, vector_passed}
-use Rattle.headline_device_rows.specs.PassedSentences.{TheBreakWasPassed, TheGetWasPassed, TheVectorWasPassed}
-use Rattle.headline_device_rows.proofs.PassedScript.{get_is_read, next_is_read}
+use Rattle.headline_device_rows.specs.Passed.{TellsPassed, ThePassedScriptIsAnswered, fragment_passed, listing_records, passed_answers, passed_key, passed_lines, passed_logs, passed_turns, vector_passed}
+use Rattle.headline_device_rows.specs.PassedSentences.{TheBreakWasPassed, TheClosedPutStays, TheGetWasPassed, TheVectorWasPassed}
+use Rattle.headline_device_rows.proofs.PassedScript.{are_read, close_is_read, front_is_run, get_is_read, next_is_read, passed_script}
 
 -- one line of the script, with its answer
 module _ (said : ThePassedScriptIsAnswered) (a : Account passed_logs) (tells : TellsPassed a) where
@@ -34,6 +41,11 @@ module _ (said : ThePassedScriptIsAnswered) (a : Account passed_logs) (tells : T
     answers_are = rw (tells.told_are, tells.turns_are) (said ∙ answers);
     as_many = many;
   }
+
+  closing : HistoryTells a (take 6 passed_lines) (step.Close writer_name) (answer.Put 2 1409 1)
+  closing =
+      history _ _ (drop 7 passed_lines) (take 6 (each_answered passed_answers)) (drop 7 (each_answered passed_answers)) _ _ close_is_read
+      refl refl refl
 
   breaking : HistoryTells a (take 14 passed_lines) (step.Next name_of_reader) (answer.Broken fragment_passed)
   breaking =
@@ -59,3 +71,37 @@ pub vector_was_passed : PassedWasPlaced → ThePassedScriptIsAnswered → TheVec
 vector_was_passed law said a tells =
     law passed_logs a (take 18 passed_lines) (step.Get passed_key []) (answer.Miss vector_passed) passed_key 40 44 false
     (Misses.MissesKey.gets []) (missing said a tells)
+
+-- ---- what the writer took
+
+-- none of the lines behind the close begins another session
+keep_session : AreOfSession (take 11 (drop 7 passed_lines))
+keep_session =
+    are_of_session (take 11 (drop 7 passed_lines)) (take 11 (drop 7 passed_script))
+    (reads_front 11 (drop 7 passed_lines) (drop 7 passed_script) are_read.1.1.1.1.1.1.1)
+    (refl, (refl, (refl, (refl, (refl, (refl, (refl, (refl, (refl, (refl, (refl, tt)))))))))))
+
+module _ (a : Account passed_logs) (tells : TellsPassed a) where
+  before_close : DidBefore a.turns (take 6 passed_lines)
+  before_close = record {
+    earlier = take 6 passed_turns;
+    turn = silent_turn listing_records [];
+    later = drop 7 passed_turns;
+    turns_are = tells.turns_are;
+    legal = front_is_run 6;
+  }
+
+  before_last : DidBefore a.turns (take 18 passed_lines)
+  before_last = record {
+    earlier = take 18 passed_turns;
+    turn = silent_turn (rec.ReadOpened 3 (record { 0 = 0 }) passed_key [] (read.Miss vector_passed) ∷ []) [];
+    later = [];
+    turns_are = tells.turns_are;
+    legal = front_is_run 18;
+  }
+
+pub put_stays : ClosedPutStays → ThePassedScriptIsAnswered → TheClosedPutStays
+unfolding before_close before_last closing history
+put_stays law said a tells =
+    law passed_logs a (take 6 passed_lines) (take 11 (drop 7 passed_lines)) writer_name 2 1409 1 (closing said a tells) keep_session
+    (before_close a tells) (before_last a tells)

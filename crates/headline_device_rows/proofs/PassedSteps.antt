@@ -33,7 +33,7 @@ use Rattle.headline_device_rows.proofs.Blocks.{digest_is, is_one_block, no_field
 
 -- ---- blocks
 
-filling_is_bytes : IsBytes filling
+pub filling_is_bytes : IsBytes filling
 filling_is_bytes = zeros_are_bytes 1409
 
 is_four_blocks : (doc : Doc) (payload : List ℕ) → length payload ≡ 1409 → length (document_bytes doc payload) ≡ 2048
@@ -47,14 +47,14 @@ is_four_blocks doc payload size =
     let whole : length (front ++ zeros) ≡ 2048 = omega (arith, all, before, many, length-header doc payload, size) in
     whole
 
-filler_is_four : (index place start : ℕ) → length (filler_block index place start) ≡ 2048
+pub filler_is_four : (index place start : ℕ) → length (filler_block index place start) ≡ 2048
 filler_is_four index place start = is_four_blocks (doc_of_piece (filler_piece index) place start) filling refl
 
 filler_digest : (index place start : ℕ) → document_digest (filler_block index place start)
     ≡ digest_of_document (doc_of_piece (filler_piece index) place start) filling
 filler_digest index place start = digest_is (doc_of_piece (filler_piece index) place start) filling (lit< tt)
 
-passed_is_four : length passed_block ≡ 2048
+pub passed_is_four : length passed_block ≡ 2048
 passed_is_four = is_four_blocks (doc_of_piece passed_piece 36 0) filling refl
 
 passed_digest : document_digest passed_block ≡ digest_of_document (doc_of_piece passed_piece 36 0) filling
@@ -82,11 +82,11 @@ are_stored = record {
 listing_size : length (vector_bytes (passed_alternate ∷ [])) ≡ 72
 listing_size = length-vector (passed_alternate ∷ []) are_stored.each
 
-listing_is_block : length listing_block ≡ 512
+pub listing_is_block : length listing_block ≡ 512
 listing_is_block =
     is_one_block (doc_of_piece (vector_piece passed_key 2) 40 0) (vector_bytes (passed_alternate ∷ [])) (omega (arith, listing_size))
 
-listing_is_bytes : IsBytes listing_block
+pub listing_is_bytes : IsBytes listing_block
 listing_is_bytes =
     small_block (doc_of_piece (vector_piece passed_key 2) 40 0) (vector_bytes (passed_alternate ∷ []))
     (vector_small (passed_alternate ∷ []) are_stored)
@@ -96,7 +96,7 @@ listing_digest : document_digest listing_block
 listing_digest =
     digest_is (doc_of_piece (vector_piece passed_key 2) 40 0) (vector_bytes (passed_alternate ∷ [])) (omega (arith, listing_size))
 
-both_are : (a b : List ℕ) (n m : ℕ) → length a ≡ n → length b ≡ m → length (a ++ b) ≡ n + m
+pub both_are : (a b : List ℕ) (n m : ℕ) → length a ≡ n → length b ≡ m → length (a ++ b) ≡ n + m
 both_are a b n m one other = omega (arith, length-append a b, one, other)
 
 second_part : (a b : List ℕ) (n m : ℕ) → length a ≡ n → length b ≡ m → take m (drop n (a ++ b)) ≡ b

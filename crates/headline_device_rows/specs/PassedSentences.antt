@@ -1,10 +1,18 @@
--- What the laws of `headline` say of the passed script, by each account that tells it.
-use Rattle.std.specs.Prelude.{[], take, false}
-use Rattle.headline.specs.Account.{Account}
+-- What the laws of `headline` say of the passed script, by each account that tells it; and what `refusal_laws` says of each
+-- history of its lines.
+use Rattle.std.specs.Prelude.{◌≡◌, ℕ, List, [], ◌++◌, length, take, false}
+use Rattle.script_run.specs.Run.{fresh}
+use Rattle.script_run.specs.Takes.{run_after}
+use Rattle.script_laws.specs.Agreeing.{NoneDisplaced}
+use Rattle.run_promise.specs.Lines.{answers_of}
+use Rattle.headline.specs.Account.{Account, AllTell, RunLogs}
 use Rattle.headline.specs.Breaks.{BrokePassed, GetPassed}
+use Rattle.headline.specs.Parting.{HistoryBegins}
 use Rattle.headline.specs.Standing.{WasPassed}
+use Rattle.refusal_laws.specs.Lines.{HaveSameCalls}
 use Rattle.headline_rows.specs.Script.{name_of_reader}
-use Rattle.headline_device_rows.specs.Passed.{TellsPassed, passed_key, passed_lines, passed_logs}
+use Rattle.headline_device_rows.specs.History.{each_answered}
+use Rattle.headline_device_rows.specs.Passed.{TellsPassed, passed_answers, passed_key, passed_lines, passed_logs, passed_turns}
 
 -- the piece at which the reader broke was placed at 36 by an earlier line, last, and the floor is 40
 abbrev pub TheBreakWasPassed : Type 0
@@ -17,3 +25,18 @@ TheGetWasPassed = (a : Account passed_logs) → TellsPassed a → GetPassed a.tu
 -- and before the last get the vector of the put that an earlier line completed last, at 40, with the floor at 44
 abbrev pub TheVectorWasPassed : Type 0
 TheVectorWasPassed = (a : Account passed_logs) → TellsPassed a → WasPassed a (take 18 passed_lines) passed_key 40 44 false
+
+-- what the writer of put 2 had taken before the line that closed it, as many bytes as that line told, stays up to the last line
+abbrev pub TheClosedPutStays : Type 0
+TheClosedPutStays = (a : Account passed_logs) → TellsPassed a
+    → (((run_after fresh (take 18 passed_lines) (take 18 passed_turns)).streams 2).bytes
+    ≡ ((run_after fresh (take 6 passed_lines) (take 6 passed_turns)).streams 2).bytes)
+    × (1409 ≡ length ((run_after fresh (take 6 passed_lines) (take 6 passed_turns)).streams 2).bytes)
+
+-- each legal history of whatever run that begins with some of these lines, over devices that told their content, answers them as
+-- here, where in them the devices made the same calls as here, line by line, and no piece was displaced
+abbrev pub EachHistoryIsAnsweredSo : Type 0
+EachHistoryIsAnsweredSo = (m : RunLogs) (b : Account m) (lines left more : List (List ℕ)) → passed_lines ≡ lines ++ left
+    → b.told ≡ lines ++ more → (other : HistoryBegins b lines) → AllTell m
+    → HaveSameCalls lines (take (length lines) passed_turns) other.earlier → NoneDisplaced other.earlier
+    → answers_of fresh lines other.earlier ≡ take (length lines) (each_answered passed_answers)

@@ -1,12 +1,12 @@
 //! Runs worked by hand, on devices that make calls, in a segment that is full and on a tape that comes round, and what the
-//! laws of `headline` say of them.
+//! laws of `headline`, and one of `refusal_laws`, say of them.
 #![tactic(auto)]
 
 ghost use Rattle.headline_device_rows.specs.Steps.{ABreakIsAStep, ABrokenGetIsAStep, ADamagedMissIsAStep, AFlushIsAStep, AGetReadsBoth, AHitReadsTheVector, ARefusedFlushIsAStep};
 ghost use Rattle.headline_device_rows.specs.History.{TheTroubledScriptIsARun, TheTroubledScriptIsAnswered};
 ghost use Rattle.headline_device_rows.specs.Told.{TheTroubledScriptHasAnAccount, TheTroubledScriptIsConcluded};
 ghost use Rattle.headline_device_rows.specs.Passed.{ThePassedScriptHasAnAccount, ThePassedScriptIsARun, ThePassedScriptIsAnswered, ThePassedScriptIsConcluded};
-ghost use Rattle.headline_device_rows.specs.PassedSentences.{TheBreakWasPassed, TheGetWasPassed, TheVectorWasPassed};
+ghost use Rattle.headline_device_rows.specs.PassedSentences.{EachHistoryIsAnsweredSo, TheBreakWasPassed, TheClosedPutStays, TheGetWasPassed, TheVectorWasPassed};
 ghost use Rattle.headline_device_rows.specs.Sentences.{NoCountIsAbove, NoDamageInMemory, NoFaultInMemory, NoneStopsInMemory, TheTroubledBreakIsCaused, TheTroubledGetIsCaused, TheDamagedMissIsCaused, TheFlushWasRefused, TheFragmentStaysOther, TheFragmentWasOther, TheGetOnFileIsWhole, TheVectorWasOther};
 ghost use Rattle.headline_device_rows.specs.DisplacingSteps.{ADisplacedBreakIsAStep, ADisplacedGetIsAStep, ADisplacedMissIsAStep, ADisplacementIsAStep, AFragmentIsAStep, AHitOfItIsAStep, ALostCloseIsAStep, APutBesideItIsAStep, AVectorDisplacesToo, AVectorIsDisplaced, AnAbsenceIsAStep, AnOpeningIsAStep};
 ghost use Rattle.headline_device_rows.specs.DisplacingTold.{TheDisplacingScriptHasAnAccount, TheDisplacingScriptIsARun, TheDisplacingScriptIsAnswered, TheDisplacingScriptIsConcluded};
@@ -14,14 +14,15 @@ ghost use Rattle.headline_device_rows.specs.DisplacingSentences.{TheDisplacedAbs
 
 use headline::{
     absences_are_caused, break_was_displaced, break_was_passed, breaks_are_caused,
-    counts_are_reached, damage_was_given, displaced_was_told, faults_were_refused,
-    get_was_displaced, get_was_passed, gets_are_caused, giving_up_was_answered, got_is_whole,
-    losses_are_caused, lost_was_displaced, misses_are_caused, no_false_damage, no_false_faults,
-    pairs_are_doubted, passed_was_placed, vector_was_lost,
+    closed_put_stays, counts_are_reached, damage_was_given, displaced_was_told,
+    faults_were_refused, get_was_displaced, get_was_passed, gets_are_caused,
+    giving_up_was_answered, got_is_whole, losses_are_caused, lost_was_displaced, misses_are_caused,
+    no_false_damage, no_false_faults, pairs_are_doubted, passed_was_placed, vector_was_lost,
 };
 use headline_rows::{
     a_hit_is_a_step, a_miss_is_a_step, a_piece_is_a_step, a_put_is_a_step, the_put_holds,
 };
+use refusal_laws::histories_agree_in_refusals;
 
 /// The device refuses to take the buffer.
 pub fn a_refused_flush_is_a_step()
@@ -448,4 +449,20 @@ pub fn the_vector_was_passed()
 {
     passed_was_placed();
     the_passed_script_is_answered();
+}
+
+/// What the writer of put 2 had taken before the close stays, although the floor passes its pieces.
+pub fn the_closed_put_stays()
+    ensures { TheClosedPutStays }
+{
+    closed_put_stays();
+    the_passed_script_is_answered();
+}
+
+/// Each history of these lines in which the devices made the same calls is answered the same.
+pub fn each_history_is_answered_so()
+    ensures { EachHistoryIsAnsweredSo }
+{
+    histories_agree_in_refusals();
+    the_passed_script_has_an_account();
 }

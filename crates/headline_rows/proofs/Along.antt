@@ -1,6 +1,7 @@
 -- What is said of lines is said of the steps as which they are read.
 use Rattle.std.proofs.Common.{◌≡◌, ◌∙◌, ℕ, zero, suc, ◌+◌, ◌<◌, List, [], ◌∷◌, refl, sym, ap, subst}
-use Rattle.std.specs.Prelude.{take, if◌then◌else◌, Option, Some, ⊤}
+use Rattle.std.specs.Prelude.{take, if◌then◌else◌, false, Option, Some, ⊤}
+use Rattle.std.specs.List.{AllByRecursion}
 use Rattle.script_lang.specs.declared.line.LineAnswer.{LineAnswer}
 use Rattle.script_lang.specs.declared.line.LineAnswer.TheVariants as line
 use Rattle.script_lang.specs.declared.answer.StepAnswer.{StepAnswer}
@@ -14,7 +15,7 @@ use Rattle.script_run.specs.Takes.{IsRun, ReadingTakes, StepTakes, run_after}
 use Rattle.run_promise.specs.Lines.{AreAnswered, IsReadAs, answers_of, outline_of, outline_read, reading_answer}
 use Rattle.run_promise.specs.Needs.{NeedsSession}
 use Rattle.run_promise.specs.Outline.{IsAnswered, Outline, outline_after}
-use Rattle.reader_laws.specs.Along.{begins_session}
+use Rattle.reader_laws.specs.Along.{AreOfSession, KeepsSession, begins_session}
 use Rattle.headline.specs.Account.{begun_in}
 use Rattle.headline.specs.Endings.{AreTakeable, MayBeTaken}
 
@@ -159,3 +160,12 @@ are_takeable sessions (bytes ∷ lines) (asks ∷ steps) reads are =
       subst (λ (r : LineAnswer). MayBeTaken sessions r) (sym reads.0) are.0,
       subst (λ (r : LineAnswer). AreTakeable (sessions + begun_in r) lines) (sym reads.0) rest,
     )
+
+-- lines that are read as steps which begin no session
+pub are_of_session : (lines : List (List ℕ)) (steps : List Step) → AreRead lines steps
+    → AllByRecursion (λ (asks : Step). begins_session asks ≡ false) steps → AreOfSession lines
+are_of_session [] [] reads none = tt
+are_of_session [] (asks ∷ steps) reads none = absurd reads
+are_of_session (bytes ∷ lines) [] reads none = absurd reads
+are_of_session (bytes ∷ lines) (asks ∷ steps) reads none =
+    (subst KeepsSession (sym reads.0) none.0, are_of_session lines steps reads.1 none.1)

@@ -16,25 +16,27 @@ use Rattle.script_run.specs.Run.{fresh}
 use Rattle.script_run.specs.Takes.{IsRun}
 use Rattle.cache_model.specs.declared.cause.Cause.TheVariants as cause
 use Rattle.cache_model.specs.declared.record.Rec.TheVariants as rec
+use Rattle.reader_laws.specs.Along.{AreOfSession}
 use Rattle.headline.specs.Account.{Account, AllTell, HistoryTells, HonestRunsAreWhole}
-use Rattle.headline.specs.Answered.{CompletedWasAnswered, RecordsBehind, RemovalWasAnswered}
+use Rattle.headline.specs.Answered.{AnsweredPutWasCompleted, AnsweredRemovalWasRecorded, CompletedWasAnswered, RecordsBehind, RemovalWasAnswered}
+use Rattle.headline.specs.Bodies.{GotIsTheBody, PutTookItsBody}
 use Rattle.headline.specs.Endings.{DoneWhereFine, IsFine}
 use Rattle.headline.specs.Fixed.{AreSteady, SourceFixesSink}
 use Rattle.headline.specs.Misses
 use Rattle.headline.specs.Misses.{NeverPutWasNone}
 use Rattle.headline.specs.Readers.{EndIsRead}
 use Rattle.headline.specs.Reads
-use Rattle.headline.specs.Reads.{GotIsWhole, HitIsWhole}
+use Rattle.headline.specs.Reads.{DidBefore, GotIsWhole, HitIsWhole}
 use Rattle.headline.specs.Standing
 use Rattle.headline.specs.Standing.{FoundIsListed, RemovedWasRecorded}
 use Rattle.headline.specs.Verdicts.{MissesAreCaused}
 use Rattle.headline_rows.specs.History.{TheScriptIsAnswered, script_answers, script_output}
-use Rattle.headline_rows.specs.Script.{alternate_of_a, body_of_a, key_of_a, line_to_put, line_to_remove, name_of_reader, script_lines, script_turns, turn_of_put, turn_of_removal}
-use Rattle.headline_rows.specs.Sentences.{EachRunIsDone, EachRunPrintsIt, ItWasRemoved, NothingWasPut, TheEndIsRead, TheGetIsWhole, TheHistoryIsWhole, TheHitIsWhole, TheMissIsCaused, ThePutIsListed, ThePutWasAnswered, TheRemovalWasAnswered}
+use Rattle.headline_rows.specs.Script.{alternate_of_a, body_of_a, key_of_a, line_to_put, line_to_remove, name_of_reader, script_lines, script_turns, turn_at_last, turn_of_put, turn_of_removal}
+use Rattle.headline_rows.specs.Sentences.{EachRunIsDone, EachRunPrintsIt, ItWasRemoved, NothingWasPut, TheEndIsRead, TheGetIsWhole, TheGotIsTheBody, TheHistoryIsWhole, TheHitIsWhole, TheMissIsCaused, ThePutIsListed, ThePutTookItsBody, ThePutWasAnswered, ThePutWasCompleted, TheRemovalWasAnswered, TheRemovalWasRecorded}
 use Rattle.headline_rows.specs.Told.{TellsScript, TheScriptIsConcluded, script_device, script_logs, script_writes}
-use Rattle.headline_rows.proofs.Along.{are_run, reads_front, takes_front}
+use Rattle.headline_rows.proofs.Along.{are_of_session, are_run, reads_front, takes_front}
 use Rattle.headline_rows.proofs.Fine.{is_fine}
-use Rattle.headline_rows.proofs.Readings.{get_is_read, next_is_read, opening_is_read}
+use Rattle.headline_rows.proofs.Readings.{get_is_read, next_is_read, opening_is_read, put_is_read, removal_is_read}
 use Rattle.headline_rows.proofs.Script.{are_read, are_taken, steps_with}
 use Rattle.headline_rows.proofs.Tells.{lines_are_takeable, taken_lines}
 
@@ -67,6 +69,12 @@ module _ (said : TheScriptIsAnswered) (a : Account script_logs) (tells : TellsSc
 
   ending : HistoryTells a (take 5 script_lines) (step.Next name_of_reader) (answer.End 1)
   ending = history _ _ (drop 6 script_lines) (take 5 script_answers) (drop 6 script_answers) _ _ next_is_read refl refl refl
+
+  put_told : HistoryTells a (take 2 script_lines) (step.Put key_of_a body_of_a [] []) (answer.Put 1 1 1)
+  put_told = history _ _ (drop 3 script_lines) (take 2 script_answers) (drop 3 script_answers) _ _ put_is_read refl refl refl
+
+  removal_told : HistoryTells a (take 7 script_lines) (step.Remove key_of_a) (answer.Removed 1)
+  removal_told = history _ _ (drop 8 script_lines) (take 7 script_answers) (drop 8 script_answers) _ _ removal_is_read refl refl refl
 
   last_get : HistoryTells a (take 8 script_lines) (step.Get key_of_a []) (answer.Miss cause.Removed)
   last_get = history _ _ [] (take 8 script_answers) [] _ _ get_is_read refl refl refl
@@ -145,6 +153,47 @@ put_was_answered law a tells = law script_logs a (take 2 script_lines) 1 key_of_
 
 pub removal_was_answered : RemovalWasAnswered → TheRemovalWasAnswered
 removal_was_answered law a tells = law script_logs a (take 7 script_lines) 1 key_of_a (removal_recorded a tells)
+
+-- ---- from answers to records
+
+pub put_was_completed : AnsweredPutWasCompleted → TheScriptIsAnswered → ThePutWasCompleted
+put_was_completed law said a tells =
+    law script_logs a (take 2 script_lines) (step.Put key_of_a body_of_a [] []) 1 1 1 (put_told said a tells)
+
+pub removal_was_recorded : AnsweredRemovalWasRecorded → TheScriptIsAnswered → TheRemovalWasRecorded
+removal_was_recorded law said a tells = law script_logs a (take 7 script_lines) (step.Remove key_of_a) 1 (removal_told said a tells)
+
+-- ---- the body of the put
+
+-- none of the lines behind the put begins another session
+keep_session : AreOfSession (take 5 (drop 3 script_lines))
+keep_session =
+    are_of_session (take 5 (drop 3 script_lines)) (take 5 (drop 3 (steps_with key_of_a)))
+    (opening_is_read, (next_is_read, (next_is_read, (get_is_read, (removal_is_read, tt)))))
+    (refl, (refl, (refl, (refl, (refl, tt)))))
+
+before_last : (a : Account script_logs) → TellsScript a → DidBefore a.turns (take 8 script_lines)
+before_last a tells =
+    record { earlier = take 8 script_turns; turn = turn_at_last key_of_a; later = []; turns_are = tells.turns_are; legal = front_is_run 8 }
+
+pub put_took_body : PutTookItsBody → TheScriptIsAnswered → ThePutTookItsBody
+unfolding before_last history put_told
+put_took_body law said a tells =
+    (law script_logs a (take 2 script_lines) (take 5 (drop 3 script_lines)) key_of_a body_of_a [] [] 1 1 1 (put_told said a tells)
+    keep_session (before_last a tells)).0
+
+-- the third of some lines
+abbrev third_of_lines : List (List ℕ) → List ℕ
+third_of_lines (first ∷ second ∷ third ∷ lines) = third
+third_of_lines _ = []
+
+pub got_is_body : GotIsTheBody → TheGotIsTheBody
+got_is_body law m b put size fragments got bytes at gets =
+    let same : line_to_put ≡ at.bytes = ap third_of_lines (sym gets.lines_are ∙ at.lines_are) in
+    law m b (take 2 script_lines) (take 3 (drop 3 script_lines)) key_of_a key_of_a body_of_a bytes [] [] [] put size fragments got at
+    (keep_session.0, (keep_session.1.0, (keep_session.1.1.0, tt)))
+    (subst (λ (third : List ℕ). HistoryTells b (take 2 script_lines ++ third ∷ take 3 (drop 3 script_lines)) (step.Get key_of_a [])
+    (answer.Got put got bytes)) same gets)
 
 -- ---- the device
 

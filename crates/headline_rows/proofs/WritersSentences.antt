@@ -13,7 +13,8 @@ use Rattle.script_run.specs.Takes.{IsRun}
 use Rattle.cache_model.specs.declared.cause.Cause.TheVariants as cause
 use Rattle.cache_model.specs.declared.record.Rec.TheVariants as rec
 use Rattle.headline.specs.Account.{Account, HistoryTells}
-use Rattle.headline.specs.Answered.{GivingUpWasAnswered, RecordsBehind}
+use Rattle.headline.specs.Answered.{AnsweredAbortWasRecorded, GivingUpWasAnswered, RecordsBehind}
+use Rattle.headline.specs.Bodies.{DataTookItsBytes}
 use Rattle.headline.specs.Breaks.{BreakWasAborted}
 use Rattle.headline.specs.Misses
 use Rattle.headline.specs.Reads
@@ -21,12 +22,12 @@ use Rattle.headline.specs.Reads.{AsksFor, FollowWasPut, gets, opens}
 use Rattle.headline.specs.Standing.{AbortedWasLast, FitsNone, NoMatchFitsNone}
 use Rattle.headline.specs.Verdicts.{AbsencesAreCaused, BreaksAreCaused}
 use Rattle.headline_rows.specs.Script.{key_of_a, name_of_reader}
-use Rattle.headline_rows.specs.Writers.{TheWritersAreAnswered, line_to_give_up, other_request, turn_of_giving_up, writers_answers, writers_lines, writers_turns}
-use Rattle.headline_rows.specs.WritersTold.{TellsWriters, TheAbortWasLast, TheAbsenceIsCaused, TheBreakIsCaused, TheBreakWasAborted, TheFollowedWasPut, TheGivingUpWasAnswered, TheRequestFitsNone, writers_logs}
+use Rattle.headline_rows.specs.Writers.{TheWritersAreAnswered, fed_body, line_to_give_up, name_of_writer, other_request, turn_of_giving_up, writers_answers, writers_lines, writers_turns}
+use Rattle.headline_rows.specs.WritersTold.{TellsWriters, TheAbortWasLast, TheAbortWasRecorded, TheAbsenceIsCaused, TheBreakIsCaused, TheBreakWasAborted, TheDataTookItsBytes, TheFollowedWasPut, TheGivingUpWasAnswered, TheRequestFitsNone, writers_logs}
 use Rattle.headline_rows.proofs.Along.{are_run, reads_front, takes_front}
 use Rattle.headline_rows.proofs.Readings.{get_is_read, next_is_read, opening_is_read, removal_is_read}
 use Rattle.headline_rows.proofs.Writers.{writers_are_read, writers_are_taken, writers_steps}
-use Rattle.headline_rows.proofs.WritersReadings.{other_is_read}
+use Rattle.headline_rows.proofs.WritersReadings.{feed_is_read, giving_up_is_read, other_is_read}
 
 -- one line of the script, with its answer
 module _ (said : TheWritersAreAnswered) (a : Account writers_logs) (tells : TellsWriters a) where
@@ -49,6 +50,12 @@ module _ (said : TheWritersAreAnswered) (a : Account writers_logs) (tells : Tell
   following : HistoryTells a (take 2 writers_lines) (step.OpenRead name_of_reader key_of_a []) (answer.Follow 1)
   following = history _ _ (drop 3 writers_lines) (take 2 writers_answers) (drop 3 writers_answers) _ _ opening_is_read refl refl refl
 
+  feeding : HistoryTells a (take 3 writers_lines) (step.Feed name_of_writer fed_body) (answer.Took 4)
+  feeding = history _ _ (drop 4 writers_lines) (take 3 writers_answers) (drop 4 writers_answers) _ _ feed_is_read refl refl refl
+
+  giving_up : HistoryTells a (take 5 writers_lines) (step.Abort name_of_writer) (answer.Aborted 1)
+  giving_up = history _ _ (drop 6 writers_lines) (take 5 writers_answers) (drop 6 writers_answers) _ _ giving_up_is_read refl refl refl
+
   breaking : HistoryTells a (take 6 writers_lines) (step.Next name_of_reader) (answer.Broken (cause.Aborted 1))
   breaking = history _ _ (drop 7 writers_lines) (take 6 writers_answers) (drop 7 writers_answers) _ _ next_is_read refl refl refl
 
@@ -65,6 +72,14 @@ pub followed_was_put : FollowWasPut → TheWritersAreAnswered → TheFollowedWas
 followed_was_put law said a tells =
     law writers_logs a (take 2 writers_lines) (step.OpenRead name_of_reader key_of_a []) key_of_a [] 1
     (Reads.AsksFor.opens name_of_reader) (following said a tells)
+
+pub abort_was_recorded : AnsweredAbortWasRecorded → TheWritersAreAnswered → TheAbortWasRecorded
+abort_was_recorded law said a tells = law writers_logs a (take 5 writers_lines) (step.Abort name_of_writer) 1 (giving_up said a tells)
+
+pub data_took_bytes : DataTookItsBytes → TheWritersAreAnswered → TheDataTookItsBytes
+unfolding feeding history
+data_took_bytes law said a tells =
+    (law writers_logs a (take 3 writers_lines) name_of_writer fed_body (answer.Took 4) 4 (feeding said a tells) refl).0
 
 pub break_was_aborted : BreakWasAborted → TheWritersAreAnswered → TheBreakWasAborted
 break_was_aborted law said a tells = law writers_logs a (take 6 writers_lines) name_of_reader 1 (breaking said a tells)

@@ -1,6 +1,6 @@
 -- What the laws of `headline` say of the script, by each account that tells it: the put, the get and the removal, and the gets
 -- that found nothing. And what they say of every account of these logs, and of every run of that text.
-use Rattle.std.specs.Prelude.{◌≡◌, ◌≢◌, ◌⊎◌, List, [], ◌++◌, take}
+use Rattle.std.specs.Prelude.{◌≡◌, ◌≢◌, ◌⊎◌, ℕ, List, [], ◌++◌, take}
 use Rattle.device_log.specs.Streams.{SourceRead, refused_writes, taken_by}
 use Rattle.edge_io.specs.Source.{NoReadFailed}
 use Rattle.edge_io.specs.Text.{spelled, text_read}
@@ -13,7 +13,7 @@ use Rattle.run_promise.specs.declared.status.Status.{Status}
 use Rattle.run_promise.specs.declared.status.Status.TheVariants as status
 use Rattle.run_promise.specs.Top.{ReadsFailed}
 use Rattle.headline.specs.Account.{Account, HistoryTells, IsConcluded, RunLogs}
-use Rattle.headline.specs.Answered.{WasCompleted}
+use Rattle.headline.specs.Answered.{RecordedPut, RecordedRemoval, WasCompleted}
 use Rattle.headline.specs.Fixed.{AreSteady, GiveSame, BothDisplaced}
 use Rattle.headline.specs.Misses.{HasEndedNone}
 use Rattle.headline.specs.Readers.{IsReadToEnd}
@@ -61,6 +61,27 @@ ThePutWasAnswered = (a : Account script_logs) → TellsScript a
 abbrev pub TheRemovalWasAnswered : Type 0
 TheRemovalWasAnswered = (a : Account script_logs) → TellsScript a
     → HistoryTells a (take 7 script_lines) (step.Remove key_of_a) (answer.Removed 1)
+
+-- the other way round: the line that was answered put 1 recorded that it was completed, with one byte
+abbrev pub ThePutWasCompleted : Type 0
+ThePutWasCompleted = (a : Account script_logs) → TellsScript a
+    → RecordedPut a (take 2 script_lines) (step.Put key_of_a body_of_a [] []) 1 1
+
+-- and the one that was answered that put 1 was removed recorded that
+abbrev pub TheRemovalWasRecorded : Type 0
+TheRemovalWasRecorded = (a : Account script_logs) → TellsScript a → RecordedRemoval a (take 7 script_lines) (step.Remove key_of_a) 1
+
+-- what the writer of put 1 took is the body of its line, up to the last line, so behind the removal too
+abbrev pub ThePutTookItsBody : Type 0
+ThePutTookItsBody = (a : Account script_logs) → TellsScript a
+    → ((run_after fresh (take 8 script_lines) (take 8 script_turns)).streams 1).bytes ≡ body_of_a
+
+-- in each legal history of whatever run that begins with these lines: where the put and the get behind it were answered with one
+-- put, the get gave the body of the put, and as many bytes were told of both
+abbrev pub TheGotIsTheBody : Type 0
+TheGotIsTheBody = (m : RunLogs) (b : Account m) (put size fragments got : ℕ) (bytes : List ℕ)
+    → HistoryTells b (take 2 script_lines) (step.Put key_of_a body_of_a [] []) (answer.Put put size fragments)
+    → HistoryTells b (take 6 script_lines) (step.Get key_of_a []) (answer.Got put got bytes) → (bytes ≡ body_of_a) × (got ≡ size)
 
 -- the device told its content to the end: each account of these logs has a legal history of all its lines
 abbrev pub TheHistoryIsWhole : Type 0

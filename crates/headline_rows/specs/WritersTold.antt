@@ -4,11 +4,13 @@ use Rattle.std.specs.Prelude.{◌≡◌, List, [], ◌∷◌, codes, take}
 use Rattle.device_log.specs.Streams.{SourceRead, GaveBytes, CameToEnd, SinkWrite, TookBytes}
 use Rattle.edge_io.specs.Text.{spelled}
 use Rattle.cache_model.specs.declared.cause.Cause.TheVariants as cause
+use Rattle.script_lang.specs.declared.step.Step.TheVariants as step
 use Rattle.script_run.specs.Run.{fresh}
 use Rattle.script_run.specs.Takes.{run_after}
 use Rattle.run_promise.specs.declared.status.Status.TheVariants as status
 use Rattle.headline.specs.Account.{Account, IsConcluded, RunLogs}
-use Rattle.headline.specs.Answered.{WasGivenUpSo}
+use Rattle.headline.specs.Answered.{RecordedAbort, WasGivenUpSo}
+use Rattle.headline.specs.Bodies.{TookOfBody}
 use Rattle.headline.specs.Breaks.{BrokeAborted}
 use Rattle.headline.specs.Endings.{IsAccountOf}
 use Rattle.headline.specs.Reads.{IsFollowed}
@@ -16,7 +18,7 @@ use Rattle.headline.specs.Standing.{FitsNone, WasGivenUp}
 use Rattle.headline.specs.Verdicts.{AbsenceIsCaused, BreakIsCaused}
 use Rattle.headline_rows.specs.Script.{key_of_a, name_of_reader}
 use Rattle.headline_rows.specs.Told.{script_device}
-use Rattle.headline_rows.specs.Writers.{other_request, writers_answers, writers_lines, writers_turns}
+use Rattle.headline_rows.specs.Writers.{fed_body, line_to_feed, name_of_writer, other_request, writers_answers, writers_lines, writers_turns}
 
 -- ---- logs
 
@@ -80,6 +82,15 @@ TheFollowedWasPut = (a : Account writers_logs) → TellsWriters a → IsFollowed
 abbrev pub TheGivingUpWasAnswered : Type 0
 TheGivingUpWasAnswered = (a : Account writers_logs) → TellsWriters a
     → WasGivenUpSo a (take 5 writers_lines) (run_after fresh (take 5 writers_lines) (take 5 writers_turns)) key_of_a 1
+
+-- the other way round: that line, which was answered so, recorded that put 1 was given up
+abbrev pub TheAbortWasRecorded : Type 0
+TheAbortWasRecorded = (a : Account writers_logs) → TellsWriters a → RecordedAbort a (take 5 writers_lines) (step.Abort name_of_writer) 1
+
+-- the line with the four bytes is of an actor that writes, and behind what its writer had taken it took these
+abbrev pub TheDataTookItsBytes : Type 0
+TheDataTookItsBytes = (a : Account writers_logs) → TellsWriters a
+    → TookOfBody a.turns (take 3 writers_lines) line_to_feed name_of_writer fed_body 4
 
 -- the reader that broke follows it, and was given all that was cut of it; an earlier line gave it up
 abbrev pub TheBreakWasAborted : Type 0

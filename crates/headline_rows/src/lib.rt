@@ -4,22 +4,23 @@
 ghost use Rattle.headline_rows.specs.Steps.{AHitIsAStep, AMissIsAStep, APieceIsAStep, AnEndIsAStep, APutIsAStep, AGetIsAStep, ARemovalIsAStep, AMissBehindItIsAStep, ThePutHolds};
 ghost use Rattle.headline_rows.specs.History.{OnlyTheBodyIsGiven, TheScriptIsARun, TheScriptIsAnswered, TheScriptPrints};
 ghost use Rattle.headline_rows.specs.Told.{TheScriptHasAnAccount, TheScriptIsConcluded};
-ghost use Rattle.headline_rows.specs.Sentences.{EachRunIsDone, EachRunPrintsIt, ItWasRemoved, NothingWasPut, TheEndIsRead, TheGetIsWhole, TheHistoryIsWhole, TheHitIsWhole, TheMissIsCaused, ThePutIsListed, ThePutWasAnswered, TheRemovalWasAnswered};
+ghost use Rattle.headline_rows.specs.Sentences.{EachRunIsDone, EachRunPrintsIt, ItWasRemoved, NothingWasPut, TheEndIsRead, TheGetIsWhole, TheGotIsTheBody, TheHistoryIsWhole, TheHitIsWhole, TheMissIsCaused, ThePutIsListed, ThePutTookItsBody, ThePutWasAnswered, ThePutWasCompleted, TheRemovalWasAnswered, TheRemovalWasRecorded};
 ghost use Rattle.headline_rows.specs.Whole.{EachHistoryPrintsIt, EachRunAgrees, NoCountIsTold, NoDamageIsTold, NoFaultIsTold, TheRunEnds, TheRunIsSteady, TheRunIsTold};
 ghost use Rattle.headline_rows.specs.Writers.{TheWritersAreARun, TheWritersAreAnswered, TheWritersPrint};
-ghost use Rattle.headline_rows.specs.WritersTold.{TheAbortWasLast, TheAbsenceIsCaused, TheBreakIsCaused, TheBreakWasAborted, TheFollowedWasPut, TheGivingUpWasAnswered, TheRequestFitsNone, TheWritersAreConcluded, TheWritersHaveAnAccount};
+ghost use Rattle.headline_rows.specs.WritersTold.{TheAbortWasLast, TheAbortWasRecorded, TheAbsenceIsCaused, TheBreakIsCaused, TheBreakWasAborted, TheDataTookItsBytes, TheFollowedWasPut, TheGivingUpWasAnswered, TheRequestFitsNone, TheWritersAreConcluded, TheWritersHaveAnAccount};
 ghost use Rattle.headline_rows.specs.Crowded.{TheBrokenGetIsCaused, TheCrowdedHasAnAccount, TheCrowdedIsARun, TheCrowdedIsAnswered, TheCrowdedIsConcluded};
 ghost use Rattle.headline_rows.specs.BadEnd.{TheBadLineEndsIt, TheBadRunIsConcluded};
 
 use edge_io::texts_have_lines;
 use headline::{
-    aborted_was_last, absences_are_caused, break_was_aborted, breaks_are_caused,
-    completed_was_answered, counts_are_reached, done_where_fine, end_is_read, ends_are_caused,
-    follow_was_put, found_is_listed, gets_are_caused, giving_up_was_answered, got_is_whole,
-    histories_agree_before_trouble, hit_is_whole, honest_runs_are_whole, misses_are_caused,
-    never_put_was_none, no_false_damage, no_false_faults, no_match_fits_none, removal_was_answered,
-    removed_was_recorded, runs_agree_before_trouble, runs_are_told, source_fixes_sink,
-    switched_runs_are_steady,
+    aborted_was_last, absences_are_caused, answered_abort_was_recorded, answered_put_was_completed,
+    answered_removal_was_recorded, break_was_aborted, breaks_are_caused, completed_was_answered,
+    counts_are_reached, data_took_its_bytes, done_where_fine, end_is_read, ends_are_caused,
+    follow_was_put, found_is_listed, gets_are_caused, giving_up_was_answered, got_is_the_body,
+    got_is_whole, histories_agree_before_trouble, hit_is_whole, honest_runs_are_whole,
+    misses_are_caused, never_put_was_none, no_false_damage, no_false_faults, no_match_fits_none,
+    put_took_its_body, removal_was_answered, removed_was_recorded, runs_agree_before_trouble,
+    runs_are_told, source_fixes_sink, switched_runs_are_steady,
 };
 use run_promise::texts_are_output;
 
@@ -184,6 +185,37 @@ pub fn the_removal_was_answered()
     removal_was_answered();
 }
 
+/// The line that was answered put 1 recorded that it was completed.
+pub fn the_put_was_completed()
+    ensures { ThePutWasCompleted }
+{
+    answered_put_was_completed();
+    the_script_is_answered();
+}
+
+/// The line that was answered that it was removed recorded that.
+pub fn the_removal_was_recorded()
+    ensures { TheRemovalWasRecorded }
+{
+    answered_removal_was_recorded();
+    the_script_is_answered();
+}
+
+/// What the writer of put 1 took is the body of its line.
+pub fn the_put_took_its_body()
+    ensures { ThePutTookItsBody }
+{
+    put_took_its_body();
+    the_script_is_answered();
+}
+
+/// Whatever run has these lines: where its get gives of the put, it gives the body of that line.
+pub fn the_got_is_the_body()
+    ensures { TheGotIsTheBody }
+{
+    got_is_the_body();
+}
+
 /// Each other run over that text and steady devices printed the same, or both displaced a piece.
 pub fn each_run_prints_it()
     ensures { EachRunPrintsIt }
@@ -312,6 +344,22 @@ pub fn the_giving_up_was_answered()
     ensures { TheGivingUpWasAnswered }
 {
     giving_up_was_answered();
+}
+
+/// The line that was answered that put 1 was given up recorded that.
+pub fn the_abort_was_recorded()
+    ensures { TheAbortWasRecorded }
+{
+    answered_abort_was_recorded();
+    the_writers_are_answered();
+}
+
+/// In the line with the four bytes the writer took these.
+pub fn the_data_took_its_bytes()
+    ensures { TheDataTookItsBytes }
+{
+    data_took_its_bytes();
+    the_writers_are_answered();
 }
 
 /// The reader that broke was given all that was cut of it, and an earlier line gave it up.
