@@ -2,6 +2,7 @@ use Rattle.std.proofs.Common.{◌+◌, sym, ◌∙◌, ap, subst, length, refl, 
 use Rattle.std.specs.Prelude.{MatchBool}
 use Rattle.std.proofs.lemmas.Result.{err_from_is_err_and}
 use Rattle.hex.specs.Hex.{IsBytes}
+use Rattle.tape_base.specs.Digest.{digest_of}
 use Rattle.cache_model.specs.Legal.{IsQuiet}
 use Rattle.stripe_pieces.specs.Place.{CutsAsAsked, IsFragmentOf, IsPlacing, IsVectorFor}
 use Rattle.stripe_core.specs.Stripe.{kept_in, seen_in, state_in}
@@ -100,3 +101,6 @@ pub returns-in_err-placed-clause-untouched : goal.returns-in_err-placed-clause-u
 returns-in_err-placed-clause-untouched g c =
     let refused = err_from_is_err_and c.from_residual.result c.from_residual.ensures.1 in
     rw (refused.1, refused.2) (wanting_unstopped (Err c.in_err-placed.field-0.0) _ _ _ c.in_err-placed.ensures.does c.in_err-placed.ensures.untouched)
+
+pub place_piece-requires-clause-digest : goal.place_piece-requires-clause-digest
+place_piece-requires-clause-digest g c = c.requires.digest ∙ ap digest_of (sym c.deref-payload.ensures.value)
