@@ -31,7 +31,7 @@ impl NewChronicle for ListChronicle {
 }
 
 /// Its directory has packed entries.
-impl<D: Disk, C: NewChronicle> Formats<D> for StripeCache<D, PackedDirectory, C> {
+impl<D: Disk, C: NewChronicle + Drop> Formats<D> for StripeCache<D, PackedDirectory, C> {
     fn format(
         alloc: Global,
         device: D,
