@@ -160,37 +160,37 @@ UntouchedWhere old new _ = Unit {0}
 
 module _ {D R C : Type 0} {d : DiskGhosts D} {r : DirectoryGhosts R} {c : ChronicleGhosts C} where
   -- what closing a writer comes to
-  pub record ClosesWriterInStripe (packed : Bool) (now : ℕ) (old new : Stripe D R C d r c) (was is : Writer)
+  pub record ClosesWriterInStripe (packed : Bool) (now : ℕ) (old new : Stripe D R C d r c) (was later : Writer)
       (result : Result Receipt Refusal) : Type 0 where
     pub rests : RestsWith (IsToldClosedInStripe (state_in new) was) old new
     pub closes : ClosesWhere (state_in old) (state_in new) was result
     pub does : ClosesAsAsked packed now (seen_in old).device.past (seen_in new).device (kept_in old) (kept_in new) was result
-    pub writer : IsStripeWriterOf (state_in new) is
-    pub seals : SealsInStripeWhere was is result
-    pub rested : IsRested was is
+    pub writer : IsStripeWriterOf (state_in new) later
+    pub seals : SealsInStripeWhere was later result
+    pub rested : IsRested was later
     pub untouched : UntouchedWhere (seen_in old).device (seen_in new).device result
     pub counts : IfErr result (IsCounted (seen_in new).device.faults)
     pub wanting : Wanting result (kept_in new ≡ kept_in old)
     pub own : AddsOfPut was.put (kept_in old) (kept_in new)
 
   -- what is left of it once the vector is weighed: the writer takes no more bytes
-  pub record EndsWriterInStripe (packed : Bool) (now : ℕ) (old new : Stripe D R C d r c) (was is : Writer) (v : Vectors)
+  pub record EndsWriterInStripe (packed : Bool) (now : ℕ) (old new : Stripe D R C d r c) (was later : Writer) (v : Vectors)
       (result : Result Receipt Refusal) : Type 0 where
     pub rests : RestsWith (IsToldClosedInStripe (state_in new) was) old new
     pub ends : EndsWhere (state_in new) was result
     pub does : EndsAsAsked packed now (seen_in old).device.past (seen_in new).device.past (kept_in old) (kept_in new) was v result
-    pub writer : IsStripeWriterOf (state_in new) is
-    pub sealed : is.sealed ≡ true
-    pub rested : IsRested was is
+    pub writer : IsStripeWriterOf (state_in new) later
+    pub sealed : later.sealed ≡ true
+    pub rested : IsRested was later
     pub counts : IfErr result (IsCounted (seen_in new).device.faults)
     pub own : AddsOfPut was.put (kept_in old) (kept_in new)
 
   -- what making memory for it comes to: nothing else has changed
-  pub record MakesMemoryToClose (old new : Stripe D R C d r c) (was is : Writer) (result : Result (Unit {0}) AllocError) : Type 0 where
+  pub record MakesMemoryToClose (old new : Stripe D R C d r c) (was later : Writer) (result : Result (Unit {0}) AllocError) : Type 0 where
     pub continues : Continues old new
     pub records : kept_in new ≡ kept_in old
     pub still : IsStill (seen_in old).device (seen_in new).device
     pub units : OnOk result (5 ≤ units_in new)
     pub row : OnOk result (0 < room_for was.put new.actors)
-    pub table : OnOk result (0 < is.table.room)
-    pub same : SameWriter was is
+    pub table : OnOk result (0 < later.table.room)
+    pub same : SameWriter was later
