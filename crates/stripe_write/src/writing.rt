@@ -193,8 +193,7 @@ pub(crate) fn cut<D: Disk, R: Directory + Drop, C: Chronicle>(
     };
     let size = writer.gathered.len() as u32;
     let payload: &[u8] = &writer.gathered;
-    let placed =
-        stripe.place_piece(id, writer.pin, writer.table.total(), payload, digest, now)?;
+    let placed = stripe.place_piece(id, writer.pin, writer.table.total(), payload, digest, now)?;
     let pushed: Result<_, _> = writer.table.push(size, placed.payload.0);
     pushed.unwrap();
     writer.gathered.clear();
