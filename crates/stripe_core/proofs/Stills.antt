@@ -48,6 +48,17 @@ unstopped (Err (refusal.Exhausted number)) P h = tt
 unstopped (Err refusal.NoSuchWriter) P h = h
 unstopped (Err (refusal.Memory e)) P h = h
 
+-- and where memory is wanting
+pub still_wanting : {X : Type 0} (r : Result X Refusal) (P : Type 0) → P → Wanting r P
+still_wanting (Err (refusal.Memory e)) P h = h
+still_wanting (Ok x) P h = tt
+still_wanting (Err _) P h = tt
+
+pub wanting_map : {X : Type 0} (r : Result X Refusal) (P Q : Type 0) → (P → Q) → Wanting r P → Wanting r Q
+wanting_map (Err (refusal.Memory e)) P Q f h = f h
+wanting_map (Ok x) P Q f h = tt
+wanting_map (Err _) P Q f h = tt
+
 -- a call that only the tape and want of memory refuse
 pub wanting_unstopped : {X : Type 0} (r : Result X Refusal) (answers : Result X Stop → Type 0) (wanting P : Type 0) → AnswersOrWants r answers wanting → Wanting r P → Unstopped r P
 wanting_unstopped (Ok x) answers wanting P is h = tt
