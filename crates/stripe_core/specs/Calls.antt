@@ -153,6 +153,11 @@ module _ {D R C : Type 0} {d : DiskGhosts D} {r : DirectoryGhosts R} {c : Chroni
     pub memory : 0 < units_in old → RowIsMade id old.actors → HasMemory result
     pub unit : units_in old ≤ units_in new + 1
 
+  -- a stripe from which a call has taken its unit of memory
+  pub record HasTakenUnit (t : Stripe D R C d r c) : Type 0 where
+    pub stripe : IsStripe t
+    pub spared : IsSpared (units_in t + 1) (flushes_in t) (c.room t.pieces.chronicle) (seen_in t)
+
   -- of a call that places a vector, over memory that is made
   pub record PlacesVectorInStripe (packed : Bool) (id : PieceId) (pin start : ℕ) (payload : List ℕ) (old new : Stripe D R C d r c)
       (result : Result Placed Refusal) : Type 0 where

@@ -1,6 +1,7 @@
 // The stripe: its pieces, and who writes and reads them.
 ghost use Rattle.std.specs.Prelude.{◌≡◌, ◌+◌, ◌≤◌, true, [], IfOk, IfErr, IfSome, if◌then◌else◌};
 ghost use Rattle.tape_base.specs.Blocks.{blocks_of};
+ghost use Rattle.tape_base.specs.Digest.{digest_of};
 ghost use Rattle.tape_base.specs.Geometry.{budget_of};
 ghost use Rattle.cache_model.specs.State.{floor_now};
 ghost use Rattle.cache_model.specs.Kept.{all_of};
@@ -34,9 +35,9 @@ pub struct Stripe<D: Disk, R: Directory + Drop, C: Chronicle> {
 
 impl<D: Disk, R: Directory + Drop, C: Chronicle> Stripe<D, R, C> {
     ghost use Rattle.stripe_pieces.specs.Pieces.{live_place_of};
-    ghost use Rattle.stripe_core.specs.Stripe.{alloc_in, flushes_in, IsSpared, IsStripe, IsWanting, kept_in, seen_in, state_in, units_in};
+    ghost use Rattle.stripe_core.specs.Stripe.{alloc_in, IsStripe, IsWanting, kept_in, seen_in, state_in, units_in};
     ghost use Rattle.stripe_core.specs.Between.{IsResting};
-    ghost use Rattle.stripe_core.specs.Calls.{FindsInStripe, FlushesInStripe, IsFormattedStripe, MakesRow, MakesUnits, PlacesFragmentInStripe, PlacesInStripe, PlacesVectorInStripe, PreparesStripe, RoomsInStripe, TakesUnit};
+    ghost use Rattle.stripe_core.specs.Calls.{FindsInStripe, FlushesInStripe, HasTakenUnit, IsFormattedStripe, MakesRow, MakesUnits, PlacesFragmentInStripe, PlacesInStripe, PlacesVectorInStripe, PreparesStripe, RoomsInStripe, TakesUnit};
 
     /// Begins a session on an empty content area. A refusal gives back the device and the chronicle.
     pub fn format(
@@ -230,10 +231,12 @@ impl<D: Disk, R: Directory + Drop, C: Chronicle> Stripe<D, R, C> {
         pin: u64,
         start: u64,
         payload: &[u8],
+        digest: Digest,
         now: u64,
     ) -> Result<Placed, Refusal>
         requires stripe { IsStripe self.old }
         requires placing { IsPlacing (state_in self.old) id pin start payload.now }
+        requires digest { digest ≡ digest_of payload.now }
         // A vector spells what the records list, where the device tells its content.
         requires spelled { IsToldPlaced (seen_in self.old).device (state_in self.old) id start
             payload.now contents_of_vectors }
@@ -241,9 +244,9 @@ impl<D: Disk, R: Directory + Drop, C: Chronicle> Stripe<D, R, C> {
     {
         self.take_unit()?;
         if id.index == 0 {
-            self.place_vector(id, pin, start, payload)
+            self.place_vector(id, pin, start, payload, digest)
         } else {
-            self.place_fragment(id, pin, start, payload, now)
+            self.place_fragment(id, pin, start, payload, digest, now)
         }
     }
 
@@ -253,17 +256,17 @@ impl<D: Disk, R: Directory + Drop, C: Chronicle> Stripe<D, R, C> {
         pin: u64,
         start: u64,
         payload: &[u8],
+        digest: Digest,
     ) -> Result<Placed, Refusal>
-        requires stripe { IsStripe self.old }
-        requires spared { IsSpared (units_in self.old + 1) (flushes_in self.old)
-            (C.room self.old.pieces.chronicle) (seen_in self.old) }
+        requires taken { HasTakenUnit self.old }
         requires kind { id.index ≡ 0 }
+        requires digest { digest ≡ digest_of payload.now }
         requires spelled { IsToldPlaced (seen_in self.old).device (state_in self.old) id start
             payload.now contents_of_vectors }
         requires vector { IsVectorFor (state_in self.old) id start payload.now }
         ensures { PlacesVectorInStripe R.purges id pin start payload.now self.old self.new result }
     {
-        match self.pieces.place(id, pin, start, payload) {
+        match self.pieces.place(id, pin, start, payload, digest) {
             Ok(placed) => Ok(placed),
             Err(stop) => Err(Refusal::from(stop)),
         }
@@ -275,12 +278,12 @@ impl<D: Disk, R: Directory + Drop, C: Chronicle> Stripe<D, R, C> {
         pin: u64,
         start: u64,
         payload: &[u8],
+        digest: Digest,
         now: u64,
     ) -> Result<Placed, Refusal>
-        requires stripe { IsStripe self.old }
-        requires spared { IsSpared (units_in self.old + 1) (flushes_in self.old)
-            (C.room self.old.pieces.chronicle) (seen_in self.old) }
+        requires taken { HasTakenUnit self.old }
         requires fragment { IsFragmentOf (state_in self.old) id pin start payload.now }
+        requires digest { digest ≡ digest_of payload.now }
         ensures { PlacesFragmentInStripe R.purges id pin start payload.now now self.old self.new
             result }
     {
@@ -288,7 +291,16 @@ impl<D: Disk, R: Directory + Drop, C: Chronicle> Stripe<D, R, C> {
         let writes = blocks_of(payload.len() as u32) > self.pieces.cyclone.room();
         self.flushes -= one_where(writes);
         let pieces = &mut self.pieces;
-        match pieces.place_fragment(id, pin, start, payload, now, &self.actors, &mut self.ahead) {
+        match pieces.place_fragment(
+            id,
+            pin,
+            start,
+            payload,
+            digest,
+            now,
+            &self.actors,
+            &mut self.ahead,
+        ) {
             Ok(placed) => {
                 self.actors
                     .cut(id.put, payload.len() as u32, placed.payload);

@@ -42,7 +42,7 @@ use Rattle.stripe_write.specs.declared.weighing.Vectors.{Vectors}
 use Rattle.stripe_write.specs.declared.writer.Writer.{Writer}
 use Rattle.stripe_write.specs.Writers.{IsAtHandInStripe, IsStripeWriterOf}
 use Rattle.stripe_write.specs.Closing.{AreSpelled, IsReadFor, closing_alternate, closing_rows, closing_size, row_of_rest}
-use Rattle.stripe_write.specs.Finishing.{AreLive, FinishesAsRead, IsCurrent, VectorStops, bytes_now, picked, vector_now}
+use Rattle.stripe_write.specs.Finishing.{AreLive, FinishesAsRead, FinishesWhere, IsCurrent, VectorStops, bytes_now, picked, vector_now}
 use Rattle.stripe_write.specs.declared.finishing.Receipt.{Receipt}
 use Rattle.stripe_write.proofs.Pushed.{pushed_by}
 use Rattle.stripe_write.proofs.Spending.{last_done, nothing_more, one_group, state_behind, then_all, then_more}
@@ -299,6 +299,16 @@ module _ (packed : Bool) (now : ℕ) (old new : Kept) (before after : List Call)
   }
 
 -- ---- a vector that was not placed
+
+-- which answers come then
+pub vector_where : (packed : Bool) (old new : Kept) (before after : List Call) (t : State) (w : Writer) (piece : PieceId) (pin : ℕ)
+    (payload : List ℕ) (why : Refusal)
+    → AnswersOrWants {X = Placed} (Err why) (PlacesVector packed old new before after piece pin 0 payload) (new ≡ old)
+    → HasMemory {X = Placed} (Err why) → FinishesWhere t w (Err why)
+vector_where packed old new before after t w piece pin payload (refusal.Exhausted number) h memory = h.places.at.1
+vector_where packed old new before after t w piece pin payload (refusal.DeviceFault count) h memory = tt
+vector_where packed old new before after t w piece pin payload (refusal.Memory e) h memory = absurd memory
+vector_where packed old new before after t w piece pin payload _ h memory = absurd h
 
 -- nothing was recorded
 pub not_placed : (packed : Bool) (old new : Kept) (before after : List Call) (piece : PieceId) (pin : ℕ) (payload : List ℕ) (why : Refusal) → AnswersOrWants {X = Placed} (Err why) (PlacesVector packed old new before after piece pin 0 payload) (new ≡ old) → new ≡ old

@@ -1,6 +1,6 @@
 -- What the records of a flush leave as it is.
 use Rattle.std.proofs.Common.{◌≡◌, ℕ, List, [], ◌∷◌, refl, ◌∙◌, subst}
-use Rattle.std.specs.Prelude.{Option, Some, None, option_and_then, Result, Err}
+use Rattle.std.specs.Prelude.{Option, Some, None, option_and_then, Result, Ok, Err}
 use Rattle.std.specs.List.{AllByRecursion}
 use Rattle.std.specs.Map.{lookup}
 use Rattle.tape_base.specs.declared.keys.Key.{Key}
@@ -14,7 +14,7 @@ use Rattle.stripe_core.specs.declared.refusal.Refusal.{Refusal}
 use Rattle.stripe_core.specs.declared.refusal.Refusal.TheVariants as refusal
 use Rattle.stripe_pieces.specs.declared.answer.Stop.{Stop}
 use Rattle.stripe_pieces.specs.declared.answer.Stop.TheVariants as stop
-use Rattle.stripe_core.specs.Stripe.{AnswersOrWants}
+use Rattle.stripe_core.specs.Stripe.{AnswersOrWants, HasMemory}
 use Rattle.stripe_pieces.specs.Flush.{AreOfFlush, EachWasLive, IsRecordOfFlush, IsStillPiece}
 use Rattle.stripe_write.specs.Others.{IsRecordOfPut}
 
@@ -97,3 +97,12 @@ pub stop_in : {X : Type 0} (R : Result X Stop → Type 0) (why : Refusal) → An
 stop_in R (refusal.DeviceFault count) h = (stop.DeviceFault count, h)
 stop_in R (refusal.Exhausted number) h = (stop.Exhausted number, h)
 stop_in R _ h = absurd h
+
+-- where memory is not wanting, whatever may hold for want of it
+pub never_wanting : {X : Type 0} (r : Result X Refusal) (answers : Result X Stop → Type 0) (wanting holds : Type 0) → HasMemory r
+    → AnswersOrWants r answers wanting → AnswersOrWants r answers holds
+never_wanting (Ok x) answers wanting holds memory h = h
+never_wanting (Err (refusal.DeviceFault count)) answers wanting holds memory h = h
+never_wanting (Err (refusal.Exhausted number)) answers wanting holds memory h = h
+never_wanting (Err (refusal.Memory e)) answers wanting holds memory h = absurd memory
+never_wanting (Err _) answers wanting holds memory h = absurd h

@@ -34,6 +34,9 @@ use Rattle.stripe_write.proofs.Cutting.{cut_is_own, next_no_vector}
 
 -- ---- a writer that is as it was, or has gathered more
 
+pub same_as : (w : Writer) → SameWriter w w
+same_as w = record { put = refl; key = refl; request = refl; response = refl; pin = refl; gathered = refl; rows = refl; sealed = refl }
+
 all_cut_still : (w new : Writer) (P : Type 0) → SameWriter w new → IsAllCutInStripe w ⊎ P → IsAllCutInStripe new ⊎ P
 all_cut_still w new P same (inl all) = inl (record { sealed = same.sealed ∙ all.sealed; empty = same.gathered ∙ all.empty })
 all_cut_still w new P same (inr whole) = inr whole
@@ -299,3 +302,8 @@ left_none s w bytes writing own =
 
 pub left_cut : (g : Geometry) (w : Writer) (bytes : List ℕ) (n : ℕ) → completes_fragment g w n ≡ true → left_gathered g w bytes n ≡ []
 left_cut g w bytes n cut = ap (λ b. if b then [] else gathered_behind w bytes n) cut
+
+-- where none was made all stays gathered
+pub left_more : (g : Geometry) (w : Writer) (bytes : List ℕ) (n : ℕ) → completes_fragment g w n ≡ false
+    → left_gathered g w bytes n ≡ gathered_behind w bytes n
+left_more g w bytes n few = ap (λ b. if b then [] else gathered_behind w bytes n) few

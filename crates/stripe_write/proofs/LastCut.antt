@@ -1,10 +1,12 @@
 -- The rest of a sealed writer is cut.
-use Rattle.std.proofs.Common.{◌≡◌, ℕ, ◌<◌, List, [], ◌∷◌, length, refl, sym, ◌∙◌, ap, subst, arith, Bool, true, false, inl, inr, ◌⊎◌, ◌*◌, Ok, Err}
+use Rattle.std.proofs.Common.{◌≡◌, ℕ, ◌<◌, List, [], ◌∷◌, ◌++◌, length, refl, sym, ◌∙◌, ap, subst, arith, Bool, true, false, inl, inr, ◌⊎◌, ◌*◌, Ok, Err}
 use Rattle.std.specs.Prelude.{option_map, unwrap_or, Result}
 use Rattle.std.specs.List.{AllByRecursion}
+use Rattle.std.proofs.lemmas.List.{append-nil}
 use Rattle.device_log.specs.Calls.{Call}
 use Rattle.logged_disk.specs.Device.{DeviceState as Device}
-use Rattle.fragment_table.specs.Table.{total_length}
+use Rattle.tape_base.specs.Digest.{digest_of}
+use Rattle.fragment_table.specs.Table.{TableRow, made_row, total_length}
 use Rattle.cache_model.specs.declared.record.Rec.{Rec}
 use Rattle.cache_model.specs.State.{State, put_of}
 use Rattle.cache_model.specs.Kept.{Kept, state_of}
@@ -21,7 +23,7 @@ use Rattle.stripe_pieces.specs.Flush.{AreOfFlush}
 use Rattle.stripe_pieces.specs.Place.{CutsAsAsked, IsCutAs, IsStoppedAs}
 use Rattle.stripe_core.specs.Stripe.{AnswersOrWants, HasMemory}
 use Rattle.stripe_write.specs.declared.writer.Writer.{Writer}
-use Rattle.stripe_write.specs.Closing.{SpendsAll, asked_of_rest}
+use Rattle.stripe_write.specs.Closing.{SpendsAll, asked_of_rest, closing_rows, row_of_rest}
 use Rattle.stripe_write.specs.Resting.{IsRestAs, RestsAsAsked}
 use Rattle.stripe_write.specs.Others.{AddsOfPut, IsRecordOfPut}
 use Rattle.stripe_write.specs.Writers.{IsAllCutInStripe, IsAtHandInStripe, IsStripeWriterOf}
@@ -147,3 +149,19 @@ pub cut_open : {packed : Bool} (now : ℕ) (kept new : Kept) (before : List Call
 cut_open now kept new before after w next placed r h put =
     let row = cut_row (state_of kept) (state_of new) w h.added placed r h.shape (state_behind kept new h.added h.adds) in
     ap (is_writing (state_of new)) put ∙ (ap (λ o. unwrap_or (option_map is_open o) false) row ∙ rw r.is_open refl)
+
+-- ---- the fragments of the put then
+
+row_of_some : (payload : List ℕ) → 0 < length payload → made_row (length payload) (digest_of payload).0 ∷ [] ≡ row_of_rest payload
+row_of_some [] some = absurd (omega (arith, some))
+row_of_some (byte ∷ bytes) some = refl
+
+-- the rest that is cut is the last
+pub rest_rows : (w new : Writer) → 0 < length w.gathered.items
+    → new.table.rows ≡ w.table.rows ++ made_row (length w.gathered.items) (digest_of w.gathered.items).0 ∷ []
+    → new.table.rows ≡ closing_rows w
+rest_rows w new some rows = rows ∙ ap (λ (last : List TableRow). w.table.rows ++ last) (row_of_some w.gathered.items some)
+
+-- where there is none they are those that were cut
+pub no_rest_rows : (w : Writer) → w.gathered.items ≡ [] → w.table.rows ≡ closing_rows w
+no_rest_rows w none = sym (ap (λ bytes. w.table.rows ++ row_of_rest bytes) none ∙ append-nil w.table.rows)

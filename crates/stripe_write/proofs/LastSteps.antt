@@ -1,14 +1,15 @@
 -- How a writer closes, step by step.
-use Rattle.std.proofs.Common.{◌≡◌, ℕ, ◌+◌, List, [], ◌∷◌, ◌++◌, refl, sym, ◌∙◌, ap, subst, Bool, true, length, Result, Ok, Err, inl, inr}
+use Rattle.std.proofs.Common.{◌≡◌, ℕ, ◌+◌, List, [], ◌∷◌, ◌++◌, refl, sym, ◌∙◌, ap, subst, Bool, true, false, length, Result, Ok, Err, inl, inr}
 use Rattle.std.specs.Prelude.{◌<◌, ◌==◌, Option, option_map, unwrap_or, find, if◌then◌else◌, IfErr}
 use Rattle.std.proofs.lemmas.List.{append-nil, append_assoc}
 use Rattle.device_log.specs.Calls.{Call}
 use Rattle.logged_disk.specs.Device.{DeviceState as Device, IsAfter}
-use Rattle.fragment_table.specs.Table.{TableRow}
+use Rattle.fragment_table.specs.Table.{TableRow, total_length}
+use Rattle.alternate_vector.specs.Alternates.{Stored, vector_size}
 use Rattle.cache_model.specs.declared.record.Rec.{Rec}
-use Rattle.cache_model.specs.State.{PutRow, State, after_all, put_of}
+use Rattle.cache_model.specs.State.{PutRow, State, after_all, fragment_piece, put_of}
 use Rattle.cache_model.specs.Kept.{Kept, state_of, with_records}
-use Rattle.cache_model.specs.Verdict.{cuts_of}
+use Rattle.cache_model.specs.Verdict.{cause_of_piece, cuts_of}
 use Rattle.cache_model.specs.Permit.{Commit, Done, End, Exhausted, Fails, Faulted, Finish, Intent, Permit, Reason, Stays, TooLarge, Weigh}
 use Rattle.cache_model.specs.Legal.{MayGrow, is_writing, vector_length}
 use Rattle.cache_model.specs.Vectors.{AreTold, IsVectorAs}
@@ -34,14 +35,14 @@ use Rattle.stripe_write.specs.Writes.{SameButBytes, SameWriter}
 use Rattle.stripe_write.specs.Closing.{IsReadFor, SpendsAll, Weighs, WeighsAsAsked, WeighsWhere, asked_of_closing, asked_of_rest, closing_rows, row_of_rest, weigh_end, work_behind}
 use Rattle.stripe_write.specs.Resting.{RestsAsAsked}
 use Rattle.stripe_write.specs.Finishing.{FinishesAsRead, FinishesWhere, finish_end, finish_intents}
-use Rattle.stripe_write.specs.Closes.{ClosesAsAsked, ClosesInStripe, ClosesWhere, EndsAsAsked, EndsWhere, IsRested, SealsInStripeWhere, Spent, UntouchedWhere, bytes_placed_next, close_end, end_intents, is_sealed_by}
+use Rattle.stripe_write.specs.Closes.{ClosesAsAsked, ClosesInStripe, ClosesWhere, EndsAsAsked, EndsWhere, IsCompleteInStripe, IsRested, SealsInStripeWhere, Spent, UntouchedWhere, bytes_placed_next, close_end, end_intents, is_sealed_by}
 use Rattle.stripe_write.specs.Numbers.{StopsExhausted}
 use Rattle.stripe_write.proofs.Ended.{open_put}
 use Rattle.stripe_write.proofs.Keeping.{KeepsVectors, keeps_rest, read_kept}
 use Rattle.stripe_write.proofs.KeyPairs.{key_later}
 use Rattle.stripe_write.proofs.LastCut.{rest_puts}
 use Rattle.stripe_write.proofs.Reaching.{finished_stops, rest_stops}
-use Rattle.stripe_write.proofs.Sealing.{IsSealed, SameAtClose, cut_same, sealed_same, sealed_writer, then_same}
+use Rattle.stripe_write.proofs.Sealing.{IsSealed, SameAtClose, alike_same, cut_same, sealed_same, sealed_writer, then_same}
 use Rattle.stripe_write.proofs.Spending.{nothing_more, state_behind, then_all, then_more}
 
 -- ---- what is asked, one behind the other
@@ -310,6 +311,60 @@ refused_where s t w (refusal.VectorTooLarge size) writing h = (writing, h.0, h.1
 refused_where s t w (refusal.DeviceFault count) writing h = writing
 refused_where s t w (refusal.Memory e) writing h = writing
 refused_where s t w _ writing h = absurd h
+
+-- once the vector is weighed, those of finishing, for the writer that cut its rest
+pub finished_where : (t : State) (w cut : Writer) (result : Result Receipt Refusal) → cut.put ≡ w.put → cut.key ≡ w.key
+    → cut.table.rows ≡ closing_rows w → FinishesWhere t cut result → EndsWhere t w result
+finished_where t w cut (Ok receipt) put key rows h =
+    record { put = h.put ∙ put; bytes = h.bytes ∙ ap total_length rows; fragments = h.fragments ∙ ap length rows }
+finished_where t w cut (Err (refusal.Lost index why)) put key rows h =
+    h
+    ∙ (ap (λ k. cause_of_piece t (fragment_piece k cut.put index)) key ∙ ap (λ n. cause_of_piece t (fragment_piece w.key n index)) put)
+finished_where t w cut (Err (refusal.DeviceFault count)) put key rows h = tt
+finished_where t w cut (Err (refusal.Exhausted number)) put key rows h = h
+finished_where t w cut (Err _) put key rows h = absurd h
+
+-- and where the rest cannot be cut
+pub no_rest_where : (t : State) (w : Writer) (bytes : ℕ) (why : Refusal) (answers : Result (Unit {0}) Stop → Type 0)
+    → AnswersOrWants {X = Unit {0}} (Err why) answers ⊥ → StopsExhausted t bytes why → EndsWhere t w (Err why)
+no_rest_where t w bytes (refusal.DeviceFault count) answers h stops = tt
+no_rest_where t w bytes (refusal.Exhausted number) answers h stops = stops.1
+no_rest_where t w bytes _ answers h stops = absurd h
+
+-- so they are of all of closing
+pub ended_where : (s t : State) (w : Writer) (result : Result Receipt Refusal) → is_writing s w.put ≡ true → EndsWhere t w result
+    → ClosesWhere s t w result
+ended_where s t w (Ok receipt) writing ends = (writing, ends)
+ended_where s t w (Err (refusal.Lost index why)) writing ends = (writing, ends)
+ended_where s t w (Err (refusal.DeviceFault count)) writing ends = writing
+ended_where s t w (Err (refusal.Exhausted number)) writing ends = (writing, ends)
+ended_where s t w (Err _) writing ends = absurd ends
+
+complete_same : (w used : Writer) (receipt : Receipt) → SameAtClose w used → IsCompleteInStripe used receipt → IsCompleteInStripe w receipt
+complete_same w used receipt same h =
+    record { put = h.put ∙ same.put; bytes = h.bytes ∙ ap total_length same.rows; fragments = h.fragments ∙ ap length same.rows }
+
+-- of a writer as it was the same come
+pub closes_where_same : (s t : State) (w used : Writer) (result : Result Receipt Refusal) → SameWriter w used → ClosesWhere s t used result
+    → ClosesWhere s t w result
+closes_where_same s t w used (Ok receipt) same h =
+    (subst (λ n. is_writing s n ≡ true) same.put h.0, complete_same w used receipt (alike_same w used same) h.1)
+closes_where_same s t w used (Err refusal.NoSuchWriter) same h = subst (λ n. is_writing s n ≡ false) same.put h
+closes_where_same s t w used (Err (refusal.VectorTooLarge size)) same h = (
+  subst (λ n. is_writing s n ≡ true) same.put h.0,
+  h.1 ∙ ap (λ (a : Stored). vector_size (a ∷ [])) (alike_same w used same).alternate,
+  h.2,
+)
+closes_where_same s t w used (Err (refusal.Lost index why)) same h = (
+  subst (λ n. is_writing s n ≡ true) same.put h.0,
+  h.1
+      ∙ (ap (λ k. cause_of_piece t (fragment_piece k used.put index)) same.key
+      ∙ ap (λ n. cause_of_piece t (fragment_piece w.key n index)) same.put),
+)
+closes_where_same s t w used (Err (refusal.DeviceFault count)) same h = subst (λ n. is_writing s n ≡ true) same.put h
+closes_where_same s t w used (Err (refusal.Exhausted number)) same h = (subst (λ n. is_writing s n ≡ true) same.put h.0, h.1)
+closes_where_same s t w used (Err (refusal.Memory e)) same h = subst (λ n. is_writing s n ≡ true) same.put h
+closes_where_same s t w used (Err _) same h = absurd h
 
 -- the writer behind a refusal
 abbrev pub sealed_by : Refusal → Writer → Writer

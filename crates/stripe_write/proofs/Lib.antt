@@ -5,6 +5,7 @@ pub mod Spending
 mod Pushed
 pub mod Cutting
 mod Gathering
+mod CallsRefused
 mod Reaching
 mod LastCut
 pub mod Completing

@@ -31,7 +31,7 @@ use Rattle.stripe_write.specs.declared.finishing.Receipt.{Receipt}
 use Rattle.stripe_write.specs.declared.weighing.Vectors.{Vectors}
 use Rattle.stripe_write.specs.declared.writer.Writer.{Writer}
 use Rattle.stripe_write.specs.Closing.{AreSpelled, IsReadFor, SpendsAll}
-use Rattle.stripe_write.specs.Finishing.{Finishes, FinishesAsRead, IsFirstLost, VectorStops, bytes_now, finish_end, finish_intents}
+use Rattle.stripe_write.specs.Finishing.{Finishes, FinishesAsRead, FinishesWhere, IsFirstLost, VectorStops, bytes_now, finish_end, finish_intents}
 use Rattle.stripe_write.proofs.Completing.{IsClosing, cuts_at_hand, is_current, is_cut, live_to, small_picked}
 use Rattle.stripe_write.proofs.Gathering.{room_leaves}
 use Rattle.stripe_write.proofs.Keeping.{KeepsVectors, keeps_flush, read_stays}
@@ -152,6 +152,13 @@ module _ (packed : Bool) (now : ℕ) (old new : Kept) (before : List Call) (afte
         };
   }
   no_room_ends _ room full stops = absurd room
+
+-- which answers come then
+pub no_room_where : (s t : State) (w : Writer) (faults : ℕ) (why : Refusal)
+    → AnswersOrWants {X = Unit {0}} (Err why) (λ r. IfErr r (StopsWith s faults)) ⊥ → FinishesWhere t w (Err why)
+no_room_where s t w faults (refusal.DeviceFault count) stops = tt
+no_room_where s t w faults (refusal.Exhausted number) stops = stops.1
+no_room_where s t w faults _ stops = absurd stops
 
 -- ---- room for either vector
 

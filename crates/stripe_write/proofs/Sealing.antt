@@ -13,7 +13,7 @@ use Rattle.stripe_vectors.specs.Spelled.{IsSpelled}
 use Rattle.stripe_write.specs.declared.weighing.Vectors.{Vectors}
 use Rattle.stripe_write.specs.declared.writer.Writer.{Writer}
 use Rattle.stripe_write.specs.Writers.{IsAllCutInStripe, IsAtHandInStripe, IsStripeWriterOf}
-use Rattle.stripe_write.specs.Writes.{SameButBytes}
+use Rattle.stripe_write.specs.Writes.{SameButBytes, SameWriter}
 use Rattle.stripe_write.specs.Closing.{AreSpelled, closing_alternate, closing_rows, row_of_rest}
 
 -- ---- a writer that is sealed
@@ -68,6 +68,13 @@ same_alternate w new put pin request response rows =
 pub sealed_same : (w new : Writer) → IsSealed w new → SameAtClose w new
 sealed_same w new same =
     let rows : closing_rows new ≡ closing_rows w = ap (λ (r : List TableRow). r ++ row_of_rest new.gathered.items) same.rows ∙ ap (λ b. w.table.rows ++ row_of_rest b) same.gathered in
+    record { put = same.put; key = same.key; rows = rows; alternate = same_alternate w new same.put same.pin same.request same.response rows }
+
+-- a writer as it was
+pub alike_same : (w new : Writer) → SameWriter w new → SameAtClose w new
+alike_same w new same =
+    let rows : closing_rows new ≡ closing_rows w =
+    ap (λ (r : List TableRow). r ++ row_of_rest new.gathered.items) same.rows ∙ ap (λ b. w.table.rows ++ row_of_rest b) same.gathered in
     record { put = same.put; key = same.key; rows = rows; alternate = same_alternate w new same.put same.pin same.request same.response rows }
 
 pub cut_same : (w new : Writer) → SameButBytes w new → new.table.rows ≡ closing_rows w → new.gathered.items ≡ [] → SameAtClose w new

@@ -5,7 +5,7 @@ use Rattle.cache_model.specs.declared.record.Rec.{Rec}
 use Rattle.cache_model.specs.State.{State, after_all}
 use Rattle.cache_model.specs.Kept.{Kept, state_of, with_records}
 use Rattle.cache_model.specs.Permit.{Done, End, Intent, Permit}
-use Rattle.cache_model.specs.Legal.{Does}
+use Rattle.cache_model.specs.Legal.{Does, IsQuiet}
 use Rattle.cache_model.proofs.Steps.{after_all-append, grows_by, grows_on}
 use Rattle.stripe_pieces.specs.Covers.{SpendsFirst}
 use Rattle.stripe_write.specs.Closing.{SpendsAll}
@@ -33,3 +33,8 @@ then_more old mid new a b first last = last ∙ (ap (λ k. with_records k b) fir
 
 pub state_behind : (kept new : Kept) (recs : List Rec) → new ≡ with_records kept recs → state_of new ≡ after_all (state_of kept) recs
 state_behind kept new recs is = ap state_of is ∙ after_all-append kept.base kept.since recs
+
+-- records behind which no vector waits
+pub quiet_behind : (kept new : Kept) (recs : List Rec) → new ≡ with_records kept recs → IsQuiet (after_all (state_of kept) recs)
+    → IsQuiet (state_of new)
+quiet_behind kept new recs is quiet = subst IsQuiet (sym (state_behind kept new recs is)) quiet

@@ -1,6 +1,6 @@
 -- Whether a put's vector is a piece, and what comes of it.
 use Rattle.std.proofs.Common.{◌≡◌, ℕ, ◌+◌, ◌*◌, ◌<◌, ◌≤◌, List, [], ◌∷◌, ◌++◌, refl, sym, ◌∙◌, ap, subst, arith, inl, inr, ◌⊎◌, Bool, true, false, length, Result, Ok, Err, IfOk, append_assoc, append-nil}
-use Rattle.std.specs.Prelude.{Option, Some, None, IsSome, ◌==◌, if◌then◌else◌}
+use Rattle.std.specs.Prelude.{Option, Some, None, IsSome, ◌==◌, if◌then◌else◌, IfErr}
 use Rattle.std.proofs.lemmas.Bool.{eqb-true}
 use Rattle.std.specs.declared.alloc.AllocError.{AllocError}
 use Rattle.std.proofs.lemmas.List.{length-append}
@@ -8,6 +8,9 @@ use Rattle.tape_base.specs.declared.geometries.Geometry.{Geometry}
 use Rattle.tape_base.specs.Blocks.{blocks_of}
 use Rattle.tape_base.specs.Geometry.{budget_of}
 use Rattle.logged_disk.specs.Device.{DeviceState as Device, TellsAll}
+use Rattle.logged_disk.specs.declared.device.Disk.{Ghosts as DiskGhosts}
+use Rattle.dir_table.specs.declared.directory.Directory.{Ghosts as DirectoryGhosts}
+use Rattle.cache_chronicle.specs.declared.chronicle.Chronicle.{Ghosts as ChronicleGhosts}
 use Rattle.fragment_table.specs.Table.{TableRow, made_row}
 use Rattle.alternate_vector.specs.Field.{Field}
 use Rattle.alternate_vector.specs.Alternates.{Stored, fields_size, vector_size}
@@ -27,7 +30,12 @@ use Rattle.call_laws.proofs.Kept.{tells_or_not}
 use Rattle.stripe_core.specs.declared.refusal.Refusal.{Refusal}
 use Rattle.stripe_core.specs.declared.refusal.Refusal.TheVariants as refusal
 use Rattle.stripe_pieces.specs.Covers.{AllReadIsSeen, Covers, SpendsFirst}
-use Rattle.stripe_core.specs.Stripe.{Wanting}
+use Rattle.stripe_pieces.specs.Still.{IsUnwritten}
+use Rattle.stripe_core.specs.declared.stripe.Stripe.{Stripe}
+use Rattle.stripe_core.specs.Between.{Continues}
+use Rattle.stripe_core.specs.Counts.{IsCounted}
+use Rattle.stripe_core.specs.Stripe.{Wanting, kept_in, seen_in}
+use Rattle.stripe_core.proofs.Continuing.{continues_still}
 use Rattle.stripe_pieces.proofs.Covering.{own_covers, own_permit}
 use Rattle.stripe_vectors.specs.declared.reading.KeyVector.{KeyVector}
 use Rattle.stripe_vectors.specs.declared.reading.KeyVector.TheVariants as found
@@ -36,11 +44,12 @@ use Rattle.stripe_vectors.specs.Reading.{FindsVector, ReadIsListed, trouble_reco
 use Rattle.stripe_vectors.specs.Spelled.{IsSpelled}
 use Rattle.stripe_write.specs.declared.weighing.Vectors.{Vectors}
 use Rattle.stripe_write.specs.declared.writer.Writer.{Writer}
-use Rattle.stripe_write.specs.Closing.{AreSpelled, IsReadFor, WeighsAsAsked, WeighsWhere, closing_alternate, closing_size, row_of_rest, weigh_end}
+use Rattle.stripe_write.specs.Closing.{AreSpelled, IsReadFor, WeighsAsAsked, WeighsInStripe, WeighsWhere, closing_alternate, closing_size, row_of_rest, weigh_end}
 use Rattle.stripe_write.specs.Weighing.{FitsWhere, IsSpelledWith, fault_in, fit_adds, list_in}
-use Rattle.stripe_write.specs.Writers.{IsAtHandInStripe, IsStripeWriterOf}
+use Rattle.stripe_write.specs.Writers.{HasOpenWriter, IsAtHandInStripe, IsStripeWriterOf}
 use Rattle.stripe_write.proofs.Ended.{open_put, own_number}
 use Rattle.stripe_write.proofs.KeyPairs.{key_wider}
+use Rattle.stripe_write.proofs.Owning.{owns_none}
 use Rattle.stripe_write.proofs.Spending.{nothing_more, state_behind}
 use Rattle.stripe_write.proofs.WeighingReads.{IsReadSoFar, fault_does, read_so_far}
 
@@ -99,6 +108,13 @@ weighs_where s t list w (Err refusal.TooManyFragments) same h = absurd h
 weighs_where s t list w (Err (refusal.Lost index why)) same h = absurd h
 weighs_where s t list w (Err refusal.Sealed) same h = absurd h
 weighs_where s t list w (Err refusal.NoSuchWriter) same h = absurd h
+
+-- the device is not asked for it
+pub fit_counted : (s : State) (list : Option (List Stored)) (w : Writer) (faults : ℕ) (result : Result Vectors Refusal)
+    → FitsWhere s list w result → IfErr result (IsCounted faults)
+fit_counted s list w faults (Ok v) h = tt
+fit_counted s list w faults (Err (refusal.DeviceFault count)) h = absurd h
+fit_counted s list w faults (Err _) h = tt
 
 -- ---- where memory is wanting nothing was recorded
 
@@ -287,3 +303,26 @@ weighs law kept mid new before during after w answer result h =
                 ⊎ IsKeyPair IsVectorAs p s w.key) (sym there) far.listed)));
           };
     }
+
+-- nothing is weighed, and nothing recorded
+pub weighs_nothing : {D R C : Type 0} {d : DiskGhosts D} {r : DirectoryGhosts R} {c : ChronicleGhosts C} (s t : Stripe D R C d r c)
+    (w : Writer) (result : Result Vectors Refusal) (e : AllocError) → result ≡ Err (refusal.Memory e) → HasOpenWriter s w → Continues s t
+    → kept_in t ≡ kept_in s → IsUnwritten (seen_in s).device (seen_in t).device → AllReadIsSeen (seen_in s).device (seen_in t).device
+    → WeighsInStripe s t w result
+weighs_nothing s t w result e is at continues same unwritten seen =
+    subst (λ (x : Result Vectors Refusal). WeighsInStripe s t w x) (sym is) (record {
+      rests = continues_still s t continues same at.resting;
+      weighs = tt;
+      does =
+          wants (kept_in s) (kept_in t) (seen_in s).device (seen_in t).device w e (Err (refusal.Memory e)) refl same seen;
+      unwritten = unwritten;
+      counts = tt;
+      wanting = same;
+      writer = subst (λ (k : Kept). IsStripeWriterOf (state_of k) w) (sym same) at.writer;
+      puts = tt;
+      geometry = tt;
+      displaced = tt;
+      row = tt;
+      unit = tt;
+      own = owns_none w.put (kept_in s) (kept_in t) same;
+    })

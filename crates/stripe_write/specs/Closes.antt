@@ -1,10 +1,13 @@
 -- What a writer that closes is answered, and what is recorded.
-use Rattle.std.specs.Prelude.{ℕ, ◌≡◌, ◌<◌, ◌≤◌, ◌==◌, ◌⊎◌, Bool, true, false, if◌then◌else◌, List, [], ◌∷◌, ◌++◌, length, Result, Ok, Err, IfErr}
+use Rattle.std.specs.Prelude.{ℕ, ◌≡◌, ◌<◌, ◌≤◌, ◌==◌, ◌⊎◌, Bool, true, false, if◌then◌else◌, List, [], ◌∷◌, ◌++◌, length, Result, Ok, Err, IfErr, OnOk}
+use Rattle.std.specs.declared.alloc.AllocError.{AllocError}
 use Rattle.tape_base.specs.Blocks.{blocks_of}
 use Rattle.tape_base.specs.Geometry.{budget_of}
 use Rattle.fragment_table.specs.Table.{total_length}
 use Rattle.device_log.specs.Calls.{Call}
 use Rattle.logged_disk.specs.Device.{DeviceState as Device}
+use Rattle.logged_disk.specs.declared.device.Disk.{Ghosts as DiskGhosts}
+use Rattle.dir_table.specs.declared.directory.Directory.{Ghosts as DirectoryGhosts}
 use Rattle.cache_model.specs.declared.record.Rec.{Rec}
 use Rattle.cache_model.specs.State.{State, fragment_piece}
 use Rattle.cache_model.specs.Kept.{Kept, state_of, with_records}
@@ -13,15 +16,22 @@ use Rattle.cache_model.specs.Permit.{Commit, Done, Finish, Intent, End, Exhauste
 use Rattle.cache_model.specs.Legal.{is_writing, vector_length}
 use Rattle.cache_model.specs.Room.{limit}
 use Rattle.cache_model.specs.Vectors.{AreTold, IsVectorAs}
+use Rattle.cache_chronicle.specs.declared.chronicle.Chronicle.{Ghosts as ChronicleGhosts}
 use Rattle.call_laws.specs.Contents.{Contents, TellsVectors, Untold}
 use Rattle.stripe_core.specs.declared.refusal.Refusal.{Refusal}
 use Rattle.stripe_core.specs.declared.refusal.Refusal.TheVariants as refusal
+use Rattle.stripe_core.specs.declared.stripe.Stripe.{Stripe}
+use Rattle.stripe_core.specs.Between.{Continues, RestsWith}
+use Rattle.stripe_core.specs.Counts.{IsCounted}
+use Rattle.stripe_core.specs.Stripe.{Wanting, kept_in, room_for, seen_in, state_in, units_in}
 use Rattle.stripe_pieces.specs.Covers.{Covers, SpendsFirst}
 use Rattle.stripe_pieces.specs.Still.{IsStill, IsUnwritten}
 use Rattle.cache_model.specs.Pair.{IsKeyPair}
 use Rattle.stripe_write.specs.declared.finishing.Receipt.{Receipt}
 use Rattle.stripe_write.specs.declared.weighing.Vectors.{Vectors}
 use Rattle.stripe_write.specs.declared.writer.Writer.{Writer}
+use Rattle.stripe_write.specs.Others.{AddsOfPut}
+use Rattle.stripe_write.specs.Writers.{IsStripeWriterOf}
 use Rattle.stripe_write.specs.Closing.{IsReadFor, SpendsAll, asked_of_closing, asked_of_rest, closing_rows, closing_size}
 use Rattle.stripe_write.specs.Numbers.{StopsExhausted}
 use Rattle.stripe_write.specs.Writes.{IsToldNextInStripe, SameWriter}
@@ -145,3 +155,42 @@ UntouchedWhere old new (Err refusal.NoSuchWriter) = IsStill old new
 UntouchedWhere old new (Err (refusal.Memory e)) = IsUnwritten old new
 UntouchedWhere old new (Err (refusal.VectorTooLarge bytes)) = IsUnwritten old new
 UntouchedWhere old new _ = Unit {0}
+
+-- ---- what a stripe makes of it
+
+module _ {D R C : Type 0} {d : DiskGhosts D} {r : DirectoryGhosts R} {c : ChronicleGhosts C} where
+  -- what closing a writer comes to
+  pub record ClosesWriterInStripe (packed : Bool) (now : ℕ) (old new : Stripe D R C d r c) (was later : Writer)
+      (result : Result Receipt Refusal) : Type 0 where
+    pub rests : RestsWith (IsToldClosedInStripe (state_in new) was) old new
+    pub closes : ClosesWhere (state_in old) (state_in new) was result
+    pub does : ClosesAsAsked packed now (seen_in old).device.past (seen_in new).device (kept_in old) (kept_in new) was result
+    pub writer : IsStripeWriterOf (state_in new) later
+    pub seals : SealsInStripeWhere was later result
+    pub rested : IsRested was later
+    pub untouched : UntouchedWhere (seen_in old).device (seen_in new).device result
+    pub counts : IfErr result (IsCounted (seen_in new).device.faults)
+    pub wanting : Wanting result (kept_in new ≡ kept_in old)
+    pub own : AddsOfPut was.put (kept_in old) (kept_in new)
+
+  -- what is left of it once the vector is weighed: the writer takes no more bytes
+  pub record EndsWriterInStripe (packed : Bool) (now : ℕ) (old new : Stripe D R C d r c) (was later : Writer) (v : Vectors)
+      (result : Result Receipt Refusal) : Type 0 where
+    pub rests : RestsWith (IsToldClosedInStripe (state_in new) was) old new
+    pub ends : EndsWhere (state_in new) was result
+    pub does : EndsAsAsked packed now (seen_in old).device.past (seen_in new).device.past (kept_in old) (kept_in new) was v result
+    pub writer : IsStripeWriterOf (state_in new) later
+    pub sealed : later.sealed ≡ true
+    pub rested : IsRested was later
+    pub counts : IfErr result (IsCounted (seen_in new).device.faults)
+    pub own : AddsOfPut was.put (kept_in old) (kept_in new)
+
+  -- what making memory for it comes to: nothing else has changed
+  pub record MakesMemoryToClose (old new : Stripe D R C d r c) (was later : Writer) (result : Result (Unit {0}) AllocError) : Type 0 where
+    pub continues : Continues old new
+    pub records : kept_in new ≡ kept_in old
+    pub still : IsStill (seen_in old).device (seen_in new).device
+    pub units : OnOk result (5 ≤ units_in new)
+    pub row : OnOk result (0 < room_for was.put new.actors)
+    pub table : OnOk result (0 < later.table.room)
+    pub same : SameWriter was later

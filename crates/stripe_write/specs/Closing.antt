@@ -1,10 +1,12 @@
 -- What closing a put does: it weighs the vector, cuts the rest, places the vector and commits.
-use Rattle.std.specs.Prelude.{ℕ, ◌≡◌, ◌+◌, ◌<◌, ◌≤◌, List, [], ◌∷◌, ◌++◌, length, filter, Option, Some, Result, Ok, Err, IfOk, ◌⊎◌}
+use Rattle.std.specs.Prelude.{ℕ, ◌≡◌, ◌+◌, ◌<◌, ◌≤◌, List, [], ◌∷◌, ◌++◌, length, filter, Option, Some, Result, Ok, Err, IfErr, IfOk, OnOk, ◌⊎◌}
 use Rattle.tape_base.specs.declared.geometries.Geometry.{Geometry}
 use Rattle.tape_base.specs.Blocks.{blocks_of}
 use Rattle.tape_base.specs.Digest.{digest_of}
 use Rattle.tape_base.specs.Geometry.{budget_of}
 use Rattle.logged_disk.specs.Device.{DeviceState as Device, TellsAll}
+use Rattle.logged_disk.specs.declared.device.Disk.{Ghosts as DiskGhosts}
+use Rattle.dir_table.specs.declared.directory.Directory.{Ghosts as DirectoryGhosts}
 use Rattle.fragment_table.specs.Table.{TableRow, made_row, total_length}
 use Rattle.alternate_vector.specs.Alternates.{Stored, vector_size}
 use Rattle.cache_model.specs.declared.record.Rec.{Rec}
@@ -14,15 +16,23 @@ use Rattle.cache_model.specs.Verdict.{live_vector_of}
 use Rattle.cache_model.specs.Permit.{Commit, Done, End, Fails, Faulted, Finish, Fragment, Intent, Permit, Reason, Stays, TooLarge, Weigh, Work, is_cleanup}
 use Rattle.cache_model.specs.Vectors.{AreVectors, IsVectorAs}
 use Rattle.cache_model.specs.Legal.{MayGrow}
+use Rattle.cache_chronicle.specs.declared.chronicle.Chronicle.{Ghosts as ChronicleGhosts}
 use Rattle.call_laws.specs.Contents.{Untold}
 use Rattle.stripe_core.specs.declared.refusal.Refusal.{Refusal}
 use Rattle.stripe_core.specs.declared.refusal.Refusal.TheVariants as refusal
+use Rattle.stripe_core.specs.declared.stripe.Stripe.{Stripe}
+use Rattle.stripe_core.specs.Between.{Rests}
+use Rattle.stripe_core.specs.Counts.{IsCounted}
+use Rattle.stripe_core.specs.Stripe.{Wanting, kept_in, room_for, seen_in, state_in, units_in}
 use Rattle.stripe_pieces.specs.Covers.{AllReadIsSeen, Covers, SpendsFirst}
+use Rattle.stripe_pieces.specs.Still.{IsUnwritten}
 use Rattle.stripe_vectors.specs.declared.spelling.Spelled.{Spelled}
 use Rattle.cache_model.specs.Pair.{IsKeyPair}
 use Rattle.stripe_vectors.specs.Spelled.{IsSpelled}
 use Rattle.stripe_write.specs.declared.weighing.Vectors.{Vectors}
 use Rattle.stripe_write.specs.declared.writer.Writer.{Writer}
+use Rattle.stripe_write.specs.Others.{AddsOfPut}
+use Rattle.stripe_write.specs.Writers.{IsStripeWriterOf}
 
 -- ---- several things that are asked, one behind the other
 
@@ -117,3 +127,22 @@ pub record WeighsAsAsked (before after : Device) (old new : Kept) (w : Writer) (
   pub seen : AllReadIsSeen before after
   pub exact : TellsAll after → IfOk result (IsReadFor (state_of new) w)
   pub does : (p : Permit) → Covers p before.past after.past → Weighs p after old new w result
+
+-- ---- what a stripe makes of it
+
+module _ {D R C : Type 0} {d : DiskGhosts D} {r : DirectoryGhosts R} {c : ChronicleGhosts C} where
+  -- what weighing a put's vector comes to
+  pub record WeighsInStripe (old new : Stripe D R C d r c) (w : Writer) (result : Result Vectors Refusal) : Type 0 where
+    pub rests : Rests old new
+    pub weighs : WeighsWhere (state_in old) w result
+    pub does : WeighsAsAsked (seen_in old).device (seen_in new).device (kept_in old) (kept_in new) w result
+    pub unwritten : IsUnwritten (seen_in old).device (seen_in new).device
+    pub counts : IfErr result (IsCounted (seen_in new).device.faults)
+    pub wanting : Wanting result (kept_in new ≡ kept_in old)
+    pub writer : IsStripeWriterOf (state_in new) w
+    pub puts : OnOk result ((state_in new).puts ≡ (state_in old).puts)
+    pub geometry : OnOk result ((state_in new).geometry ≡ (state_in old).geometry)
+    pub displaced : OnOk result ((state_in new).displaced ≡ (state_in old).displaced)
+    pub row : OnOk result (room_for w.put new.actors ≡ room_for w.put old.actors)
+    pub unit : OnOk result (units_in old ≤ units_in new + 1)
+    pub own : AddsOfPut w.put (kept_in old) (kept_in new)

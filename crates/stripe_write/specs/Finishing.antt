@@ -1,24 +1,38 @@
 -- How a put whose fragments are all cut is finished: its vector is placed, and it is committed.
-use Rattle.std.specs.Prelude.{ℕ, ◌≡◌, ◌<◌, ◌≤◌, ◌-◌, Bool, true, false, List, [], ◌∷◌, length, Option, Some, None, IsSome, is_some, unwrap_or, Result, Ok, Err, IfErr}
+use Rattle.std.specs.Prelude.{ℕ, ◌≡◌, ◌<◌, ◌≤◌, ◌+◌, ◌-◌, Bool, true, false, List, [], ◌∷◌, length, Option, Some, None, IsSome, is_some, unwrap_or, Result, Ok, Err, IfErr, OnErr, OnOk}
 use Rattle.fragment_table.specs.Table.{total_length}
 use Rattle.device_log.specs.Calls.{Call}
 use Rattle.logged_disk.specs.Device.{DeviceState as Device, TellsAll}
+use Rattle.logged_disk.specs.declared.device.Disk.{Ghosts as DiskGhosts}
+use Rattle.dir_table.specs.declared.directory.Directory.{Ghosts as DirectoryGhosts}
+use Rattle.alternate_vector.specs.Alternates.{Stored}
 use Rattle.cache_model.specs.declared.record.Rec.{Rec}
+use Rattle.cache_model.specs.declared.record.Rec.TheVariants as rec
 use Rattle.cache_model.specs.State.{State, fragment_piece, list_of_put, live_row_of}
 use Rattle.cache_model.specs.Kept.{Kept, state_of, with_records}
 use Rattle.cache_model.specs.Verdict.{cause_of_piece, cuts_of, live_vector_of}
 use Rattle.cache_model.specs.Permit.{Commit, Done, End, Exhausted, Fails, Faulted, Finish, Intent, Lost, Permit, Stays}
 use Rattle.cache_model.specs.Legal.{vector_length, vector_payload}
-use Rattle.cache_model.specs.Room.{greatest_pin, limit}
+use Rattle.cache_model.specs.Room.{greatest_pin, has_room, limit}
+use Rattle.cache_chronicle.specs.declared.chronicle.Chronicle.{Ghosts as ChronicleGhosts}
+use Rattle.call_laws.specs.Contents.{TellsVectors}
 use Rattle.stripe_core.specs.declared.refusal.Refusal.{Refusal}
 use Rattle.stripe_core.specs.declared.refusal.Refusal.TheVariants as refusal
+use Rattle.stripe_core.specs.declared.stripe.Stripe.{Stripe}
+use Rattle.stripe_core.specs.Acts.{CommitsAsAsked, committed_record}
+use Rattle.stripe_core.specs.Between.{Continues, Rests, RestsWith}
+use Rattle.stripe_core.specs.Counts.{IsCounted}
+use Rattle.stripe_core.specs.Stripe.{AnswersOrWants, kept_in, seen_in, state_in, units_in}
 use Rattle.stripe_pieces.specs.Covers.{Covers}
-use Rattle.stripe_pieces.specs.Place.{IsExhaustedAt}
+use Rattle.stripe_pieces.specs.Flush.{StopsWith}
+use Rattle.stripe_pieces.specs.Place.{IsExhaustedAt, RoomsAsAsked}
 use Rattle.stripe_vectors.specs.declared.spelling.Spelled.{Spelled}
 use Rattle.stripe_write.specs.declared.finishing.Receipt.{Receipt}
 use Rattle.stripe_write.specs.declared.weighing.Vectors.{Vectors}
 use Rattle.stripe_write.specs.declared.writer.Writer.{Writer}
-use Rattle.stripe_write.specs.Closing.{IsReadFor, SpendsAll}
+use Rattle.stripe_write.specs.Others.{AddsOfPut}
+use Rattle.stripe_write.specs.Writers.{HasOpenWriter, IsStripeWriterOf}
+use Rattle.stripe_write.specs.Closing.{AreSpelled, IsReadFor, SpendsAll}
 
 -- ---- which vector is placed
 
@@ -102,3 +116,55 @@ pub record FinishesAsRead (packed : Bool) (now : ℕ) (before after : List Call)
 -- where the device tells its content, the key's vector is the one that was read
 abbrev pub IsReadWhereTold : Device → State → Writer → Vectors → Type 0
 IsReadWhereTold device s w v = TellsAll device → IsReadFor s w v
+
+-- ---- what a stripe makes of it
+
+module _ {D R C : Type 0} {d : DiskGhosts D} {r : DirectoryGhosts R} {c : ChronicleGhosts C} where
+  -- the writer of a put that is open in a stripe at rest; all that it took is cut
+  pub record HasCutWriter (t : Stripe D R C d r c) (w : Writer) : Type 0 where
+    pub writing : HasOpenWriter t w
+    pub cut : w.gathered.items ≡ []
+
+  -- the vectors that a put is to have, as they were read and spelled
+  pub record AreWeighed (t : Stripe D R C d r c) (w : Writer) (v : Vectors) : Type 0 where
+    pub read : IsReadWhereTold (seen_in t).device (state_in t) w v
+    pub spelled : AreSpelled (state_in t).geometry w v
+
+  -- what finishing comes to
+  pub record FinishesInStripe (packed : Bool) (now : ℕ) (old new : Stripe D R C d r c) (w : Writer) (v : Vectors)
+      (result : Result Receipt Refusal) : Type 0 where
+    pub rests : RestsWith TellsVectors old new
+    pub finishes : FinishesWhere (state_in new) w result
+    pub does : FinishesAsRead packed now (seen_in old).device.past (seen_in new).device.past (kept_in old) (kept_in new) w v result
+    pub counts : IfErr result (IsCounted (seen_in new).device.faults)
+    pub writer : IsStripeWriterOf (state_in new) w
+    pub own : AddsOfPut w.put (kept_in old) (kept_in new)
+
+  -- what making room for the vector comes to; memory is not wanting
+  pub record MakesRoomForVector (now : ℕ) (old new : Stripe D R C d r c) (w : Writer) (v : Vectors)
+      (result : Result (Unit {0}) Refusal) : Type 0 where
+    pub continues : Continues old new
+    pub full : OnErr result (has_room (state_in old) (bytes_now (state_in old) w v) ≡ false)
+    pub does : AnswersOrWants result
+        (RoomsAsAsked now (kept_in old) (kept_in new) (seen_in old).device.past (seen_in new).device (bytes_now (state_in old) w v)) ⊥
+    pub stops : AnswersOrWants result (λ r. IfErr r (StopsWith (state_in old) (seen_in new).device.faults)) ⊥
+    pub counts : IfErr result (IsCounted (seen_in new).device.faults)
+    pub room : OnOk result (has_room (state_in new) (bytes_now (state_in old) w v) ≡ true)
+    pub unit : units_in old ≤ units_in new + 1
+
+  -- what giving a put up comes to whose fragment is lost; the device is not asked
+  pub record LosesInStripe (index : ℕ) (old new : Stripe D R C d r c) (w : Writer) (why : Refusal) : Type 0 where
+    pub rests : Rests old new
+    pub lost : why ≡ refusal.Lost index (cause_of_piece (state_in new) (fragment_piece w.key w.put index))
+    pub adds : kept_in new ≡ with_records (kept_in old) (rec.Aborted w.put w.key ∷ [])
+    pub still : (seen_in new).device ≡ (seen_in old).device
+    pub writer : IsStripeWriterOf (state_in new) w
+
+  -- what committing comes to, with these alternates; the device is not asked
+  pub record CommitsInStripe (list : List Stored) (old new : Stripe D R C d r c) (w : Writer) (receipt : Receipt) : Type 0 where
+    pub rests : Rests old new
+    pub adds : kept_in new ≡ with_records (kept_in old) (committed_record (state_in old) w.put w.key list ∷ [])
+    pub does : CommitsAsAsked (state_in old) w.put w.key list
+    pub receipt : IsReceiptOf w receipt
+    pub still : (seen_in new).device ≡ (seen_in old).device
+    pub writer : IsStripeWriterOf (state_in new) w

@@ -1,19 +1,30 @@
 -- The rest that a writer gathered is cut as its last fragment.
-use Rattle.std.specs.Prelude.{ℕ, ◌≡◌, Bool, List, [], ◌∷◌, Result, Ok, Err}
+use Rattle.std.specs.Prelude.{ℕ, ◌≡◌, ◌+◌, ◌<◌, ◌≤◌, Bool, true, List, [], ◌∷◌, length, Result, Ok, Err, IfErr, OnOk, OnErr}
 use Rattle.device_log.specs.Calls.{Call}
 use Rattle.logged_disk.specs.Device.{DeviceState as Device}
+use Rattle.logged_disk.specs.declared.device.Disk.{Ghosts as DiskGhosts}
+use Rattle.dir_table.specs.declared.directory.Directory.{Ghosts as DirectoryGhosts}
+use Rattle.cache_chronicle.specs.declared.chronicle.Chronicle.{Ghosts as ChronicleGhosts}
 use Rattle.cache_model.specs.declared.record.Rec.{Rec}
 use Rattle.cache_model.specs.State.{State}
 use Rattle.cache_model.specs.Kept.{Kept, state_of, with_records}
+use Rattle.cache_model.specs.Legal.{is_writing}
 use Rattle.cache_model.specs.Permit.{Done, End, Permit}
 use Rattle.stripe_pieces.specs.declared.answer.Placed.{Placed}
 use Rattle.stripe_pieces.specs.declared.answer.Stop.{Stop}
 use Rattle.stripe_pieces.specs.Covers.{Covers}
 use Rattle.stripe_pieces.specs.Flush.{stop_end}
 use Rattle.stripe_pieces.specs.Place.{IsCutAs, IsStoppedAs}
+use Rattle.stripe_core.specs.declared.refusal.Refusal.{Refusal}
+use Rattle.stripe_core.specs.declared.stripe.Stripe.{Stripe}
+use Rattle.stripe_core.specs.Between.{RestsWith}
+use Rattle.stripe_core.specs.Counts.{IsCounted}
+use Rattle.stripe_core.specs.Stripe.{AnswersOrWants, kept_in, seen_in, state_in, units_in}
 use Rattle.stripe_write.specs.declared.writer.Writer.{Writer}
-use Rattle.stripe_write.specs.Closing.{SpendsAll, asked_of_rest}
-use Rattle.stripe_write.specs.Writes.{next_id, next_start}
+use Rattle.stripe_write.specs.Closing.{SpendsAll, asked_of_rest, closing_rows}
+use Rattle.stripe_write.specs.Numbers.{StopsExhausted}
+use Rattle.stripe_write.specs.Writers.{IsStripeWriterOf}
+use Rattle.stripe_write.specs.Writes.{IsToldNextInStripe, SameButBytes, SameWriter, next_id, next_start}
 
 -- the records of these bytes, where there are some: a cut, or why there is none
 abbrev pub IsRestAs : Bool → State → ℕ → Writer → List ℕ → List Rec → Result (Unit {0}) Stop → Type 0
@@ -33,3 +44,25 @@ pub record RestsAsAsked (packed : Bool) (now : ℕ) (old new : Kept) (before : L
   pub adds : new ≡ with_records old added
   pub shape : IsRestAs packed (state_of old) after.faults w w.gathered.items added result
   pub does : (p : Permit) → p.packed ≡ packed → p.now ≡ now → Covers p before after.past → SpendsAll p (state_of old) (asked_of_rest w w.gathered.items) added (rest_end result)
+
+-- ---- what a stripe makes of it
+
+module _ {D R C : Type 0} {d : DiskGhosts D} {r : DirectoryGhosts R} {c : ChronicleGhosts C} where
+  -- what cutting the rest comes to at a moment, for a writer that was so and is so then
+  pub record CutsLastInStripe (packed : Bool) (now : ℕ) (old new : Stripe D R C d r c) (was later : Writer)
+      (result : Result (Unit {0}) Refusal) : Type 0 where
+    pub rests : RestsWith (λ contents. OnOk result
+        (0 < length was.gathered.items → IsToldNextInStripe was was.gathered.items contents)) old new
+    pub counts : IfErr result (IsCounted (seen_in new).device.faults)
+    pub unit : units_in old ≤ units_in new + 1
+    -- memory is not wanting, and no other refusal comes
+    pub does : AnswersOrWants result
+        (RestsAsAsked packed now (kept_in old) (kept_in new) (seen_in old).device.past (seen_in new).device was) ⊥
+    pub some : OnErr result (0 < length was.gathered.items)
+    pub number : IfErr result (StopsExhausted (state_in new) (length was.gathered.items))
+    pub writer : IsStripeWriterOf (state_in new) later
+    pub is_open : OnOk result (is_writing (state_in new) later.put ≡ true)
+    pub rows : OnOk result (later.table.rows ≡ closing_rows was)
+    pub empty : OnOk result (later.gathered.items ≡ [])
+    pub rest : SameButBytes was later
+    pub same : OnErr result (SameWriter was later)

@@ -1,16 +1,23 @@
 -- What a put's vector is spelled from: what was read of the key's vector, and the put's own alternate.
-use Rattle.std.specs.Prelude.{ℕ, ◌≡◌, ◌<◌, ◌≤◌, List, [], ◌∷◌, Option, Some, None, IsSome, Result, Ok, Err}
+use Rattle.std.specs.Prelude.{ℕ, ◌≡◌, ◌<◌, ◌≤◌, List, [], ◌∷◌, Option, Some, None, IsSome, Result, Ok, Err, OnOk}
 use Rattle.tape_base.specs.declared.geometries.Geometry.{Geometry}
 use Rattle.tape_base.specs.Blocks.{blocks_of}
 use Rattle.tape_base.specs.Geometry.{budget_of}
+use Rattle.logged_disk.specs.declared.device.Disk.{Ghosts as DiskGhosts}
+use Rattle.dir_table.specs.declared.directory.Directory.{Ghosts as DirectoryGhosts}
 use Rattle.fragment_table.specs.Table.{total_length}
 use Rattle.alternate_vector.specs.Alternates.{Stored, stored_of, vector_size}
 use Rattle.cache_model.specs.declared.cause.Cause.TheVariants as cause
 use Rattle.cache_model.specs.declared.record.Rec.{Rec}
 use Rattle.cache_model.specs.declared.record.Rec.TheVariants as rec
 use Rattle.cache_model.specs.State.{State}
+use Rattle.cache_model.specs.Kept.{with_records}
+use Rattle.cache_chronicle.specs.declared.chronicle.Chronicle.{Ghosts as ChronicleGhosts}
 use Rattle.stripe_core.specs.declared.refusal.Refusal.{Refusal}
 use Rattle.stripe_core.specs.declared.refusal.Refusal.TheVariants as refusal
+use Rattle.stripe_core.specs.declared.stripe.Stripe.{Stripe}
+use Rattle.stripe_core.specs.Between.{Rests}
+use Rattle.stripe_core.specs.Stripe.{kept_in, seen_in, state_in}
 use Rattle.stripe_vectors.specs.declared.reading.KeyVector.{KeyVector}
 use Rattle.stripe_vectors.specs.declared.reading.KeyVector.TheVariants as found
 use Rattle.stripe_vectors.specs.declared.spelling.Spelled.{Spelled}
@@ -19,6 +26,7 @@ use Rattle.stripe_write.specs.declared.weighing.Own.{Own}
 use Rattle.stripe_write.specs.declared.weighing.Vectors.{Vectors}
 use Rattle.stripe_write.specs.declared.writer.Writer.{Writer}
 use Rattle.stripe_write.specs.Closing.{closing_alternate, closing_size}
+use Rattle.stripe_write.specs.Writers.{IsStripeWriterOf}
 
 -- the device's count of faults, where it refused to give the vector
 abbrev pub fault_in : KeyVector → Option ℕ
@@ -65,3 +73,16 @@ FitsWhere s list w (Err _) = ⊥
 abbrev pub fit_adds : Writer → Result Vectors Refusal → List Rec
 fit_adds w (Err (refusal.VectorTooLarge bytes)) = rec.Aborted w.put w.key ∷ []
 fit_adds w _ = []
+
+-- ---- what a stripe makes of it
+
+module _ {D R C : Type 0} {d : DiskGhosts D} {r : DirectoryGhosts R} {c : ChronicleGhosts C} where
+  -- what spelling a put's vector comes to, with what was read; the device is not asked
+  pub record FitsInStripe (list : Option (List Stored)) (old new : Stripe D R C d r c) (w : Writer)
+      (result : Result Vectors Refusal) : Type 0 where
+    pub rests : Rests old new
+    pub fits : FitsWhere (state_in old) list w result
+    pub adds : kept_in new ≡ with_records (kept_in old) (fit_adds w result)
+    pub writer : IsStripeWriterOf (state_in new) w
+    pub same : OnOk result (new ≡ old)
+    pub still : (seen_in new).device ≡ (seen_in old).device

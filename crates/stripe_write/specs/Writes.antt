@@ -1,10 +1,13 @@
 -- What writers are answered, and what is recorded.
-use Rattle.std.specs.Prelude.{ℕ, ◌≡◌, ◌+◌, ◌-◌, ◌*◌, ◌==◌, ◌<◌, ◌≤◌, ◌⊎◌, min, Bool, true, false, if◌then◌else◌, List, [], ◌∷◌, ◌++◌, length, take, IfOk, IfSome, Some, None, Result, Ok, Err, MatchBool}
+use Rattle.std.specs.Prelude.{ℕ, ◌≡◌, ◌+◌, ◌-◌, ◌*◌, ◌==◌, ◌<◌, ◌≤◌, ◌⊎◌, min, Bool, true, false, if◌then◌else◌, List, [], ◌∷◌, ◌++◌, length, take, IfOk, IfErr, OnOk, OnErr, IfSome, Some, None, Result, Ok, Err, MatchBool}
 use Rattle.std.specs.List.{AllByRecursion}
+use Rattle.tape_base.specs.declared.actors.Actor.{Actor}
 use Rattle.tape_base.specs.declared.geometries.Geometry.{Geometry}
 use Rattle.tape_base.specs.declared.keys.Key.{Key}
 use Rattle.tape_base.specs.declared.pieces.PieceId.{PieceId}
-use Rattle.fragment_table.specs.Table.{total_length}
+use Rattle.tape_base.specs.Digest.{digest_of}
+use Rattle.fragment_table.specs.Table.{made_row, total_length}
+use Rattle.alternate_vector.specs.Field.{Field}
 use Rattle.cache_model.specs.declared.record.Rec.{Rec}
 use Rattle.cache_model.specs.declared.record.Rec.TheVariants as rec
 use Rattle.cache_model.specs.State.{Open, PutRow, State, fragment_piece, put_of, most_fragments}
@@ -13,6 +16,9 @@ use Rattle.cache_model.specs.Permit.{Done, Fails, Fragment, GiveUp, Intent, Many
 use Rattle.cache_model.specs.Legal.{Does, is_writing}
 use Rattle.device_log.specs.Calls.{Call}
 use Rattle.logged_disk.specs.Device.{DeviceState as Device, TellsAll}
+use Rattle.logged_disk.specs.declared.device.Disk.{Ghosts as DiskGhosts}
+use Rattle.dir_table.specs.declared.directory.Directory.{Ghosts as DirectoryGhosts}
+use Rattle.cache_chronicle.specs.declared.chronicle.Chronicle.{Ghosts as ChronicleGhosts}
 use Rattle.call_laws.specs.Contents.{Contents}
 use Rattle.stripe_pieces.specs.declared.answer.Placed.{Placed}
 use Rattle.stripe_core.specs.declared.refusal.Refusal.{Refusal}
@@ -21,9 +27,17 @@ use Rattle.stripe_pieces.specs.declared.answer.Stop.{Stop}
 use Rattle.stripe_pieces.specs.declared.answer.Stop.TheVariants as stop
 use Rattle.stripe_pieces.specs.Covers.{Covers, SpendsFirst}
 use Rattle.cache_model.specs.Damage.{TellNoDamage}
-use Rattle.stripe_pieces.specs.Place.{IsCutOrStoppedAs, place_end}
+use Rattle.stripe_pieces.specs.Place.{CutsAsAsked, IsCutOrStoppedAs, place_end}
+use Rattle.stripe_pieces.specs.Still.{IsStill}
+use Rattle.stripe_core.specs.declared.stripe.Stripe.{Stripe}
+use Rattle.stripe_core.specs.Acts.{OpensAsAsked, write_opened_record}
+use Rattle.stripe_core.specs.Between.{Rests, RestsWith}
+use Rattle.stripe_core.specs.Counts.{IsCounted}
+use Rattle.stripe_core.specs.Stripe.{AnswersOrWants, HasMemory, Unstopped, kept_in, room_for, seen_in, state_in, units_in}
 use Rattle.stripe_write.specs.declared.writer.Writer.{Writer}
+use Rattle.stripe_write.specs.Numbers.{StopsExhausted}
 use Rattle.stripe_write.specs.Others.{IsRecordOfPut}
+use Rattle.stripe_write.specs.Writers.{IsStripeWriterOf}
 
 -- ---- a writer opens
 
@@ -201,3 +215,68 @@ overflow_adds w _ = []
 -- one fragment too many gives the put up, in any step, and what was asked fails for that
 abbrev pub OverflowsAsAsked : State → Writer → Type 0
 OverflowsAsAsked s w = (p : Permit) → Does p s (Overflow w.put) (rec.Aborted w.put w.key ∷ []) (Fails (ManyFragments w.put))
+
+-- ---- what a stripe makes of it
+
+module _ {D R C : Type 0} {d : DiskGhosts D} {r : DirectoryGhosts R} {c : ChronicleGhosts C} where
+  -- what opening a writer comes to, which has taken nothing
+  pub record OpensInStripe (old new : Stripe D R C d r c) (who : Actor) (key : Key) (request response : List Field) (pin : ℕ)
+      (result : Result Writer Refusal) : Type 0 where
+    pub rests : Rests old new
+    pub adds : OnOk result (kept_in new ≡ with_records (kept_in old) (write_opened_record (state_in old) who key request response pin ∷ []))
+    pub err : OnErr result (kept_in new ≡ kept_in old)
+    pub does : OpensAsAsked (state_in old) who key request response pin (number_of_opened result)
+    pub writer : IfOk result (IsStripeWriterOf (state_in new))
+    pub empty : IfOk result (λ w. w.gathered.items ≡ [])
+    pub unsealed : IfOk result (λ w. w.sealed ≡ false)
+    pub still : (seen_in new).device ≡ (seen_in old).device
+
+  -- what giving up comes to, for a writer that was so and is so then
+  pub record AbortsInStripe (old new : Stripe D R C d r c) (was later : Writer) (result : Result ℕ Refusal) : Type 0 where
+    pub rests : Rests old new
+    pub adds : kept_in new ≡ with_records (kept_in old) (abort_adds was.key result)
+    pub aborts : AbortsWhere (state_in old) was.put result
+    pub does : AbortsAsAsked (state_in old) was.put was.key result
+    pub writer : IsStripeWriterOf (state_in new) later
+    pub same : later ≡ was
+    pub still : IsStill (seen_in old).device (seen_in new).device
+
+  -- what taking these bytes comes to at a moment, for a writer that was so and is so then
+  pub record WritesInStripe (packed : Bool) (now : ℕ) (old new : Stripe D R C d r c) (was later : Writer) (bytes : List ℕ)
+      (result : Result ℕ Refusal) : Type 0 where
+    pub rests : RestsWith (IsToldWrittenInStripe (state_in old) was bytes result) old new
+    pub writes : WritesWhere (state_in old) was bytes result
+    pub number : IfErr result (StopsExhausted (state_in new) (state_in old).geometry.fragment)
+    pub does : WritesAsAsked packed now (kept_in old) (kept_in new) (seen_in old).device.past (seen_in new).device was bytes result
+    pub writer : IsStripeWriterOf (state_in new) later
+    pub gathers : IfOk result (λ n. GathersAsAsked (state_in old).geometry was bytes n later)
+    pub same : OnErr result (SameWriter was later)
+    pub untouched : Unstopped result (IsStill (seen_in old).device (seen_in new).device)
+
+  -- what one fragment too many comes to
+  pub record OverflowsInStripe (old new : Stripe D R C d r c) (w : Writer) (result : Result ℕ Refusal) : Type 0 where
+    pub rests : Rests old new
+    pub refused : IsOverflow result
+    pub adds : kept_in new ≡ with_records (kept_in old) (overflow_adds w result)
+    pub does : OverflowsAsAsked (state_in old) w
+    pub writer : IsStripeWriterOf (state_in new) w
+    pub still : IsStill (seen_in old).device (seen_in new).device
+
+  -- what cutting the fragment that has gathered comes to at a moment, for a writer that was so and is so then
+  pub record CutsNextInStripe (packed : Bool) (now : ℕ) (old new : Stripe D R C d r c) (was later : Writer)
+      (result : Result Placed Refusal) : Type 0 where
+    pub rests : RestsWith (λ contents. OnOk result (IsToldNextInStripe was was.gathered.items contents)) old new
+    pub does : AnswersOrWants result
+        (CutsAsAsked packed now (kept_in old) (kept_in new) (seen_in old).device.past (seen_in new).device
+        (next_id was) was.pin (next_start was) was.gathered.items)
+        (kept_in new ≡ kept_in old)
+    pub number : IfErr result (StopsExhausted (state_in new) (length was.gathered.items))
+    pub writer : OnOk result (IsStripeWriterOf (state_in new) later)
+    pub rest : OnOk result (SameButBytes was later)
+    pub rows : OnOk result (later.table.rows ≡ was.table.rows ++ made_row (length was.gathered.items) (digest_of was.gathered.items).0 ∷ [])
+    pub empty : OnOk result (later.gathered.items ≡ [])
+    pub same : OnErr result (later ≡ was)
+    pub untouched : Unstopped result (IsStill (seen_in old).device (seen_in new).device)
+    pub counts : IfErr result (IsCounted (seen_in new).device.faults)
+    pub memory : 0 < units_in old → 0 < room_for was.put old.actors → HasMemory result
+    pub unit : units_in old ≤ units_in new + 1

@@ -1,11 +1,9 @@
 // Objects are removed.
-ghost use Rattle.std.specs.Prelude.{◌≡◌, IfOk, OnErr, is_some};
-ghost use Rattle.cache_model.specs.Kept.{with_records};
+ghost use Rattle.std.specs.Prelude.{◌≡◌, is_some};
 ghost use Rattle.cache_model.specs.Verdict.{live_vector_of};
-ghost use Rattle.stripe_pieces.specs.Still.{IsStill};
-ghost use Rattle.stripe_core.specs.Stripe.{IsStripe, kept_in, seen_in, state_in};
-ghost use Rattle.stripe_core.specs.Between.{IsResting, Rests};
-ghost use Rattle.stripe_write.specs.Removals.{RemovesAsIsAsked, RemovesWhere, removal_adds};
+ghost use Rattle.stripe_core.specs.Stripe.{IsStripe, state_in};
+ghost use Rattle.stripe_core.specs.Between.{IsResting};
+ghost use Rattle.stripe_write.specs.Removals.{RemovesInStripe};
 
 use cache_chronicle::Chronicle;
 use cache_model::Cause;
@@ -30,13 +28,7 @@ pub fn remove<D: Disk, R: Directory + Drop, C: Chronicle>(
     key: Key,
 ) -> Result<Removal, AllocError>
     requires resting { IsResting stripe.old }
-    ensures rests { Rests stripe.old stripe.new }
-    ensures adds { IfOk result (λ answer. kept_in stripe.new
-        ≡ with_records (kept_in stripe.old) (removal_adds key answer)) }
-    ensures removes { IfOk result (RemovesWhere (state_in stripe.old) key) }
-    ensures does { IfOk result (RemovesAsIsAsked (state_in stripe.old) key) }
-    ensures err { OnErr result (kept_in stripe.new ≡ kept_in stripe.old) }
-    ensures still { IsStill (seen_in stripe.old).device (seen_in stripe.new).device }
+    ensures { RemovesInStripe stripe.old stripe.new key result }
 {
     stripe.prepare(None, 1)?;
     if is_live(stripe, key) {

@@ -1,20 +1,15 @@
 // What is weighed before a put closes: the vector that it is to have.
-ghost use Rattle.std.specs.Prelude.{◌≡◌, ◌+◌, ◌<◌, ◌≤◌, [], ◌∷◌, true, IfOk, OnOk, OnErr, IsSome, nat_le, length, IfErr};
+ghost use Rattle.std.specs.Prelude.{◌≡◌, ◌<◌, ◌≤◌, [], ◌∷◌, IfOk, OnErr, IsSome, nat_le, length};
 ghost use Rattle.tape_base.specs.Blocks.{blocks_of};
 ghost use Rattle.tape_base.specs.Geometry.{budget_of};
 ghost use Rattle.fragment_table.specs.Table.{total_length};
 ghost use Rattle.alternate_vector.specs.Alternates.{stored_of, vector_size};
-ghost use Rattle.cache_model.specs.Kept.{with_records};
-ghost use Rattle.cache_model.specs.Legal.{is_writing};
+ghost use Rattle.tape_base.specs.Digest.{digest_of};
 ghost use Rattle.cache_model.specs.State.{most_fragments};
-ghost use Rattle.stripe_core.specs.Counts.{IsCounted};
-ghost use Rattle.stripe_pieces.specs.Still.{IsUnwritten};
-ghost use Rattle.stripe_core.specs.Stripe.{kept_in, room_for, seen_in, state_in, units_in, Wanting};
-ghost use Rattle.stripe_core.specs.Between.{IsResting, Rests};
-ghost use Rattle.stripe_write.specs.Others.{AddsOfPut};
-ghost use Rattle.stripe_write.specs.Writers.{IsStripeWriterOf};
-ghost use Rattle.stripe_write.specs.Closing.{WeighsAsAsked, WeighsWhere, closing_alternate, closing_rows};
-ghost use Rattle.stripe_write.specs.Weighing.{FitsWhere, IsOwnAlternateOf, IsSpelledAlone, IsSpelledWith, fault_in, fit_adds, list_in};
+ghost use Rattle.stripe_core.specs.Stripe.{state_in, units_in};
+ghost use Rattle.stripe_write.specs.Writers.{HasOpenWriter};
+ghost use Rattle.stripe_write.specs.Closing.{WeighsInStripe, closing_alternate, closing_rows};
+ghost use Rattle.stripe_write.specs.Weighing.{FitsInStripe, IsOwnAlternateOf, IsSpelledAlone, IsSpelledWith, fault_in, list_in};
 
 use crate::Writer;
 use alternate_vector::{Alternate, Vector};
@@ -48,31 +43,16 @@ struct Own {
 pub(crate) fn weigh<D: Disk, R: Directory + Drop, C: Chronicle>(
     stripe: &mut Stripe<D, R, C>,
     writer: &Writer,
+    rest: Digest,
 ) -> Result<Vectors, Refusal>
-    requires resting { IsResting stripe.old }
-    requires writer { IsStripeWriterOf (state_in stripe.old) writer.now }
-    requires open { is_writing (state_in stripe.old) writer.now.put ≡ true }
+    requires writing { HasOpenWriter stripe.old writer.now }
+    requires rest { rest ≡ digest_of writer.now.gathered.items }
     requires units { 2 ≤ units_in stripe.old }
-    ensures rests { Rests stripe.old stripe.new }
-    ensures weighs { WeighsWhere (state_in stripe.old) writer.now result }
-    ensures does { WeighsAsAsked (seen_in stripe.old).device (seen_in stripe.new).device
-        (kept_in stripe.old) (kept_in stripe.new) writer.now result }
-    ensures unwritten { IsUnwritten (seen_in stripe.old).device (seen_in stripe.new).device }
-    ensures counts { IfErr result (IsCounted (seen_in stripe.new).device.faults) }
-    ensures wanting { Wanting result (kept_in stripe.new ≡ kept_in stripe.old) }
-    ensures writer { IsStripeWriterOf (state_in stripe.new) writer.now }
-    ensures puts { OnOk result ((state_in stripe.new).puts ≡ (state_in stripe.old).puts) }
-    ensures geometry { OnOk result ((state_in stripe.new).geometry
-        ≡ (state_in stripe.old).geometry) }
-    ensures displaced { OnOk result ((state_in stripe.new).displaced
-        ≡ (state_in stripe.old).displaced) }
-    ensures row { OnOk result (room_for writer.now.put stripe.new.actors ≡ room_for writer.now.put stripe.old.actors) }
-    ensures unit { OnOk result (units_in stripe.old ≤ units_in stripe.new + 1) }
-    ensures own { AddsOfPut writer.now.put (kept_in stripe.old) (kept_in stripe.new) }
+    ensures { WeighsInStripe stripe.old stripe.new writer.now result }
 {
     // The law tells that what was read is what the key has.
     read_is_listed();
-    let own = spell_own(stripe.alloc(), stripe.geometry(), writer)?;
+    let own = spell_own(stripe.alloc(), stripe.geometry(), writer, rest)?;
     let found = read_vector(stripe, writer.key)?;
     match fault_in(&found) {
         Some(count) => Err(Refusal::DeviceFault { count }),
@@ -105,18 +85,10 @@ fn fit<D: Disk, R: Directory + Drop, C: Chronicle>(
     own: Own,
     list: Option<Vector>,
 ) -> Result<Vectors, Refusal>
-    requires resting { IsResting stripe.old }
-    requires writer { IsStripeWriterOf (state_in stripe.old) writer.now }
-    requires open { is_writing (state_in stripe.old) writer.now.put ≡ true }
+    requires writing { HasOpenWriter stripe.old writer.now }
     requires units { 1 ≤ units_in stripe.old }
     requires own { IsOwnAlternateOf (state_in stripe.old).geometry writer.now own }
-    ensures rests { Rests stripe.old stripe.new }
-    ensures fits { FitsWhere (state_in stripe.old) list writer.now result }
-    ensures adds { kept_in stripe.new ≡ with_records (kept_in stripe.old)
-        (fit_adds writer.now result) }
-    ensures writer { IsStripeWriterOf (state_in stripe.new) writer.now }
-    ensures same { OnOk result (stripe.new ≡ stripe.old) }
-    ensures still { (seen_in stripe.new).device ≡ (seen_in stripe.old).device }
+    ensures { FitsInStripe list stripe.old stripe.new writer.now result }
 {
     let Own { alternate, alone } = own;
     match alone {
@@ -133,24 +105,26 @@ fn fit<D: Disk, R: Directory + Drop, C: Chronicle>(
 }
 
 // Spells what needs no other vector.
-fn spell_own(alloc: Global, g: &Geometry, writer: &Writer) -> Result<Own, AllocError>
+fn spell_own(alloc: Global, g: &Geometry, writer: &Writer, rest: Digest) -> Result<Own, AllocError>
+    requires rest { rest ≡ digest_of writer.now.gathered.items }
     requires few { length writer.now.gathered.items < g.now.fragment }
     requires more { 0 < length writer.now.gathered.items → length writer.now.table.rows < most_fragments }
     ensures { IfOk result (IsOwnAlternateOf g.now writer.now) }
 {
-    let alternate = alternate_of(g, writer)?;
+    let alternate = alternate_of(g, writer, rest)?;
     let alone = spell_alone(alloc, g, &alternate)?;
     Ok(Own { alternate, alone })
 }
 
 // The alternate that a put stands for when it closes.
-fn alternate_of(g: &Geometry, writer: &Writer) -> Result<Alternate, AllocError>
+fn alternate_of(g: &Geometry, writer: &Writer, rest: Digest) -> Result<Alternate, AllocError>
+    requires rest { rest ≡ digest_of writer.now.gathered.items }
     requires few { length writer.now.gathered.items < g.now.fragment }
     requires more { 0 < length writer.now.gathered.items → length writer.now.table.rows < most_fragments }
     ensures stored { IfOk result (λ a. stored_of a ≡ closing_alternate writer.now) }
     ensures length { IfOk result (λ a. a.length ≡ total_length a.table.rows) }
 {
-    let table = table_of(g, writer)?;
+    let table = table_of(g, writer, rest)?;
     Ok(Alternate {
         put: writer.put,
         pin: writer.pin,
@@ -162,7 +136,8 @@ fn alternate_of(g: &Geometry, writer: &Writer) -> Result<Alternate, AllocError>
 }
 
 // The fragments of a put when it closes: those that are cut, and what is gathered.
-fn table_of(g: &Geometry, writer: &Writer) -> Result<FragTable, AllocError>
+fn table_of(g: &Geometry, writer: &Writer, rest: Digest) -> Result<FragTable, AllocError>
+    requires rest { rest ≡ digest_of writer.now.gathered.items }
     requires few { length writer.now.gathered.items < g.now.fragment }
     requires more { 0 < length writer.now.gathered.items → length writer.now.table.rows < most_fragments }
     ensures { IfOk result (λ table. table.rows ≡ closing_rows writer.now) }
@@ -171,8 +146,7 @@ fn table_of(g: &Geometry, writer: &Writer) -> Result<FragTable, AllocError>
     let _fragment = g.fragment;
     let mut table = writer.table.copy()?;
     if !writer.gathered.is_empty() {
-        let digest = Digest::of(&writer.gathered);
-        table.push(writer.gathered.len() as u32, digest.0)?;
+        table.push(writer.gathered.len() as u32, rest.0)?;
     }
     Ok(table)
 }

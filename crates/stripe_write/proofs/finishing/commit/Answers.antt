@@ -1,4 +1,4 @@
-use Rattle.std.proofs.Common.{sym, ◌∙◌, ap, subst, [], ◌∷◌, arith}
+use Rattle.std.proofs.Common.{refl, sym, ◌∙◌, ap, subst, [], ◌∷◌, arith}
 use Rattle.fragment_table.specs.Table.{total_length}
 use Rattle.cache_model.specs.Kept.{state_of}
 use Rattle.cache_model.specs.Verdict.{cuts_of}
@@ -11,13 +11,18 @@ use Rattle.std.proofs.lemmas.Grind.{common_steps}
 use Rattle.stripe_core.proofs.Continuing.{continues_rests}
 use Rattle.stripe_write.proofs.finishing.commit.Goals as goal
 
-pub returns-clause-writer : goal.returns-clause-writer
-returns-clause-writer g c =
+pub returns : goal.returns
+returns g c =
     let kept = kept_in c.args.stripe.now in
     let s = state_in c.args.stripe.now in
     let w = c.args.writer.now in
-    subst (λ t. IsStripeWriterOf t w) (sym (ap state_of c.commit.ensures.adds ∙ after_all-append kept.base kept.since (committed_record s w.put w.key c.args.alternates ∷ [])))
-    (closed_writer s w w.key (total_length (cuts_of s w.put)) c.args.alternates)
-
-pub returns-clause-rests : goal.returns-clause-rests
-returns-clause-rests g c = continues_rests _ _ c.commit.ensures.continues (grind (arith, common_steps))
+    record {
+      rests = continues_rests _ _ c.commit.ensures.continues (grind (arith, common_steps));
+      adds = c.commit.ensures.adds;
+      does = c.commit.ensures.does;
+      receipt = record { put = refl; bytes = c.total.ensures; fragments = c.len.ensures.len };
+      still = c.commit.ensures.still;
+      writer =
+          subst (λ t. IsStripeWriterOf t w) (sym (ap state_of c.commit.ensures.adds ∙ after_all-append kept.base kept.since (committed_record s w.put w.key c.args.alternates ∷ [])))
+          (closed_writer s w w.key (total_length (cuts_of s w.put)) c.args.alternates);
+    }

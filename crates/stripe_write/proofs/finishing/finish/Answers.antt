@@ -1,4 +1,4 @@
-use Rattle.std.proofs.Common.{sym, ◌∙◌, subst}
+use Rattle.std.proofs.Common.{sym, ◌∙◌, subst, arith}
 use Rattle.logged_disk.proofs.GoingOn.{told_before}
 use Rattle.call_laws.specs.Contents.{TellsVectors}
 use Rattle.stripe_pieces.specs.Place.{RoomsAsAsked}
@@ -9,94 +9,101 @@ use Rattle.stripe_write.proofs.Owning.{owns_room, then_owns}
 use Rattle.stripe_write.proofs.Completing.{is_closing}
 use Rattle.stripe_write.proofs.Flushed.{stop_in}
 use Rattle.stripe_write.proofs.Gathering.{left_writer, puts_left, room_leaves}
-use Rattle.stripe_write.proofs.Roomed.{behind_room, no_room_ends, room_is_made, room_keeps}
+use Rattle.stripe_write.proofs.Roomed.{behind_room, no_room_ends, no_room_where, room_is_made, room_keeps}
 use Rattle.stripe_write.proofs.WeighingReads.{still_writing}
 use Rattle.stripe_core.proofs.Continuing.{continues_rests, rests_with}
 use Rattle.stripe_write.proofs.Keeping.{read_stays}
 use Rattle.stripe_write.proofs.ToldPieces.{rests_behind}
 use Rattle.stripe_write.proofs.finishing.finish.Goals as goal
 
-pub end-requires-clause-resting : goal.end-requires-clause-resting
-end-requires-clause-resting g c = record {
-  stripe = c.make_room.ensures.continues.stripe;
-  quiet = (room_leaves c.args.now (kept_in c.args.stripe.now) (kept_in c.make_room.new.stripe) _ _ _ _ c.in-Ok.ensures.does).pending ∙ c.requires.resting.quiet;
-}
-
-pub end-requires-clause-open : goal.end-requires-clause-open
-end-requires-clause-open g c =
+pub end-requires-clause-writer : goal.end-requires-clause-writer
+end-requires-clause-writer g c =
     let s = state_in c.args.stripe.now in
     let t = state_in c.make_room.new.stripe in
-    still_writing s t c.args.writer.now.put (puts_left s t (room_leaves c.args.now (kept_in c.args.stripe.now) (kept_in c.make_room.new.stripe) _ _ _ _ c.in-Ok.ensures.does)) c.requires.open
+    let w = c.args.writer.now in
+    let at = c.requires.writer.writing in
+    let leaves = room_leaves c.args.now (kept_in c.args.stripe.now) (kept_in c.make_room.new.stripe) _ _ _ _ c.in-Ok.ensures.does in
+    record {
+      writing = record {
+        resting = record { stripe = c.make_room.ensures.continues.stripe; quiet = leaves.pending ∙ at.resting.quiet };
+        writer = left_writer s t w leaves at.writer;
+        is_open = still_writing s t w.put (puts_left s t leaves) at.is_open;
+      };
+      cut = c.requires.writer.cut;
+    }
 
-pub end-requires-clause-spelled : goal.end-requires-clause-spelled
-end-requires-clause-spelled g c =
-    subst (λ x. AreSpelled x c.args.writer.now c.args.vectors)
-    (sym (room_leaves c.args.now (kept_in c.args.stripe.now) (kept_in c.make_room.new.stripe) _ _ _ _ c.in-Ok.ensures.does).geometry) c.requires.spelled
+pub end-requires-clause-vectors : goal.end-requires-clause-vectors
+end-requires-clause-vectors g c =
+    let before = (seen_in c.args.stripe.now).device in
+    let between = (seen_in c.make_room.new.stripe).device in
+    let old = kept_in c.args.stripe.now in
+    let mid = kept_in c.make_room.new.stripe in
+    record {
+      -- what was read stays read over the flush
+      read = λ tells.
+          read_stays (state_in c.args.stripe.now) (state_in c.make_room.new.stripe) c.args.writer.now c.args.vectors
+          (room_keeps c.args.now old mid before.past between _ _ c.in-Ok.ensures.does)
+          (c.requires.vectors.read (told_before before between c.make_room.ensures.continues.between.goes tells));
+      spelled =
+          subst (λ x. AreSpelled x c.args.writer.now c.args.vectors)
+          (sym (room_leaves c.args.now old mid _ _ _ _ c.in-Ok.ensures.does).geometry) c.requires.vectors.spelled;
+    }
 
 pub end-requires-clause-room : goal.end-requires-clause-room
 end-requires-clause-room g c =
-    room_is_made c.args.now (kept_in c.args.stripe.now) (kept_in c.make_room.new.stripe) _ _ c.args.writer.now c.args.vectors c.in-Ok.field-0 c.requires.resting.stripe.pieces.sound c.requires.spelled
-    c.in-Ok.ensures.does c.in-Ok.ensures.room
+    room_is_made c.args.now (kept_in c.args.stripe.now) (kept_in c.make_room.new.stripe) _ _ c.args.writer.now c.args.vectors c.in-Ok.field-0
+    c.requires.writer.writing.resting.stripe.pieces.sound c.requires.vectors.spelled c.in-Ok.ensures.does c.in-Ok.ensures.room
 
-pub returns-in-Ok-clause-rests : goal.returns-in-Ok-clause-rests
-returns-in-Ok-clause-rests g c =
-    rests_behind TellsVectors TellsVectors _ _ _ (λ contents tells told. told)
-    (continues_rests _ _ c.make_room.ensures.continues
-    ((room_leaves c.args.now (kept_in c.args.stripe.now) (kept_in c.make_room.new.stripe) _ _ _ _ c.in-Ok.ensures.does).pending ∙ c.requires.resting.quiet))
-    c.end.ensures.rests
+pub end-requires-clause-units : goal.end-requires-clause-units
+end-requires-clause-units g c = omega (arith, c.requires.units, c.make_room.ensures.unit)
 
--- what was read stays read over the flush
-pub end-requires-clause-read : goal.end-requires-clause-read
-end-requires-clause-read g c = λ tells.
-    let before = (seen_in c.args.stripe.now).device in
-    let between = (seen_in c.make_room.new.stripe).device in
-    read_stays (state_in c.args.stripe.now) (state_in c.make_room.new.stripe) c.args.writer.now c.args.vectors
-    (room_keeps c.args.now (kept_in c.args.stripe.now) (kept_in c.make_room.new.stripe) before.past between _ _ c.in-Ok.ensures.does)
-    (c.requires.read (told_before before between c.make_room.ensures.continues.between.goes tells))
-
-pub end-requires-clause-writer : goal.end-requires-clause-writer
-end-requires-clause-writer g c =
-    left_writer (state_in c.args.stripe.now) (state_in c.make_room.new.stripe) c.args.writer.now
-    (room_leaves c.args.now (kept_in c.args.stripe.now) (kept_in c.make_room.new.stripe) _ _ _ _ c.in-Ok.ensures.does) c.requires.writer
-
-pub returns-in-Ok-clause-does : goal.returns-in-Ok-clause-does
-returns-in-Ok-clause-does g c =
+pub returns-in-Ok : goal.returns-in-Ok
+returns-in-Ok g c =
     let s = state_in c.args.stripe.now in
     let w = c.args.writer.now in
-    behind_room g.R.Directory.purges c.args.now (kept_in c.args.stripe.now) (kept_in c.make_room.new.stripe) (kept_in c.end.new.stripe)
-    (seen_in c.args.stripe.now).device (seen_in c.make_room.new.stripe).device (seen_in c.end.new.stripe).device w c.args.vectors
-    (is_closing s w c.requires.resting.quiet c.requires.open c.requires.writer c.requires.cut) c.requires.spelled c.in-Ok.field-0 c.end.result c.make_room.ensures.continues.between.goes c.end.ensures.rests.between.goes
-    c.in-Ok.ensures.does c.end.ensures.does
+    let at = c.requires.writer.writing in
+    let old = kept_in c.args.stripe.now in
+    let mid = kept_in c.make_room.new.stripe in
+    let new = kept_in c.end.new.stripe in
+    record {
+      rests =
+          rests_behind TellsVectors TellsVectors _ _ _ (λ contents tells told. told)
+          (continues_rests _ _ c.make_room.ensures.continues
+          ((room_leaves c.args.now old mid _ _ _ _ c.in-Ok.ensures.does).pending ∙ at.resting.quiet))
+          c.end.ensures.rests;
+      finishes = c.end.ensures.finishes;
+      does =
+          behind_room g.R.Directory.purges c.args.now old mid new
+          (seen_in c.args.stripe.now).device (seen_in c.make_room.new.stripe).device (seen_in c.end.new.stripe).device w c.args.vectors
+          (is_closing s w at.resting.quiet at.is_open at.writer c.requires.writer.cut) c.requires.vectors.spelled c.in-Ok.field-0
+          c.end.result c.make_room.ensures.continues.between.goes c.end.ensures.rests.between.goes
+          c.in-Ok.ensures.does c.end.ensures.does;
+      counts = c.end.ensures.counts;
+      writer = c.end.ensures.writer;
+      own =
+          then_owns w.put old mid new (owns_room w.put c.args.now old mid _ _ _ _ c.in-Ok.ensures.does) c.end.ensures.own;
+    }
 
-pub returns-in-Err-clause-does : goal.returns-in-Err-clause-does
-returns-in-Err-clause-does g c =
+pub returns-in-Err : goal.returns-in-Err
+returns-in-Err g c =
     let s = state_in c.args.stripe.now in
+    let t = state_in c.make_room.new.stripe in
     let w = c.args.writer.now in
-    no_room_ends g.R.Directory.purges c.args.now (kept_in c.args.stripe.now) (kept_in c.make_room.new.stripe) _ _ w c.args.vectors (is_closing s w c.requires.resting.quiet c.requires.open c.requires.writer c.requires.cut)
-    c.requires.spelled c.in-Err.why c.in-Err.ensures.does c.in-Err.ensures.full c.in-Err.ensures.stops
-
-pub returns-in-Err-clause-rests : goal.returns-in-Err-clause-rests
-returns-in-Err-clause-rests g c =
-    let stopped = stop_in (RoomsAsAsked c.args.now (kept_in c.args.stripe.now) (kept_in c.make_room.new.stripe) (seen_in c.args.stripe.now).device.past
-    (seen_in c.make_room.new.stripe).device (bytes_now (state_in c.args.stripe.now) c.args.writer.now c.args.vectors)) c.in-Err.why c.in-Err.ensures.does in
-    rests_with _ _ _
-    (continues_rests _ _ c.make_room.ensures.continues
-    ((room_leaves c.args.now (kept_in c.args.stripe.now) (kept_in c.make_room.new.stripe) _ _ _ _ stopped.1).pending ∙ c.requires.resting.quiet))
-
-pub returns-in-Err-clause-writer : goal.returns-in-Err-clause-writer
-returns-in-Err-clause-writer g c =
-    let stopped = stop_in (RoomsAsAsked c.args.now (kept_in c.args.stripe.now) (kept_in c.make_room.new.stripe) (seen_in c.args.stripe.now).device.past
-    (seen_in c.make_room.new.stripe).device (bytes_now (state_in c.args.stripe.now) c.args.writer.now c.args.vectors)) c.in-Err.why c.in-Err.ensures.does in
-    left_writer (state_in c.args.stripe.now) (state_in c.make_room.new.stripe) c.args.writer.now
-    (room_leaves c.args.now (kept_in c.args.stripe.now) (kept_in c.make_room.new.stripe) _ _ _ _ stopped.1) c.requires.writer
-
-pub returns-in-Ok-clause-own : goal.returns-in-Ok-clause-own
-returns-in-Ok-clause-own g c =
-    then_owns c.args.writer.now.put (kept_in c.args.stripe.now) (kept_in c.make_room.new.stripe) (kept_in c.end.new.stripe)
-    (owns_room c.args.writer.now.put c.args.now (kept_in c.args.stripe.now) (kept_in c.make_room.new.stripe) _ _ _ _ c.in-Ok.ensures.does) c.end.ensures.own
-
-pub returns-in-Err-clause-own : goal.returns-in-Err-clause-own
-returns-in-Err-clause-own g c =
-    let stopped = stop_in (RoomsAsAsked c.args.now (kept_in c.args.stripe.now) (kept_in c.make_room.new.stripe) (seen_in c.args.stripe.now).device.past
-    (seen_in c.make_room.new.stripe).device (bytes_now (state_in c.args.stripe.now) c.args.writer.now c.args.vectors)) c.in-Err.why c.in-Err.ensures.does in
-    owns_room c.args.writer.now.put c.args.now (kept_in c.args.stripe.now) (kept_in c.make_room.new.stripe) _ _ _ _ stopped.1
+    let at = c.requires.writer.writing in
+    let old = kept_in c.args.stripe.now in
+    let new = kept_in c.make_room.new.stripe in
+    let after = (seen_in c.make_room.new.stripe).device in
+    let stopped = stop_in (RoomsAsAsked c.args.now old new (seen_in c.args.stripe.now).device.past
+    after (bytes_now s w c.args.vectors)) c.in-Err.why c.in-Err.ensures.does in
+    let leaves = room_leaves c.args.now old new _ _ _ _ stopped.1 in
+    record {
+      rests = rests_with _ _ _ (continues_rests _ _ c.make_room.ensures.continues (leaves.pending ∙ at.resting.quiet));
+      finishes = no_room_where s t w after.faults c.in-Err.why c.in-Err.ensures.stops;
+      does =
+          no_room_ends g.R.Directory.purges c.args.now old new _ _ w c.args.vectors
+          (is_closing s w at.resting.quiet at.is_open at.writer c.requires.writer.cut)
+          c.requires.vectors.spelled c.in-Err.why c.in-Err.ensures.does c.in-Err.ensures.full c.in-Err.ensures.stops;
+      counts = c.in-Err.ensures.counts;
+      writer = left_writer s t w leaves at.writer;
+      own = owns_room w.put c.args.now old new _ _ _ _ stopped.1;
+    }

@@ -1,17 +1,43 @@
-use Rattle.std.proofs.Common.{[], ◌∷◌, false, sym, subst, refl, arith}
+use Rattle.std.proofs.Common.{List, [], ◌∷◌, Err, false, sym, ◌∙◌, ap, subst, refl}
+use Rattle.std.proofs.lemmas.Result.{err_from_is_err_and}
+use Rattle.cache_model.specs.declared.record.Rec.{Rec}
 use Rattle.stripe_core.specs.Acts.{write_opened_record}
 use Rattle.stripe_core.specs.Stripe.{kept_in, state_in}
+use Rattle.stripe_core.proofs.Continuing.{continues_rests, continues_still, rests_same}
 use Rattle.stripe_write.specs.declared.writer.Writer.{Writer}
 use Rattle.stripe_write.specs.Writers.{IsStripeWriterOf}
+use Rattle.stripe_write.proofs.CallsRefused.{open_refused}
 use Rattle.stripe_write.proofs.Ended.{new_writer}
-use Rattle.stripe_write.proofs.Spending.{state_behind}
-use Rattle.std.proofs.lemmas.Grind.{common_steps}
-use Rattle.stripe_core.proofs.Continuing.{continues_rests, continues_still}
+use Rattle.stripe_write.proofs.Spending.{quiet_behind, state_behind}
 use Rattle.stripe_write.proofs.writing.begin.Goals as goal
 
-pub returns-clause-writer : goal.returns-clause-writer
-returns-clause-writer g c =
+pub returns-in_err-kept_request : goal.returns-in_err-kept_request
+returns-in_err-kept_request g c =
+    let wanting = err_from_is_err_and c.from_residual.result c.from_residual.ensures.1 in
+    open_refused c.args.stripe.now c.args.stripe.now c.args.actor c.args.key c.args.request c.args.response c.args.pin _
+    c.from_residual.result (wanting.1 ∙ ap Err wanting.2) (rests_same c.args.stripe.now c.requires.resting) refl refl c.requires.number
+
+pub returns-in_err-kept_response : goal.returns-in_err-kept_response
+returns-in_err-kept_response g c =
+    let wanting = err_from_is_err_and c.from_residual-in_err-kept_response.result c.from_residual-in_err-kept_response.ensures.1 in
+    open_refused c.args.stripe.now c.args.stripe.now c.args.actor c.args.key c.args.request c.args.response c.args.pin _
+    c.from_residual-in_err-kept_response.result (wanting.1 ∙ ap Err wanting.2) (rests_same c.args.stripe.now c.requires.resting) refl refl
+    c.requires.number
+
+pub returns-in_err-put : goal.returns-in_err-put
+returns-in_err-put g c =
+    let refused = err_from_is_err_and c.from_residual-in_err-put.result c.from_residual-in_err-put.ensures.1 in
+    open_refused c.args.stripe.now c.start_put.new.self c.args.actor c.args.key c.args.request c.args.response c.args.pin _
+    c.from_residual-in_err-put.result (refused.1 ∙ ap Err refused.2)
+    (continues_still _ _ c.start_put.ensures.continues c.in_err-put.ensures.err c.requires.resting) c.in_err-put.ensures.err
+    c.start_put.ensures.still c.in_err-put.ensures.does
+
+pub returns : goal.returns
+returns g c =
     let s = state_in c.args.stripe.now in
+    let old = kept_in c.args.stripe.now in
+    let new = kept_in c.start_put.new.self in
+    let recs : List Rec = write_opened_record s c.args.actor c.args.key c.args.request c.args.response c.args.pin ∷ [] in
     let w : Writer = record {
       put = c.in_ok-put.put;
       key = c.args.key;
@@ -22,12 +48,17 @@ returns-clause-writer g c =
       table = c.new-2.result;
       sealed = false;
     } in
-    subst (λ t. IsStripeWriterOf t w)
-    (sym (state_behind (kept_in c.args.stripe.now) (kept_in c.start_put.new.self) (write_opened_record s c.args.actor c.args.key c.args.request c.args.response c.args.pin ∷ []) c.in_ok-put.ensures.adds))
-    (new_writer s c.args.actor c.args.key c.args.request c.args.response c.args.pin w c.in_ok-put.ensures.does.0 refl c.in_ok-kept_request.ensures.copy c.in_ok-kept_response.ensures.copy refl c.new-2.ensures c.new.ensures.items)
-
-pub returns-clause-rests : goal.returns-clause-rests
-returns-clause-rests g c = continues_rests _ _ c.start_put.ensures.continues (grind (arith, common_steps))
-
-pub returns-in_err-put-clause-rests : goal.returns-in_err-put-clause-rests
-returns-in_err-put-clause-rests g c = continues_still _ _ c.start_put.ensures.continues c.in_err-put.ensures.err c.requires.resting
+    record {
+      rests = continues_rests _ _ c.start_put.ensures.continues
+          (quiet_behind old new recs c.in_ok-put.ensures.adds c.requires.resting.quiet);
+      adds = c.in_ok-put.ensures.adds;
+      err = tt;
+      does = c.in_ok-put.ensures.does;
+      writer =
+          subst (λ t. IsStripeWriterOf t w) (sym (state_behind old new recs c.in_ok-put.ensures.adds))
+          (new_writer s c.args.actor c.args.key c.args.request c.args.response c.args.pin w c.in_ok-put.ensures.does.0 refl
+          c.in_ok-kept_request.ensures.copy c.in_ok-kept_response.ensures.copy refl c.new-2.ensures c.new.ensures.items);
+      empty = c.new.ensures.items;
+      unsealed = refl;
+      still = c.start_put.ensures.still;
+    }

@@ -1,52 +1,56 @@
-use Rattle.std.proofs.Common.{◌≡◌, ℕ, Result, Err, sym, ◌∙◌, ap, subst, [], ◌∷◌, arith}
+use Rattle.std.proofs.Common.{List, [], ◌∷◌, Err, sym, ◌∙◌, ap, subst}
 use Rattle.std.proofs.lemmas.Result.{err_from_is_err_and}
+use Rattle.cache_model.specs.declared.record.Rec.{Rec}
 use Rattle.cache_model.specs.declared.record.Rec.TheVariants as rec
 use Rattle.cache_model.specs.Kept.{state_of, with_records}
 use Rattle.cache_model.specs.Legal.{IsQuiet, is_writing}
-use Rattle.stripe_core.specs.declared.refusal.Refusal.{Refusal}
 use Rattle.stripe_core.specs.Stripe.{kept_in, state_in}
-use Rattle.stripe_write.specs.Writers.{IsStripeWriterOf}
-use Rattle.stripe_write.specs.Writes.{overflow_adds}
-use Rattle.stripe_write.proofs.Spending.{nothing_more}
-use Rattle.stripe_write.proofs.Ended.{giving_up, no_writer, overflows}
-use Rattle.std.proofs.lemmas.Grind.{common_steps}
 use Rattle.stripe_core.proofs.Continuing.{continues_further, continues_still}
 use Rattle.stripe_core.proofs.Stills.{still_as, still_then}
+use Rattle.stripe_write.specs.Writers.{IsStripeWriterOf}
+use Rattle.stripe_write.specs.Writes.{OverflowsInStripe}
+use Rattle.stripe_write.proofs.Ended.{giving_up, no_writer, overflows}
+use Rattle.stripe_write.proofs.Spending.{nothing_more, quiet_behind, state_behind}
 use Rattle.stripe_write.proofs.writing.overflow.Goals as goal
-
-pub returns-in_err-prepare-clause-does : goal.returns-in_err-prepare-clause-does
-returns-in_err-prepare-clause-does g c = λ p. overflows p (state_in c.args.stripe.now) c.args.writer.now c.requires.resting.quiet c.requires.open c.requires.writer c.requires.full
-
-pub returns-in_err-prepare-clause-writer : goal.returns-in_err-prepare-clause-writer
-returns-in_err-prepare-clause-writer g c = subst (λ k. IsStripeWriterOf (state_of k) c.args.writer.now) (sym c.prepare.ensures.records) c.requires.writer
 
 pub give_up-requires-clause-writing : goal.give_up-requires-clause-writing
 give_up-requires-clause-writing g c =
-    giving_up (state_in c.prepare.new.self) c.args.writer.now (subst (λ k. IsQuiet (state_of k)) (sym c.prepare.ensures.records) c.requires.resting.quiet)
-    (ap (λ k. is_writing (state_of k) c.args.writer.now.put) c.prepare.ensures.records ∙ c.requires.open)
-    (subst (λ k. IsStripeWriterOf (state_of k) c.args.writer.now) (sym c.prepare.ensures.records) c.requires.writer)
+    let own = c.requires.writing in
+    giving_up (state_in c.prepare.new.self) c.args.writer.now
+    (subst (λ k. IsQuiet (state_of k)) (sym c.prepare.ensures.records) own.resting.quiet)
+    (ap (λ k. is_writing (state_of k) c.args.writer.now.put) c.prepare.ensures.records ∙ own.is_open)
+    (subst (λ k. IsStripeWriterOf (state_of k) c.args.writer.now) (sym c.prepare.ensures.records) own.writer)
 
-pub returns-clause-does : goal.returns-clause-does
-returns-clause-does g c = λ p. overflows p (state_in c.args.stripe.now) c.args.writer.now c.requires.resting.quiet c.requires.open c.requires.writer c.requires.full
-
-pub returns-clause-writer : goal.returns-clause-writer
-returns-clause-writer g c =
-    subst (λ t. IsStripeWriterOf t c.args.writer.now)
-    (sym (ap state_of c.give_up.ensures.adds ∙ Rattle.cache_model.proofs.Steps.after_all-append (kept_in c.prepare.new.self).base (kept_in c.prepare.new.self).since (rec.Aborted c.args.writer.now.put c.args.writer.now.key ∷ [])))
-    (no_writer (state_in c.prepare.new.self) c.args.writer.now c.args.writer.now.key)
-
-pub returns-clause-rests : goal.returns-clause-rests
-returns-clause-rests g c = continues_further _ _ _ c.prepare.ensures.continues c.give_up.ensures.continues (grind (arith, common_steps))
-
-pub returns-in_err-prepare-clause-adds : goal.returns-in_err-prepare-clause-adds
-returns-in_err-prepare-clause-adds g c =
-    let k = kept_in c.args.stripe.now in
+pub returns-in_err-prepare : goal.returns-in_err-prepare
+returns-in_err-prepare g c =
+    let w = c.args.writer.now in
+    let own = c.requires.writing in
     let wanting = err_from_is_err_and c.from_residual.result c.from_residual.ensures.1 in
-    subst (λ (r : Result ℕ Refusal). kept_in c.prepare.new.self ≡ with_records k (overflow_adds c.args.writer.now r)) (sym (wanting.1 ∙ ap Err wanting.2))
-    (c.prepare.ensures.records ∙ sym (nothing_more k))
+    subst (OverflowsInStripe c.args.stripe.now c.prepare.new.self w) (sym (wanting.1 ∙ ap Err wanting.2)) (record {
+      rests = continues_still _ _ c.prepare.ensures.continues c.prepare.ensures.records own.resting;
+      refused = tt;
+      adds = c.prepare.ensures.records ∙ sym (nothing_more (kept_in c.args.stripe.now));
+      does = λ p. overflows p (state_in c.args.stripe.now) w own.resting.quiet own.is_open own.writer c.requires.full;
+      writer = subst (λ k. IsStripeWriterOf (state_of k) w) (sym c.prepare.ensures.records) own.writer;
+      still = c.prepare.ensures.still;
+    })
 
-pub returns-in_err-prepare-clause-rests : goal.returns-in_err-prepare-clause-rests
-returns-in_err-prepare-clause-rests g c = continues_still _ _ c.prepare.ensures.continues c.prepare.ensures.records c.requires.resting
-
-pub returns-clause-still : goal.returns-clause-still
-returns-clause-still g c = still_then _ _ _ c.prepare.ensures.still (still_as _ _ c.give_up.ensures.still)
+pub returns : goal.returns
+returns g c =
+    let w = c.args.writer.now in
+    let own = c.requires.writing in
+    let prepared = kept_in c.prepare.new.self in
+    let new = kept_in c.give_up.new.self in
+    let recs : List Rec = rec.Aborted w.put w.key ∷ [] in
+    record {
+      rests = continues_further _ _ _ c.prepare.ensures.continues c.give_up.ensures.continues
+          (quiet_behind prepared new recs c.give_up.ensures.adds
+          (subst (λ k. IsQuiet (state_of k)) (sym c.prepare.ensures.records) own.resting.quiet));
+      refused = tt;
+      adds = c.give_up.ensures.adds ∙ ap (λ k. with_records k recs) c.prepare.ensures.records;
+      does = λ p. overflows p (state_in c.args.stripe.now) w own.resting.quiet own.is_open own.writer c.requires.full;
+      writer =
+          subst (λ t. IsStripeWriterOf t w) (sym (state_behind prepared new recs c.give_up.ensures.adds))
+          (no_writer (state_of prepared) w w.key);
+      still = still_then _ _ _ c.prepare.ensures.still (still_as _ _ c.give_up.ensures.still);
+    }

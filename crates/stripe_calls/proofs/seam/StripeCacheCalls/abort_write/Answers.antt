@@ -30,3 +30,9 @@ returns-clause-writer g c = writer_as (state_in c.abort_write.new.stripe) c.abor
 
 pub returns-clause-keeps : goal.returns-clause-keeps
 returns-clause-keeps g c = cache_keeps _ _ c.abort_write.ensures.rests
+
+pub returns-clause-stands : goal.returns-clause-stands
+returns-clause-stands g c = c.abort_write.ensures.rests.contents
+
+pub returns-clause-same : goal.returns-clause-same
+returns-clause-same g c = c.abort_write.ensures.same

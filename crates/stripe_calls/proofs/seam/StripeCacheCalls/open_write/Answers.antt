@@ -27,3 +27,6 @@ returns-clause-own g c =
 
 pub returns-clause-keeps : goal.returns-clause-keeps
 returns-clause-keeps g c = cache_keeps _ _ c.open_write.ensures.rests
+
+pub returns-clause-stands : goal.returns-clause-stands
+returns-clause-stands g c = c.open_write.ensures.rests.contents

@@ -17,3 +17,6 @@ returns-clause-gives g c = rw c.removed.ensures
 
 pub returns-clause-keeps : goal.returns-clause-keeps
 returns-clause-keeps g c = cache_keeps _ _ c.remove.ensures.rests
+
+pub returns-clause-stands : goal.returns-clause-stands
+returns-clause-stands g c = c.remove.ensures.rests.contents

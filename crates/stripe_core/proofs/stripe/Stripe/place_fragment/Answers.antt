@@ -26,7 +26,7 @@ pub returns-in_err-reserve_cut : goal.returns-in_err-reserve_cut
 returns-in_err-reserve_cut g c =
     let kept = kept_in c.args.self.now in
     let before = seen_in c.args.self.now in
-    let stripe = c.requires.stripe in
+    let stripe = c.requires.taken.stripe in
     let wanting = err_from_is_err_and c.from_residual.result c.from_residual.ensures.1 in
     let cuts =
     CutsAsAsked g.R.Directory.purges c.args.now kept kept before.device.past before.device c.args.id c.args.pin c.args.start
@@ -66,32 +66,32 @@ returns-in-Ok g c =
           actors = subst (λ t. AreActors t c.cut.new.self) (sym behind)
               (fragment_actors purges s id c.args.pin c.args.start payload shape.room shape.piece shape.kinds kind shape.are
               c.reserve_cut.new.self c.cut.new.self c.in-Ok.placed.payload shape.payload_is c.cut.ensures.cuts
-              (c.reserve_cut.ensures.step s c.requires.stripe.actors));
+              (c.reserve_cut.ensures.step s c.requires.taken.stripe.actors));
           spared = spent_by (nat_lt c.room.result c.blocks_of.result) (units_in c.args.self.now) (flushes_in c.args.self.now)
               c.one_where.result _ _ _ _ before after
-              c.one_where.ensures c.requires.spared c.place_fragment.ensures.keeps.uses (omega arith) (omega arith)
+              c.one_where.ensures c.requires.taken.spared c.place_fragment.ensures.keeps.uses (omega arith) (omega arith)
               (λ none. c.place_fragment.ensures.keeps.still
-              (room_for_it s before (length payload) c.blocks_of.result c.room.result c.requires.stripe.pieces c.blocks_of.ensures
+              (room_for_it s before (length payload) c.blocks_of.result c.room.result c.requires.taken.stripe.pieces c.blocks_of.ensures
               c.room.ensures none));
           named =
               fragment_named s _ id _ _ c.args.pin c.args.start _ payload shape.room shape.are.displaced _ _ c.requires.fragment shape.kinds
               (displaced_leaves shape.are.displaced gone)
-              (λ t. displaced_puts t shape.are.displaced gone) c.requires.stripe.named
-              (begun_put s c.args.self.now.actors id.put c.requires.fragment.w c.requires.stripe.actors
+              (λ t. displaced_puts t shape.are.displaced gone) c.requires.taken.stripe.named
+              (begun_put s c.args.self.now.actors id.put c.requires.fragment.w c.requires.taken.stripe.actors
               c.requires.fragment.next.writing.found)
               (behind ∙ placed_state purges s id c.args.pin c.args.start payload shape.room shape.piece shape.kinds kind shape.are);
-          readers = omega (arith, c.requires.stripe.readers, c.reserve_cut.ensures.readers, c.cut.ensures.readers);
-          ahead = made_still s _ before after c.place_fragment.new.ahead c.requires.stripe.pieces c.place_fragment.ensures.keeps.pieces.held
+          readers = omega (arith, c.requires.taken.stripe.readers, c.reserve_cut.ensures.readers, c.cut.ensures.readers);
+          ahead = made_still s _ before after c.place_fragment.new.ahead c.requires.taken.stripe.pieces c.place_fragment.ensures.keeps.pieces.held
               c.place_fragment.ensures.keeps.uses.same c.place_fragment.ensures.keeps.ahead;
           none = ap (λ (t : State). t.displaced) (behind ∙ after_all-append s shape.room shape.piece)
               ∙ none_placed purges (after_all s shape.room) id c.args.pin c.args.start payload shape.piece shape.are;
           vectors = c.in-Ok.ensures.keeps.pieces.contents contents_of_vectors
-              (λ tells. told_fragment s id c.args.start payload kind) c.requires.stripe.vectors;
+              (λ tells. told_fragment s id c.args.start payload kind) c.requires.taken.stripe.vectors;
           numbered =
               let same : (state_of new).next_reader ≡ s.next_reader =
               ap (λ (t : State). t.next_reader) behind ∙ fragment_readers purges s id c.args.pin c.args.start payload shape.room shape.piece
               shape.kinds kind shape.are in
-              numbered_by kept new does.added 0 does.adds (omega (arith, same)) (omega arith) c.requires.stripe.numbered;
+              numbered_by kept new does.added 0 does.adds (omega (arith, same)) (omega arith) c.requires.taken.stripe.numbered;
         };
         between = between-adds _ _ kept _ does.added does.adds c.place_fragment.ensures.keeps.uses.goes does.faults does.unharmed;
         contents = c.in-Ok.ensures.keeps.pieces.contents;
@@ -120,20 +120,20 @@ returns-in-Err g c =
         stripe = record {
           pieces = c.place_fragment.ensures.keeps.pieces.held;
           actors = actors_with kept _ c.reserve_cut.new.self does.added does.adds others
-              (c.reserve_cut.ensures.step s c.requires.stripe.actors);
+              (c.reserve_cut.ensures.step s c.requires.taken.stripe.actors);
           spared = spent_by (nat_lt c.room.result c.blocks_of.result) (units_in c.args.self.now) (flushes_in c.args.self.now)
               c.one_where.result _ _ _ _ before after
-              c.one_where.ensures c.requires.spared c.place_fragment.ensures.keeps.uses (omega arith) (omega arith)
+              c.one_where.ensures c.requires.taken.spared c.place_fragment.ensures.keeps.uses (omega arith) (omega arith)
               (λ none. c.place_fragment.ensures.keeps.still
-              (room_for_it s before (length payload) c.blocks_of.result c.room.result c.requires.stripe.pieces c.blocks_of.ensures
+              (room_for_it s before (length payload) c.blocks_of.result c.room.result c.requires.taken.stripe.pieces c.blocks_of.ensures
               c.room.ensures none));
-          named = named_with kept _ does.added does.adds (flush_leaves does.added shape.kinds) c.requires.stripe.named;
-          readers = omega (arith, c.requires.stripe.readers, c.reserve_cut.ensures.readers);
-          ahead = made_still s _ before after c.place_fragment.new.ahead c.requires.stripe.pieces c.place_fragment.ensures.keeps.pieces.held
+          named = named_with kept _ does.added does.adds (flush_leaves does.added shape.kinds) c.requires.taken.stripe.named;
+          readers = omega (arith, c.requires.taken.stripe.readers, c.reserve_cut.ensures.readers);
+          ahead = made_still s _ before after c.place_fragment.new.ahead c.requires.taken.stripe.pieces c.place_fragment.ensures.keeps.pieces.held
               c.place_fragment.ensures.keeps.uses.same c.place_fragment.ensures.keeps.ahead;
-          none = none_with kept _ does.added does.adds (flush_displaces does.added shape.kinds) c.requires.stripe.none;
-          vectors = c.in-Err.ensures.keeps.pieces.contents contents_of_vectors tt c.requires.stripe.vectors;
-          numbered = numbered_others kept _ does.added does.adds others c.requires.stripe.numbered;
+          none = none_with kept _ does.added does.adds (flush_displaces does.added shape.kinds) c.requires.taken.stripe.none;
+          vectors = c.in-Err.ensures.keeps.pieces.contents contents_of_vectors tt c.requires.taken.stripe.vectors;
+          numbered = numbered_others kept _ does.added does.adds others c.requires.taken.stripe.numbered;
         };
         between = between-adds _ _ kept _ does.added does.adds c.place_fragment.ensures.keeps.uses.goes does.faults does.unharmed;
         contents = c.in-Err.ensures.keeps.pieces.contents;
@@ -153,12 +153,12 @@ returns-in-Err g c =
 
 pub place_fragment-requires-clause-new : goal.place_fragment-requires-clause-new
 place_fragment-requires-clause-new g c =
-    fragment_new (state_in c.args.self.now) c.args.id c.args.pin c.args.start c.args.payload.now c.requires.fragment c.requires.stripe.named
+    fragment_new (state_in c.args.self.now) c.args.id c.args.pin c.args.start c.args.payload.now c.requires.fragment c.requires.taken.stripe.named
 
 pub place_fragment-requires-clause-ready : goal.place_fragment-requires-clause-ready
 place_fragment-requires-clause-ready g c =
     let t = c.args.self.now in
-    let stripe = c.requires.stripe in
-    ready_to_flush t.pieces (units_in t) (flushes_in t) _ _ stripe.pieces c.requires.spared (omega arith) (omega arith)
+    let stripe = c.requires.taken.stripe in
+    ready_to_flush t.pieces (units_in t) (flushes_in t) _ _ stripe.pieces c.requires.taken.spared (omega arith) (omega arith)
     c.reserve_cut.new.self t.ahead
     (c.reserve_cut.ensures.step (state_in t) stripe.actors) stripe.ahead

@@ -107,3 +107,15 @@ place_vector-requires-clause-spelled g c = λ tells.
     let before = told_before (seen_in c.args.self.now).device (seen_in c.take_unit.new.self).device c.take_unit.ensures.still.goes tells in
     subst (λ k. IsToldAs contents_of_vectors (state_of k) c.args.id c.args.start c.args.payload.now) (sym c.take_unit.ensures.records)
     (c.requires.spelled before)
+
+pub place_vector-requires-clause-taken : goal.place_vector-requires-clause-taken
+place_vector-requires-clause-taken g c = record {
+  stripe = c.take_unit.ensures.continues.stripe;
+  spared = c.in_ok-take_unit.ensures.spared;
+}
+
+pub place_fragment-requires-clause-taken : goal.place_fragment-requires-clause-taken
+place_fragment-requires-clause-taken g c = record {
+  stripe = c.take_unit.ensures.continues.stripe;
+  spared = c.in_ok-take_unit.ensures.spared;
+}

@@ -36,26 +36,26 @@ returns-in-Ok g c =
       continues = record {
         stripe = record {
           pieces = c.place.ensures.keeps.pieces.held;
-          actors = actors_with kept _ c.args.self.now.actors places.added places.adds others c.requires.stripe.actors;
+          actors = actors_with kept _ c.args.self.now.actors places.added places.adds others c.requires.taken.stripe.actors;
           spared = spent_calm (units_in c.args.self.now) (flushes_in c.args.self.now) _ _
-              (2 + purge_of (seen_in c.args.self.now).geometry) 1 (seen_in c.args.self.now) (seen_now c.place.new.self) c.requires.spared
+              (2 + purge_of (seen_in c.args.self.now).geometry) 1 (seen_in c.args.self.now) (seen_now c.place.new.self) c.requires.taken.spared
               c.place.ensures.keeps.uses (omega arith) (omega arith);
           named = vector_named s _ id _ _ c.args.pin _ c.requires.vector.w are.displaced (displaced_leaves are.displaced gone)
               (displaced_puts s are.displaced gone)
-              c.requires.stripe.named c.requires.vector.writing.quiet
-              (begun_put s c.args.self.now.actors id.put c.requires.vector.w c.requires.stripe.actors c.requires.vector.writing.found)
+              c.requires.taken.stripe.named c.requires.vector.writing.quiet
+              (begun_put s c.args.self.now.actors id.put c.requires.vector.w c.requires.taken.stripe.actors c.requires.vector.writing.found)
               c.requires.vector.writing.found (rw c.requires.kind (omega arith))
               (ap state_of places.adds
               ∙ (state_of-with_records kept places.added ∙ vector_state purges s id c.args.pin c.args.start payload places.added are kind));
-          readers = c.requires.stripe.readers;
-          ahead = made_still s _ (seen_in c.args.self.now) (seen_now c.place.new.self) c.args.self.now.ahead c.requires.stripe.pieces
+          readers = c.requires.taken.stripe.readers;
+          ahead = made_still s _ (seen_in c.args.self.now) (seen_now c.place.new.self) c.args.self.now.ahead c.requires.taken.stripe.pieces
               c.place.ensures.keeps.pieces.held
-              c.place.ensures.keeps.uses.same c.requires.stripe.ahead;
+              c.place.ensures.keeps.uses.same c.requires.taken.stripe.ahead;
           none = ap (λ (t : State). t.displaced) (ap state_of places.adds ∙ state_of-with_records kept places.added)
               ∙ none_placed purges s id c.args.pin c.args.start payload places.added are;
           vectors = c.in-Ok.ensures.keeps.pieces.contents contents_of_vectors
-              (λ tells. c.requires.spelled (subst TellsAll c.place.ensures.keeps.still tells)) c.requires.stripe.vectors;
-          numbered = numbered_others kept _ places.added places.adds others c.requires.stripe.numbered;
+              (λ tells. c.requires.spelled (subst TellsAll c.place.ensures.keeps.still tells)) c.requires.taken.stripe.vectors;
+          numbered = numbered_others kept _ places.added places.adds others c.requires.taken.stripe.numbered;
         };
         between = between-tells _ _ kept _ places.added c.place.ensures.keeps.still places.adds
             (place_quiet purges s id c.args.pin c.args.start payload (Ok c.in-Ok.placed) places.added are)
@@ -83,7 +83,7 @@ returns-in-Err g c =
     let payload = c.args.payload.now in
     let kind : is_vector id ≡ true = eq-eqb id.index 0 c.requires.kind in
     let places = c.in-Err.ensures.places in
-    let stripe = c.requires.stripe in
+    let stripe = c.requires.taken.stripe in
     let nothing : kept_now c.place.new.self ≡ with_records kept [] = places.adds ∙ ap (with_records kept) places.are in
     record {
       continues = record {
@@ -91,7 +91,7 @@ returns-in-Err g c =
           pieces = c.place.ensures.keeps.pieces.held;
           actors = actors_with kept _ c.args.self.now.actors [] nothing tt stripe.actors;
           spared = spent_calm (units_in c.args.self.now) (flushes_in c.args.self.now) _ _
-              (2 + purge_of (seen_in c.args.self.now).geometry) 1 (seen_in c.args.self.now) (seen_now c.place.new.self) c.requires.spared
+              (2 + purge_of (seen_in c.args.self.now).geometry) 1 (seen_in c.args.self.now) (seen_now c.place.new.self) c.requires.taken.spared
               c.place.ensures.keeps.uses (omega arith) (omega arith);
           named = named_with kept _ [] nothing tt stripe.named;
           readers = stripe.readers;
@@ -125,11 +125,11 @@ returns-in-Err g c =
 pub place-requires-clause-fits : goal.place-requires-clause-fits
 place-requires-clause-fits g c = record {
   new = vector_new (state_in c.args.self.now) c.args.id c.args.start c.args.payload.now c.requires.vector
-      (eq-eqb c.args.id.index 0 c.requires.kind) c.requires.stripe.named;
+      (eq-eqb c.args.id.index 0 c.requires.kind) c.requires.taken.stripe.named;
   room = c.requires.vector.room;
 }
 
 pub place-requires-clause-ready : goal.place-requires-clause-ready
 place-requires-clause-ready g c =
     let t = c.args.self.now in
-    ready_with t.pieces (units_in t) (flushes_in t) _ 1 c.requires.stripe.pieces c.requires.spared (omega arith) (omega arith)
+    ready_with t.pieces (units_in t) (flushes_in t) _ 1 c.requires.taken.stripe.pieces c.requires.taken.spared (omega arith) (omega arith)
