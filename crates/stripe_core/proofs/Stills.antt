@@ -8,7 +8,7 @@ use Rattle.stripe_pieces.specs.declared.answer.Stop.{Stop}
 use Rattle.stripe_pieces.specs.Still.{IsStill, IsUnwritten}
 use Rattle.stripe_core.specs.Stripe.{AnswersOrWants, Unstopped, Wanting}
 
-still_put : (a : Device) → IsStill a a
+pub still_put : (a : Device) → IsStill a a
 still_put a = record { goes = stays_put a; past = refl; seen = λ j. refl; faults = refl }
 
 -- where it is the same

@@ -1,5 +1,5 @@
 -- What the calls of a stripe come to: a record for each kind of call.
-use Rattle.std.specs.Prelude.{ℕ, ◌≡◌, ◌+◌, ◌<◌, ◌≤◌, Bool, true, List, [], ◌∷◌, length, Option, Some, Result, IfErr, IfOk, IfSome, IsOk, OnErr, OnOk}
+use Rattle.std.specs.Prelude.{ℕ, ◌≡◌, ◌+◌, ◌<◌, ◌≤◌, Bool, true, false, List, [], ◌∷◌, length, Option, Some, Result, IfErr, IfOk, IfSome, IsOk, OnErr, OnOk}
 use Rattle.std.specs.declared.alloc.AllocError.{AllocError}
 use Rattle.std.specs.declared.alloc.Global.{Global}
 use Rattle.tape_base.specs.declared.actors.Actor.{Actor}

@@ -176,14 +176,15 @@ returns-in-Err-Exhausted g c =
       does =
           let reached : IsExhausted s c.in-Err-Exhausted.number =
           subst (λ e. OpensWhere s (Err e)) c.in-Err-Exhausted.field-0-is (c.in-Err-Exhausted.ensures.exact s stripe.actors) in
-          refused_opens s c.args.actor c.args.key c.args.request c.args.response c.args.pin (refusal.Exhausted c.in-Err-Exhausted.number)
-          c.requires.resting.quiet (reached.few, omega (arith, reached.above, reached.next), reached.next);
+          rw c.in-Err-Exhausted.field-0-is
+          (refused_opens s c.args.actor c.args.key c.args.request c.args.response c.args.pin (refusal.Exhausted c.in-Err-Exhausted.number)
+          c.requires.resting.quiet (reached.few, omega (arith, reached.above, reached.next), reached.next));
       still = refl;
       unit = refl;
     }
 
-pub returns-in-Err-Memory : goal.returns-in-Err-Memory
-returns-in-Err-Memory g c =
+pub returns : goal.returns
+returns g c =
     let stripe = c.requires.resting.stripe in
     record {
       continues =
