@@ -1,19 +1,24 @@
 -- What every call keeps, of no call and of one behind another.
-use Rattle.std.proofs.Common.{◌≡◌, ◌≤◌, refl, sym, ap, subst, arith}
+use Rattle.std.proofs.Common.{◌≡◌, ◌<◌, ◌≤◌, refl, sym, ◌∙◌, ap, subst, arith}
 use Rattle.logged_disk.specs.Device.{DeviceState as Device, TellsAll}
 use Rattle.logged_disk.specs.declared.device.Disk.{Ghosts as DiskGhosts}
 use Rattle.logged_disk.proofs.GoingOn.{goes_further, stays_as}
 use Rattle.dir_table.specs.declared.directory.Directory.{Ghosts as DirectoryGhosts}
 use Rattle.cache_chronicle.specs.declared.chronicle.Chronicle.{Ghosts as ChronicleGhosts}
 use Rattle.cache_model.specs.State.{State}
-use Rattle.cache_model.specs.Kept.{state_of}
+use Rattle.cache_model.specs.Kept.{Kept, count_of, state_of}
 use Rattle.cache_model.specs.Legal.{IsQuiet}
-use Rattle.call_laws.specs.Contents.{AnyContents, Contents}
+use Rattle.call_laws.specs.Contents.{AnyContents, Contents, contents_of_vectors}
+use Rattle.stripe_actors.specs.Actors.{AreActors, reader_room_of}
+use Rattle.stripe_actors.specs.Calls.{StayInStep}
 use Rattle.stripe_core.specs.declared.stripe.Stripe.{Stripe}
-use Rattle.stripe_core.specs.Between.{Between, Continues, ContinuesWith, IsResting, Proceeds, Rests, RestsWith}
+use Rattle.stripe_core.specs.Between.{Between, Continues, ContinuesWith, IsResting, Proceeds, Rests, RestsWith, StandIn}
 use Rattle.cyclone.specs.Cyclone.{Seen}
+use Rattle.stripe_pieces.specs.Ahead.{IsMadeFor}
+use Rattle.stripe_pieces.specs.Held.{IsHeld}
 use Rattle.stripe_pieces.specs.Standing.{AreStanding}
-use Rattle.stripe_core.specs.Stripe.{IsStripe, kept_in, seen_in, state_in}
+use Rattle.stripe_core.specs.Named.{IsNamed}
+use Rattle.stripe_core.specs.Stripe.{IsSpared, IsStripe, kept_in, seen_in, state_in}
 use Rattle.stripe_core.proofs.Between.{accounted_none, accounted_then, between-trans, between_same}
 
 -- a device that stays counts no less
@@ -44,6 +49,32 @@ module _ {D R C : Type 0} {d : DiskGhosts D} {r : DirectoryGhosts R} {c : Chroni
     contents = λ contents told stands. stands;
     later = omega arith;
   }
+
+  -- with the same records and the same tape, where the actors stay in step, and memory is made for no more than there is
+  pub continues_beside : (t u : Stripe D R C d r c) → IsStripe t → kept_in u ≡ kept_in t → seen_in u ≡ seen_in t
+      → StayInStep t.actors u.actors → IsSpared u.units u.flushes (c.room u.pieces.chronicle) (seen_in u) → u.units ≤ reader_room_of u.actors
+      → IsMadeFor (state_in t).geometry u.ahead → Continues t u
+  continues_beside t u stripe kept seen step spared readers ahead =
+      let device : (seen_in u).device ≡ (seen_in t).device = ap (λ (y : Seen). y.device) seen in
+      let stands : (contents : Contents) → StandIn contents t → StandIn contents u = λ contents h.
+      subst (λ (k : Kept). AreStanding contents (state_of k) (seen_in u)) (sym kept)
+      (subst (AreStanding contents (state_in t)) (sym seen) h) in
+      record {
+        stripe = record {
+          pieces = subst (λ (k : Kept). IsHeld (state_of k) (seen_in u)) (sym kept) (subst (IsHeld (state_in t)) (sym seen) stripe.pieces);
+          actors = subst (λ (k : Kept). AreActors (state_of k) u.actors) (sym kept) (step (state_in t) stripe.actors);
+          spared = spared;
+          named = subst (λ (k : Kept). IsNamed (state_of k)) (sym kept) stripe.named;
+          readers = readers;
+          ahead = subst (λ (k : Kept). IsMadeFor (state_of k).geometry u.ahead) (sym kept) ahead;
+          none = ap (λ (k : Kept). (state_of k).displaced) kept ∙ stripe.none;
+          vectors = stands contents_of_vectors stripe.vectors;
+          numbered = subst (λ (k : Kept). (state_of k).next_reader < count_of k) (sym kept) stripe.numbered;
+        };
+        between = between_same (seen_in t).device (seen_in u).device (kept_in t) (kept_in u) device kept;
+        contents = λ contents told. stands contents;
+        later = no_less (seen_in t).device (seen_in u).device device;
+      }
 
   -- of calls that place something, where what is to be told of both is told
   pub continues_with_then : (Told First Next : Contents → Type 0) (s t u : Stripe D R C d r c)

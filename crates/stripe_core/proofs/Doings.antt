@@ -1,5 +1,5 @@
 -- Writers and readers that come and go leave the pieces held.
-use Rattle.std.proofs.Common.{◌≡◌, ℕ, ◌+◌, ◌-◌, ◌^◌, ◌<◌, ◌≤◌, List, [], ◌∷◌, refl, sym, ◌∙◌, ap, subst, arith, Err, length}
+use Rattle.std.proofs.Common.{◌≡◌, ℕ, ◌+◌, ◌-◌, ◌^◌, ◌<◌, ◌≤◌, List, [], ◌∷◌, refl, sym, ◌∙◌, ap, subst, arith, Err, length, true}
 use Rattle.std.specs.Prelude.{Option, Some, None, IsSome, option_and_then, IfSome}
 use Rattle.tape_base.specs.declared.actors.Actor.{Actor}
 use Rattle.tape_base.specs.declared.digests.Digest.{Digest}
@@ -9,14 +9,16 @@ use Rattle.fragment_table.specs.Table.{total_length}
 use Rattle.alternate_vector.specs.Field.{Field, AreFields}
 use Rattle.alternate_vector.specs.Alternates.{Stored}
 use Rattle.cyclone.specs.Cyclone.{Seen}
+use Rattle.open_directory.specs.declared.kept.KeptPut.{KeptPut}
+use Rattle.open_directory.specs.Directory.{kept_cuts, kept_put, rows_kept}
 use Rattle.cache_model.specs.declared.answer.NextAnswer.{NextAnswer}
 use Rattle.cache_model.specs.declared.answer.NextAnswer.TheVariants as next
 use Rattle.cache_model.specs.declared.answer.ReadAnswer.{ReadAnswer}
 use Rattle.cache_model.specs.declared.cause.Cause.TheVariants as cause
 use Rattle.cache_model.specs.declared.record.Rec.{Rec}
 use Rattle.cache_model.specs.declared.record.Rec.TheVariants as rec
-use Rattle.cache_model.specs.State.{Row, State, list_of_piece, live_row_of, row_in, state_after, vector_piece}
-use Rattle.cache_model.specs.Verdict.{cuts_of, live_vector_of, vector_of}
+use Rattle.cache_model.specs.State.{Open, PutRow, Row, State, list_of_piece, live_row_of, put_of, row_in, state_after, vector_piece}
+use Rattle.cache_model.specs.Verdict.{cuts_of, is_open, live_vector_of, vector_of}
 use Rattle.cache_model.specs.Kept.{Kept, state_of, with_records}
 use Rattle.cache_model.specs.Permit.{Commit, Done, Exhausted, Fails, GiveUp, ManyWriters, Permit, Remove, Write}
 use Rattle.cache_model.specs.Legal.{Does, DoesCommit, DoesGiveUp, DoesLook, DoesReadOn, DoesRemove, DoesStopReading, DoesWrite, IsQuiet, ReadTrouble, answer_record, most_writers, open_writers}
@@ -26,6 +28,7 @@ use Rattle.cache_model.proofs.Sound.{LeavesTape, later_leaves, leaves_one}
 use Rattle.cache_model.proofs.Lists.{own_piece}
 use Rattle.cache_model.proofs.Found.{cuts_found, number_of}
 use Rattle.call_laws.specs.Contents.{AnyContents, Contents}
+use Rattle.stripe_actors.specs.Actors.{ActorsSeen, AreActors, IsKeptAs}
 use Rattle.stripe_core.specs.declared.refusal.Refusal.{Refusal}
 use Rattle.stripe_core.specs.declared.refusal.Refusal.TheVariants as refusal
 use Rattle.stripe_core.specs.Acts.{EndsReadAsAsked, IsCommitting, IsGivingUp, IsRefusedPut, LooksAsAsked, MarksAsAsked, NotesAsAsked, OpensAsAsked, RefusesAsAsked, committed_record, write_opened_record}
@@ -124,6 +127,17 @@ commits p s put key list g lists =
     (ap (λ k. rec.Committed put k (total_length (cuts_of s put)) list ∷ []) (sym g.key_is)
     ∙ (ap (λ cuts. rec.Committed put g.w.key (total_length cuts) list ∷ []) (cuts_found s put g.w g.found)
     ∙ ap (λ l. rec.Committed put g.w.key (total_length g.w.cuts) l ∷ []) (lists ∙ ap (λ k. list_of_piece s (vector_piece k put)) (sym g.key_is))))
+
+-- what is kept of an open put's fragments is what was cut for it
+kept_rows : (o : Option KeptPut) (w : PutRow) → is_open w ≡ true → IsKeptAs (Some w) o → rows_kept o ≡ w.cuts
+kept_rows None w opened h = cc
+kept_rows (Some kept) w opened h = h.cuts
+
+pub open_cuts : (s : State) (a : ActorsSeen) (put : ℕ) (w : PutRow) → AreActors s a → put_of s put ≡ Some w → w.writing ≡ Open
+    → kept_cuts put a.held.puts ≡ cuts_of s put
+open_cuts s a put w actors found opened =
+    kept_rows (kept_put put a.held.puts) w (rw opened refl) (subst (λ o. IsKeptAs o (kept_put put a.held.puts)) found (actors.puts put))
+    ∙ sym (cuts_found s put w found)
 
 some_row : (o : Option Row) → IsSome o → (row : Row) × (o ≡ Some row)
 some_row (Some row) h = (row, refl)

@@ -12,7 +12,7 @@ use Rattle.stripe_core.specs.declared.refusal.Refusal.TheVariants as refusal
 use Rattle.stripe_pieces.specs.declared.answer.Stop.TheVariants as stop
 use Rattle.stripe_pieces.specs.Flush.{FlushesAsAsked, StopsWith}
 use Rattle.stripe_pieces.specs.Place.{RoomsAsAsked}
-use Rattle.stripe_core.specs.Stripe.{AnswersOrWants}
+use Rattle.stripe_core.specs.Stripe.{AnswersOrWants, HasMemory, Wanting}
 use Rattle.stripe_pieces.proofs.Making.{stop_makes_none}
 
 pub refusal_makes_none : (now : ℕ) (old new : Kept) (before : List Call) (after : Device) (bytes : ℕ) → has_room (state_of old) bytes ≡ false → (why : Refusal) (same : Type 0)
@@ -34,3 +34,12 @@ stops_alike s faults (refusal.VectorTooLarge size) stops = stops
 stops_alike s faults (refusal.Lost index why) stops = stops
 stops_alike s faults refusal.Sealed stops = stops
 stops_alike s faults refusal.NoSuchWriter stops = stops
+
+-- and so does want of memory
+pub wanting_alike : (why : Refusal) (P : Type 0) → Wanting {X = Flushed} (Err why) P → Wanting {X = Unit {0}} (Err why) P
+wanting_alike (refusal.Memory e) P h = h
+wanting_alike _ P h = tt
+
+pub memory_alike : (why : Refusal) → HasMemory {X = Flushed} (Err why) → HasMemory {X = Unit {0}} (Err why)
+memory_alike (refusal.Memory e) h = h
+memory_alike _ h = tt

@@ -1,5 +1,5 @@
 -- Which pieces stand, record by record.
-use Rattle.std.proofs.Common.{◌≡◌, ℕ, ◌+◌, ◌<◌, ◌≤◌, List, [], ◌∷◌, ◌++◌, refl, sym, ◌∙◌, ap, subst, arith, Bool, true, false, cond, length, ◌/◌, ◌^◌}
+use Rattle.std.proofs.Common.{◌≡◌, ℕ, ◌+◌, ◌<◌, ◌≤◌, List, [], ◌∷◌, ◌++◌, refl, sym, ◌∙◌, ap, subst, arith, Bool, true, false, cond, length, ◌/◌}
 use Rattle.std.specs.Prelude.{Option, Some, None, IsSome, map, option_map, option_to_list, find, if◌then◌else◌, ◌==◌}
 use Rattle.std.specs.List.{AllByRecursion}
 use Rattle.std.proofs.lemmas.Bool.{eq-eqb, eqb-true}
@@ -9,7 +9,6 @@ use Rattle.tape_base.specs.declared.digests.Digest.{Digest}
 use Rattle.tape_base.specs.declared.keys.Key.{Key}
 use Rattle.tape_base.specs.declared.pieces.PieceId.{PieceId}
 use Rattle.tape_base.specs.Blocks.{blocks_of}
-use Rattle.tape_base.specs.Geometry.{budget_of}
 use Rattle.tape_base.specs.Piece.{is_vector, same_piece}
 use Rattle.tape_base.proofs.NameLaws.{same_piece-true}
 use Rattle.fragment_table.specs.Table.{TableRow, made_row}
@@ -261,16 +260,10 @@ vector_nowhere s id start payload v kind h =
     let clash : None ≡ Some id = sym v.writing.quiet ∙ piece.vector kind in
     cc) s.rows h)
 
--- so it is new, and small
-little : (blocks agg bytes : ℕ) → agg ≤ 8192 → blocks ≡ (128 + bytes + 511) / 512 → blocks ≤ agg / 2 → bytes ≤ 2 ^ 31
-little blocks agg bytes a b h = omega (arith, a, b, h)
-
-pub small_size : (s : State) (bytes : ℕ) → blocks_of bytes ≤ budget_of s.geometry → bytes ≤ 2 ^ 31
-small_size s bytes h = little (blocks_of bytes) s.geometry.agg bytes s.geometry.accepted.agg_fits.1 refl h
-
 fewer_blocks : (bytes most : ℕ) → bytes ≤ most → blocks_of bytes ≤ blocks_of most
 fewer_blocks bytes most h = omega arith
 
+-- so it is new, and small
 pub fragment_new : (s : State) (id : PieceId) (pin start : ℕ) (payload : List ℕ) → IsFragmentOf s id pin start payload → IsNamed s → IsNewPiece s id payload
 fragment_new s id pin start payload f h =
     let few : blocks_of (length payload) ≤ blocks_of s.geometry.fragment = fewer_blocks (length payload) s.geometry.fragment f.next.small in

@@ -185,6 +185,19 @@ one_told u f room left c h more = record {
   blocks = h.blocks;
 }
 
+-- room for no less
+no_less_room : (most before after : ℕ) → most ≤ before → before ≤ after → most ≤ after
+no_less_room most before after h k = omega (arith, h, k)
+
+pub spared_more : (u f room left : ℕ) (c : Seen) → IsSpared u f room c → room ≤ left → IsSpared u f left c
+spared_more u f room left c h more = record {
+  for_records = no_less_room (records_of_unit c.geometry * u) room left h.for_records more;
+  entries = h.entries;
+  one_each = h.one_each;
+  calls = h.calls;
+  blocks = h.blocks;
+}
+
 -- a call that may have flushed, and did where it was told so
 pub spent_by : (b : Bool) (u f n room left records entries : ℕ) (c new : Seen) → n ≡ (if b then 1 else 0) → IsSpared (u + 1) f room c → Uses records entries 1 c.geometry.agg room left c new
     → records ≤ records_of_unit c.geometry → entries ≤ entries_of_unit c.geometry → (b ≡ false → new.device ≡ c.device) → IsSpared u (f - n) left new

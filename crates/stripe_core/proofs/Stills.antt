@@ -8,7 +8,7 @@ use Rattle.stripe_pieces.specs.declared.answer.Stop.{Stop}
 use Rattle.stripe_pieces.specs.Still.{IsStill, IsUnwritten}
 use Rattle.stripe_core.specs.Stripe.{AnswersOrWants, Unstopped, Wanting}
 
-still_put : (a : Device) → IsStill a a
+pub still_put : (a : Device) → IsStill a a
 still_put a = record { goes = stays_put a; past = refl; seen = λ j. refl; faults = refl }
 
 -- where it is the same
@@ -47,6 +47,17 @@ unstopped (Err refusal.Sealed) P h = h
 unstopped (Err (refusal.Exhausted number)) P h = tt
 unstopped (Err refusal.NoSuchWriter) P h = h
 unstopped (Err (refusal.Memory e)) P h = h
+
+-- and where memory is wanting
+pub still_wanting : {X : Type 0} (r : Result X Refusal) (P : Type 0) → P → Wanting r P
+still_wanting (Err (refusal.Memory e)) P h = h
+still_wanting (Ok x) P h = tt
+still_wanting (Err _) P h = tt
+
+pub wanting_map : {X : Type 0} (r : Result X Refusal) (P Q : Type 0) → (P → Q) → Wanting r P → Wanting r Q
+wanting_map (Err (refusal.Memory e)) P Q f h = f h
+wanting_map (Ok x) P Q f h = tt
+wanting_map (Err _) P Q f h = tt
 
 -- a call that only the tape and want of memory refuse
 pub wanting_unstopped : {X : Type 0} (r : Result X Refusal) (answers : Result X Stop → Type 0) (wanting P : Type 0) → AnswersOrWants r answers wanting → Wanting r P → Unstopped r P

@@ -4,6 +4,7 @@ pub mod Stripe
 pub mod Acts
 pub mod Unharmed
 pub mod Between
+pub mod Calls
 pub use Rattle.stripe_pieces.specs.Pieces
 pub use Rattle.stripe_pieces.specs.Standing
 pub use Rattle.stripe_pieces.specs.Still

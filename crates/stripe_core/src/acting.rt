@@ -1,13 +1,12 @@
 // How writers and readers come and go.
-ghost use Rattle.std.specs.Prelude.{◌≡◌, ◌+◌, ◌≤◌, ◌<◌, ◌^◌, ℕ, [], ◌∷◌, Some, IsSome, IsOk, IfOk, IfSome, OnOk, OnErr};
+ghost use Rattle.std.specs.Prelude.{◌≡◌, ◌+◌, ◌≤◌, ◌<◌, ◌^◌, [], ◌∷◌, IsSome, IsOk, IfOk, IfSome, OnErr};
 ghost use Rattle.cache_model.specs.declared.record.Rec.TheVariants as rec;
-ghost use Rattle.cache_model.specs.Kept.{with_records};
 ghost use Rattle.cache_model.specs.Legal.{IsQuiet, answer_record};
 ghost use Rattle.cache_model.specs.Verdict.{live_vector_of};
 ghost use Rattle.cache_model.specs.State.{State};
 ghost use Rattle.stripe_actors.specs.Actors.{AreActors, reader_room_of};
 ghost use Rattle.stripe_actors.specs.Calls.{HasPutNumber, KeepUpWith, StayInStep};
-ghost use Rattle.stripe_core.specs.Acts.{AnswersLookup, CommitsAsAsked, EndsReadAsAsked, GivesUpAsAsked, IsCommitting, IsFollowable, IsGivable, IsGivingUp, IsRefusedPut, LooksAsAsked, MarksAsAsked, NotesAsAsked, OpensAsAsked, RefusesAsAsked, RemovesAsAsked, committed_record, write_opened_record};
+ghost use Rattle.stripe_core.specs.Acts.{AnswersLookup, CommitsAsAsked, EndsReadAsAsked, GivesUpAsAsked, IsCommitting, IsFollowable, IsGivable, IsGivingUp, IsRefusedPut, NotesAsAsked, RefusesAsAsked, RemovesAsAsked, committed_record};
 
 use crate::Stripe;
 use crate::refusal::Refusal;
@@ -24,10 +23,9 @@ use tape_base::{Actor, Digest, Key, LIMIT, MAX_WRITERS, PieceId};
 // How many writers may be open.
 impl<D: Disk, R: Directory + Drop, C: Chronicle> Stripe<D, R, C> {
     ghost use Rattle.stripe_pieces.specs.Pieces.{live_place_of};
-    ghost use Rattle.stripe_pieces.specs.Still.{IsStill};
-    ghost use Rattle.stripe_core.specs.Stripe.{IsStripe, kept_in, seen_in, state_in, units_in};
-    ghost use Rattle.stripe_core.specs.Between.{Continues, IsResting, StayStanding};
-    ghost use Rattle.call_laws.specs.Contents.{AnyContents};
+    ghost use Rattle.stripe_core.specs.Stripe.{IsStripe, state_in, units_in};
+    ghost use Rattle.stripe_core.specs.Between.{IsResting};
+    ghost use Rattle.stripe_core.specs.Calls.{AddsInStripe, MarksInStripe, OpensPutInStripe, StartsReadInStripe};
 
     /// Commits a put, whose vector is the piece that was placed last and lists these alternates.
     /// The key's vector before it goes.
@@ -35,12 +33,8 @@ impl<D: Disk, R: Directory + Drop, C: Chronicle> Stripe<D, R, C> {
         requires stripe { IsStripe self.old }
         requires unit { 1 ≤ units_in self.old }
         requires committing { IsCommitting (state_in self.old) put key }
-        ensures continues { Continues self.old self.new }
-        ensures adds { kept_in self.new ≡ with_records (kept_in self.old)
-            (committed_record (state_in self.old) put key alternates ∷ []) }
-        ensures does { CommitsAsAsked (state_in self.old) put key alternates }
-        ensures still { (seen_in self.new).device ≡ (seen_in self.old).device }
-        ensures unit { units_in self.new + 1 ≡ units_in self.old }
+        ensures { AddsInStripe (committed_record (state_in self.old) put key alternates ∷ [])
+            (CommitsAsAsked (state_in self.old) put key alternates) self.old self.new }
     {
         let length = self.actors.open_directory().length(put);
         self.pieces.commit(put, key, length, alternates);
@@ -53,12 +47,8 @@ impl<D: Disk, R: Directory + Drop, C: Chronicle> Stripe<D, R, C> {
         requires stripe { IsStripe self.old }
         requires unit { 1 ≤ units_in self.old }
         requires writing { IsGivingUp (state_in self.old) put key }
-        ensures continues { Continues self.old self.new }
-        ensures adds { kept_in self.new ≡ with_records (kept_in self.old)
-            (rec.Aborted put key ∷ []) }
-        ensures does { GivesUpAsAsked (state_in self.old) put key }
-        ensures still { (seen_in self.new).device ≡ (seen_in self.old).device }
-        ensures unit { units_in self.new + 1 ≡ units_in self.old }
+        ensures { AddsInStripe (rec.Aborted put key ∷ [])
+            (GivesUpAsAsked (state_in self.old) put key) self.old self.new }
     {
         records::aborted(&mut self.pieces.chronicle, put, key);
         self.actors.abort(put);
@@ -70,12 +60,8 @@ impl<D: Disk, R: Directory + Drop, C: Chronicle> Stripe<D, R, C> {
         requires resting { IsResting self.old }
         requires unit { 1 ≤ units_in self.old }
         requires live { IsSome (live_vector_of (state_in self.old) key) }
-        ensures continues { Continues self.old self.new }
-        ensures adds { kept_in self.new ≡ with_records (kept_in self.old)
-            (rec.Removed result key ∷ []) }
-        ensures does { RemovesAsAsked (state_in self.old) key result }
-        ensures still { (seen_in self.new).device ≡ (seen_in self.old).device }
-        ensures unit { units_in self.new + 1 ≡ units_in self.old }
+        ensures { AddsInStripe (rec.Removed result key ∷ [])
+            (RemovesAsAsked (state_in self.old) key result) self.old self.new }
     {
         let put = self.pieces.remove(key);
         self.units -= 1;
@@ -88,14 +74,7 @@ impl<D: Disk, R: Directory + Drop, C: Chronicle> Stripe<D, R, C> {
         requires stripe { IsStripe self.old }
         requires unit { 1 ≤ units_in self.old }
         requires live { IsSome (live_place_of (state_in self.old) id) }
-        ensures stripe { IsStripe self.new }
-        ensures adds { (place : ℕ) → live_place_of (state_in self.old) id ≡ Some place
-            → kept_in self.new ≡ with_records (kept_in self.old)
-            (rec.Damaged id place kept found ∷ []) }
-        ensures contents { StayStanding AnyContents self.old self.new }
-        ensures does { MarksAsAsked (state_in self.old) id kept found }
-        ensures still { (seen_in self.new).device ≡ (seen_in self.old).device }
-        ensures unit { units_in self.new + 1 ≡ units_in self.old }
+        ensures { MarksInStripe id kept found self.old self.new }
     {
         let place = self.pieces.whereabouts(id).unwrap();
         self.pieces.damage(id, place, kept, found);
@@ -107,12 +86,8 @@ impl<D: Disk, R: Directory + Drop, C: Chronicle> Stripe<D, R, C> {
         requires stripe { IsStripe self.old }
         requires unit { 1 ≤ units_in self.old }
         requires few { IsGivable answer }
-        ensures continues { Continues self.old self.new }
-        ensures adds { kept_in self.new ≡ with_records (kept_in self.old)
-            (answer_record reader answer ∷ []) }
-        ensures does { NotesAsAsked reader answer }
-        ensures still { (seen_in self.new).device ≡ (seen_in self.old).device }
-        ensures unit { units_in self.new + 1 ≡ units_in self.old }
+        ensures { AddsInStripe (answer_record reader answer ∷ []) (NotesAsAsked reader answer)
+            self.old self.new }
     {
         records::answered(&mut self.pieces.chronicle, reader, answer);
         go_on(&mut self.actors, reader, answer);
@@ -123,12 +98,8 @@ impl<D: Disk, R: Directory + Drop, C: Chronicle> Stripe<D, R, C> {
     pub fn end_read(&mut self, reader: u64)
         requires stripe { IsStripe self.old }
         requires unit { 1 ≤ units_in self.old }
-        ensures continues { Continues self.old self.new }
-        ensures adds { kept_in self.new ≡ with_records (kept_in self.old)
-            (rec.ReadClosed reader ∷ []) }
-        ensures does { EndsReadAsAsked (state_in self.old) reader }
-        ensures still { (seen_in self.new).device ≡ (seen_in self.old).device }
-        ensures unit { units_in self.new + 1 ≡ units_in self.old }
+        ensures { AddsInStripe (rec.ReadClosed reader ∷ [])
+            (EndsReadAsAsked (state_in self.old) reader) self.old self.new }
     {
         records::read_closed(&mut self.pieces.chronicle, reader);
         self.actors.close_reader(reader);
@@ -145,16 +116,7 @@ impl<D: Disk, R: Directory + Drop, C: Chronicle> Stripe<D, R, C> {
     ) -> Result<u64, AllocError>
         requires stripe { IsStripe self.old }
         requires follows { IsFollowable (state_in self.old) answer }
-        ensures continues { Continues self.old self.new }
-        ensures adds { IfOk result (λ reader. kept_in self.new
-            ≡ with_records (kept_in self.old)
-            (rec.ReadOpened reader actor key request answer ∷ [])) }
-        ensures reader { IfOk result (λ reader. reader ≡ (state_in self.old).next_reader) }
-        ensures does { OnOk result (LooksAsAsked (state_in self.old) actor key request answer) }
-        ensures err { OnErr result (kept_in self.new ≡ kept_in self.old) }
-        ensures still { IsStill (seen_in self.old).device (seen_in self.new).device }
-        ensures memory { 0 < units_in self.old → IsOk result }
-        ensures unit { units_in self.old ≤ units_in self.new + 1 }
+        ensures { StartsReadInStripe actor key request answer self.old self.new result }
     {
         self.take_unit()?;
         // The count is read for what it tells of the numbers.
@@ -191,14 +153,7 @@ impl<D: Disk, R: Directory + Drop, C: Chronicle> Stripe<D, R, C> {
         pin: u64,
     ) -> Result<u64, Refusal>
         requires resting { IsResting self.old }
-        ensures continues { Continues self.old self.new }
-        ensures adds { OnOk result (kept_in self.new
-            ≡ with_records (kept_in self.old)
-            (write_opened_record (state_in self.old) actor key request response pin ∷ [])) }
-        ensures err { OnErr result (kept_in self.new ≡ kept_in self.old) }
-        ensures does { OpensAsAsked (state_in self.old) actor key request response pin result }
-        ensures still { (seen_in self.new).device ≡ (seen_in self.old).device }
-        ensures unit { units_in self.new ≡ units_in self.old }
+        ensures { OpensPutInStripe actor key request response pin self.old self.new result }
     {
         match put_refusal(&self.actors) {
             Some(refusal) => Err(refusal),
@@ -216,14 +171,7 @@ impl<D: Disk, R: Directory + Drop, C: Chronicle> Stripe<D, R, C> {
     ) -> Result<u64, Refusal>
         requires resting { IsResting self.old }
         requires number { HasPutNumber (state_in self.old) }
-        ensures continues { Continues self.old self.new }
-        ensures adds { OnOk result (kept_in self.new
-            ≡ with_records (kept_in self.old)
-            (write_opened_record (state_in self.old) actor key request response pin ∷ [])) }
-        ensures err { OnErr result (kept_in self.new ≡ kept_in self.old) }
-        ensures does { OpensAsAsked (state_in self.old) actor key request response pin result }
-        ensures still { (seen_in self.new).device ≡ (seen_in self.old).device }
-        ensures unit { units_in self.new ≡ units_in self.old }
+        ensures { OpensPutInStripe actor key request response pin self.old self.new result }
     {
         let kept_request = request.copy()?;
         let kept_response = response.copy()?;

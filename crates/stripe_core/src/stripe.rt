@@ -1,21 +1,16 @@
 // The stripe: its pieces, and who writes and reads them.
-ghost use Rattle.std.specs.Prelude.{ℕ, ◌≡◌, ◌+◌, ◌<◌, ◌≤◌, true, false, [], IfOk, IfErr, IfSome, OnOk, OnErr, IsOk, length, if◌then◌else◌};
+ghost use Rattle.std.specs.Prelude.{◌≡◌, ◌+◌, ◌≤◌, true, [], IfOk, IfErr, IfSome, if◌then◌else◌};
 ghost use Rattle.tape_base.specs.Blocks.{blocks_of};
 ghost use Rattle.tape_base.specs.Digest.{digest_of};
 ghost use Rattle.tape_base.specs.Geometry.{budget_of};
 ghost use Rattle.cache_model.specs.State.{floor_now};
-ghost use Rattle.cache_model.specs.Kept.{all_of, with_records};
-ghost use Rattle.cache_model.specs.Legal.{format_records};
-ghost use Rattle.cache_model.specs.Room.{has_room, is_flush_exhausted};
+ghost use Rattle.cache_model.specs.Kept.{all_of};
 ghost use Rattle.cache_model.specs.Verdict.{payload_of_piece};
-ghost use Rattle.stripe_pieces.specs.Flush.{FlushesAsAsked, StopsWith, TellsFlush};
 ghost use Rattle.cache_model.specs.Legal.{is_writing};
-ghost use Rattle.stripe_actors.specs.Actors.{reader_room_of};
-ghost use Rattle.stripe_actors.specs.Calls.{with_room_of_readers};
-ghost use Rattle.stripe_pieces.specs.Find.{Finds, HasRoomFor, find_adds};
-ghost use Rattle.call_laws.specs.Contents.{Contents, contents_of_vectors};
+ghost use Rattle.stripe_pieces.specs.Find.{HasRoomFor};
+ghost use Rattle.call_laws.specs.Contents.{contents_of_vectors};
 ghost use Rattle.stripe_pieces.specs.Standing.{IsToldPlaced};
-ghost use Rattle.stripe_pieces.specs.Place.{CutsAsAsked, IsFragmentOf, IsPlacing, IsVectorFor, PlacesAsAsked, PlacesVector, RoomsAsAsked};
+ghost use Rattle.stripe_pieces.specs.Place.{IsFragmentOf, IsPlacing, IsVectorFor};
 
 use crate::refusal::Refusal;
 use cache_chronicle::Chronicle;
@@ -40,9 +35,9 @@ pub struct Stripe<D: Disk, R: Directory + Drop, C: Chronicle> {
 
 impl<D: Disk, R: Directory + Drop, C: Chronicle> Stripe<D, R, C> {
     ghost use Rattle.stripe_pieces.specs.Pieces.{live_place_of};
-    ghost use Rattle.stripe_pieces.specs.Still.{IsStill, IsUnwritten};
-    ghost use Rattle.stripe_core.specs.Stripe.{alloc_in, AnswersOrWants, flushes_in, HasMemory, IsSpared, IsStripe, IsWanting, kept_in, room_for, RowIsMade, seen_in, state_in, units_in, Wanting};
-    ghost use Rattle.stripe_core.specs.Between.{Continues, ContinuesWith, IsResting, StandIn};
+    ghost use Rattle.stripe_core.specs.Stripe.{alloc_in, IsStripe, IsWanting, kept_in, seen_in, state_in, units_in};
+    ghost use Rattle.stripe_core.specs.Between.{IsResting};
+    ghost use Rattle.stripe_core.specs.Calls.{FindsInStripe, FlushesInStripe, HasTakenUnit, IsFormattedStripe, MakesRow, MakesUnits, PlacesFragmentInStripe, PlacesInStripe, PlacesVectorInStripe, PreparesStripe, RoomsInStripe, TakesUnit};
 
     /// Begins a session on an empty content area. A refusal gives back the device and the chronicle.
     pub fn format(
@@ -53,11 +48,7 @@ impl<D: Disk, R: Directory + Drop, C: Chronicle> Stripe<D, R, C> {
     ) -> Result<Stripe<D, R, C>, (Refusal, D, C)>
         requires sized { g.content ≤ (D.state disk).size }
         requires empty { C.kept chronicle ≡ all_of [] }
-        ensures stripe { IfOk result IsStripe }
-        ensures records { IfOk result (λ t. kept_in t ≡ all_of (format_records g)) }
-        ensures contents { IfOk result (λ t. (contents : Contents) → StandIn contents t) }
-        ensures device { IfOk result (λ t. (seen_in t).device ≡ D.state disk) }
-        ensures alloc { IfOk result (λ t. alloc_in t ≡ alloc) }
+        ensures formatted { IfOk result (IsFormattedStripe alloc g (D.state disk)) }
         ensures back { IfErr result (λ r. (r.1 ≡ disk) × (C.kept r.2 ≡ all_of [])) }
         ensures memory { IfErr result (λ r. IsWanting r.0) }
     {
@@ -172,27 +163,7 @@ impl<D: Disk, R: Directory + Drop, C: Chronicle> Stripe<D, R, C> {
     /// has still to be given.
     pub fn flush(&mut self, now: u64) -> Result<Flushed, Refusal>
         requires resting { IsResting self.old }
-        ensures continues { Continues self.old self.new }
-        ensures does { AnswersOrWants result
-            (FlushesAsAsked now (kept_in self.old) (kept_in self.new)
-            (seen_in self.old).device.past (seen_in self.new).device) (kept_in self.new
-            ≡ kept_in self.old) }
-        ensures row { (put : ℕ) → room_for put self.new.actors ≡ room_for put self.old.actors }
-        ensures tells { IfOk result (TellsFlush (state_in self.old) (state_in self.new)) }
-        ensures room { OnOk result ((state_in self.new).filled
-            ≤ budget_of (state_in self.new).geometry) }
-        ensures stops { AnswersOrWants result (λ r. IfErr r
-            (StopsWith (state_in self.old) (seen_in self.new).device.faults)) (Unit {0}) }
-        // Where nothing is written the device stays as it is, but for the memory of its calls.
-        ensures still { (state_in self.old).filled ≡ 0
-            → IsStill (seen_in self.old).device (seen_in self.new).device }
-        ensures ended { is_flush_exhausted (state_in self.old) ≡ true
-            → IsStill (seen_in self.old).device (seen_in self.new).device }
-        // Memory comes before the device is asked.
-        ensures untouched { Wanting result (IsStill (seen_in self.old).device
-            (seen_in self.new).device) }
-        ensures memory { 0 < units_in self.old → HasMemory result }
-        ensures unit { units_in self.old ≤ units_in self.new + 1 }
+        ensures { FlushesInStripe now self.old self.new result }
     {
         self.take_unit()?;
         let cyclone = &self.pieces.cyclone;
@@ -208,22 +179,7 @@ impl<D: Disk, R: Directory + Drop, C: Chronicle> Stripe<D, R, C> {
     pub fn make_room(&mut self, bytes: u32, now: u64) -> Result<(), Refusal>
         requires resting { IsResting self.old }
         requires small { blocks_of bytes ≤ budget_of (state_in self.old).geometry }
-        ensures continues { Continues self.old self.new }
-        ensures does { AnswersOrWants result (RoomsAsAsked now (kept_in self.old) (kept_in self.new)
-            (seen_in self.old).device.past (seen_in self.new).device bytes) (kept_in self.new
-            ≡ kept_in self.old) }
-        ensures room { OnOk result (has_room (state_in self.new) bytes ≡ true) }
-        ensures full { OnErr result (has_room (state_in self.old) bytes ≡ false) }
-        ensures stops { AnswersOrWants result (λ r. IfErr r
-            (StopsWith (state_in self.old) (seen_in self.new).device.faults)) (Unit {0}) }
-        ensures row { (put : ℕ) → room_for put self.new.actors ≡ room_for put self.old.actors }
-        // With room the device is not asked.
-        ensures still { has_room (state_in self.old) bytes ≡ true
-            → IsStill (seen_in self.old).device (seen_in self.new).device }
-        ensures untouched { Wanting result (IsStill (seen_in self.old).device
-            (seen_in self.new).device) }
-        ensures memory { 0 < units_in self.old → HasMemory result }
-        ensures unit { units_in self.old ≤ units_in self.new + 1 }
+        ensures { RoomsInStripe bytes now self.old self.new result }
     {
         if blocks_of(bytes) <= self.room() {
             return Ok(());
@@ -239,19 +195,7 @@ impl<D: Disk, R: Directory + Drop, C: Chronicle> Stripe<D, R, C> {
     pub fn find_piece(&mut self, id: PieceId, into: &mut [u8]) -> Result<Found, AllocError>
         requires stripe { IsStripe self.old }
         requires into { HasRoomFor (state_in self.old) id into.old }
-        ensures continues { Continues self.old self.new }
-        ensures adds { IfOk result (λ found. kept_in self.new
-            ≡ with_records (kept_in self.old) (find_adds (state_in self.old) id found)) }
-        ensures finds { IfOk result (λ found. Finds (state_in self.old) (seen_in self.old)
-            (seen_in self.new) id found into.new) }
-        ensures err { OnErr result (kept_in self.new ≡ kept_in self.old) }
-        // The device shows what it showed, whatever it answers.
-        ensures unwritten { IsUnwritten (seen_in self.old).device (seen_in self.new).device }
-        ensures untouched { OnErr result (IsStill (seen_in self.old).device
-            (seen_in self.new).device) }
-        ensures row { (put : ℕ) → room_for put self.new.actors ≡ room_for put self.old.actors }
-        ensures memory { 0 < units_in self.old → IsOk result }
-        ensures unit { units_in self.old ≤ units_in self.new + 1 }
+        ensures { FindsInStripe id self.old self.new result into.new }
     {
         self.take_unit()?;
         Ok(self.pieces.find(id, into))
@@ -261,12 +205,7 @@ impl<D: Disk, R: Directory + Drop, C: Chronicle> Stripe<D, R, C> {
     pub fn prepare(&mut self, put: Option<u64>, units: u32) -> Result<(), AllocError>
         requires stripe { IsStripe self.old }
         requires open { IfSome put (λ n. is_writing (state_in self.old) n ≡ true) }
-        ensures continues { Continues self.old self.new }
-        ensures records { kept_in self.new ≡ kept_in self.old }
-        ensures units { OnOk result (units ≤ units_in self.new) }
-        ensures row { OnOk result (IfSome put (λ n. 0 < room_for n self.new.actors)) }
-        ensures more { units_in self.old ≤ units_in self.new }
-        ensures still { IsStill (seen_in self.old).device (seen_in self.new).device }
+        ensures { PreparesStripe put units self.old self.new result }
     {
         self.make_row(put)?;
         self.make_units(units)
@@ -276,11 +215,7 @@ impl<D: Disk, R: Directory + Drop, C: Chronicle> Stripe<D, R, C> {
     fn make_row(&mut self, put: Option<u64>) -> Result<(), AllocError>
         requires stripe { IsStripe self.old }
         requires open { IfSome put (λ n. is_writing (state_in self.old) n ≡ true) }
-        ensures continues { Continues self.old self.new }
-        ensures records { kept_in self.new ≡ kept_in self.old }
-        ensures row { OnOk result (IfSome put (λ n. 0 < room_for n self.new.actors)) }
-        ensures units { units_in self.new ≡ units_in self.old }
-        ensures still { seen_in self.new ≡ seen_in self.old }
+        ensures { MakesRow put self.old self.new result }
     {
         match put {
             Some(put) => self.actors.reserve_cut(put),
@@ -303,21 +238,9 @@ impl<D: Disk, R: Directory + Drop, C: Chronicle> Stripe<D, R, C> {
         requires placing { IsPlacing (state_in self.old) id pin start payload.now }
         requires digest { digest ≡ digest_of payload.now }
         // A vector spells what the records list, where the device tells its content.
-        requires spelled { IsToldPlaced (seen_in self.old).device (state_in self.old) id start payload.now
-            contents_of_vectors }
-        ensures continues { ContinuesWith (λ contents. OnOk result (IsToldPlaced (seen_in self.new).device
-            (state_in self.old) id start payload.now contents)) self.old self.new }
-        ensures does { AnswersOrWants result (PlacesAsAsked R.purges now (kept_in self.old) (kept_in self.new)
-            (seen_in self.old).device.past (seen_in self.new).device id pin start payload.now)
-            (kept_in self.new ≡ kept_in self.old) }
-        // Without a flush the device stays as it is, but for the memory of its calls.
-        ensures still { has_room (state_in self.old) (length payload.now) ≡ true
-            → IsStill (seen_in self.old).device (seen_in self.new).device }
-        ensures untouched { Wanting result (IsStill (seen_in self.old).device
-            (seen_in self.new).device) }
-        // Of a fragment, memory of a row is made too.
-        ensures memory { 0 < units_in self.old → RowIsMade id self.old.actors → HasMemory result }
-        ensures unit { units_in self.old ≤ units_in self.new + 1 }
+        requires spelled { IsToldPlaced (seen_in self.old).device (state_in self.old) id start
+            payload.now contents_of_vectors }
+        ensures { PlacesInStripe R.purges id pin start payload.now now self.old self.new result }
     {
         self.take_unit()?;
         if id.index == 0 {
@@ -335,22 +258,13 @@ impl<D: Disk, R: Directory + Drop, C: Chronicle> Stripe<D, R, C> {
         payload: &[u8],
         digest: Digest,
     ) -> Result<Placed, Refusal>
-        requires stripe { IsStripe self.old }
-        requires spared { IsSpared (units_in self.old + 1) (flushes_in self.old)
-            (C.room self.old.pieces.chronicle) (seen_in self.old) }
+        requires taken { HasTakenUnit self.old }
         requires kind { id.index ≡ 0 }
         requires digest { digest ≡ digest_of payload.now }
-        requires spelled { IsToldPlaced (seen_in self.old).device (state_in self.old) id start payload.now
-            contents_of_vectors }
+        requires spelled { IsToldPlaced (seen_in self.old).device (state_in self.old) id start
+            payload.now contents_of_vectors }
         requires vector { IsVectorFor (state_in self.old) id start payload.now }
-        ensures continues { ContinuesWith (λ contents. OnOk result (IsToldPlaced (seen_in self.new).device
-            (state_in self.old) id start payload.now contents)) self.old self.new }
-        ensures does { AnswersOrWants result
-            (PlacesVector R.purges (kept_in self.old) (kept_in self.new)
-            (seen_in self.old).device.past
-            (seen_in self.new).device.past id pin start payload.now) ⊥ }
-        ensures still { (seen_in self.new).device ≡ (seen_in self.old).device }
-        ensures unit { units_in self.new ≡ units_in self.old }
+        ensures { PlacesVectorInStripe R.purges id pin start payload.now self.old self.new result }
     {
         match self.pieces.place(id, pin, start, payload, digest) {
             Ok(placed) => Ok(placed),
@@ -367,21 +281,11 @@ impl<D: Disk, R: Directory + Drop, C: Chronicle> Stripe<D, R, C> {
         digest: Digest,
         now: u64,
     ) -> Result<Placed, Refusal>
-        requires stripe { IsStripe self.old }
-        requires spared { IsSpared (units_in self.old + 1) (flushes_in self.old)
-            (C.room self.old.pieces.chronicle) (seen_in self.old) }
+        requires taken { HasTakenUnit self.old }
         requires fragment { IsFragmentOf (state_in self.old) id pin start payload.now }
         requires digest { digest ≡ digest_of payload.now }
-        ensures continues { ContinuesWith (λ contents. OnOk result (IsToldPlaced (seen_in self.new).device
-            (state_in self.old) id start payload.now contents)) self.old self.new }
-        ensures does { AnswersOrWants result (CutsAsAsked R.purges now (kept_in self.old) (kept_in self.new)
-            (seen_in self.old).device.past (seen_in self.new).device id pin start payload.now)
-            (kept_in self.new ≡ kept_in self.old) }
-        ensures still { has_room (state_in self.old) (length payload.now) ≡ true
-            → (seen_in self.new).device ≡ (seen_in self.old).device }
-        ensures untouched { Wanting result ((seen_in self.new).device ≡ (seen_in self.old).device) }
-        ensures memory { 0 < room_for id.put self.old.actors → HasMemory result }
-        ensures unit { units_in self.new ≡ units_in self.old }
+        ensures { PlacesFragmentInStripe R.purges id pin start payload.now now self.old self.new
+            result }
     {
         self.actors.reserve_cut(id.put)?;
         let writes = blocks_of(payload.len() as u32) > self.pieces.cyclone.room();
@@ -409,15 +313,7 @@ impl<D: Disk, R: Directory + Drop, C: Chronicle> Stripe<D, R, C> {
     // Uses up a unit of memory, and makes one where there is none.
     pub(crate) fn take_unit(&mut self) -> Result<(), AllocError>
         requires { IsStripe self.old }
-        ensures continues { Continues self.old self.new }
-        ensures records { kept_in self.new ≡ kept_in self.old }
-        ensures spared { OnOk result (IsSpared (units_in self.new + 1) (flushes_in self.new)
-            (C.room self.new.pieces.chronicle) (seen_in self.new)) }
-        ensures actors { self.new.actors ≡ with_room_of_readers (reader_room_of self.new.actors) self.old.actors }
-        ensures readers { OnOk result (units_in self.new + 1 ≤ reader_room_of self.new.actors) }
-        ensures memory { 0 < units_in self.old → IsOk result }
-        ensures unit { units_in self.old ≤ units_in self.new + 1 }
-        ensures still { IsStill (seen_in self.old).device (seen_in self.new).device }
+        ensures { TakesUnit self.old self.new result }
     {
         self.make_units(1)?;
         self.units -= 1;
@@ -427,13 +323,7 @@ impl<D: Disk, R: Directory + Drop, C: Chronicle> Stripe<D, R, C> {
     // Makes memory for so many calls.
     fn make_units(&mut self, units: u32) -> Result<(), AllocError>
         requires { IsStripe self.old }
-        ensures continues { Continues self.old self.new }
-        ensures records { kept_in self.new ≡ kept_in self.old }
-        ensures units { OnOk result (units ≤ units_in self.new) }
-        ensures actors { self.new.actors ≡ with_room_of_readers (reader_room_of self.new.actors) self.old.actors }
-        ensures memory { units ≤ units_in self.old → IsOk result }
-        ensures more { units_in self.old ≤ units_in self.new }
-        ensures still { IsStill (seen_in self.old).device (seen_in self.new).device }
+        ensures { MakesUnits units self.old self.new result }
     {
         if units > self.units {
             let flushes = self.flushes.max(units);

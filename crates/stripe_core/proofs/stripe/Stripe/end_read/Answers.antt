@@ -13,32 +13,40 @@ use Rattle.stripe_core.proofs.Between.{between-tells}
 use Rattle.stripe_core.proofs.NoneDisplaced.{none_behind}
 use Rattle.stripe_core.proofs.stripe.Stripe.end_read.Goals as goal
 
-pub returns-clause-continues : goal.returns-clause-continues
-returns-clause-continues g c =
+pub returns : goal.returns
+returns g c =
     let s = state_in c.args.self.now in
     let kept = kept_in c.args.self.now in
     let before = seen_in c.args.self.now in
     let told = rec.ReadClosed c.args.reader in
     let after = g.C.Chronicle.kept c.read_closed.new.chronicle in
     let reader = reader_behind kept after told c.read_closed.ensures.kept in
-    let leaves : LeavesPieces s (state_after s told) = record { geometry = refl; cursor = refl; filled = refl; rows = refl; fault = refl } in
+    let leaves : LeavesPieces s (state_after s told) =
+    record { geometry = refl; cursor = refl; filled = refl; rows = refl; fault = refl } in
     record {
-      stripe = record {
-        pieces = held_behind kept after before told c.read_closed.ensures.kept tt leaves c.requires.stripe.pieces;
-        actors = subst (λ t. AreActors t c.close_reader.new.self) (sym (ap state_of c.read_closed.ensures.kept ∙ state_of-with_records kept (told ∷ []))) (c.close_reader.ensures.closes s c.requires.stripe.actors);
-        spared = one_record c.args.self.now.units c.args.self.now.flushes _ _ before c.requires.unit c.requires.stripe.spared c.read_closed.ensures.room;
-        named = named_behind kept _ told c.read_closed.ensures.kept (name_left s told refl c.requires.stripe.named);
-        readers = omega (arith, c.requires.stripe.readers, c.close_reader.ensures.readers);
-        ahead = made_behind kept _ told c.args.self.now.ahead c.read_closed.ensures.kept refl c.requires.stripe.ahead;
-        none = none_behind kept after told c.read_closed.ensures.kept refl c.requires.stripe.none;
-        vectors = standing_behind kept after before told c.read_closed.ensures.kept tt leaves c.requires.stripe.pieces
-            contents_of_vectors tt c.requires.stripe.vectors;
-        numbered = numbered_by kept after (told ∷ []) 0 c.read_closed.ensures.kept (omega (arith, reader)) (omega arith) c.requires.stripe.numbered;
+      continues = record {
+        stripe = record {
+          pieces = held_behind kept after before told c.read_closed.ensures.kept tt leaves c.requires.stripe.pieces;
+          actors = subst (λ t. AreActors t c.close_reader.new.self)
+              (sym (ap state_of c.read_closed.ensures.kept ∙ state_of-with_records kept (told ∷ [])))
+              (c.close_reader.ensures.closes s c.requires.stripe.actors);
+          spared = one_record c.args.self.now.units c.args.self.now.flushes _ _ before c.requires.unit c.requires.stripe.spared
+              c.read_closed.ensures.room;
+          named = named_behind kept _ told c.read_closed.ensures.kept (name_left s told refl c.requires.stripe.named);
+          readers = omega (arith, c.requires.stripe.readers, c.close_reader.ensures.readers);
+          ahead = made_behind kept _ told c.args.self.now.ahead c.read_closed.ensures.kept refl c.requires.stripe.ahead;
+          none = none_behind kept after told c.read_closed.ensures.kept refl c.requires.stripe.none;
+          vectors = standing_behind kept after before told c.read_closed.ensures.kept tt leaves c.requires.stripe.pieces
+              contents_of_vectors tt c.requires.stripe.vectors;
+          numbered = numbered_by kept after (told ∷ []) 0 c.read_closed.ensures.kept (omega (arith, reader)) (omega arith)
+              c.requires.stripe.numbered;
+        };
+        between = between-tells _ _ kept after (told ∷ []) refl c.read_closed.ensures.kept refl (refl, tt);
+        contents = standing_behind kept after before told c.read_closed.ensures.kept tt leaves c.requires.stripe.pieces;
+        later = omega arith;
       };
-      between = between-tells _ _ kept after (told ∷ []) refl c.read_closed.ensures.kept refl (refl, tt);
-      contents = standing_behind kept after before told c.read_closed.ensures.kept tt leaves c.requires.stripe.pieces;
-      later = omega arith;
+      adds = c.read_closed.ensures.kept;
+      does = ends_read s c.args.reader;
+      still = refl;
+      unit = omega (arith, c.requires.unit);
     }
-
-pub returns-clause-does : goal.returns-clause-does
-returns-clause-does g c = ends_read (state_in c.args.self.now) c.args.reader

@@ -13,32 +13,40 @@ use Rattle.stripe_core.proofs.Between.{between-tells}
 use Rattle.stripe_core.proofs.NoneDisplaced.{none_behind}
 use Rattle.stripe_core.proofs.stripe.Stripe.give_up.Goals as goal
 
-pub returns-clause-continues : goal.returns-clause-continues
-returns-clause-continues g c =
+pub returns : goal.returns
+returns g c =
     let s = state_in c.args.self.now in
     let kept = kept_in c.args.self.now in
     let before = seen_in c.args.self.now in
     let told = rec.Aborted c.args.put c.args.key in
     let after = g.C.Chronicle.kept c.aborted.new.chronicle in
     let reader = reader_behind kept after told c.aborted.ensures.kept in
-    let leaves : LeavesPieces s (state_after s told) = record { geometry = refl; cursor = refl; filled = refl; rows = refl; fault = refl } in
+    let leaves : LeavesPieces s (state_after s told) =
+    record { geometry = refl; cursor = refl; filled = refl; rows = refl; fault = refl } in
     record {
-      stripe = record {
-        pieces = held_behind kept after before told c.aborted.ensures.kept tt leaves c.requires.stripe.pieces;
-        actors = subst (λ t. AreActors t c.abort.new.self) (sym (ap state_of c.aborted.ensures.kept ∙ state_of-with_records kept (told ∷ []))) (c.abort.ensures.ends c.args.key s c.requires.stripe.actors);
-        spared = one_record c.args.self.now.units c.args.self.now.flushes _ _ before c.requires.unit c.requires.stripe.spared c.aborted.ensures.room;
-        named = named_behind kept _ told c.aborted.ensures.kept (named_aborted s c.args.put c.args.key c.requires.stripe.named);
-        readers = omega (arith, c.requires.stripe.readers, c.abort.ensures.readers);
-        ahead = made_behind kept _ told c.args.self.now.ahead c.aborted.ensures.kept refl c.requires.stripe.ahead;
-        none = none_behind kept after told c.aborted.ensures.kept refl c.requires.stripe.none;
-        vectors = standing_behind kept after before told c.aborted.ensures.kept tt leaves c.requires.stripe.pieces
-            contents_of_vectors tt c.requires.stripe.vectors;
-        numbered = numbered_by kept after (told ∷ []) 0 c.aborted.ensures.kept (omega (arith, reader)) (omega arith) c.requires.stripe.numbered;
+      continues = record {
+        stripe = record {
+          pieces = held_behind kept after before told c.aborted.ensures.kept tt leaves c.requires.stripe.pieces;
+          actors = subst (λ t. AreActors t c.abort.new.self)
+              (sym (ap state_of c.aborted.ensures.kept ∙ state_of-with_records kept (told ∷ [])))
+              (c.abort.ensures.ends c.args.key s c.requires.stripe.actors);
+          spared = one_record c.args.self.now.units c.args.self.now.flushes _ _ before c.requires.unit c.requires.stripe.spared
+              c.aborted.ensures.room;
+          named = named_behind kept _ told c.aborted.ensures.kept (named_aborted s c.args.put c.args.key c.requires.stripe.named);
+          readers = omega (arith, c.requires.stripe.readers, c.abort.ensures.readers);
+          ahead = made_behind kept _ told c.args.self.now.ahead c.aborted.ensures.kept refl c.requires.stripe.ahead;
+          none = none_behind kept after told c.aborted.ensures.kept refl c.requires.stripe.none;
+          vectors = standing_behind kept after before told c.aborted.ensures.kept tt leaves c.requires.stripe.pieces
+              contents_of_vectors tt c.requires.stripe.vectors;
+          numbered = numbered_by kept after (told ∷ []) 0 c.aborted.ensures.kept (omega (arith, reader)) (omega arith)
+              c.requires.stripe.numbered;
+        };
+        between = between-tells _ _ kept after (told ∷ []) refl c.aborted.ensures.kept refl (refl, tt);
+        contents = standing_behind kept after before told c.aborted.ensures.kept tt leaves c.requires.stripe.pieces;
+        later = omega arith;
       };
-      between = between-tells _ _ kept after (told ∷ []) refl c.aborted.ensures.kept refl (refl, tt);
-      contents = standing_behind kept after before told c.aborted.ensures.kept tt leaves c.requires.stripe.pieces;
-      later = omega arith;
+      adds = c.aborted.ensures.kept;
+      does = λ p. gives_up p s c.args.put c.args.key c.requires.writing;
+      still = refl;
+      unit = omega (arith, c.requires.unit);
     }
-
-pub returns-clause-does : goal.returns-clause-does
-returns-clause-does g c = λ p. gives_up p (state_in c.args.self.now) c.args.put c.args.key c.requires.writing

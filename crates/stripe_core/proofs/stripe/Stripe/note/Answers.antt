@@ -12,34 +12,47 @@ use Rattle.stripe_core.proofs.Between.{answer_tells_no_fault, answer_tells_none,
 use Rattle.stripe_core.proofs.NoneDisplaced.{answer_displaces, none_behind}
 use Rattle.stripe_core.proofs.stripe.Stripe.note.Goals as goal
 
-pub returns-clause-continues : goal.returns-clause-continues
-returns-clause-continues g c =
+pub returns : goal.returns
+returns g c =
     let s = state_in c.args.self.now in
     let kept = kept_in c.args.self.now in
     let before = seen_in c.args.self.now in
     let told = answer_record c.args.reader c.args.answer in
-    let reader = reader_behind kept (g.C.Chronicle.kept c.answered.new.chronicle) told c.answered.ensures.kept ∙ answer_keeps_readers s c.args.reader c.args.answer in
+    let reader =
+    reader_behind kept (g.C.Chronicle.kept c.answered.new.chronicle) told c.answered.ensures.kept ∙ answer_keeps_readers s c.args.reader
+    c.args.answer in
     let leaves = answer_leaves s c.args.reader c.args.answer in
     record {
-      stripe = record {
-        pieces = held_behind kept (g.C.Chronicle.kept c.answered.new.chronicle) before told c.answered.ensures.kept (answer_leaves_tape c.args.reader c.args.answer) leaves c.requires.stripe.pieces;
-        actors = subst (λ t. AreActors t c.go_on.new.actors) (sym (ap state_of c.answered.ensures.kept ∙ state_of-with_records kept (told ∷ []))) (c.go_on.ensures.keeps s c.requires.stripe.actors);
-        spared = one_record c.args.self.now.units c.args.self.now.flushes _ _ before c.requires.unit c.requires.stripe.spared c.answered.ensures.room;
-        named = named_behind kept _ told c.answered.ensures.kept (answer_leaves_names s c.args.reader c.args.answer c.requires.stripe.named);
-        readers = omega (arith, c.requires.stripe.readers, c.go_on.ensures.readers);
-        ahead = made_behind kept _ told c.args.self.now.ahead c.answered.ensures.kept leaves.geometry c.requires.stripe.ahead;
-        none = none_behind kept (g.C.Chronicle.kept c.answered.new.chronicle) told c.answered.ensures.kept
-            (answer_displaces c.args.reader c.args.answer) c.requires.stripe.none;
-        vectors = standing_behind kept (g.C.Chronicle.kept c.answered.new.chronicle) before told c.answered.ensures.kept
-            (answer_leaves_tape c.args.reader c.args.answer) leaves c.requires.stripe.pieces contents_of_vectors tt c.requires.stripe.vectors;
-        numbered = numbered_by kept (g.C.Chronicle.kept c.answered.new.chronicle) (told ∷ []) 0 c.answered.ensures.kept (omega (arith, reader)) (omega arith) c.requires.stripe.numbered;
+      continues = record {
+        stripe = record {
+          pieces = held_behind kept (g.C.Chronicle.kept c.answered.new.chronicle) before told c.answered.ensures.kept
+              (answer_leaves_tape c.args.reader c.args.answer) leaves c.requires.stripe.pieces;
+          actors = subst (λ t. AreActors t c.go_on.new.actors)
+              (sym (ap state_of c.answered.ensures.kept ∙ state_of-with_records kept (told ∷ [])))
+              (c.go_on.ensures.keeps s c.requires.stripe.actors);
+          spared = one_record c.args.self.now.units c.args.self.now.flushes _ _ before c.requires.unit c.requires.stripe.spared
+              c.answered.ensures.room;
+          named = named_behind kept _ told c.answered.ensures.kept
+              (answer_leaves_names s c.args.reader c.args.answer c.requires.stripe.named);
+          readers = omega (arith, c.requires.stripe.readers, c.go_on.ensures.readers);
+          ahead = made_behind kept _ told c.args.self.now.ahead c.answered.ensures.kept leaves.geometry c.requires.stripe.ahead;
+          none = none_behind kept (g.C.Chronicle.kept c.answered.new.chronicle) told c.answered.ensures.kept
+              (answer_displaces c.args.reader c.args.answer) c.requires.stripe.none;
+          vectors = standing_behind kept (g.C.Chronicle.kept c.answered.new.chronicle) before told c.answered.ensures.kept
+              (answer_leaves_tape c.args.reader c.args.answer) leaves c.requires.stripe.pieces contents_of_vectors tt
+              c.requires.stripe.vectors;
+          numbered = numbered_by kept (g.C.Chronicle.kept c.answered.new.chronicle) (told ∷ []) 0 c.answered.ensures.kept
+              (omega (arith, reader)) (omega arith) c.requires.stripe.numbered;
+        };
+        between = between-tells before.device before.device kept (g.C.Chronicle.kept c.answered.new.chronicle) (told ∷ []) refl
+            c.answered.ensures.kept
+            (answer_tells_no_fault c.args.reader c.args.answer) (answer_tells_none c.args.reader c.args.answer, tt);
+        contents = standing_behind kept (g.C.Chronicle.kept c.answered.new.chronicle) before told c.answered.ensures.kept
+            (answer_leaves_tape c.args.reader c.args.answer) leaves c.requires.stripe.pieces;
+        later = omega arith;
       };
-      between = between-tells before.device before.device kept (g.C.Chronicle.kept c.answered.new.chronicle) (told ∷ []) refl c.answered.ensures.kept
-          (answer_tells_no_fault c.args.reader c.args.answer) (answer_tells_none c.args.reader c.args.answer, tt);
-      contents = standing_behind kept (g.C.Chronicle.kept c.answered.new.chronicle) before told c.answered.ensures.kept
-          (answer_leaves_tape c.args.reader c.args.answer) leaves c.requires.stripe.pieces;
-      later = omega arith;
+      adds = c.answered.ensures.kept;
+      does = notes c.args.reader c.args.answer;
+      still = refl;
+      unit = omega (arith, c.requires.unit);
     }
-
-pub returns-clause-does : goal.returns-clause-does
-returns-clause-does g c = notes c.args.reader c.args.answer

@@ -12,30 +12,37 @@ use Rattle.stripe_core.proofs.NoneDisplaced.{none_behind}
 use Rattle.stripe_core.proofs.Ready.{one_record_ready}
 use Rattle.stripe_core.proofs.stripe.Stripe.take_out.Goals as goal
 
-pub returns-clause-continues : goal.returns-clause-continues
-returns-clause-continues g c =
+pub returns : goal.returns
+returns g c =
     let s = state_in c.args.self.now in
     let kept = kept_in c.args.self.now in
     let told = rec.Removed c.remove-put.result c.args.key in
     record {
-      stripe = record {
-        pieces = c.remove-put.ensures.keeps.pieces.held;
-        actors = actors_with kept _ c.args.self.now.actors (told ∷ []) c.remove-put.ensures.keeps.adds (refl, tt) c.requires.resting.stripe.actors;
-        spared = one_less c.args.self.now.units c.args.self.now.flushes _ _ (seen_in c.args.self.now) (seen_now c.remove-put.new.self) c.requires.unit c.requires.resting.stripe.spared c.remove-put.ensures.keeps.uses;
-        named = named_behind kept _ told c.remove-put.ensures.keeps.adds (name_left s told refl c.requires.resting.stripe.named);
-        readers = omega (arith, c.requires.resting.stripe.readers);
-        ahead = made_behind kept _ told c.args.self.now.ahead c.remove-put.ensures.keeps.adds refl c.requires.resting.stripe.ahead;
-        none = none_behind kept _ told c.remove-put.ensures.keeps.adds refl c.requires.resting.stripe.none;
-        vectors = c.remove-put.ensures.keeps.pieces.contents contents_of_vectors tt c.requires.resting.stripe.vectors;
-        numbered = numbered_others kept _ (told ∷ []) c.remove-put.ensures.keeps.adds (refl, tt) c.requires.resting.stripe.numbered;
+      continues = record {
+        stripe = record {
+          pieces = c.remove-put.ensures.keeps.pieces.held;
+          actors = actors_with kept _ c.args.self.now.actors (told ∷ []) c.remove-put.ensures.keeps.adds (refl, tt)
+              c.requires.resting.stripe.actors;
+          spared = one_less c.args.self.now.units c.args.self.now.flushes _ _ (seen_in c.args.self.now) (seen_now c.remove-put.new.self)
+              c.requires.unit c.requires.resting.stripe.spared c.remove-put.ensures.keeps.uses;
+          named = named_behind kept _ told c.remove-put.ensures.keeps.adds (name_left s told refl c.requires.resting.stripe.named);
+          readers = omega (arith, c.requires.resting.stripe.readers);
+          ahead = made_behind kept _ told c.args.self.now.ahead c.remove-put.ensures.keeps.adds refl c.requires.resting.stripe.ahead;
+          none = none_behind kept _ told c.remove-put.ensures.keeps.adds refl c.requires.resting.stripe.none;
+          vectors = c.remove-put.ensures.keeps.pieces.contents contents_of_vectors tt c.requires.resting.stripe.vectors;
+          numbered = numbered_others kept _ (told ∷ []) c.remove-put.ensures.keeps.adds (refl, tt) c.requires.resting.stripe.numbered;
+        };
+        between = between-tells _ _ kept _ (told ∷ []) c.remove-put.ensures.keeps.still c.remove-put.ensures.keeps.adds refl (refl, tt);
+        contents = c.remove-put.ensures.keeps.pieces.contents;
+        later = no_less _ _ c.remove-put.ensures.keeps.still;
       };
-      between = between-tells _ _ kept _ (told ∷ []) c.remove-put.ensures.keeps.still c.remove-put.ensures.keeps.adds refl (refl, tt);
-      contents = c.remove-put.ensures.keeps.pieces.contents;
-      later = no_less _ _ c.remove-put.ensures.keeps.still;
+      adds = c.remove-put.ensures.keeps.adds;
+      does = λ p. removes p s c.args.key c.remove-put.result c.requires.resting.quiet c.requires.live c.remove-put.ensures.put;
+      still = c.remove-put.ensures.keeps.still;
+      unit = omega (arith, c.requires.unit);
     }
 
-pub returns-clause-does : goal.returns-clause-does
-returns-clause-does g c = λ p. removes p (state_in c.args.self.now) c.args.key c.remove-put.result c.requires.resting.quiet c.requires.live c.remove-put.ensures.put
-
 pub remove-put-requires-clause-ready : goal.remove-put-requires-clause-ready
-remove-put-requires-clause-ready g c = one_record_ready c.args.self.now.pieces c.args.self.now.units c.args.self.now.flushes c.requires.resting.stripe.pieces c.requires.unit c.requires.resting.stripe.spared
+remove-put-requires-clause-ready g c =
+    one_record_ready c.args.self.now.pieces c.args.self.now.units c.args.self.now.flushes c.requires.resting.stripe.pieces c.requires.unit
+    c.requires.resting.stripe.spared
