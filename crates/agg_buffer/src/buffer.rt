@@ -86,22 +86,22 @@ impl AggBuffer {
         PutAnswer::Placed(place)
     }
 
-    /// Puts the document of a piece behind the others, and gives the digest of its payload. It is
-    /// spelled in its place, so the payload is copied once.
-    pub fn put_document(&mut self, doc: &Doc, payload: &[u8]) -> Digest
+    /// Puts the document of a piece behind the others. It is spelled in its place, so the payload is
+    /// copied once; whoever has its digest gives it, so the payload is not digested for its header.
+    pub fn put_document(&mut self, doc: &Doc, payload: &[u8], digest: &Digest)
         requires size { length payload.now ≤ 2 ^ 31 }
+        requires digest { digest.now ≡ digest_of payload.now }
         requires room { blocks_of (length payload.now) ≤ room_of self.old }
         ensures added { AddsPiece self.old self.new (document_bytes doc.now payload.now) }
         ensures size { blocks_in (document_bytes doc.now payload.now) ≡ blocks_of (length payload.now) }
         ensures document { let d = doc.now in
             IsDocument (document_bytes d payload.now) d.generation d.place d payload.now }
-        ensures digest { result ≡ digest_of payload.now }
     {
         let start = self.bytes.len();
         let end = start + blocks_of(payload.len() as u32) as usize * BLOCK;
         let grown: Result<_, _> = self.bytes.resize(end, 0);
         grown.unwrap();
-        write_doc(doc, payload, &mut self.bytes[start..])
+        write_doc(doc, payload, digest, &mut self.bytes[start..]);
     }
 
     /// Puts a copy of a document behind the others, with its place there.

@@ -3,7 +3,7 @@ use crate::making::small;
 use agg_buffer::{AggBuffer, PutAnswer};
 use doc_header::{Doc, read_doc, write_doc};
 use std::test::Fail;
-use tape_base::{Key, PieceId};
+use tape_base::{Digest, Key, PieceId};
 
 fn fragment(place: u64) -> Doc {
     Doc {
@@ -37,9 +37,9 @@ fn a_document_and_a_copy_are_spelled_behind_the_others(rt: HostRuntime) -> Resul
     if buffer.room() < 2 {
         return Err("no room".into());
     }
-    buffer.put_document(&fragment(64), b"abcd");
+    buffer.put_document(&fragment(64), b"abcd", &Digest::of(b"abcd"));
     let mut bytes = [0; 512];
-    write_doc(&fragment(3), b"efgh", &mut bytes);
+    write_doc(&fragment(3), b"efgh", &Digest::of(b"efgh"), &mut bytes);
     if buffer.room() < 1 {
         return Err("no room".into());
     }

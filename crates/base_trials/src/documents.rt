@@ -55,7 +55,7 @@ fn doc() -> Doc {
 #[test]
 fn the_worked_document_is_written_over_every_byte(rt: HostRuntime) {
     let mut bytes = [0xff; 512];
-    write_doc(&doc(), b"abc", &mut bytes);
+    write_doc(&doc(), b"abc", &Digest::of(b"abc"), &mut bytes);
     assert_eq!(rt; &bytes[..131], WORKED.as_slice());
     assert_eq!(rt; &bytes[131..], [0; 381].as_slice());
     assert_eq!(rt; document_digest(&bytes), Digest(WORKED_DIGEST));
@@ -64,7 +64,7 @@ fn the_worked_document_is_written_over_every_byte(rt: HostRuntime) {
 #[test]
 fn a_moved_document_is_read_at_its_new_place(rt: HostRuntime) -> Result<(), Fail> {
     let mut bytes = [0; 512];
-    write_doc(&doc(), b"abc", &mut bytes);
+    write_doc(&doc(), b"abc", &Digest::of(b"abc"), &mut bytes);
     move_document(&mut bytes, MOVED);
     assert_eq!(rt; &bytes[48..56], b"hgfedcba".as_slice());
     assert_eq!(rt; &bytes[112..128], MOVED_CHECK.as_slice());
@@ -96,7 +96,7 @@ const WHOLE: Reading = Reading {
 
 fn fault_of(reading: Reading) -> Option<DocFault> {
     let mut bytes = [0; 512];
-    write_doc(&doc(), b"abc", &mut bytes);
+    write_doc(&doc(), b"abc", &Digest::of(b"abc"), &mut bytes);
     if reading.at >= 512 || reading.count > 512 {
         return None;
     }

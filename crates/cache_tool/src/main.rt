@@ -1,10 +1,7 @@
 //! The program over the top call: it hands on its words and its streams, and exits with the status.
 #![tactic(auto)]
 
-mod blank;
-
-pub use blank::Blank;
-use cache_top::cache_main;
+use cache_top::{Blank, cache_main};
 use device_bay::HostBay;
 use edge_io::{StdSink, StdSource};
 use run_promise::Status;

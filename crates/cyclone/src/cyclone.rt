@@ -34,13 +34,6 @@ pub struct Cyclone<D: Disk, R: Directory + Drop> {
     ghost told: { 0 ≤ (D.state disk).faults },
 }
 
-/// The digests of a piece that was put: of its payload, and of its document.
-#[derive(Clone, Copy, Debug, PartialEq, Eq)]
-pub struct Put {
-    pub payload: Digest,
-    pub document: Digest,
-}
-
 impl<D: Disk, R: Directory + Drop> Cyclone<D, R> {
     ghost use Rattle.cyclone.specs.Cyclone.{IsCyclone, HasBuffer, IsFresh, IsPut, EntersDoc, IsMoved, EntersCopy, TakesOutStored, BeginsNext, BlocksStand, ReadsBlocks, SameButRoom, SameButRows, SameTape, WritesBuffer, row_of_piece, next_buffer_cursor, seen_cyclone};
 
@@ -144,27 +137,28 @@ impl<D: Disk, R: Directory + Drop> Cyclone<D, R> {
             .make_room(flushes, flushes as u64 * self.geometry.agg as u64)
     }
 
-    /// Puts a piece into the buffer as a document, and enters it. The document is spelled in its
-    /// place, and is not written before the next flush.
-    pub fn put(&mut self, doc: &Doc, payload: &[u8]) -> Put
+    /// Puts a piece, the digest of whose payload is given, into the buffer as a document, and enters
+    /// it. The document is spelled in its place, and is not written before the next flush. The answer
+    /// is the document's digest.
+    pub fn put(&mut self, doc: &Doc, payload: &[u8], digest: &Digest) -> Digest
         requires turns { IsCyclone self.old }
         requires spare { 1 ≤ (seen_cyclone self.old).spare }
         requires place { doc.now.place ≡ next_place_of (seen_cyclone self.old).buffer }
         requires size { length payload.now ≤ 2 ^ 31 }
+        requires digest { digest.now ≡ digest_of payload.now }
         requires room { blocks_of (length payload.now) ≤ room_of (seen_cyclone self.old).buffer }
         ensures turns { IsCyclone self.new }
         ensures put { IsPut R.purges (seen_cyclone self.old) (seen_cyclone self.new) doc.now
             payload.now }
         ensures entered { EntersDoc R.purges (seen_cyclone self.old) (seen_cyclone self.new) doc.now
             payload.now }
-        ensures payload { result.payload ≡ digest_of payload.now }
-        ensures document { result.document ≡ digest_of_document doc.now payload.now }
+        ensures document { result ≡ digest_of_document doc.now payload.now }
         // Who reads it back finds this digest.
-        ensures again { document_digest (document_bytes doc.now payload.now) ≡ result.document }
+        ensures again { document_digest (document_bytes doc.now payload.now) ≡ result }
         ensures size { blocks_in (document_bytes doc.now payload.now) ≡ blocks_of (length payload.now) }
     {
         let blocks = blocks_of(payload.len() as u32);
-        let payload = self.buffer.put_document(doc, payload);
+        self.buffer.put_document(doc, payload, digest);
         let document = document_digest(self.buffer.get(doc.place, blocks));
         self.directory.insert(
             Key::of_piece(doc.id),
@@ -173,7 +167,7 @@ impl<D: Disk, R: Directory + Drop> Cyclone<D, R> {
             doc.id.index == 0,
             doc.pin != 0,
         );
-        Put { payload, document }
+        document
     }
 
     /// Puts a copy of the document that stands at `from` into the buffer, and enters its piece there

@@ -4,5 +4,5 @@
 mod cyclone;
 mod laws;
 
-pub use cyclone::{Cyclone, Put};
+pub use cyclone::Cyclone;
 pub use laws::buffers_stand_behind_writes;

@@ -93,31 +93,29 @@ fn put_header(into: &mut [u8], doc: &Doc, payload: &[u8], digest: &Digest, block
 }
 
 // The header, the payload, and zeros up to the end.
-fn put_all(into: &mut [u8], doc: &Doc, payload: &[u8]) -> Digest
+fn put_all(into: &mut [u8], doc: &Doc, payload: &[u8], digest: &Digest)
     requires size { length payload.now < 2 ^ 32 }
+    requires digest { digest.now ≡ digest_of payload.now }
     requires room { length into.old ≡ 512 * blocks_of (length payload.now) }
     ensures bytes { into.new ≡ document_bytes doc.now payload.now }
     ensures fits { Fits doc.now payload.now }
-    ensures digest { result ≡ digest_of payload.now }
     ensures len { length into.new ≡ length into.old }
 {
     let blocks = (into.len() / BLOCK) as u32;
-    let digest = Digest::of(payload);
-    let at = put_header(into, doc, payload, &digest, blocks);
+    let at = put_header(into, doc, payload, digest, blocks);
     let at = put(into, at, payload);
     clear(&mut into[at..]);
-    digest
 }
 
-/// Writes the document of these fields and this payload over all of the given bytes, and gives the
-/// digest of the payload.
-pub fn write_doc(doc: &Doc, payload: &[u8], into: &mut [u8]) -> Digest
+/// Writes the document of these fields and this payload, whose digest is given, over all of the given
+/// bytes.
+pub fn write_doc(doc: &Doc, payload: &[u8], digest: &Digest, into: &mut [u8])
     requires size { length payload.now < 2 ^ 32 }
+    requires digest { digest.now ≡ digest_of payload.now }
     requires room { length into.old ≡ 512 * blocks_of (length payload.now) }
     ensures bytes { into.new ≡ document_bytes doc.now payload.now }
-    ensures digest { result ≡ digest_of payload.now }
     // What is written is read at its place.
     ensures document { IsDocument into.new doc.now.generation doc.now.place doc.now payload.now }
 {
-    put_all(into, doc, payload)
+    put_all(into, doc, payload, digest);
 }

@@ -6,4 +6,5 @@ mod begins;
 mod cache;
 mod seam;
 
+pub use begins::NewChronicle;
 pub use cache::StripeCache;

@@ -1,6 +1,7 @@
 // The stripe: its pieces, and who writes and reads them.
 ghost use Rattle.std.specs.Prelude.{ℕ, ◌≡◌, ◌+◌, ◌<◌, ◌≤◌, true, false, [], IfOk, IfErr, IfSome, OnOk, OnErr, IsOk, length, if◌then◌else◌};
 ghost use Rattle.tape_base.specs.Blocks.{blocks_of};
+ghost use Rattle.tape_base.specs.Digest.{digest_of};
 ghost use Rattle.tape_base.specs.Geometry.{budget_of};
 ghost use Rattle.cache_model.specs.State.{floor_now};
 ghost use Rattle.cache_model.specs.Kept.{all_of, with_records};
@@ -295,10 +296,12 @@ impl<D: Disk, R: Directory + Drop, C: Chronicle> Stripe<D, R, C> {
         pin: u64,
         start: u64,
         payload: &[u8],
+        digest: Digest,
         now: u64,
     ) -> Result<Placed, Refusal>
         requires stripe { IsStripe self.old }
         requires placing { IsPlacing (state_in self.old) id pin start payload.now }
+        requires digest { digest ≡ digest_of payload.now }
         // A vector spells what the records list, where the device tells its content.
         requires spelled { IsToldPlaced (seen_in self.old).device (state_in self.old) id start payload.now
             contents_of_vectors }
@@ -318,9 +321,9 @@ impl<D: Disk, R: Directory + Drop, C: Chronicle> Stripe<D, R, C> {
     {
         self.take_unit()?;
         if id.index == 0 {
-            self.place_vector(id, pin, start, payload)
+            self.place_vector(id, pin, start, payload, digest)
         } else {
-            self.place_fragment(id, pin, start, payload, now)
+            self.place_fragment(id, pin, start, payload, digest, now)
         }
     }
 
@@ -330,11 +333,13 @@ impl<D: Disk, R: Directory + Drop, C: Chronicle> Stripe<D, R, C> {
         pin: u64,
         start: u64,
         payload: &[u8],
+        digest: Digest,
     ) -> Result<Placed, Refusal>
         requires stripe { IsStripe self.old }
         requires spared { IsSpared (units_in self.old + 1) (flushes_in self.old)
             (C.room self.old.pieces.chronicle) (seen_in self.old) }
         requires kind { id.index ≡ 0 }
+        requires digest { digest ≡ digest_of payload.now }
         requires spelled { IsToldPlaced (seen_in self.old).device (state_in self.old) id start payload.now
             contents_of_vectors }
         requires vector { IsVectorFor (state_in self.old) id start payload.now }
@@ -347,7 +352,7 @@ impl<D: Disk, R: Directory + Drop, C: Chronicle> Stripe<D, R, C> {
         ensures still { (seen_in self.new).device ≡ (seen_in self.old).device }
         ensures unit { units_in self.new ≡ units_in self.old }
     {
-        match self.pieces.place(id, pin, start, payload) {
+        match self.pieces.place(id, pin, start, payload, digest) {
             Ok(placed) => Ok(placed),
             Err(stop) => Err(Refusal::from(stop)),
         }
@@ -359,12 +364,14 @@ impl<D: Disk, R: Directory + Drop, C: Chronicle> Stripe<D, R, C> {
         pin: u64,
         start: u64,
         payload: &[u8],
+        digest: Digest,
         now: u64,
     ) -> Result<Placed, Refusal>
         requires stripe { IsStripe self.old }
         requires spared { IsSpared (units_in self.old + 1) (flushes_in self.old)
             (C.room self.old.pieces.chronicle) (seen_in self.old) }
         requires fragment { IsFragmentOf (state_in self.old) id pin start payload.now }
+        requires digest { digest ≡ digest_of payload.now }
         ensures continues { ContinuesWith (λ contents. OnOk result (IsToldPlaced (seen_in self.new).device
             (state_in self.old) id start payload.now contents)) self.old self.new }
         ensures does { AnswersOrWants result (CutsAsAsked R.purges now (kept_in self.old) (kept_in self.new)
@@ -380,7 +387,16 @@ impl<D: Disk, R: Directory + Drop, C: Chronicle> Stripe<D, R, C> {
         let writes = blocks_of(payload.len() as u32) > self.pieces.cyclone.room();
         self.flushes -= one_where(writes);
         let pieces = &mut self.pieces;
-        match pieces.place_fragment(id, pin, start, payload, now, &self.actors, &mut self.ahead) {
+        match pieces.place_fragment(
+            id,
+            pin,
+            start,
+            payload,
+            digest,
+            now,
+            &self.actors,
+            &mut self.ahead,
+        ) {
             Ok(placed) => {
                 self.actors
                     .cut(id.put, payload.len() as u32, placed.payload);

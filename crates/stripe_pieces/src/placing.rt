@@ -29,6 +29,7 @@ impl<D: Disk, R: Directory + Drop, C: Chronicle> Pieces<D, R, C> {
         pin: u64,
         start: u64,
         payload: &[u8],
+        digest: Digest,
         now: u64,
         actors: &Actors,
         ahead: &mut Ahead,
@@ -38,6 +39,7 @@ impl<D: Disk, R: Directory + Drop, C: Chronicle> Pieces<D, R, C> {
             self.old }
         requires new { IsNewPiece (state_now self.old) id payload.now }
         requires fragment { IsFragmentOf (state_now self.old) id pin start payload.now }
+        requires digest { digest ≡ digest_of payload.now }
         ensures keeps { let g = (seen_now self.old).geometry in FlushesAtMost
             (λ contents. OnOk result (IsToldPlaced (seen_now self.new).device
             (state_now self.old) id start payload.now contents))
@@ -48,7 +50,7 @@ impl<D: Disk, R: Directory + Drop, C: Chronicle> Pieces<D, R, C> {
             (seen_now self.new).device id pin start payload.now result }
     {
         match self.make_room(payload.len() as u32, now, actors, ahead) {
-            Ok(()) => self.place(id, pin, start, payload),
+            Ok(()) => self.place(id, pin, start, payload, digest),
             Err(why) => Err(why),
         }
     }
@@ -60,9 +62,11 @@ impl<D: Disk, R: Directory + Drop, C: Chronicle> Pieces<D, R, C> {
         pin: u64,
         start: u64,
         payload: &[u8],
+        digest: Digest,
     ) -> Result<Placed, Stop>
         requires ready { ArePrepared (2 + purge_of (state_now self.old).geometry) 1 self.old }
         requires fits { HasBufferRoom (state_now self.old) id payload.now }
+        requires digest { digest ≡ digest_of payload.now }
         ensures keeps { AsksNoDevice
             (λ contents. OnOk result (IsToldPlaced (seen_now self.new).device
             (state_now self.old) id start payload.now contents))
@@ -82,28 +86,30 @@ impl<D: Disk, R: Directory + Drop, C: Chronicle> Pieces<D, R, C> {
             pin,
             start,
         };
-        let payload = self.put(&doc, payload);
-        Ok(Placed { place, payload })
+        self.put(&doc, payload, digest);
+        Ok(Placed {
+            place,
+            payload: digest,
+        })
     }
 
-    fn put(&mut self, doc: &Doc, payload: &[u8]) -> Digest
+    fn put(&mut self, doc: &Doc, payload: &[u8], digest: Digest)
         requires ready { ArePrepared (2 + purge_of (state_now self.old).geometry) 1 self.old }
         requires fits { HasBufferRoom (state_now self.old) doc.now.id payload.now }
         requires doc { let d = doc.now in d ≡ doc_at (state_now self.old) d.id d.pin d.start }
+        requires digest { digest ≡ digest_of payload.now }
         ensures keeps { let d = doc.now in AsksNoDevice (IsToldPlaced (seen_now self.new).device
             (state_now self.old) d.id d.start payload.now)
             (2 + purge_of (seen_now self.old).geometry) 1 self.old self.new }
         ensures puts { let d = doc.now in
             PutsIn R.purges (kept_now self.old) (kept_now self.new) d.id d.pin d.start payload.now }
-        ensures digest { result ≡ digest_of payload.now }
     {
         let length = payload.len() as u32;
-        let put = self.cyclone.put(doc, payload);
+        let document = self.cyclone.put(doc, payload, &digest);
         // Behind what it displaced it has a slot.
         self.cyclone.rows_fit();
-        records::cut(&mut self.chronicle, doc.id, length, put.payload);
+        records::cut(&mut self.chronicle, doc.id, length, digest);
         records::displaced(&mut self.chronicle, self.cyclone.displaced());
-        records::placed(&mut self.chronicle, doc, blocks_of(length), put.document);
-        put.payload
+        records::placed(&mut self.chronicle, doc, blocks_of(length), document);
     }
 }

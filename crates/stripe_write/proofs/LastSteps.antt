@@ -358,8 +358,8 @@ closes_where_same s t w used (Err (refusal.VectorTooLarge size)) same h = (
 closes_where_same s t w used (Err (refusal.Lost index why)) same h = (
   subst (λ n. is_writing s n ≡ true) same.put h.0,
   h.1
-  ∙ (ap (λ k. cause_of_piece t (fragment_piece k used.put index)) same.key
-  ∙ ap (λ n. cause_of_piece t (fragment_piece w.key n index)) same.put),
+      ∙ (ap (λ k. cause_of_piece t (fragment_piece k used.put index)) same.key
+      ∙ ap (λ n. cause_of_piece t (fragment_piece w.key n index)) same.put),
 )
 closes_where_same s t w used (Err (refusal.DeviceFault count)) same h = subst (λ n. is_writing s n ≡ true) same.put h
 closes_where_same s t w used (Err (refusal.Exhausted number)) same h = (subst (λ n. is_writing s n ≡ true) same.put h.0, h.1)

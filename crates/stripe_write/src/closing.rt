@@ -1,5 +1,6 @@
 // Writers close.
 ghost use Rattle.std.specs.Prelude.{◌≡◌, true};
+ghost use Rattle.tape_base.specs.Digest.{digest_of};
 ghost use Rattle.cache_model.specs.Legal.{is_writing};
 ghost use Rattle.stripe_core.specs.Stripe.{IsStripe, state_in};
 ghost use Rattle.stripe_core.specs.Between.{IsResting};
@@ -17,6 +18,7 @@ use dir_table::Directory;
 use logged_disk::Disk;
 use std::alloc::AllocError;
 use stripe_core::{Refusal, Stripe};
+use tape_base::Digest;
 
 // The calls that closing makes at most: a vector is read, the rest is cut, there is a flush, the put's
 // vector is placed, and the put ends.
@@ -67,8 +69,9 @@ fn close_open<D: Disk, R: Directory + Drop, C: Chronicle>(
     requires memory { HasMemoryToClose 5 stripe.old writer.old }
     ensures { ClosesWriterInStripe R.purges now stripe.old stripe.new writer.old writer.new result }
 {
-    match weigh(stripe, writer) {
-        Ok(vectors) => end(stripe, writer, vectors, now),
+    let rest = Digest::of(&writer.gathered);
+    match weigh(stripe, writer, rest) {
+        Ok(vectors) => end(stripe, writer, vectors, rest, now),
         Err(why) => {
             writer.sealed = is_sealed_by(&why, writer.sealed);
             Err(why)
@@ -86,21 +89,23 @@ fn is_sealed_by(why: &Refusal, sealed: bool) -> bool
     }
 }
 
-// Cuts the rest and finishes. From here on the writer takes no more bytes.
+// Cuts the rest, which has this digest, and finishes. From here on the writer takes no more bytes.
 fn end<D: Disk, R: Directory + Drop, C: Chronicle>(
     stripe: &mut Stripe<D, R, C>,
     writer: &mut Writer,
     vectors: Vectors,
+    rest: Digest,
     now: u64,
 ) -> Result<Receipt, Refusal>
     requires writing { HasOpenWriter stripe.old writer.old }
     requires vectors { AreWeighed stripe.old writer.old vectors }
+    requires rest { rest ≡ digest_of writer.old.gathered.items }
     requires memory { HasMemoryToClose 4 stripe.old writer.old }
     ensures { EndsWriterInStripe R.purges now stripe.old stripe.new writer.old writer.new vectors
         result }
 {
     writer.sealed = true;
-    match cut_rest(stripe, writer, now) {
+    match cut_rest(stripe, writer, rest, now) {
         Ok(()) => finish(stripe, writer, vectors, now),
         Err(why) => Err(why),
     }

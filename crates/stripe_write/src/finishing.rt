@@ -18,7 +18,7 @@ use dir_table::Directory;
 use logged_disk::Disk;
 use stripe_core::{Refusal, Stripe};
 use stripe_vectors::{Spelled, live_vector};
-use tape_base::PieceId;
+use tape_base::{Digest, PieceId};
 
 /// What came of a put that was closed.
 #[derive(Clone, Copy, Debug, PartialEq, Eq)]
@@ -182,7 +182,8 @@ fn complete<D: Disk, R: Directory + Drop, C: Chronicle>(
         put: writer.put,
         index: 0,
     };
-    match stripe.place_piece(id, spelled.pin, 0, &spelled.bytes, now) {
+    let digest = Digest::of(&spelled.bytes);
+    match stripe.place_piece(id, spelled.pin, 0, &spelled.bytes, digest, now) {
         Ok(_) => Ok(commit(stripe, writer, vectors.into_list(live))),
         Err(why) => Err(why),
     }

@@ -4,6 +4,7 @@ ghost use Rattle.tape_base.specs.Blocks.{blocks_of};
 ghost use Rattle.tape_base.specs.Geometry.{budget_of};
 ghost use Rattle.fragment_table.specs.Table.{total_length};
 ghost use Rattle.alternate_vector.specs.Alternates.{stored_of, vector_size};
+ghost use Rattle.tape_base.specs.Digest.{digest_of};
 ghost use Rattle.cache_model.specs.State.{most_fragments};
 ghost use Rattle.stripe_core.specs.Stripe.{state_in, units_in};
 ghost use Rattle.stripe_write.specs.Writers.{HasOpenWriter};
@@ -42,14 +43,16 @@ struct Own {
 pub(crate) fn weigh<D: Disk, R: Directory + Drop, C: Chronicle>(
     stripe: &mut Stripe<D, R, C>,
     writer: &Writer,
+    rest: Digest,
 ) -> Result<Vectors, Refusal>
     requires writing { HasOpenWriter stripe.old writer.now }
+    requires rest { rest ≡ digest_of writer.now.gathered.items }
     requires units { 2 ≤ units_in stripe.old }
     ensures { WeighsInStripe stripe.old stripe.new writer.now result }
 {
     // The law tells that what was read is what the key has.
     read_is_listed();
-    let own = spell_own(stripe.alloc(), stripe.geometry(), writer)?;
+    let own = spell_own(stripe.alloc(), stripe.geometry(), writer, rest)?;
     let found = read_vector(stripe, writer.key)?;
     match fault_in(&found) {
         Some(count) => Err(Refusal::DeviceFault { count }),
@@ -102,24 +105,26 @@ fn fit<D: Disk, R: Directory + Drop, C: Chronicle>(
 }
 
 // Spells what needs no other vector.
-fn spell_own(alloc: Global, g: &Geometry, writer: &Writer) -> Result<Own, AllocError>
+fn spell_own(alloc: Global, g: &Geometry, writer: &Writer, rest: Digest) -> Result<Own, AllocError>
+    requires rest { rest ≡ digest_of writer.now.gathered.items }
     requires few { length writer.now.gathered.items < g.now.fragment }
     requires more { 0 < length writer.now.gathered.items → length writer.now.table.rows < most_fragments }
     ensures { IfOk result (IsOwnAlternateOf g.now writer.now) }
 {
-    let alternate = alternate_of(g, writer)?;
+    let alternate = alternate_of(g, writer, rest)?;
     let alone = spell_alone(alloc, g, &alternate)?;
     Ok(Own { alternate, alone })
 }
 
 // The alternate that a put stands for when it closes.
-fn alternate_of(g: &Geometry, writer: &Writer) -> Result<Alternate, AllocError>
+fn alternate_of(g: &Geometry, writer: &Writer, rest: Digest) -> Result<Alternate, AllocError>
+    requires rest { rest ≡ digest_of writer.now.gathered.items }
     requires few { length writer.now.gathered.items < g.now.fragment }
     requires more { 0 < length writer.now.gathered.items → length writer.now.table.rows < most_fragments }
     ensures stored { IfOk result (λ a. stored_of a ≡ closing_alternate writer.now) }
     ensures length { IfOk result (λ a. a.length ≡ total_length a.table.rows) }
 {
-    let table = table_of(g, writer)?;
+    let table = table_of(g, writer, rest)?;
     Ok(Alternate {
         put: writer.put,
         pin: writer.pin,
@@ -131,7 +136,8 @@ fn alternate_of(g: &Geometry, writer: &Writer) -> Result<Alternate, AllocError>
 }
 
 // The fragments of a put when it closes: those that are cut, and what is gathered.
-fn table_of(g: &Geometry, writer: &Writer) -> Result<FragTable, AllocError>
+fn table_of(g: &Geometry, writer: &Writer, rest: Digest) -> Result<FragTable, AllocError>
+    requires rest { rest ≡ digest_of writer.now.gathered.items }
     requires few { length writer.now.gathered.items < g.now.fragment }
     requires more { 0 < length writer.now.gathered.items → length writer.now.table.rows < most_fragments }
     ensures { IfOk result (λ table. table.rows ≡ closing_rows writer.now) }
@@ -140,8 +146,7 @@ fn table_of(g: &Geometry, writer: &Writer) -> Result<FragTable, AllocError>
     let _fragment = g.fragment;
     let mut table = writer.table.copy()?;
     if !writer.gathered.is_empty() {
-        let digest = Digest::of(&writer.gathered);
-        table.push(writer.gathered.len() as u32, digest.0)?;
+        table.push(writer.gathered.len() as u32, rest.0)?;
     }
     Ok(table)
 }

@@ -1,5 +1,6 @@
 // Writers open, take bytes, and are given up.
 ghost use Rattle.std.specs.Prelude.{◌≡◌, ◌<◌, true, false, length};
+ghost use Rattle.tape_base.specs.Digest.{digest_of};
 ghost use Rattle.cache_model.specs.Legal.{is_writing};
 ghost use Rattle.cache_model.specs.State.{most_fragments};
 ghost use Rattle.stripe_actors.specs.Calls.{HasPutNumber};
@@ -16,7 +17,7 @@ use fragment_table::FragTable;
 use logged_disk::Disk;
 use open_directory::PutState;
 use stripe_core::{Placed, Refusal, Stripe};
-use tape_base::{Actor, Key, PieceId};
+use tape_base::{Actor, Digest, Key, PieceId};
 
 // How many fragments a put may have.
 const MAX_FRAGMENTS: u32 = 4096;
@@ -162,7 +163,8 @@ fn take<D: Disk, R: Directory + Drop, C: Chronicle>(
     if taken < room {
         return Ok(taken);
     }
-    match cut(stripe, writer, now) {
+    let digest = Digest::of(&writer.gathered);
+    match cut(stripe, writer, digest, now) {
         Ok(_) => Ok(taken),
         Err(refusal) => {
             writer.gathered.truncate(before);
@@ -171,14 +173,17 @@ fn take<D: Disk, R: Directory + Drop, C: Chronicle>(
     }
 }
 
-// Cuts the fragment that has gathered: a full one, or the short rest of a sealed writer.
+// Cuts the fragment that has gathered, with this digest: a full one, or the short rest of a sealed
+// writer.
 pub(crate) fn cut<D: Disk, R: Directory + Drop, C: Chronicle>(
     stripe: &mut Stripe<D, R, C>,
     writer: &mut Writer,
+    digest: Digest,
     now: u64,
 ) -> Result<Placed, Refusal>
     requires resting { IsResting stripe.old }
     requires ready { IsReady (state_in stripe.old) writer.old }
+    requires digest { digest ≡ digest_of writer.old.gathered.items }
     ensures { CutsNextInStripe R.purges now stripe.old stripe.new writer.old writer.new result }
 {
     let id = PieceId {
@@ -188,7 +193,7 @@ pub(crate) fn cut<D: Disk, R: Directory + Drop, C: Chronicle>(
     };
     let size = writer.gathered.len() as u32;
     let payload: &[u8] = &writer.gathered;
-    let placed = stripe.place_piece(id, writer.pin, writer.table.total(), payload, now)?;
+    let placed = stripe.place_piece(id, writer.pin, writer.table.total(), payload, digest, now)?;
     let pushed: Result<_, _> = writer.table.push(size, placed.payload.0);
     pushed.unwrap();
     writer.gathered.clear();

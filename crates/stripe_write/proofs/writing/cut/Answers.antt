@@ -115,3 +115,6 @@ returns-in_err-placed g c =
       memory = λ units row. c.in_err-placed.ensures.memory units (λ kind. row);
       unit = c.place_piece.ensures.unit;
     })
+
+pub place_piece-requires-clause-digest : goal.place_piece-requires-clause-digest
+place_piece-requires-clause-digest g c = c.requires.digest ∙ ap digest_of (sym c.deref-payload.ensures.value)

@@ -77,9 +77,11 @@ returns-then-taken-room g c =
     not_cut s.geometry w n (omega (arith, few, fragment, c.len-before.ensures, c.if-taken-room.true)) in
     record {
       rests = rests_with _ _ _ (continues_still _ _ c.prepare.ensures.continues c.prepare.ensures.records c.requires.writing.resting);
-      writes =
-          ((c.requires.writing.is_open, c.requires.unsealed), omega (arith, fragment, c.len-before.ensures, c.min-taken.ensures),
-          λ some. c.requires.few);
+      writes = (
+        (c.requires.writing.is_open, c.requires.unsealed),
+        omega (arith, fragment, c.len-before.ensures, c.min-taken.ensures),
+        λ some. c.requires.few,
+      );
       number = tt;
       does =
           writes_few c.args.now (kept_in c.args.stripe.now) (kept_in c.prepare.new.self) _ _ w c.args.bytes.now n
@@ -145,9 +147,11 @@ returns-in-Ok g c =
           subst (λ bytes. IsToldNextInStripe held bytes contents) (sym c.in_ok-extend_from_slice.ensures.items)
           (told_same contents w held (gathered_behind w c.args.bytes.now n) refl refl c.reserve.ensures.rows (told cuts)))
           (continues_still _ _ c.prepare.ensures.continues c.prepare.ensures.records c.requires.writing.resting) c.in-Ok.ensures.rests;
-      writes =
-          ((c.requires.writing.is_open, c.requires.unsealed), omega (arith, fragment, c.len-before.ensures, c.min-taken.ensures),
-          λ some. c.requires.few);
+      writes = (
+        (c.requires.writing.is_open, c.requires.unsealed),
+        omega (arith, fragment, c.len-before.ensures, c.min-taken.ensures),
+        λ some. c.requires.few,
+      );
       number = tt;
       does =
           writes_cut c.args.now (kept_in c.args.stripe.now) (kept_in c.prepare.new.self) (kept_in c.cut.new.stripe) _ _ _ w held

@@ -17,26 +17,26 @@ pub returns-clause-document : goal.returns-clause-document
 returns-clause-document g c =
     let d = c.args.doc.now in
     let bytes = document_bytes d c.args.payload.now in
-    let there = c.put_document-payload.ensures.added.readable in
+    let there = c.put_document.ensures.added.readable in
     let given : c.get.result.now ≡ bytes =
-    c.get.ensures.bytes ∙ (ap (λ p. bytes_at c.put_document-payload.new.self p c.blocks_of-blocks.result) c.requires.place
-    ∙ (ap (λ n. bytes_at c.put_document-payload.new.self (next_place_of c.args.self.now.buffer) n) (c.blocks_of-blocks.ensures ∙ sym c.put_document-payload.ensures.size) ∙ there)) in
+    c.get.ensures.bytes ∙ (ap (λ p. bytes_at c.put_document.new.self p c.blocks_of-blocks.result) c.requires.place
+    ∙ (ap (λ n. bytes_at c.put_document.new.self (next_place_of c.args.self.now.buffer) n) (c.blocks_of-blocks.ensures ∙ sym c.put_document.ensures.size) ∙ there)) in
     c.document_digest-document.ensures.document d.generation d.place d c.args.payload.now
-    (subst (λ b. IsDocument b d.generation d.place d c.args.payload.now) (sym given) c.put_document-payload.ensures.document)
+    (subst (λ b. IsDocument b d.generation d.place d c.args.payload.now) (sym given) c.put_document.ensures.document)
 
 pub returns-clause-again : goal.returns-clause-again
 returns-clause-again g c =
-    let there = c.put_document-payload.ensures.added.readable in
+    let there = c.put_document.ensures.added.readable in
     let given : c.get.result.now ≡ document_bytes c.args.doc.now c.args.payload.now =
-    c.get.ensures.bytes ∙ (ap (λ p. bytes_at c.put_document-payload.new.self p c.blocks_of-blocks.result) c.requires.place
-    ∙ (ap (λ n. bytes_at c.put_document-payload.new.self (next_place_of c.args.self.now.buffer) n) (c.blocks_of-blocks.ensures ∙ sym c.put_document-payload.ensures.size) ∙ there)) in
+    c.get.ensures.bytes ∙ (ap (λ p. bytes_at c.put_document.new.self p c.blocks_of-blocks.result) c.requires.place
+    ∙ (ap (λ n. bytes_at c.put_document.new.self (next_place_of c.args.self.now.buffer) n) (c.blocks_of-blocks.ensures ∙ sym c.put_document.ensures.size) ∙ there)) in
     ap document_digest (sym given) ∙ sym c.document_digest-document.ensures.digest
 
 pub returns-clause-put : goal.returns-clause-put
 returns-clause-put g c =
     let before = g.R.Directory.window c.args.self.now.directory in
-    let ends : c.args.doc.now.place + c.blocks_of-blocks.result ≡ next_place_of c.put_document-payload.new.self =
-    omega (arith, c.requires.place, c.blocks_of-blocks.ensures, c.put_document-payload.ensures.size, c.put_document-payload.ensures.added.next) in
+    let ends : c.args.doc.now.place + c.blocks_of-blocks.result ≡ next_place_of c.put_document.new.self =
+    omega (arith, c.requires.place, c.blocks_of-blocks.ensures, c.put_document.ensures.size, c.put_document.ensures.added.next) in
     let old = seen_cyclone c.args.self.now in
     let enters = c.insert.ensures.rows in
     let stored = g.R.Directory.rows c.args.self.now.directory in
@@ -46,7 +46,7 @@ returns-clause-put g c =
     let there : plain_row enters.row ≡ row = rw (sym c.requires.turns.geometry, sym c.of_piece.ensures) enters.is.there in
     record {
       geometry = refl;
-      buffer = c.put_document-payload.ensures.added;
+      buffer = c.put_document.ensures.added;
       gone = plain_rows enters.gone;
       rows = subst (λ (r : DirRow). TakesRow r (plain_rows enters.gone) (plain_rows stored) (plain_rows after)) there
           (plain_takes enters.row enters.gone stored after enters.takes);
@@ -60,4 +60,4 @@ pub returns-clause-entered : goal.returns-clause-entered
 returns-clause-entered g c = rw (sym c.of_piece.ensures, sym c.blocks_of-blocks.ensures) c.insert.ensures.rows
 
 pub returns-clause-turns : goal.returns-clause-turns
-returns-clause-turns g c = put_turns g.R.Directory.purges _ _ c.args.doc.now c.args.payload.now c.requires.turns (returns-clause-put g c) c.requires.place c.put_document-payload.ensures.size
+returns-clause-turns g c = put_turns g.R.Directory.purges _ _ c.args.doc.now c.args.payload.now c.requires.turns (returns-clause-put g c) c.requires.place c.put_document.ensures.size
