@@ -161,10 +161,10 @@ module _ {D R C : Type 0} {d : DiskGhosts D} {r : DirectoryGhosts R} {c : Chroni
     pub writer : IsStripeWriterOf (state_in new) w
 
   -- what committing comes to, with these alternates; the device is not asked
-  pub record CommitsInStripe (list : List Stored) (old new : Stripe D R C d r c) (w : Writer) (receipt : Receipt) : Type 0 where
+  pub record CommitsInStripe (list : List Stored) (old new : Stripe D R C d r c) (w : Writer) (answer : Receipt) : Type 0 where
     pub rests : Rests old new
     pub adds : kept_in new ≡ with_records (kept_in old) (committed_record (state_in old) w.put w.key list ∷ [])
     pub does : CommitsAsAsked (state_in old) w.put w.key list
-    pub receipt : IsReceiptOf w receipt
+    pub receipt : IsReceiptOf w answer
     pub still : (seen_in new).device ≡ (seen_in old).device
     pub writer : IsStripeWriterOf (state_in new) w

@@ -1,5 +1,6 @@
 use Rattle.std.proofs.Common.{ℕ, List, refl, ◌≡◌, sym, ◌∙◌, ap, subst, arith, true, false, Ok, Err}
 use Rattle.std.specs.Prelude.{Bool, Some, find, ◌==◌}
+use Rattle.tape_base.specs.Digest.{digest_of}
 use Rattle.device_log.specs.Calls.{Call}
 use Rattle.cache_model.specs.Kept.{Kept, state_of}
 use Rattle.cache_model.specs.State.{PutRow, vector_piece}
@@ -38,9 +39,9 @@ place_piece-requires-clause-placing g c =
     let s = state_in c.args.stripe.now in
     let w = c.args.writer.now in
     let at = c.requires.writer.writing in
-    vector_for s w c.args.vectors c.deref.result.now (is_closing s w at.resting.quiet at.is_open at.writer c.requires.writer.cut)
+    vector_for s w c.args.vectors c.deref-2.result.now (is_closing s w at.resting.quiet at.is_open at.writer c.requires.writer.cut)
     c.requires.vectors.spelled c.requires.room
-    (c.deref.ensures.value ∙ ap (λ (x : Spelled). x.bytes.items) (c.pick-spelled.ensures ∙ ap (picked c.args.vectors) c.is_live-live.ensures))
+    (c.deref-2.ensures.value ∙ ap (λ (x : Spelled). x.bytes.items) (c.pick-spelled.ensures ∙ ap (picked c.args.vectors) c.is_live-live.ensures))
 
 -- the vector spells what the records list, where the device tells its content
 pub place_piece-requires-clause-spelled : goal.place_piece-requires-clause-spelled
@@ -48,9 +49,12 @@ place_piece-requires-clause-spelled g c = λ tells.
     let s = state_in c.args.stripe.now in
     let w = c.args.writer.now in
     let at = c.requires.writer.writing in
-    told_vector s w c.args.vectors c.deref.result.now (is_closing s w at.resting.quiet at.is_open at.writer c.requires.writer.cut)
+    told_vector s w c.args.vectors c.deref-2.result.now (is_closing s w at.resting.quiet at.is_open at.writer c.requires.writer.cut)
     contents_of_vectors at.resting.stripe.none c.requires.vectors.spelled (c.requires.vectors.read tells)
-    (c.deref.ensures.value ∙ ap (λ (x : Spelled). x.bytes.items) (c.pick-spelled.ensures ∙ ap (picked c.args.vectors) c.is_live-live.ensures)) own_vectors
+    (c.deref-2.ensures.value ∙ ap (λ (x : Spelled). x.bytes.items) (c.pick-spelled.ensures ∙ ap (picked c.args.vectors) c.is_live-live.ensures)) own_vectors
+
+pub place_piece-requires-clause-digest : goal.place_piece-requires-clause-digest
+place_piece-requires-clause-digest g c = c.of-digest.ensures ∙ ap digest_of (c.deref.ensures.value ∙ sym c.deref-2.ensures.value)
 
 pub commit-requires-clause-stripe : goal.commit-requires-clause-stripe
 commit-requires-clause-stripe g c = c.place_piece.ensures.continues.stripe
@@ -63,7 +67,7 @@ commit-requires-clause-committing g c =
     let s = state_in c.args.stripe.now in
     let w = c.args.writer.now in
     let at = c.requires.writer.writing in
-    is_committing (kept_in c.args.stripe.now) (kept_in c.place_piece.new.self) _ _ w c.pick-spelled.result.now.pin c.deref.result.now c.in-Ok.field-0
+    is_committing (kept_in c.args.stripe.now) (kept_in c.place_piece.new.self) _ _ w c.pick-spelled.result.now.pin c.deref-2.result.now c.in-Ok.field-0
     (is_closing s w at.resting.quiet at.is_open at.writer c.requires.writer.cut) c.in-Ok.ensures.does
 
 pub returns-in-Ok : goal.returns-in-Ok
@@ -79,10 +83,10 @@ returns-in-Ok g c =
     let before = (seen_in c.args.stripe.now).device in
     let placed = (seen_in c.place_piece.new.self).device in
     let pin = c.pick-spelled.result.now.pin in
-    let payload = c.deref.result.now in
+    let payload = c.deref-2.result.now in
     let closing = is_closing s w at.resting.quiet at.is_open at.writer c.requires.writer.cut in
     let picks = c.pick-spelled.ensures ∙ ap (picked v) c.is_live-live.ensures in
-    let bytes = c.deref.ensures.value ∙ ap (λ (x : Spelled). x.bytes.items) picks in
+    let bytes = c.deref-2.ensures.value ∙ ap (λ (x : Spelled). x.bytes.items) picks in
     record {
       rests =
           rests_before (IsToldPlaced placed s (vector_piece w.key w.put) 0 payload) TellsVectors _ _ _
@@ -115,10 +119,10 @@ returns-in-Err g c =
     let after = (seen_in c.place_piece.new.self).device in
     let why = c.in-Err.why in
     let pin = c.pick-spelled.result.now.pin in
-    let payload = c.deref.result.now in
+    let payload = c.deref-2.result.now in
     let closing = is_closing s w at.resting.quiet at.is_open at.writer c.requires.writer.cut in
     let picks = c.pick-spelled.ensures ∙ ap (picked v) c.is_live-live.ensures in
-    let bytes = c.deref.ensures.value ∙ ap (λ (x : Spelled). x.bytes.items) picks in
+    let bytes = c.deref-2.ensures.value ∙ ap (λ (x : Spelled). x.bytes.items) picks in
     let memory = c.in-Err.ensures.memory (omega (arith, c.requires.units)) (λ e. let clash : true ≡ false = e in cc) in
     let none = not_placed g.R.Directory.purges old new _ _ _ pin payload why c.in-Err.ensures.does in
     record {

@@ -1,4 +1,4 @@
-use Rattle.std.proofs.Common.{◌≡◌, Result, Ok, OnOk, Err, refl, sym, ◌∙◌, ap, subst, arith}
+use Rattle.std.proofs.Common.{◌≡◌, ◌+◌, ◌≤◌, Result, Ok, OnOk, Err, refl, sym, ◌∙◌, ap, subst}
 use Rattle.std.proofs.lemmas.Result.{err_from_is_err_and}
 use Rattle.cache_model.specs.Kept.{state_of}
 use Rattle.stripe_core.specs.Stripe.{kept_in, room_for, seen_in, state_in, units_in}
@@ -140,12 +140,12 @@ returns-in-None g c =
           on_ok c.fit.result (c.fit.new.stripe ≡ c.read_vector.new.stripe) _
           (λ stays. ap (λ t. (state_in t).displaced) stays ∙ same_displaced old mid w.key found adds) c.fit.ensures.same;
       row =
-          on_ok c.fit.result (c.fit.new.stripe ≡ c.read_vector.new.stripe) _
-          (λ stays. ap (λ t. room_for w.put t.actors) stays ∙ c.read_vector.ensures.row w.put) c.fit.ensures.same;
+          on_ok c.fit.result (c.fit.new.stripe ≡ c.read_vector.new.stripe)
+          (room_for w.put c.fit.new.stripe.actors ≡ room_for w.put c.args.stripe.now.actors)
+          (λ stays. rw stays (c.read_vector.ensures.row w.put)) c.fit.ensures.same;
       unit =
-          on_ok c.fit.result (c.fit.new.stripe ≡ c.read_vector.new.stripe) _
-          (λ stays. let units : units_in c.fit.new.stripe ≡ units_in c.read_vector.new.stripe = ap (λ t. units_in t) stays in
-          omega (arith, units, c.read_vector.ensures.unit)) c.fit.ensures.same;
+          on_ok c.fit.result (c.fit.new.stripe ≡ c.read_vector.new.stripe)
+          (units_in c.args.stripe.now ≤ units_in c.fit.new.stripe + 1) (λ stays. rw stays c.read_vector.ensures.unit) c.fit.ensures.same;
       own =
           then_owns w.put old mid new (owns_read w.put old mid w.key found adds)
           (owns_fit mid new w c.fit.result c.fit.ensures.adds);
