@@ -81,7 +81,8 @@ returns-in-Ok g c =
               c.requires.fragment.next.writing.found)
               (behind ∙ placed_state purges s id c.args.pin c.args.start payload shape.room shape.piece shape.kinds kind shape.are);
           readers = omega (arith, c.requires.taken.stripe.readers, c.reserve_cut.ensures.readers, c.cut.ensures.readers);
-          ahead = made_still s _ before after c.place_fragment.new.ahead c.requires.taken.stripe.pieces c.place_fragment.ensures.keeps.pieces.held
+          ahead = made_still s _ before after c.place_fragment.new.ahead c.requires.taken.stripe.pieces
+              c.place_fragment.ensures.keeps.pieces.held
               c.place_fragment.ensures.keeps.uses.same c.place_fragment.ensures.keeps.ahead;
           none = ap (λ (t : State). t.displaced) (behind ∙ after_all-append s shape.room shape.piece)
               ∙ none_placed purges (after_all s shape.room) id c.args.pin c.args.start payload shape.piece shape.are;
@@ -129,7 +130,8 @@ returns-in-Err g c =
               c.room.ensures none));
           named = named_with kept _ does.added does.adds (flush_leaves does.added shape.kinds) c.requires.taken.stripe.named;
           readers = omega (arith, c.requires.taken.stripe.readers, c.reserve_cut.ensures.readers);
-          ahead = made_still s _ before after c.place_fragment.new.ahead c.requires.taken.stripe.pieces c.place_fragment.ensures.keeps.pieces.held
+          ahead = made_still s _ before after c.place_fragment.new.ahead c.requires.taken.stripe.pieces
+              c.place_fragment.ensures.keeps.pieces.held
               c.place_fragment.ensures.keeps.uses.same c.place_fragment.ensures.keeps.ahead;
           none = none_with kept _ does.added does.adds (flush_displaces does.added shape.kinds) c.requires.taken.stripe.none;
           vectors = c.in-Err.ensures.keeps.pieces.contents contents_of_vectors tt c.requires.taken.stripe.vectors;
@@ -153,7 +155,8 @@ returns-in-Err g c =
 
 pub place_fragment-requires-clause-new : goal.place_fragment-requires-clause-new
 place_fragment-requires-clause-new g c =
-    fragment_new (state_in c.args.self.now) c.args.id c.args.pin c.args.start c.args.payload.now c.requires.fragment c.requires.taken.stripe.named
+    fragment_new (state_in c.args.self.now) c.args.id c.args.pin c.args.start c.args.payload.now c.requires.fragment
+    c.requires.taken.stripe.named
 
 pub place_fragment-requires-clause-ready : goal.place_fragment-requires-clause-ready
 place_fragment-requires-clause-ready g c =

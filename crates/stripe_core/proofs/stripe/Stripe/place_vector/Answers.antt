@@ -38,7 +38,8 @@ returns-in-Ok g c =
           pieces = c.place.ensures.keeps.pieces.held;
           actors = actors_with kept _ c.args.self.now.actors places.added places.adds others c.requires.taken.stripe.actors;
           spared = spent_calm (units_in c.args.self.now) (flushes_in c.args.self.now) _ _
-              (2 + purge_of (seen_in c.args.self.now).geometry) 1 (seen_in c.args.self.now) (seen_now c.place.new.self) c.requires.taken.spared
+              (2 + purge_of (seen_in c.args.self.now).geometry) 1 (seen_in c.args.self.now) (seen_now c.place.new.self)
+              c.requires.taken.spared
               c.place.ensures.keeps.uses (omega arith) (omega arith);
           named = vector_named s _ id _ _ c.args.pin _ c.requires.vector.w are.displaced (displaced_leaves are.displaced gone)
               (displaced_puts s are.displaced gone)
@@ -91,7 +92,8 @@ returns-in-Err g c =
           pieces = c.place.ensures.keeps.pieces.held;
           actors = actors_with kept _ c.args.self.now.actors [] nothing tt stripe.actors;
           spared = spent_calm (units_in c.args.self.now) (flushes_in c.args.self.now) _ _
-              (2 + purge_of (seen_in c.args.self.now).geometry) 1 (seen_in c.args.self.now) (seen_now c.place.new.self) c.requires.taken.spared
+              (2 + purge_of (seen_in c.args.self.now).geometry) 1 (seen_in c.args.self.now) (seen_now c.place.new.self)
+              c.requires.taken.spared
               c.place.ensures.keeps.uses (omega arith) (omega arith);
           named = named_with kept _ [] nothing tt stripe.named;
           readers = stripe.readers;
