@@ -12,9 +12,6 @@ use Rattle.stripe_write.specs.Closes.{IsToldClosedInStripe}
 use Rattle.stripe_write.proofs.ToldPieces.{rests_behind}
 use Rattle.stripe_write.proofs.closing.close_open.Goals as goal
 
-pub weigh-requires-clause-units : goal.weigh-requires-clause-units
-weigh-requires-clause-units g c = omega (arith, c.requires.memory.units)
-
 pub end-requires-clause-writing : goal.end-requires-clause-writing
 end-requires-clause-writing g c = record {
   resting = c.weigh.ensures.rests.resting;

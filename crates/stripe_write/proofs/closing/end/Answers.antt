@@ -1,4 +1,4 @@
-use Rattle.std.proofs.Common.{◌≡◌, ◌<◌, length, refl, inl, inr, subst, arith}
+use Rattle.std.proofs.Common.{◌≡◌, ◌<◌, length, refl, inl, inr, subst}
 use Rattle.stripe_core.specs.Stripe.{kept_in, seen_in, state_in}
 use Rattle.stripe_write.specs.declared.writer.Writer.{Writer}
 use Rattle.stripe_write.specs.Others.{AddsOfPut}
@@ -37,22 +37,6 @@ cut_rest-requires-clause-writing g c =
       writer = sealed_writer (state_in c.args.stripe.now) w (sealed_now w) (is_sealed w) c.requires.writing.writer;
       is_open = c.requires.writing.is_open;
     }
-
-pub cut_rest-requires-clause-memory : goal.cut_rest-requires-clause-memory
-cut_rest-requires-clause-memory g c = record {
-  units = omega (arith, c.requires.memory.units);
-  row = c.requires.memory.row;
-  table = c.requires.memory.table;
-}
-
-pub finish-requires-clause-units : goal.finish-requires-clause-units
-finish-requires-clause-units g c = omega (arith, c.requires.memory.units, c.cut_rest.ensures.unit)
-
-pub finish-requires-clause-writer : goal.finish-requires-clause-writer
-finish-requires-clause-writer g c = record {
-  writing = record { resting = c.cut_rest.ensures.rests.resting; writer = c.cut_rest.ensures.writer; is_open = c.in-Ok.ensures.is_open };
-  cut = c.in-Ok.ensures.empty;
-}
 
 pub finish-requires-clause-vectors : goal.finish-requires-clause-vectors
 finish-requires-clause-vectors g c =

@@ -1,6 +1,5 @@
 use Rattle.std.proofs.Common.{ℕ, List, refl, ◌≡◌, sym, ◌∙◌, ap, subst, arith, true, false, Ok, Err}
 use Rattle.std.specs.Prelude.{Bool, Some, find, ◌==◌}
-use Rattle.tape_base.specs.Digest.{digest_of}
 use Rattle.device_log.specs.Calls.{Call}
 use Rattle.cache_model.specs.Kept.{Kept, state_of}
 use Rattle.cache_model.specs.State.{PutRow, vector_piece}
@@ -52,15 +51,6 @@ place_piece-requires-clause-spelled g c = λ tells.
     told_vector s w c.args.vectors c.deref-2.result.now (is_closing s w at.resting.quiet at.is_open at.writer c.requires.writer.cut)
     contents_of_vectors at.resting.stripe.none c.requires.vectors.spelled (c.requires.vectors.read tells)
     (c.deref-2.ensures.value ∙ ap (λ (x : Spelled). x.bytes.items) (c.pick-spelled.ensures ∙ ap (picked c.args.vectors) c.is_live-live.ensures)) own_vectors
-
-pub place_piece-requires-clause-digest : goal.place_piece-requires-clause-digest
-place_piece-requires-clause-digest g c = c.of-digest.ensures ∙ ap digest_of (c.deref.ensures.value ∙ sym c.deref-2.ensures.value)
-
-pub commit-requires-clause-stripe : goal.commit-requires-clause-stripe
-commit-requires-clause-stripe g c = c.place_piece.ensures.continues.stripe
-
-pub commit-requires-clause-unit : goal.commit-requires-clause-unit
-commit-requires-clause-unit g c = omega (arith, c.requires.units, c.place_piece.ensures.unit)
 
 pub commit-requires-clause-committing : goal.commit-requires-clause-committing
 commit-requires-clause-committing g c =

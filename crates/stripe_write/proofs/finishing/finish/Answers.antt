@@ -1,4 +1,4 @@
-use Rattle.std.proofs.Common.{sym, ◌∙◌, subst, arith}
+use Rattle.std.proofs.Common.{sym, ◌∙◌, subst}
 use Rattle.logged_disk.proofs.GoingOn.{told_before}
 use Rattle.call_laws.specs.Contents.{TellsVectors}
 use Rattle.stripe_pieces.specs.Place.{RoomsAsAsked}
@@ -53,9 +53,6 @@ pub end-requires-clause-room : goal.end-requires-clause-room
 end-requires-clause-room g c =
     room_is_made c.args.now (kept_in c.args.stripe.now) (kept_in c.make_room.new.stripe) _ _ c.args.writer.now c.args.vectors c.in-Ok.field-0
     c.requires.writer.writing.resting.stripe.pieces.sound c.requires.vectors.spelled c.in-Ok.ensures.does c.in-Ok.ensures.room
-
-pub end-requires-clause-units : goal.end-requires-clause-units
-end-requires-clause-units g c = omega (arith, c.requires.units, c.make_room.ensures.unit)
 
 pub returns-in-Ok : goal.returns-in-Ok
 returns-in-Ok g c =
