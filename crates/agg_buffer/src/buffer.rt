@@ -86,8 +86,8 @@ impl AggBuffer {
         PutAnswer::Placed(place)
     }
 
-    /// Puts the document of a piece behind the others. It is spelled in its place, so the payload is
-    /// copied once; whoever has its digest gives it, so the payload is not digested for its header.
+    /// Puts the document of a piece behind the others. It is spelled in its place, so the payload
+    /// is copied once. Whoever has its digest gives it, so it is not digested for its header.
     pub fn put_document(&mut self, doc: &Doc, payload: &[u8], digest: &Digest)
         requires size { length payload.now ≤ 2 ^ 31 }
         requires digest { digest.now ≡ digest_of payload.now }

@@ -137,9 +137,9 @@ impl<D: Disk, R: Directory + Drop> Cyclone<D, R> {
             .make_room(flushes, flushes as u64 * self.geometry.agg as u64)
     }
 
-    /// Puts a piece, the digest of whose payload is given, into the buffer as a document, and enters
-    /// it. The document is spelled in its place, and is not written before the next flush. The answer
-    /// is the document's digest.
+    /// Puts a piece, the digest of whose payload is given, into the buffer as a document, and
+    /// enters it. The document is spelled in its place, and is not written before the next flush.
+    /// The answer is the document's digest.
     pub fn put(&mut self, doc: &Doc, payload: &[u8], digest: &Digest) -> Digest
         requires turns { IsCyclone self.old }
         requires spare { 1 ≤ (seen_cyclone self.old).spare }

@@ -107,8 +107,8 @@ fn put_all(into: &mut [u8], doc: &Doc, payload: &[u8], digest: &Digest)
     clear(&mut into[at..]);
 }
 
-/// Writes the document of these fields and this payload, whose digest is given, over all of the given
-/// bytes.
+/// Writes the document of these fields and this payload, whose digest is given, over all of the
+/// given bytes.
 pub fn write_doc(doc: &Doc, payload: &[u8], digest: &Digest, into: &mut [u8])
     requires size { length payload.now < 2 ^ 32 }
     requires digest { digest.now ≡ digest_of payload.now }

@@ -183,7 +183,7 @@ module _ {D R C : Type 0} {d : DiskGhosts D} {r : DirectoryGhosts R} {c : Chroni
 
   -- ---- who comes and goes
 
-  -- of a call that adds these records over memory that is made, and asks no device: this was asked of it
+  -- of a call that adds these records over memory that is made, and asks no device: they do what was asked, as this says
   pub record AddsInStripe (recs : List Rec) (Asked : Type 0) (old new : Stripe D R C d r c) : Type 0 where
     pub continues : Continues old new
     pub adds : kept_in new ≡ with_records (kept_in old) recs

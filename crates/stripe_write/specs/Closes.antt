@@ -185,7 +185,7 @@ module _ {D R C : Type 0} {d : DiskGhosts D} {r : DirectoryGhosts R} {c : Chroni
     pub counts : IfErr result (IsCounted (seen_in new).device.faults)
     pub own : AddsOfPut was.put (kept_in old) (kept_in new)
 
-  -- what making memory for it comes to: nothing else has changed
+  -- what making memory for it comes to: records, device and writer are as they were
   pub record MakesMemoryToClose (old new : Stripe D R C d r c) (was later : Writer) (result : Result (Unit {0}) AllocError) : Type 0 where
     pub continues : Continues old new
     pub records : kept_in new ≡ kept_in old

@@ -12,8 +12,8 @@ use logged_disk::Disk;
 use stripe_core::{Refusal, Stripe};
 use tape_base::Digest;
 
-/// Cuts what a sealed writer has gathered, with this digest, where there is some. Memory for it is made
-/// before.
+/// Cuts what a sealed writer has gathered, with this digest, where there is some. Memory for it is
+/// made before.
 pub(crate) fn cut_rest<D: Disk, R: Directory + Drop, C: Chronicle>(
     stripe: &mut Stripe<D, R, C>,
     writer: &mut Writer,

@@ -1,5 +1,5 @@
 // Writers open, take bytes, and are given up.
-ghost use Rattle.std.specs.Prelude.{◌≡◌, ◌<◌, true, false, length};
+ghost use Rattle.std.specs.Prelude.{◌≡◌, ◌<◌, false, length};
 ghost use Rattle.tape_base.specs.Digest.{digest_of};
 ghost use Rattle.cache_model.specs.Legal.{is_writing};
 ghost use Rattle.cache_model.specs.State.{most_fragments};
