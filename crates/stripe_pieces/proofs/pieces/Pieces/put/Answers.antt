@@ -24,7 +24,7 @@ returns-clause-keeps g c =
       size = c.put-document.ensures.size;
     } in
     let told_of : IsToldOf (kept_now c.args.self.now) (g.C.Chronicle.kept c.cut.new.chronicle) (g.C.Chronicle.kept c.displaced-2.new.chronicle) (g.C.Chronicle.kept c.placed.new.chronicle)
-        (seen_cyclone c.put-document.new.self) c.args.doc.now c.args.payload.now c.args.digest c.put-document.result = record {
+    (seen_cyclone c.put-document.new.self) c.args.doc.now c.args.payload.now c.args.digest c.put-document.result = record {
       told = c.displaced.result.now.told;
       told_is = c.displaced.ensures;
       blocks = c.blocks_of.result;
@@ -70,7 +70,7 @@ returns-clause-puts g c =
       size = c.put-document.ensures.size;
     } in
     let told_of : IsToldOf (kept_now c.args.self.now) (g.C.Chronicle.kept c.cut.new.chronicle) (g.C.Chronicle.kept c.displaced-2.new.chronicle) (g.C.Chronicle.kept c.placed.new.chronicle)
-        (seen_cyclone c.put-document.new.self) c.args.doc.now c.args.payload.now c.args.digest c.put-document.result = record {
+    (seen_cyclone c.put-document.new.self) c.args.doc.now c.args.payload.now c.args.digest c.put-document.result = record {
       told = c.displaced.result.now.told;
       told_is = c.displaced.ensures;
       blocks = c.blocks_of.result;
