@@ -4,7 +4,7 @@ use Rattle.tape_base.specs.declared.geometries.Geometry.{Geometry}
 use Rattle.logged_disk.specs.Device.{DeviceState as Device}
 use Rattle.cache_model.specs.Kept.{all_of}
 use Rattle.cache_model.specs.Legal.{format_records}
-use Rattle.call_laws.specs.Contents.{Contents}
+use Rattle.cache_model.specs.Contents.{Contents}
 use Rattle.call_laws.specs.Moments.{At}
 use Rattle.cache_calls.specs.Keeping.{plain_setting}
 

@@ -6,7 +6,7 @@ use Rattle.fragment_table.specs.Table.{total_length}
 use Rattle.cache_model.specs.State.{Row, State, fragment_piece}
 use Rattle.cache_model.specs.Verdict.{cuts_of}
 use Rattle.cache_model.specs.Legal.{live_next}
-use Rattle.call_laws.specs.Contents.{Contents, TellsVectors}
+use Rattle.cache_model.specs.Contents.{Contents, TellsVectors}
 use Rattle.call_laws.specs.Moments.{At}
 use Rattle.cache_calls.specs.declared.calls.NextPiece.{NextPiece}
 use Rattle.cache_calls.specs.declared.calls.NextPiece.TheVariants as piece

@@ -3,8 +3,10 @@ pub mod Verdict
 pub mod Damage
 pub mod Permit
 pub mod Room
+pub mod Displacing
 pub mod Given
 pub mod Due
+pub mod Contents
 pub mod Outcomes
 pub mod Syncing
 pub mod Legal

@@ -8,7 +8,7 @@ use Rattle.std.specs.Vec.{with_items}
 use Rattle.actor_table.specs.Table.{TableSeen, number_of_name, slot_of_actor, with_actor}
 use Rattle.cache_model.specs.Kept.{state_of}
 use Rattle.cache_model.specs.State.{State}
-use Rattle.call_laws.specs.Contents.{Untold}
+use Rattle.call_laws.specs.Untold.{Untold}
 use Rattle.call_laws.specs.Moments.{IsToldAt, permit_of}
 use Rattle.call_laws.specs.Progress.{in_full}
 use Rattle.call_laws.specs.Whole.{IsWholeStep}

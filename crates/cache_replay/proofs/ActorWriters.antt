@@ -8,7 +8,7 @@ use Rattle.actor_table.specs.Table.{TableSeen, number_of_name, slot_of_actor, wi
 use Rattle.cache_model.specs.Permit.{GiveUp, Write}
 use Rattle.cache_model.specs.Legal.{IsStep}
 use Rattle.cache_model.specs.State.{State, after_all}
-use Rattle.call_laws.specs.Contents.{AnyContents, Contents}
+use Rattle.cache_model.specs.Contents.{AnyContents, Contents}
 use Rattle.cache_calls.specs.declared.calls.Calls.{Ghosts as CallsGhosts}
 use Rattle.cache_calls.specs.Actors.{WriterSeen}
 use Rattle.cache_calls.specs.Keeping.{IsAtRest}

@@ -15,7 +15,7 @@ use Rattle.cache_model.specs.Verdict.{cause_of_piece, cuts_of}
 use Rattle.cache_model.specs.Permit.{Commit, Exhausted, Faulted, Finish, Intent, Lost, Permit, Reason, TooLarge, Weigh, to_do}
 use Rattle.cache_model.specs.Legal.{IsQuiet, MayGrow, is_writing}
 use Rattle.cache_model.specs.Vectors.{IsVectorAs}
-use Rattle.call_laws.specs.Contents.{Untold}
+use Rattle.call_laws.specs.Untold.{Untold}
 use Rattle.call_laws.specs.Moments.{At, Facts, IsToldAt}
 use Rattle.call_laws.specs.Progress as progress
 use Rattle.call_laws.specs.Progress.{AllDone, EndsWith, Progress, Stops}

@@ -7,7 +7,7 @@ use Rattle.cache_model.specs.declared.record.Rec.TheVariants as rec
 use Rattle.cache_model.specs.State.{ReaderRow, State, reader_of, state_after}
 use Rattle.cache_model.specs.Permit.{StopReading}
 use Rattle.cache_model.proofs.ByNumber.{find-without}
-use Rattle.call_laws.specs.Contents.{AnyContents}
+use Rattle.cache_model.specs.Contents.{AnyContents}
 use Rattle.call_laws.specs.Progress.{AllDone, in_full}
 use Rattle.call_laws.specs.Serves.{ServesTold}
 use Rattle.call_laws.proofs.Joined.{state_behind}

@@ -24,7 +24,7 @@ use Rattle.cache_model.proofs.Sound.{buffer_left, displaced_leave}
 use Rattle.cache_model.proofs.Steps.{after_all-append}
 use Rattle.step_laws.proofs.Told.{displaced_behind}
 use Rattle.logged_disk.specs.Device.{TellsAll}
-use Rattle.call_laws.specs.Contents.{Untold}
+use Rattle.call_laws.specs.Untold.{Untold}
 use Rattle.call_laws.specs.Moments.{At, Facts, permit_of}
 use Rattle.call_laws.specs.Progress.{AllDone, Progress}
 use Rattle.call_laws.specs.Serves.{Serves, ServesFrom}

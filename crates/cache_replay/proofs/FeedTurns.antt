@@ -5,7 +5,7 @@ use Rattle.std.proofs.lemmas.List.{drop-drop, length-drop, take_all}
 use Rattle.logged_disk.specs.Device.{TellsAll}
 use Rattle.cache_model.specs.State.{State}
 use Rattle.cache_model.specs.Legal.{is_writing}
-use Rattle.call_laws.specs.Contents.{Contents}
+use Rattle.cache_model.specs.Contents.{Contents}
 use Rattle.call_laws.specs.Moments.{At}
 use Rattle.call_laws.specs.Serves.{Serves}
 use Rattle.cache_calls.specs.declared.calls.Refusal.{Refusal}

@@ -16,7 +16,8 @@ use Rattle.cache_model.specs.Pair.{Documents, IsPairOf}
 use Rattle.cache_model.specs.ToRead.{IsToRead, to_read}
 use Rattle.cache_model.specs.Vectors.{IsVectorAs}
 use Rattle.logged_disk.specs.Device.{DeviceState as Device, TellsAll}
-use Rattle.call_laws.specs.Contents.{Contents, Untold}
+use Rattle.call_laws.specs.Untold.{Untold}
+use Rattle.cache_model.specs.Contents.{Contents}
 use Rattle.call_laws.specs.Moments.{At, NothingKnown, permit_of}
 use Rattle.call_laws.specs.Happens.{Happens}
 use Rattle.call_laws.specs.Progress.{AllDone, in_full}

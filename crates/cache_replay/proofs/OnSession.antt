@@ -7,7 +7,7 @@ use Rattle.alternate_vector.specs.Field.{Field}
 use Rattle.actor_table.specs.Table.{number_of_name}
 use Rattle.cache_model.specs.State.{PutRow, State, put_of}
 use Rattle.cache_model.specs.Legal.{is_writing}
-use Rattle.call_laws.specs.Contents.{Contents}
+use Rattle.cache_model.specs.Contents.{Contents}
 use Rattle.cache_calls.specs.declared.calls.Calls.{Ghosts as CallsGhosts}
 use Rattle.script_lang.specs.declared.step.Step.{Step}
 use Rattle.script_lang.specs.declared.step.Step.TheVariants as step

@@ -9,7 +9,8 @@ use Rattle.actor_table.specs.Table.{TableSeen, number_of_name, with_actor}
 use Rattle.cache_model.specs.State.{ReaderRow, State, after_all, reader_of}
 use Rattle.cache_model.specs.Permit.{Look}
 use Rattle.cache_model.specs.Vectors.{IsVectorAs}
-use Rattle.call_laws.specs.Contents.{AnyContents, Untold}
+use Rattle.call_laws.specs.Untold.{Untold}
+use Rattle.cache_model.specs.Contents.{AnyContents}
 use Rattle.call_laws.specs.Moments.{IsToldAt}
 use Rattle.call_laws.specs.Progress.{AllDone, in_full}
 use Rattle.call_laws.specs.Serves.{ServesFrom}

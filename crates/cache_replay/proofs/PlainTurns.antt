@@ -11,7 +11,7 @@ use Rattle.cache_model.specs.Kept.{state_of}
 use Rattle.cache_model.specs.Permit.{Exhausted, Faulted, Flush, Reason, Remove}
 use Rattle.cache_model.specs.Vectors.{AreTold}
 use Rattle.cache_model.specs.Verdict.{cause_of_miss}
-use Rattle.call_laws.specs.Contents.{AnyContents}
+use Rattle.cache_model.specs.Contents.{AnyContents}
 use Rattle.call_laws.specs.Moments.{At, NothingKnown}
 use Rattle.call_laws.specs.Progress.{AllDone, EndsWith, Progress, Stops}
 use Rattle.call_laws.specs.Progress.EndsWith.{in_full, refused as stopped}

@@ -5,7 +5,8 @@ use Rattle.tape_base.specs.declared.keys.Key.{Key}
 use Rattle.alternate_vector.specs.Field.{Field}
 use Rattle.cache_model.specs.Permit.{Reason}
 use Rattle.cache_model.specs.Vectors.{AreTold, IsVectorAs}
-use Rattle.call_laws.specs.Contents.{TellsVectors, Untold}
+use Rattle.call_laws.specs.Untold.{Untold}
+use Rattle.cache_model.specs.Contents.{TellsVectors}
 use Rattle.call_laws.specs.Moments.{IsToldAt}
 use Rattle.call_laws.specs.Progress
 use Rattle.call_laws.specs.Progress.{EndsWith}

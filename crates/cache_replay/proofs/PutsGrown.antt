@@ -13,7 +13,7 @@ use Rattle.cache_model.specs.State.{Closed, GivenUp, PutRow, State, after_all, c
 use Rattle.cache_model.proofs.ByNumber.{find-changed}
 use Rattle.cache_model.proofs.Found.{none_is}
 use Rattle.cache_model.proofs.Steps.{all_as}
-use Rattle.call_laws.specs.Contents.{Contents}
+use Rattle.cache_model.specs.Contents.{Contents}
 use Rattle.call_laws.specs.Moments.{At}
 use Rattle.call_laws.proofs.Joined.{state_behind}
 use Rattle.cache_calls.specs.Adds.{AddsAll, AddsOnly, IsOfPut}

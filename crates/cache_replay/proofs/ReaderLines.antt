@@ -5,7 +5,7 @@ use Rattle.std.proofs.lemmas.Bool.{eqb-false}
 use Rattle.actor_table.specs.Table.{TableSeen, number_of_name, with_actor}
 use Rattle.cache_model.specs.State.{State, reader_of}
 use Rattle.cache_model.specs.Legal.{is_writing}
-use Rattle.call_laws.specs.Contents.{AnyContents}
+use Rattle.cache_model.specs.Contents.{AnyContents}
 use Rattle.cache_calls.specs.declared.calls.Calls.{Ghosts as CallsGhosts}
 use Rattle.cache_calls.specs.Actors.{IsOpenReader, IsReaderOf, ReaderSeen}
 use Rattle.cache_calls.specs.Standing.{StaysStanding}

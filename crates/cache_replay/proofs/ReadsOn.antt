@@ -3,7 +3,7 @@ use Rattle.std.proofs.Common.{◌≡◌, ℕ, ◌*◌, List, [], length, sym, �
 use Rattle.tape_base.specs.declared.geometries.Geometry.{Geometry}
 use Rattle.tape_base.specs.Geometry.{budget_of}
 use Rattle.cache_model.specs.declared.record.Rec.{Rec}
-use Rattle.call_laws.specs.Contents.{AnyContents}
+use Rattle.cache_model.specs.Contents.{AnyContents}
 use Rattle.call_laws.specs.Moments.{At}
 use Rattle.call_laws.proofs.Joined.{nothing_more}
 use Rattle.cache_calls.specs.declared.calls.Calls.{Ghosts as CallsGhosts}

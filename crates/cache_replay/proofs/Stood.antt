@@ -6,7 +6,7 @@ use Rattle.cache_model.specs.State.{PutRow, State, fragment_piece, put_of}
 use Rattle.cache_model.specs.Pair.{ShowsPair}
 use Rattle.cache_model.specs.Vectors.{ArePuts, AreTold, AreVectors}
 use Rattle.step_laws.proofs.ToldGroups.{told_step}
-use Rattle.call_laws.specs.Contents.{AnyContents, AreRecordedAs, Content, Contents}
+use Rattle.cache_model.specs.Contents.{AnyContents, AreRecordedAs, Content, Contents}
 use Rattle.call_laws.proofs.Kept.{tells_or_not}
 use Rattle.cache_calls.specs.declared.calls.Calls.{Ghosts as CallsGhosts}
 use Rattle.cache_calls.specs.Keeping.{IsAtRest, state_at}

@@ -10,7 +10,7 @@ use Rattle.cache_model.specs.State.{PutRow, State, fragment_piece, put_of}
 use Rattle.cache_model.specs.Verdict.{cuts_of}
 use Rattle.cache_model.specs.Legal.{is_writing}
 use Rattle.cache_model.proofs.Found.{cuts_found, same_some}
-use Rattle.call_laws.specs.Contents.{Content, Contents, TellsVectors}
+use Rattle.cache_model.specs.Contents.{Content, Contents, TellsVectors}
 use Rattle.call_laws.specs.Moments.{At}
 use Rattle.cache_calls.specs.Actors.{IsAtHand, IsWriterOf, WriterSeen}
 use Rattle.cache_calls.specs.Asked.{gathered_with}

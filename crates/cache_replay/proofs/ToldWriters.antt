@@ -15,7 +15,7 @@ use Rattle.cache_model.specs.Legal.{IsQuiet, IsStep, is_writing}
 use Rattle.cache_model.specs.Tape.{IsSound}
 use Rattle.cache_model.proofs.Found.{cuts_found, number_of, same_some}
 use Rattle.cache_model.proofs.Steps.{none_left}
-use Rattle.call_laws.specs.Contents.{Contents}
+use Rattle.cache_model.specs.Contents.{Contents}
 use Rattle.cache_calls.specs.Actors.{IsAtHand, WriterSeen}
 use Rattle.cache_calls.specs.Standing.{IsToldClosed}
 use Rattle.script_run.specs.Run.{Holding, Run, Stream, no_stream, put_written_by, with_value}

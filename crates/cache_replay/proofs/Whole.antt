@@ -11,7 +11,7 @@ use Rattle.cache_model.specs.Pair.{Documents, ShowsPair}
 use Rattle.cache_model.specs.Permit.{Intent, Permit, Reason, to_do}
 use Rattle.cache_model.specs.Vectors.{IsVectorAs}
 use Rattle.step_laws.proofs.Pairs.{also_shows}
-use Rattle.call_laws.specs.Contents.{Untold}
+use Rattle.call_laws.specs.Untold.{Untold}
 use Rattle.call_laws.specs.Moments.{At, Facts, permit_of}
 use Rattle.call_laws.specs.Progress.{EndsWith, Progress}
 use Rattle.call_laws.specs.Serves.{ServesFrom}

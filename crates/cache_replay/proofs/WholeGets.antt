@@ -22,7 +22,8 @@ use Rattle.cache_model.specs.Legal.{Does, IsQuiet, MayGrow, has_hit, nothing}
 use Rattle.cache_model.proofs.Aside.{AllAside, IsAside, lookup_aside, one_aside}
 use Rattle.cache_model.proofs.Steps.{after_all-append, all_append, grows_by}
 use Rattle.step_laws.proofs.Told.{told_aside}
-use Rattle.call_laws.specs.Contents.{AnyContents, Untold}
+use Rattle.call_laws.specs.Untold.{Untold}
+use Rattle.cache_model.specs.Contents.{AnyContents}
 use Rattle.call_laws.specs.Moments.{IsToldAt, OfState}
 use Rattle.call_laws.specs.Progress.{AllDone}
 use Rattle.call_laws.specs.Serves.{ServesFrom, Upshots}

@@ -33,7 +33,8 @@ use Rattle.cache_model.proofs.Aside.{AllAside, reading_on_aside}
 use Rattle.step_laws.proofs.Answered.{end_is_whole}
 use Rattle.step_laws.proofs.Pairs.{also_pair, also_pair_of}
 use Rattle.step_laws.proofs.Told.{told_aside}
-use Rattle.call_laws.specs.Contents.{AnyContents, Contents, Untold}
+use Rattle.call_laws.specs.Untold.{Untold}
+use Rattle.cache_model.specs.Contents.{AnyContents, Contents}
 use Rattle.call_laws.specs.Moments.{At, NothingKnown, permit_of}
 use Rattle.call_laws.specs.Progress.{AllDone}
 use Rattle.call_laws.specs.Serves.{InStep, IsCall, ServesFrom, Upshots}

@@ -8,7 +8,7 @@ use Rattle.cache_model.specs.Verdict.{cuts_of}
 use Rattle.cache_model.specs.Permit.{GiveUp, Intent, Reason}
 use Rattle.cache_model.specs.Legal.{IsQuiet, IsStep, is_writing}
 use Rattle.cache_model.specs.Vectors.{IsVectorAs}
-use Rattle.call_laws.specs.Contents.{Untold}
+use Rattle.call_laws.specs.Untold.{Untold}
 use Rattle.call_laws.specs.Moments.{At, Facts, permit_of}
 use Rattle.call_laws.specs.Progress.{AllDone, EndsWith}
 use Rattle.call_laws.specs.Progress as progress

@@ -12,7 +12,8 @@ use Rattle.cache_model.specs.Permit.{Intent, Permit, ReadAll, StopReading, to_do
 use Rattle.cache_model.specs.Legal.{MayGrow}
 use Rattle.cache_model.specs.Pair.{ShowsPair}
 use Rattle.cache_model.specs.Vectors.{AreTold}
-use Rattle.call_laws.specs.Contents.{AnyContents, Contents, Untold}
+use Rattle.call_laws.specs.Untold.{Untold}
+use Rattle.cache_model.specs.Contents.{AnyContents, Contents}
 use Rattle.call_laws.specs.Moments.{At, Encloses}
 use Rattle.call_laws.specs.Serves.{InStep, IsCall, Upshots}
 use Rattle.cache_calls.specs.declared.calls.NextPiece.{NextPiece}

@@ -6,7 +6,7 @@ use Rattle.cache_model.specs.State.{State}
 use Rattle.cache_model.specs.Permit.{Exhausted, Faulted, GiveUp, Intent, Lost, ManyFragments, ManyWriters, Reason, TooLarge}
 use Rattle.cache_model.specs.Legal.{is_writing}
 use Rattle.cache_model.specs.Vectors.{IsVectorAs}
-use Rattle.call_laws.specs.Contents.{Untold}
+use Rattle.call_laws.specs.Untold.{Untold}
 use Rattle.call_laws.specs.Moments.{At, Facts, IsToldAt, OfState}
 use Rattle.call_laws.specs.Progress.{AllDone, Progress, Stops}
 use Rattle.call_laws.specs.Serves.{ServesFrom}

@@ -3,7 +3,7 @@ use Rattle.std.specs.Prelude.{ℕ, ◌≡◌, ◌⊎◌, ◌*◌, ◌≤◌, Lis
 use Rattle.tape_base.specs.Geometry.{budget_of}
 use Rattle.cache_model.specs.State.{State}
 use Rattle.cache_model.specs.Vectors.{AreTold}
-use Rattle.call_laws.specs.Contents.{AnyContents}
+use Rattle.cache_model.specs.Contents.{AnyContents}
 use Rattle.call_laws.specs.Moments.{At}
 use Rattle.cache_calls.specs.declared.calls.Calls.{Ghosts as CallsGhosts}
 use Rattle.cache_calls.specs.declared.calls.NextPiece.{NextPiece}

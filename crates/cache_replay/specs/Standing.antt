@@ -2,7 +2,7 @@
 use Rattle.std.specs.Prelude.{ℕ, ◌≡◌, ◌-◌, ◌*◌, ◌<◌, ◌≤◌, ◌++◌, if◌then◌else◌, IfSome, List, [], Option, Some, None, length, option_map}
 use Rattle.tape_base.specs.Piece.{is_vector}
 use Rattle.cache_model.specs.State.{PutRow, State, fragment_piece, put_of}
-use Rattle.call_laws.specs.Contents.{Content, Contents, TellsVectors, spelled_content}
+use Rattle.cache_model.specs.Contents.{Content, Contents, TellsVectors, spelled_content}
 use Rattle.cache_calls.specs.Actors.{WriterSeen}
 use Rattle.script_lang.specs.declared.step.Step.{Step}
 use Rattle.script_lang.specs.declared.step.Step.TheVariants as step

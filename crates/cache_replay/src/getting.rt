@@ -1,7 +1,7 @@
 // Whole bodies are read.
 ghost use Rattle.std.specs.Prelude.{◌≡◌, None, Some, [], ◌∷◌, length, IfOk, OnOk};
 ghost use Rattle.cache_model.specs.Permit.{StopReading};
-ghost use Rattle.call_laws.specs.Contents.{AnyContents};
+ghost use Rattle.cache_model.specs.Contents.{AnyContents};
 ghost use Rattle.cache_calls.specs.Actors.{IsOpenReader};
 ghost use Rattle.cache_calls.specs.Adds.{AddsOnly, IsOfReader};
 ghost use Rattle.cache_calls.specs.Keeping.{KeepsUnharmed, state_at};

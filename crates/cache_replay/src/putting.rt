@@ -1,7 +1,7 @@
 // Whole bodies are put.
 ghost use Rattle.std.specs.Prelude.{◌≡◌};
 ghost use Rattle.cache_calls.specs.Actors.{IsWriterOf};
-ghost use Rattle.call_laws.specs.Contents.{TellsVectors};
+ghost use Rattle.cache_model.specs.Contents.{TellsVectors};
 ghost use Rattle.cache_calls.specs.Keeping.{KeepsUnharmed, state_at};
 ghost use Rattle.cache_calls.specs.Standing.{StaysStanding};
 ghost use Rattle.cache_replay.specs.Putting.{BodyEndsWhere, FillsWhere, IsFreshWriter, PutsWhere, TellsOfPut, unless_memory};

@@ -1,7 +1,7 @@
 // Lines on the writers of actors: they open, take bytes, close and are given up.
 ghost use Rattle.std.specs.Prelude.{ℕ, ◌≡◌, ◌==◌, ◌-◌, ◌^◌, ◌<◌, ◌≤◌, Some, None, length, if◌then◌else◌, option_map, IfOk, IfErr};
 ghost use Rattle.cache_model.specs.Legal.{is_writing};
-ghost use Rattle.call_laws.specs.Contents.{AnyContents};
+ghost use Rattle.cache_model.specs.Contents.{AnyContents};
 ghost use Rattle.cache_calls.specs.Keeping.{plain_setting, state_at};
 ghost use Rattle.cache_calls.specs.Standing.{IsToldClosed, StaysStanding};
 ghost use Rattle.script_lang.specs.declared.step.Step.TheVariants as step;

@@ -14,7 +14,7 @@ use Rattle.cache_model.specs.Pair.{Documents, IsPairNext, ShowsFrom}
 use Rattle.cache_model.specs.Vectors.{ArePuts, AreTold, AreVectors, IsVectorAs}
 use Rattle.cache_model.proofs.Onward.{later_group}
 use Rattle.cache_model.proofs.Steps.{after_all-append, grows_by}
-use Rattle.call_laws.specs.Contents.{Untold}
+use Rattle.call_laws.specs.Untold.{Untold}
 use Rattle.call_laws.specs.Moments.{At, BothFacts, Facts, IsToldAt, OfState}
 use Rattle.call_laws.specs.Progress.{Progress}
 use Rattle.call_laws.specs.Serves.{Serves, ServesFrom}

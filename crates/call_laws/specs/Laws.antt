@@ -10,7 +10,7 @@ use Rattle.cache_model.specs.Tape.{IsSound}
 use Rattle.cache_model.specs.Pair.{Documents, IsPair}
 use Rattle.cache_model.specs.Vectors.{IsVectorAs}
 use Rattle.logged_disk.specs.Device.{DeviceState as Device}
-use Rattle.call_laws.specs.Contents.{Untold}
+use Rattle.call_laws.specs.Untold.{Untold}
 use Rattle.call_laws.specs.Moments.{NothingKnown, At, BothFacts, Encloses, Facts, IsStillAt, IsToldAt, OfState, so_far}
 use Rattle.call_laws.specs.Progress.{AllDone, EndsWith, FallsShort, Leaves, Progress, Stops, Wants, cleanups, left_with, progress_of, progress_of_group}
 use Rattle.call_laws.specs.Happens.{Happens, TellsSyncs}

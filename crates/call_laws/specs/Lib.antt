@@ -1,7 +1,7 @@
 pub mod Moments
 pub mod Progress
 pub mod Happens
-pub mod Contents
+pub mod Untold
 pub mod Serves
 pub mod Whole
 pub mod Backed

@@ -10,7 +10,7 @@ use Rattle.cache_model.specs.Pair.{Documents, ShowsPair}
 use Rattle.cache_model.specs.Vectors.{IsVectorAs}
 use Rattle.call_laws.specs.Moments.{NothingKnown, At, Encloses, Facts, IsToldAt, so_far}
 use Rattle.call_laws.specs.Progress.{IfLeaving, MayWrite, Progress, Spends, UnlessWanting}
-use Rattle.call_laws.specs.Contents.{Untold}
+use Rattle.call_laws.specs.Untold.{Untold}
 use Rattle.call_laws.specs.Happens.{AreOfBuffersBehind, Happens, are_asked_refusals}
 
 -- a call as it stands in a step: the calls that the device made in the step before it, those that it made in the call itself,

@@ -6,7 +6,7 @@ use Rattle.tape_base.specs.declared.geometries.Geometry.{Geometry}
 use Rattle.tape_base.specs.declared.pieces.PieceId.{PieceId}
 use Rattle.tape_base.specs.Piece.{key_of_piece}
 use Rattle.tape_base.specs.Place.{slot_of, floor_of, next_cursor_of, lap_end_of}
-use Rattle.edge_io.specs.Causes.{HasCause}
+use Rattle.device_log.specs.Causes.{HasCause}
 use Rattle.edge_io.specs.declared.source.Failed.{Failed}
 use Rattle.std.specs.Prelude.{Result, OnOk}
 use Rattle.device_log.specs.Image.{span}

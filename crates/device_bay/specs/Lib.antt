@@ -3,7 +3,7 @@ pub use Rattle.device_log.specs.Calls as DeviceCalls
 pub use Rattle.device_log.specs.Faults
 pub use Rattle.logged_disk.specs.Device
 pub use Rattle.logged_disk.specs.MemDisk as MemoryDevice
-pub use Rattle.edge_io.specs.Causes
+pub use Rattle.device_log.specs.Causes
 pub mod Calls
 pub mod Entry
 pub mod Register

@@ -58,7 +58,7 @@ impl MemBay {
 
 impl Bay for MemBay {
     ghost use Rattle.std.specs.Prelude.{◌≡◌, ◌↔◌, ℕ, ◌<◌, ◌≤◌, ◌∷◌, [], Contains, IfOk, OnOk, IsErrOf};
-    ghost use Rattle.edge_io.specs.Causes.{one_more};
+    ghost use Rattle.device_log.specs.Causes.{one_more};
     ghost use Rattle.device_bay.specs.Calls.{Gave, TookBack, out_of};
     ghost use Rattle.device_bay.specs.Bay.{IsNewDevice, IsNewMemory, Refuses};
     ghost use Rattle.device_bay.specs.MemBay.{attach_calls, fail_numbers, mem_calls, mem_is_log};

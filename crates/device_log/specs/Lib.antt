@@ -1,5 +1,6 @@
 pub mod Image
 pub mod Calls
+pub mod Causes
 pub mod Seen
 pub mod Faults
 pub mod Cuts

@@ -1,4 +1,3 @@
-pub mod Causes
 pub mod Source
 pub mod Sink
 pub mod Memory

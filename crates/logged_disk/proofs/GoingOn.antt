@@ -1,6 +1,6 @@
 -- Which later moments of a device its calls lead to.
 use Rattle.std.proofs.Common.{◌≡◌, ℕ, ◌/◌, ◌-◌, ◌^◌, ◌≤◌, true, false, List, [], ◌∷◌, ◌++◌, ◌||◌, ◌&&◌, Result, Ok, Err, refl, sym, ◌∙◌, ap, subst, arith, append_assoc, length}
-use Rattle.edge_io.specs.Causes.{HasCause}
+use Rattle.device_log.specs.Causes.{HasCause}
 use Rattle.device_log.specs.Calls.{ToRead, ToWrite, Call, Read, Wrote, Synced, RefusedCall, Told, PowerCut, Flipped}
 use Rattle.device_log.specs.Seen.{seen_of}
 use Rattle.device_log.specs.Faults.{faults_of, next_count, is_untold}

@@ -8,7 +8,7 @@ use Rattle.cache_model.specs.declared.record.Rec.TheVariants as rec
 use Rattle.cache_model.specs.State.{State, after_all, state_after, AllAlong}
 use Rattle.cache_model.specs.Permit.{Permit, Intent, IsAmong, End, Stays, Done, Fails, Faulted, Reason, Work, work_after}
 use Rattle.cache_model.specs.Legal.{Advances, MayGrow, nothing, more, IsStep}
-use Rattle.edge_io.specs.Causes.{Rose}
+use Rattle.device_log.specs.Causes.{Rose}
 use Rattle.cache_model.proofs.Found.{none_is}
 use Rattle.step_laws.specs.StepLaws.{IsRisen}
 use Rattle.model_laws.proofs.Backed.{faults_rise}

@@ -1,6 +1,6 @@
 -- Device faults that lines answer.
 use Rattle.std.specs.Prelude.{ℕ, ◌≡◌, ◌<◌, List, Option, Some}
-use Rattle.edge_io.specs.Causes.{Rose}
+use Rattle.device_log.specs.Causes.{Rose}
 use Rattle.cache_model.specs.declared.record.Rec.{Rec}
 use Rattle.cache_model.specs.declared.record.Rec.TheVariants as rec
 use Rattle.cache_model.specs.State.{State, after_all}

@@ -1,7 +1,7 @@
 -- What comes of a piece depends on the state through the geometry, where its buffer begins, how far that is filled and its last
 -- fault alone.
 use Rattle.std.proofs.Common.{◌≡◌, ℕ, ◌+◌, List, [], ◌∷◌, refl, sym, ◌∙◌, subst, arith}
-use Rattle.edge_io.specs.Causes.{Rose}
+use Rattle.device_log.specs.Causes.{Rose}
 use Rattle.device_log.specs.Calls.{Asked, ToRead, ToWrite, Read}
 use Rattle.tape_base.specs.Place.{slot_of}
 use Rattle.cache_model.specs.State.{State, Row, after_all}

@@ -12,7 +12,8 @@ use Rattle.cache_model.specs.Permit.{Commit, Exhausted, Faulted, Finish, Intent,
 use Rattle.cache_model.specs.ToRead.{to_read}
 use Rattle.cache_model.specs.Vectors.{IsVectorAs}
 use Rattle.cache_model.specs.Verdict.{cuts_of, live_vector_of}
-use Rattle.call_laws.specs.Contents.{Contents, Untold}
+use Rattle.call_laws.specs.Untold.{Untold}
+use Rattle.cache_model.specs.Contents.{Contents}
 use Rattle.call_laws.specs.Moments.{At, IsToldAt}
 use Rattle.call_laws.specs.Progress.{AllDone, Leaves, Progress, Spends, Stops}
 use Rattle.call_laws.specs.Serves.{ServesFrom}

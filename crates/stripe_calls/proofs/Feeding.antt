@@ -10,7 +10,7 @@ use Rattle.cache_model.specs.State.{State, after_all, most_fragments}
 use Rattle.cache_model.specs.Kept.{Kept, state_of, with_records}
 use Rattle.cache_model.specs.Permit.{Exhausted, Fails, Faulted, Intent, ManyFragments, Overflow, Reason}
 use Rattle.cache_model.specs.Room.{placed_record}
-use Rattle.call_laws.specs.Contents.{Contents}
+use Rattle.cache_model.specs.Contents.{Contents}
 use Rattle.call_laws.specs.Moments.{IsToldAt}
 use Rattle.call_laws.specs.Progress.{AllDone, Leaves, Progress, Stops}
 use Rattle.call_laws.specs.Serves.{ServesTold}

@@ -15,7 +15,7 @@ use Rattle.cache_model.specs.State.{Row, State}
 use Rattle.cache_model.specs.Kept.{Kept, state_of, with_records}
 use Rattle.cache_model.specs.Permit.{Done, Intent, Look, StopReading}
 use Rattle.cache_model.specs.Verdict.{live_vector_of}
-use Rattle.call_laws.specs.Contents.{Untold}
+use Rattle.call_laws.specs.Untold.{Untold}
 use Rattle.call_laws.specs.Moments.{IsToldAt}
 use Rattle.call_laws.specs.Progress.{AllDone}
 use Rattle.call_laws.specs.Serves.{ServesFrom, ServesTold}

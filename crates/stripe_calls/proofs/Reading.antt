@@ -11,7 +11,8 @@ use Rattle.cache_model.specs.Kept.{Kept, state_of, with_records}
 use Rattle.cache_model.specs.Legal.{answer_record, live_next}
 use Rattle.cache_model.specs.Permit.{Done, Intent, Permit, ReadOn}
 use Rattle.cache_model.specs.Vectors.{IsVectorAs}
-use Rattle.call_laws.specs.Contents.{Contents, Untold}
+use Rattle.call_laws.specs.Untold.{Untold}
+use Rattle.cache_model.specs.Contents.{Contents}
 use Rattle.call_laws.specs.Moments.{NothingKnown}
 use Rattle.call_laws.specs.Progress.{AllDone}
 use Rattle.call_laws.specs.Serves.{ServesFrom}

@@ -3,7 +3,7 @@ use Rattle.std.proofs.Common.{refl}
 use Rattle.logged_disk.specs.declared.device.Disk.{Ghosts as DiskGhosts}
 use Rattle.dir_table.specs.declared.directory.Directory.{Ghosts as DirectoryGhosts}
 use Rattle.cache_chronicle.specs.declared.chronicle.Chronicle.{Ghosts as ChronicleGhosts}
-use Rattle.call_laws.specs.Contents.{Contents}
+use Rattle.cache_model.specs.Contents.{Contents}
 use Rattle.stripe_core.specs.Between.{IsResting, Proceeds, RestsWith}
 use Rattle.cache_calls.specs.Keeping.{Goes, KeepsUnharmed}
 use Rattle.stripe_calls.specs.declared.cache.StripeCache.{StripeCache}

@@ -16,7 +16,7 @@ use Rattle.cache_model.specs.Legal.{Does, MayGrow, nothing}
 use Rattle.cache_model.specs.Pair.{Documents, IsKeyPair, IsPair, ShowsPair}
 use Rattle.cache_model.specs.ToRead.{asked_for, to_read}
 use Rattle.cache_model.specs.Vectors.{IsVectorAs}
-use Rattle.call_laws.specs.Contents.{Untold}
+use Rattle.call_laws.specs.Untold.{Untold}
 use Rattle.call_laws.specs.Moments.{Encloses, Facts, NothingKnown, so_far}
 use Rattle.call_laws.specs.Progress.{AllDone, Leaves, Progress, Spends, Stops, progress_of, refused_work}
 use Rattle.call_laws.specs.Serves.{ServesFrom}

@@ -6,7 +6,7 @@ use Rattle.logged_disk.specs.declared.device.Disk.{Ghosts as DiskGhosts}
 use Rattle.dir_table.specs.declared.directory.Directory.{Ghosts as DirectoryGhosts}
 use Rattle.cache_chronicle.specs.declared.chronicle.Chronicle.{Ghosts as ChronicleGhosts}
 use Rattle.cache_model.specs.Vectors.{AreVectors}
-use Rattle.call_laws.specs.Contents.{AreRecordedAs, Contents}
+use Rattle.cache_model.specs.Contents.{AreRecordedAs, Contents}
 use Rattle.stripe_actors.specs.Actors as actors
 use Rattle.stripe_core.specs.Stripe.{seen_in, state_in}
 use Rattle.stripe_pieces.proofs.VectorsListed.{are_listed}

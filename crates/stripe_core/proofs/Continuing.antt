@@ -8,7 +8,7 @@ use Rattle.cache_chronicle.specs.declared.chronicle.Chronicle.{Ghosts as Chronic
 use Rattle.cache_model.specs.State.{State}
 use Rattle.cache_model.specs.Kept.{Kept, count_of, state_of}
 use Rattle.cache_model.specs.Legal.{IsQuiet}
-use Rattle.call_laws.specs.Contents.{AnyContents, Contents, contents_of_vectors}
+use Rattle.cache_model.specs.Contents.{AnyContents, Contents, contents_of_vectors}
 use Rattle.stripe_actors.specs.Actors.{AreActors, reader_room_of}
 use Rattle.stripe_actors.specs.Calls.{StayInStep}
 use Rattle.stripe_core.specs.declared.stripe.Stripe.{Stripe}

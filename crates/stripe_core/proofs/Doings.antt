@@ -27,7 +27,7 @@ use Rattle.cache_model.specs.Tape.{IsSound}
 use Rattle.cache_model.proofs.Sound.{LeavesTape, later_leaves, leaves_one}
 use Rattle.cache_model.proofs.Lists.{own_piece}
 use Rattle.cache_model.proofs.Found.{cuts_found, number_of}
-use Rattle.call_laws.specs.Contents.{AnyContents, Contents}
+use Rattle.cache_model.specs.Contents.{AnyContents, Contents}
 use Rattle.stripe_actors.specs.Actors.{ActorsSeen, AreActors, IsKeptAs}
 use Rattle.stripe_core.specs.declared.refusal.Refusal.{Refusal}
 use Rattle.stripe_core.specs.declared.refusal.Refusal.TheVariants as refusal

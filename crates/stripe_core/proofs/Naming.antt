@@ -38,7 +38,7 @@ use Rattle.stripe_pieces.specs.Place.{IsFragmentOf, IsNewPiece, IsVectorFor}
 use Rattle.stripe_pieces.proofs.Flushes.{state_of-with_records}
 use Rattle.stripe_pieces.proofs.Going.{all_left}
 use Rattle.stripe_pieces.proofs.SamePuts.{SamePuts, same_puts}
-use Rattle.stripe_pieces.specs.Displaced.{AreOfDisplacement}
+use Rattle.cache_model.specs.Displacing.{AreOfDisplacement}
 
 -- ---- records that leave the names
 

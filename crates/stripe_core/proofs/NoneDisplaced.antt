@@ -15,7 +15,7 @@ use Rattle.cache_model.specs.Kept.{Kept, state_of, with_records}
 use Rattle.cache_model.specs.Legal.{answer_record}
 use Rattle.cache_model.specs.Room.{placed_record}
 use Rattle.cache_model.proofs.Steps.{after_all-append}
-use Rattle.call_laws.specs.Contents.{IsToldAs, contents_of_vectors}
+use Rattle.cache_model.specs.Contents.{IsToldAs, contents_of_vectors}
 use Rattle.stripe_pieces.specs.declared.answer.Found.{Found}
 use Rattle.stripe_pieces.specs.declared.answer.Found.TheVariants as found
 use Rattle.stripe_pieces.specs.Find.{find_adds, found_records, records_of_trouble}

@@ -36,7 +36,7 @@ use Rattle.stripe_pieces.specs.declared.answer.Stop.{Stop}
 use Rattle.stripe_pieces.specs.declared.answer.Stop.TheVariants as stop
 use Rattle.stripe_pieces.specs.Ahead.{IsMadeFor}
 use Rattle.stripe_pieces.specs.Covers.{Uses}
-use Rattle.stripe_pieces.specs.Displaced.{AreOfDisplacement}
+use Rattle.cache_model.specs.Displacing.{AreOfDisplacement}
 use Rattle.stripe_pieces.specs.Find.{find_adds, found_records, records_of_trouble}
 use Rattle.stripe_pieces.specs.Flush.{AreOfFlush, IsRecordOfFlush}
 use Rattle.stripe_pieces.specs.Place.{AreOfPlace, IsFragmentOf, PlaceAdds}

@@ -6,7 +6,7 @@ use Rattle.dir_table.specs.declared.directory.Directory.{Ghosts as DirectoryGhos
 use Rattle.cache_chronicle.specs.declared.chronicle.Chronicle.{Ghosts as ChronicleGhosts}
 use Rattle.cache_model.specs.Kept.{Kept, state_of}
 use Rattle.cache_model.specs.Legal.{IsQuiet}
-use Rattle.call_laws.specs.Contents.{AnyContents, Contents}
+use Rattle.cache_model.specs.Contents.{AnyContents, Contents}
 use Rattle.stripe_core.specs.declared.stripe.Stripe.{Stripe}
 use Rattle.stripe_pieces.specs.Faults.{IsAccounted}
 use Rattle.stripe_core.specs.Stripe.{IsStripe, kept_in, seen_in, state_in}

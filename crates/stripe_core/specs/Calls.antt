@@ -19,7 +19,7 @@ use Rattle.cache_model.specs.Kept.{all_of, with_records}
 use Rattle.cache_model.specs.Legal.{format_records}
 use Rattle.cache_model.specs.Room.{has_room, is_flush_exhausted}
 use Rattle.cache_chronicle.specs.declared.chronicle.Chronicle.{Ghosts as ChronicleGhosts}
-use Rattle.call_laws.specs.Contents.{AnyContents, Contents}
+use Rattle.cache_model.specs.Contents.{AnyContents, Contents}
 use Rattle.stripe_actors.specs.Actors.{reader_room_of}
 use Rattle.stripe_actors.specs.Calls.{with_room_of_readers}
 use Rattle.stripe_pieces.specs.declared.answer.Flushed.{Flushed}

@@ -17,7 +17,7 @@ use Rattle.stripe_pieces.specs.declared.answer.Stop.{Stop}
 use Rattle.stripe_pieces.specs.declared.answer.Stop.TheVariants as stop
 use Rattle.stripe_core.specs.declared.stripe.Stripe.{Stripe}
 use Rattle.std.specs.declared.alloc.Global.{Global}
-use Rattle.call_laws.specs.Contents.{contents_of_vectors}
+use Rattle.cache_model.specs.Contents.{contents_of_vectors}
 use Rattle.stripe_pieces.specs.Ahead.{IsMadeFor}
 use Rattle.stripe_pieces.specs.Standing.{AreStanding}
 use Rattle.stripe_core.specs.Named.{IsNamed}

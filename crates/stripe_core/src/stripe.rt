@@ -8,7 +8,7 @@ ghost use Rattle.cache_model.specs.Kept.{all_of};
 ghost use Rattle.cache_model.specs.Verdict.{payload_of_piece};
 ghost use Rattle.cache_model.specs.Legal.{is_writing};
 ghost use Rattle.stripe_pieces.specs.Find.{HasRoomFor};
-ghost use Rattle.call_laws.specs.Contents.{contents_of_vectors};
+ghost use Rattle.cache_model.specs.Contents.{contents_of_vectors};
 ghost use Rattle.stripe_pieces.specs.Standing.{IsToldPlaced};
 ghost use Rattle.stripe_pieces.specs.Place.{IsFragmentOf, IsPlacing, IsVectorFor};
 

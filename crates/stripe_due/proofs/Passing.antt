@@ -15,7 +15,7 @@ use Rattle.cache_model.proofs.Lists.{own_piece}
 use Rattle.cache_model.proofs.Walks.{due_are_found, walk_finds, walk_goes_on}
 use Rattle.cache_chronicle.specs.declared.pieces.KeptPiece.{KeptPiece}
 use Rattle.cache_chronicle.specs.LivePieces.{kept_if_at, kept_live_at, kept_piece, kept_still_at}
-use Rattle.stripe_due.specs.Finding.{candidate_of, due_candidates}
+use Rattle.cache_model.specs.Due.{candidate_of, due_candidates}
 use Rattle.stripe_due.specs.Walk.{candidates_from, live_row_at, pinned}
 
 -- behind the end there is nothing

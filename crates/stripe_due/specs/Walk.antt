@@ -6,7 +6,7 @@ use Rattle.evacuator.specs.declared.choosing.Candidate.{Candidate}
 use Rattle.cache_model.specs.State.{Row, State, live_row_of, most_fragments}
 use Rattle.cache_model.specs.Verdict.{piece_at}
 use Rattle.cache_model.specs.Due.{is_due, rows_from}
-use Rattle.stripe_due.specs.Finding.{candidate_of}
+use Rattle.cache_model.specs.Due.{candidate_of}
 
 -- the live piece that begins at a place
 abbrev pub live_row_at : State → ℕ → Option Row

@@ -5,7 +5,7 @@ ghost use Rattle.cache_model.specs.Kept.{state_of};
 ghost use Rattle.cache_model.specs.State.{State, floor_next, floor_now};
 ghost use Rattle.cache_model.specs.Tape.{IsSound};
 ghost use Rattle.stripe_actors.specs.Actors.{AreActors};
-ghost use Rattle.stripe_due.specs.Finding.{due_candidates, most_passed};
+ghost use Rattle.cache_model.specs.Due.{due_candidates, most_passed};
 ghost use Rattle.stripe_due.specs.Walk.{candidates_from, is_left_to_reader, live_row_at, pinned};
 
 use cache_chronicle::Chronicle;

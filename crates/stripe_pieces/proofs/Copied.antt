@@ -11,7 +11,7 @@ use Rattle.cache_model.specs.declared.record.Rec.{Rec}
 use Rattle.cache_model.specs.declared.record.Rec.TheVariants as rec
 use Rattle.cache_model.specs.State.{State, after_all, place_now, state_after}
 use Rattle.cache_model.specs.Kept.{Kept, state_of, with_records}
-use Rattle.call_laws.specs.Contents.{Contents}
+use Rattle.cache_model.specs.Contents.{Contents}
 use Rattle.stripe_pieces.specs.declared.ahead.Fate.{Fate}
 use Rattle.stripe_pieces.specs.Copying.{AreCopyable, AreToldCopied, IsCopyable, IsToldCopied, blocks_for, bytes_for, copied_by, copied_of, copied_record, copies_among, copies_by}
 use Rattle.stripe_pieces.specs.Covers.{Uses}

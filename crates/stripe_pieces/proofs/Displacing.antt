@@ -14,7 +14,7 @@ use Rattle.cache_model.specs.Room.{MayDisplace, displaced_record, is_full_for}
 use Rattle.cache_model.specs.Given.{effects_told}
 use Rattle.cache_model.specs.Damage.{TellNoDamage}
 use Rattle.cache_model.proofs.Lists.{row_in-moved}
-use Rattle.stripe_pieces.specs.Displaced.{AreOfDisplacement, IsOfDisplacement, PushesOut}
+use Rattle.cache_model.specs.Displacing.{AreOfDisplacement, IsOfDisplacement, PushesOut}
 use Rattle.stripe_pieces.proofs.SamePuts.{SamePuts}
 
 -- a step of a directory that displaces, or that does not

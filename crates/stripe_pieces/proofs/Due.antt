@@ -19,7 +19,7 @@ use Rattle.cache_model.proofs.Rows.{part-filter, rising-part}
 use Rattle.cache_model.proofs.SoundFlush.{among_part, due_part}
 use Rattle.cache_model.proofs.Walks.{all_among}
 use Rattle.cache_model.proofs.Written.{due_are_written, passes}
-use Rattle.stripe_due.specs.Finding.{candidate_of, due_candidates, most_passed}
+use Rattle.cache_model.specs.Due.{candidate_of, due_candidates, most_passed}
 use Rattle.stripe_pieces.specs.declared.ahead.Ahead.{Ahead}
 use Rattle.stripe_pieces.specs.Ahead.{LooksAhead}
 use Rattle.stripe_pieces.specs.Looks.{AreOfRows, HasLookedAhead, MayBeCopied}

@@ -5,7 +5,7 @@ use Rattle.device_log.proofs.Spans.{span_same}
 use Rattle.std.specs.Prelude.{None, Some, IsOk}
 use Rattle.std.specs.List.{AllByRecursion}
 use Rattle.device_log.specs.Calls.{Call, Read, RefusedCall, ToRead}
-use Rattle.edge_io.specs.Causes.{Rose}
+use Rattle.device_log.specs.Causes.{Rose}
 use Rattle.edge_io.specs.declared.source.Failed.{Failed}
 use Rattle.tape_base.specs.declared.pieces.PieceId.{PieceId}
 use Rattle.tape_base.specs.declared.digests.Digest.{Digest}
@@ -30,7 +30,7 @@ use Rattle.stripe_pieces.specs.Held.{IsBufferedWhereNew, IsHeld, IsIntactWhereWr
 use Rattle.cache_model.specs.Damage.{TellNoDamage}
 use Rattle.stripe_pieces.specs.Covers.{AllReadIsSeen, Covers, ReadIsSeen}
 use Rattle.stripe_pieces.specs.Faults.{HasEffects}
-use Rattle.call_laws.specs.Contents.{Contents}
+use Rattle.cache_model.specs.Contents.{Contents}
 use Rattle.stripe_pieces.specs.Standing.{AreStanding}
 use Rattle.stripe_pieces.specs.Find.{Finds, HasPayload, IsFoundAs, IsJudged, IsRecorded, TellsCount, find_adds, found_records, judged_records, records_of_trouble}
 use Rattle.stripe_pieces.proofs.Effects.{effects_none}

@@ -7,7 +7,7 @@ use Rattle.evacuator.specs.declared.choosing.Candidate.{Candidate}
 use Rattle.evacuator.specs.Choice.{IsChoice, blocks_of_all, kept_blocks}
 use Rattle.cyclone.specs.Cyclone.{SameTape, Seen}
 use Rattle.cache_model.specs.State.{State, Row}
-use Rattle.stripe_due.specs.Finding.{candidate_of}
+use Rattle.cache_model.specs.Due.{candidate_of}
 use Rattle.stripe_pieces.specs.Looks.{AreOfRows, MayBeCopied, blocks_kept}
 
 -- ---- the piece at an index

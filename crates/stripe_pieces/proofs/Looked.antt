@@ -3,7 +3,7 @@ use Rattle.std.proofs.Common.{◌≡◌, ℕ, ◌+◌, ◌-◌, ◌*◌, ◌/◌
 use Rattle.std.specs.Prelude.{nat_lt, ◌&&◌}
 use Rattle.std.specs.List.{AllByRecursion}
 use Rattle.std.proofs.lemmas.Bool.{and_parts, ltb-true}
-use Rattle.edge_io.specs.Causes.{Rose}
+use Rattle.device_log.specs.Causes.{Rose}
 use Rattle.edge_io.specs.declared.source.Failed.{Failed}
 use Rattle.device_log.specs.Calls.{Call, RefusedCall, ToWrite, Wrote}
 use Rattle.doc_header.specs.Reading.{document_digest}
@@ -36,7 +36,7 @@ use Rattle.cache_model.proofs.Aside.{AllAside, IsAside, aside_leaves}
 use Rattle.cache_model.proofs.Walks.{all_among}
 use Rattle.cache_model.proofs.Written.{passes}
 use Rattle.cache_model.proofs.Steps.{all_append, all_parts}
-use Rattle.stripe_due.specs.Finding.{most_passed}
+use Rattle.cache_model.specs.Due.{most_passed}
 use Rattle.stripe_pieces.specs.declared.ahead.Ahead.{Ahead}
 use Rattle.stripe_pieces.specs.declared.answer.Flushed.{Flushed}
 use Rattle.stripe_pieces.specs.declared.answer.Stop.TheVariants as stop
@@ -45,7 +45,7 @@ use Rattle.stripe_pieces.specs.Copying.{AreCopyable, AreTellable, AreToldCopied,
 use Rattle.stripe_pieces.specs.Covers.{Covers, Uses}
 use Rattle.stripe_pieces.specs.Faults.{HasEffects, effects_among, effects_of}
 use Rattle.stripe_pieces.specs.Held.{IsBufferedWhereNew, IsHeld}
-use Rattle.call_laws.specs.Contents.{Contents}
+use Rattle.cache_model.specs.Contents.{Contents}
 use Rattle.stripe_pieces.specs.Standing.{StandsOnDevice}
 use Rattle.stripe_pieces.specs.declared.ahead.Fate.{Fate}
 use Rattle.stripe_pieces.proofs.Effects.{effects_then, told_append}

@@ -20,7 +20,7 @@ use Rattle.cyclone.specs.Cyclone.{ReadsBlocks, Seen}
 use Rattle.cyclone.proofs.Calls.{reads_go_on}
 use Rattle.cache_model.specs.State.{Row, State, floor_now, live_row_of, row_in}
 use Rattle.cache_model.proofs.Lists.{found_row}
-use Rattle.call_laws.specs.Contents.{Contents}
+use Rattle.cache_model.specs.Contents.{Contents}
 use Rattle.stripe_pieces.specs.declared.answer.Found.{Found}
 use Rattle.stripe_pieces.specs.declared.answer.Found.TheVariants as found
 use Rattle.stripe_pieces.specs.Find.{HasPayload, IsJudged}

@@ -37,7 +37,8 @@ use Rattle.cache_model.proofs.SoundFlush.{among_part}
 use Rattle.cache_model.proofs.Steps.{all_as, all_parts}
 use Rattle.cache_model.proofs.Walks.{live_found}
 use Rattle.cache_model.proofs.Written.{passes}
-use Rattle.stripe_pieces.specs.Displaced.{PushesOut, displaced_from, displaced_of, displaced_piece, last_at}
+use Rattle.cache_model.specs.Displacing.{PushesOut}
+use Rattle.stripe_pieces.specs.Displaced.{displaced_from, displaced_of, displaced_piece, last_at}
 use Rattle.stripe_pieces.specs.Held.{IsHeld, entry_of_piece, rows_in_range, same_entry, times}
 use Rattle.stripe_pieces.specs.Records.{HasSlots, IsHeldBehind, IsPlaceable, PlacedIsHeld, placed_behind}
 use Rattle.stripe_pieces.proofs.Candidates.{first_or_later, same_entry-same}

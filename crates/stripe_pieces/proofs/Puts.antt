@@ -24,9 +24,10 @@ use Rattle.cache_model.specs.State.{State, after_all, list_of_put, place_now, st
 use Rattle.cache_model.specs.Kept.{Kept, state_of, with_records}
 use Rattle.cache_model.specs.Room.{doc_at, has_room}
 use Rattle.cache_model.proofs.Sound.{later_leaves}
-use Rattle.call_laws.specs.Contents.{Contents}
+use Rattle.cache_model.specs.Contents.{Contents}
 use Rattle.stripe_pieces.specs.Covers.{Uses}
-use Rattle.stripe_pieces.specs.Displaced.{PushesOut, displaced_of}
+use Rattle.cache_model.specs.Displacing.{PushesOut}
+use Rattle.stripe_pieces.specs.Displaced.{displaced_of}
 use Rattle.stripe_pieces.specs.Held.{IsHeld}
 use Rattle.stripe_pieces.specs.Place.{IsNewPiece, PutsIn, cut_record_of}
 use Rattle.stripe_pieces.specs.Records.{HasSlots, IsHeldBehind, IsPlaceable, placed_behind}

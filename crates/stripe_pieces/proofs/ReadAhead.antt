@@ -12,7 +12,7 @@ use Rattle.cache_model.specs.State.{State, Row}
 use Rattle.cache_model.specs.Permit.{Permit}
 use Rattle.cache_model.specs.Given.{IsGiven}
 use Rattle.cache_model.specs.Outcomes.{Copied, ReadRefused, Spoiled}
-use Rattle.stripe_due.specs.Finding.{candidate_of}
+use Rattle.cache_model.specs.Due.{candidate_of}
 use Rattle.stripe_pieces.specs.declared.ahead.Fate.{Fate}
 use Rattle.stripe_pieces.specs.declared.ahead.Fate.TheVariants as fate
 use Rattle.stripe_pieces.specs.Covers.{Covers}

@@ -12,7 +12,7 @@ use Rattle.cache_model.proofs.Copies.{AreReady, IsReady, blocks_of_copies, other
 use Rattle.cache_model.proofs.FewerRows.{slot_left}
 use Rattle.cache_model.proofs.Lesser.{IsLesser, all_lesser}
 use Rattle.cache_model.proofs.Live.{IsFound}
-use Rattle.stripe_due.specs.Finding.{candidate_of}
+use Rattle.cache_model.specs.Due.{candidate_of}
 use Rattle.stripe_pieces.specs.declared.ahead.Fate.{Fate}
 use Rattle.stripe_pieces.specs.declared.ahead.Fate.TheVariants as fate
 use Rattle.stripe_pieces.specs.Ahead.{StandFrom}

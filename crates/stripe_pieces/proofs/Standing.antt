@@ -17,7 +17,7 @@ use Rattle.cache_model.specs.declared.record.Rec.TheVariants as rec
 use Rattle.cache_model.specs.State.{Row, State, after_all, cursor_next, floor_next, last_vector, nothing_yet, place_now, state_after}
 use Rattle.cache_model.specs.Tape.{AreRising}
 use Rattle.cache_model.specs.Legal.{format_records}
-use Rattle.call_laws.specs.Contents.{Contents, IsRecordedAs}
+use Rattle.cache_model.specs.Contents.{Contents, IsRecordedAs}
 use Rattle.stripe_pieces.specs.Held.{IsBufferedWhereNew, IsHeld, IsIntactWhereWritten}
 use Rattle.stripe_pieces.specs.Records.{IsAlike, IsWithout, IsWrittenOut, SparesPieces}
 use Rattle.stripe_pieces.specs.Standing.{AreStanding, HasContent, StandsInBuffer, StandsOnDevice}

@@ -29,9 +29,10 @@ use Rattle.cache_model.specs.State.{Row, State, after_all, list_of_put, listed, 
 use Rattle.cache_model.specs.Kept.{Kept, state_of, with_records}
 use Rattle.cache_model.specs.Room.{doc_at}
 use Rattle.cache_model.proofs.Lists.{found_row}
-use Rattle.call_laws.specs.Contents.{Content, Contents, IsRecordedAs, IsRecordedWith, IsToldAs, doc_of_row}
+use Rattle.cache_model.specs.Contents.{Content, Contents, IsRecordedAs, IsRecordedWith, IsToldAs, doc_of_row}
 use Rattle.stripe_pieces.specs.Copying.{IsCopyable, IsToldRow, copied_record}
-use Rattle.stripe_pieces.specs.Displaced.{AreOfDisplacement, IsOfDisplacement, displaced_from, displaced_of, displaced_piece, last_at}
+use Rattle.cache_model.specs.Displacing.{AreOfDisplacement, IsOfDisplacement}
+use Rattle.stripe_pieces.specs.Displaced.{displaced_from, displaced_of, displaced_piece, last_at}
 use Rattle.stripe_pieces.specs.Held.{IsBuffered, IsBufferedWhereNew, IsHeld}
 use Rattle.stripe_pieces.specs.Records.{IsPlaceable, placed_behind}
 use Rattle.stripe_pieces.specs.Standing.{AreStanding, BeginsAs, HasContent, IsToldPlaced, StandsInBuffer, StandsOnDevice}

@@ -9,7 +9,7 @@ use Rattle.cache_model.specs.declared.record.Rec.TheVariants as rec
 use Rattle.cache_model.specs.State.{State, after_all, state_after}
 use Rattle.cache_model.specs.Kept.{Kept, state_of, with_records}
 use Rattle.cache_model.proofs.Sound.{later_leaves}
-use Rattle.call_laws.specs.Contents.{Contents}
+use Rattle.cache_model.specs.Contents.{Contents}
 use Rattle.stripe_pieces.specs.declared.ahead.Fate.{Fate}
 use Rattle.stripe_pieces.specs.Held.{IsHeld}
 use Rattle.stripe_pieces.specs.Standing.{AreStanding}

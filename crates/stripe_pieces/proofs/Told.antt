@@ -15,7 +15,7 @@ use Rattle.cache_model.specs.Outcomes.{Copied, NoRoom, Outcome, ReadRefused, Spo
 use Rattle.cache_model.proofs.Lists.{row_in-without}
 use Rattle.cache_model.proofs.Live.{IsFound}
 use Rattle.cache_model.proofs.Steps.{after_all-append}
-use Rattle.stripe_due.specs.Finding.{candidate_of}
+use Rattle.cache_model.specs.Due.{candidate_of}
 use Rattle.stripe_pieces.specs.declared.ahead.Fate.{Fate}
 use Rattle.stripe_pieces.specs.declared.ahead.Fate.TheVariants as fate
 use Rattle.stripe_pieces.specs.Ahead.{AreFates, IsFate}

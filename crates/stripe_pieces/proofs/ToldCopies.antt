@@ -17,8 +17,8 @@ use Rattle.cache_model.proofs.Copies.{AreReady, others_stand, rows_of, still_rea
 use Rattle.cache_model.proofs.Lists.{found_row}
 use Rattle.cache_model.proofs.Live.{IsFound, due_are_live}
 use Rattle.cache_model.proofs.Written.{due_are_written}
-use Rattle.call_laws.specs.Contents.{Contents}
-use Rattle.stripe_due.specs.Finding.{candidate_of}
+use Rattle.cache_model.specs.Contents.{Contents}
+use Rattle.cache_model.specs.Due.{candidate_of}
 use Rattle.stripe_pieces.specs.declared.ahead.Fate.{Fate}
 use Rattle.stripe_pieces.specs.declared.ahead.Fate.TheVariants as fate
 use Rattle.stripe_pieces.specs.Ahead.{StandFrom}

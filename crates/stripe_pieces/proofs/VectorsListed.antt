@@ -9,7 +9,7 @@ use Rattle.alternate_vector.specs.Spelling.{IsSpelling, vector_bytes}
 use Rattle.cyclone.specs.Cyclone.{Seen}
 use Rattle.cache_model.specs.State.{Row, State}
 use Rattle.cache_model.specs.Vectors.{AreVectors, IsListed, IsVectorRow}
-use Rattle.call_laws.specs.Contents.{IsRecordedAs, IsRecordedWith, contents_of_vectors, spelled_content}
+use Rattle.cache_model.specs.Contents.{IsRecordedAs, IsRecordedWith, contents_of_vectors, spelled_content}
 use Rattle.stripe_pieces.specs.Held.{IsHeld, IsInLap}
 use Rattle.stripe_pieces.specs.Standing.{AreStanding}
 

@@ -12,7 +12,7 @@ use Rattle.cache_model.specs.Kept.{all_of, with_records}
 use Rattle.cache_model.specs.Legal.{format_records}
 use Rattle.cache_model.specs.State.{cursor_next}
 use Rattle.cache_chronicle.specs.declared.chronicle.Chronicle.{Ghosts as ChronicleGhosts}
-use Rattle.call_laws.specs.Contents.{Contents}
+use Rattle.cache_model.specs.Contents.{Contents}
 use Rattle.stripe_actors.specs.Actors.{ActorsSeen, AreActors}
 use Rattle.stripe_pieces.specs.declared.ahead.Ahead.{Ahead}
 use Rattle.stripe_pieces.specs.declared.answer.Found.{Found}

@@ -7,7 +7,7 @@ use Rattle.doc_header.specs.Moving.{moved_to}
 use Rattle.cache_model.specs.declared.record.Rec.{Rec}
 use Rattle.cache_model.specs.declared.record.Rec.TheVariants as rec
 use Rattle.cache_model.specs.State.{Row, State, after_all, cursor_next, floor_next, place_now, row_of, state_after}
-use Rattle.call_laws.specs.Contents.{Contents}
+use Rattle.cache_model.specs.Contents.{Contents}
 use Rattle.stripe_pieces.specs.declared.ahead.Fate.{Fate}
 use Rattle.stripe_pieces.specs.declared.ahead.Fate.TheVariants as fate
 use Rattle.stripe_pieces.specs.Pieces.{live_place_of}

@@ -1,27 +1,11 @@
--- What the entry of a piece displaces, and how that is recorded.
-use Rattle.std.specs.Prelude.{ℕ, ◌≡◌, ◌==◌, Bool, List, [], ◌∷◌, ◌++◌, map, Option, option_to_list}
-use Rattle.std.specs.List.{AllByRecursion}
+-- The records of what an entry of the directory displaced: of the piece that was placed last at each place that it tells.
+use Rattle.std.specs.Prelude.{ℕ, ◌==◌, List, [], ◌∷◌, ◌++◌, map, Option, option_to_list}
 use Rattle.std.specs.Map.{lookup}
 use Rattle.tape_base.specs.declared.pieces.PieceId.{PieceId}
 use Rattle.dir_table.specs.Displacement.{Displacement}
 use Rattle.cache_model.specs.declared.record.Rec.{Rec}
 use Rattle.cache_model.specs.declared.record.Rec.TheVariants as rec
-use Rattle.cache_model.specs.Permit.{Permit}
-use Rattle.cache_model.specs.Room.{MayDisplace}
 use Rattle.cache_model.specs.State.{State}
-
--- what the entry of a piece displaces, in each step of a directory that displaces at all (`packed`), or that does not
-abbrev pub PushesOut : Bool → State → PieceId → List Rec → Type 0
-PushesOut packed s id displaced = (p : Permit) → p.packed ≡ packed → MayDisplace p s id displaced
-
--- the record tells that a piece was displaced
-abbrev pub IsOfDisplacement : Rec → Type 0
-IsOfDisplacement (rec.Displaced piece segment live) = Unit {0}
-IsOfDisplacement _ = ⊥
-
--- each of them does
-abbrev pub AreOfDisplacement : List Rec → Type 0
-AreOfDisplacement recs = AllByRecursion IsOfDisplacement recs
 
 -- the piece that was placed at a place last
 abbrev pub last_at : State → ℕ → Option PieceId

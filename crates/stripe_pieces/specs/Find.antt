@@ -14,7 +14,7 @@ use Rattle.cache_model.specs.State.{Row, State, live_row_of}
 use Rattle.cache_model.specs.Verdict.{cause_of_piece, size_of}
 use Rattle.cache_model.specs.Permit.{Permit}
 use Rattle.cache_model.specs.Given.{IsDocumentOf, Trouble, effects_told}
-use Rattle.call_laws.specs.Contents.{Contents}
+use Rattle.cache_model.specs.Contents.{Contents}
 use Rattle.stripe_pieces.specs.declared.answer.Found.{Found}
 use Rattle.stripe_pieces.specs.declared.answer.Found.TheVariants as found
 use Rattle.stripe_pieces.specs.Faults.{HasEffects}

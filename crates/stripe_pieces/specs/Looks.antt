@@ -11,7 +11,7 @@ use Rattle.cache_model.specs.State.{Row, State, after_all, live_row_of}
 use Rattle.cache_model.specs.Permit.{Permit}
 use Rattle.cache_model.specs.Given.{IsWritten}
 use Rattle.cache_model.specs.Outcomes.{AreOutcomes, Copied, IsOutcome, Outcome, front_of, records_of}
-use Rattle.stripe_due.specs.Finding.{candidate_of, most_passed}
+use Rattle.cache_model.specs.Due.{candidate_of, most_passed}
 use Rattle.stripe_pieces.specs.declared.ahead.Ahead.{Ahead}
 use Rattle.stripe_pieces.specs.declared.ahead.Fate.{Fate}
 use Rattle.stripe_pieces.specs.declared.ahead.Fate.TheVariants as fate

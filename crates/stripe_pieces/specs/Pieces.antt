@@ -8,7 +8,7 @@ use Rattle.cyclone.specs.Cyclone.{Seen, seen_cyclone}
 use Rattle.cache_model.specs.State.{State, Row, live_row_of}
 use Rattle.cache_model.specs.Kept.{Kept, state_of}
 use Rattle.cache_chronicle.specs.declared.chronicle.Chronicle.{Ghosts as ChronicleGhosts}
-use Rattle.call_laws.specs.Contents.{AnyContents, Contents}
+use Rattle.cache_model.specs.Contents.{AnyContents, Contents}
 use Rattle.stripe_pieces.specs.Held.{IsHeld}
 use Rattle.stripe_pieces.specs.Standing.{AreStanding}
 use Rattle.stripe_pieces.specs.declared.pieces.Pieces.{Pieces}

@@ -21,7 +21,7 @@ use Rattle.cache_model.specs.Legal.{AreLiveTo, Does, IsCut, IsNext, IsWriting, M
 use Rattle.stripe_pieces.specs.declared.answer.Placed.{Placed}
 use Rattle.stripe_pieces.specs.declared.answer.Stop.{Stop}
 use Rattle.stripe_pieces.specs.declared.answer.Stop.TheVariants as stop
-use Rattle.stripe_pieces.specs.Displaced.{PushesOut}
+use Rattle.cache_model.specs.Displacing.{PushesOut}
 use Rattle.stripe_pieces.specs.Faults.{HasEffects}
 use Rattle.stripe_pieces.specs.Covers.{Covers, SpendsFirst}
 use Rattle.cache_model.specs.Damage.{TellNoDamage}

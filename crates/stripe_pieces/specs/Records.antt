@@ -22,7 +22,8 @@ use Rattle.cache_model.specs.Tape.{IsSound}
 use Rattle.cache_model.specs.Slots.{AllFit, HasSlotForCopy}
 use Rattle.dir_table.specs.Displacement.{AreFew}
 use Rattle.stripe_pieces.specs.Held.{IsHeld}
-use Rattle.stripe_pieces.specs.Displaced.{PushesOut, displaced_of}
+use Rattle.cache_model.specs.Displacing.{PushesOut}
+use Rattle.stripe_pieces.specs.Displaced.{displaced_of}
 
 -- the document of a piece that may be placed now
 pub record IsPlaceable (s : State) (doc : Doc) (payload : List ℕ) (digest : Digest) : Type 0 where

@@ -11,7 +11,7 @@ use Rattle.agg_buffer.specs.Buffer.{Buffer, bytes_at}
 use Rattle.cyclone.specs.Cyclone.{Seen}
 use Rattle.cache_model.specs.State.{Row, State, floor_now}
 use Rattle.cache_model.specs.Outcomes.{Copied, Outcome}
-use Rattle.call_laws.specs.Contents.{AreRecordedAs, Content, Contents, IsToldAs, doc_of_row}
+use Rattle.cache_model.specs.Contents.{AreRecordedAs, Content, Contents, IsToldAs, doc_of_row}
 
 -- bytes begin with the document of a piece with this content
 pub record BeginsAs (g : Geometry) (row : Row) (bytes : List ℕ) (content : Content) : Type 0 where

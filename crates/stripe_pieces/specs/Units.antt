@@ -3,7 +3,7 @@ use Rattle.std.specs.Prelude.{ℕ, ◌+◌, ◌*◌}
 use Rattle.tape_base.specs.declared.geometries.Geometry.{Geometry}
 use Rattle.tape_base.specs.Geometry.{budget_of}
 use Rattle.dir_table.specs.Displacement.{purge_of}
-use Rattle.stripe_due.specs.Finding.{most_passed}
+use Rattle.cache_model.specs.Due.{most_passed}
 
 -- how many records a call adds at most: of a flush two for each piece that the floor passes, and one; and those of a piece, with
 -- what its entry displaces

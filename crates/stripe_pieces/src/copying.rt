@@ -1,7 +1,7 @@
 // What a flush copies ahead of the cursor: what was looked at before the buffer is written is told of
 // behind that, and copied into the next buffer.
 ghost use Rattle.std.specs.Prelude.{◌≡◌, ◌+◌, false, true, [], ◌∷◌, ◌++◌, length};
-ghost use Rattle.call_laws.specs.Contents.{AnyContents};
+ghost use Rattle.cache_model.specs.Contents.{AnyContents};
 ghost use Rattle.cache_model.specs.State.{cursor_next, floor_next};
 ghost use Rattle.cache_model.specs.declared.record.Rec.TheVariants.{Began, Fault};
 ghost use Rattle.logged_disk.specs.Device.{TellsAll};

@@ -1,7 +1,7 @@
 // How a piece is read by its name.
 ghost use Rattle.std.specs.Prelude.{◌≡◌, ◌*◌, ◌≤◌, ◌^◌, Some, length, take};
 ghost use Rattle.doc_header.specs.Reading.{payload_of};
-ghost use Rattle.call_laws.specs.Contents.{AnyContents};
+ghost use Rattle.cache_model.specs.Contents.{AnyContents};
 ghost use Rattle.stripe_pieces.specs.Find.{HasBlocks, HasRoomFor, IsJudged, IsToBeRead, judged_records};
 ghost use Rattle.stripe_pieces.specs.Load.{CanLoad, Loads};
 

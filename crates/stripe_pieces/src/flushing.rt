@@ -5,8 +5,8 @@ ghost use Rattle.tape_base.specs.Geometry.{budget_of};
 ghost use Rattle.cache_model.specs.State.{floor_now};
 ghost use Rattle.cache_model.specs.Legal.{IsQuiet};
 ghost use Rattle.cache_model.specs.Room.{has_room};
-ghost use Rattle.call_laws.specs.Contents.{AnyContents};
-ghost use Rattle.stripe_due.specs.Finding.{most_passed};
+ghost use Rattle.cache_model.specs.Contents.{AnyContents};
+ghost use Rattle.cache_model.specs.Due.{most_passed};
 ghost use Rattle.stripe_pieces.specs.Flush.{AnswersFlush, FlushesAsAsked, WritesNothing};
 ghost use Rattle.stripe_pieces.specs.Place.{AnswersRoom, RoomsAsAsked};
 

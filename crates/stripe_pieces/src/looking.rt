@@ -5,7 +5,7 @@ ghost use Rattle.tape_base.specs.Geometry.{budget_of};
 ghost use Rattle.evacuator.specs.Choice.{CandidatesRise, IsChoice, blocks_of_all};
 ghost use Rattle.cache_model.specs.State.{Row};
 ghost use Rattle.stripe_actors.specs.Actors.{AreActors};
-ghost use Rattle.stripe_due.specs.Finding.{candidate_of};
+ghost use Rattle.cache_model.specs.Due.{candidate_of};
 ghost use Rattle.stripe_pieces.specs.Ahead.{IsMadeFor, LooksAhead};
 ghost use Rattle.stripe_pieces.specs.Looks.{AreOfRows, Comes, HasCandidates, HasLookedAhead, HasRow, IsJudgedAs, IsNextToLook, LooksAt, MayBeCopied, StaysMade};
 

@@ -4,7 +4,7 @@ ghost use Rattle.tape_base.specs.Digest.{digest_of};
 ghost use Rattle.tape_base.specs.Geometry.{budget_of};
 ghost use Rattle.cache_model.specs.Room.{doc_at, has_room};
 ghost use Rattle.dir_table.specs.Displacement.{purge_of};
-ghost use Rattle.stripe_due.specs.Finding.{most_passed};
+ghost use Rattle.cache_model.specs.Due.{most_passed};
 ghost use Rattle.stripe_pieces.specs.Standing.{IsToldPlaced};
 ghost use Rattle.stripe_pieces.specs.Place.{CutsAsAsked, HasBufferRoom, IsFragmentOf, IsNewPiece, PlacesIn, PutsIn};
 

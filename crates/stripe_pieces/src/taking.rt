@@ -7,7 +7,7 @@ ghost use Rattle.cache_model.specs.Verdict.{live_vector_of, vector_of};
 ghost use Rattle.cache_model.specs.declared.record.Rec.TheVariants.{Committed, Damaged, Removed};
 ghost use Rattle.stripe_pieces.specs.Held.{IsHeld};
 ghost use Rattle.stripe_pieces.specs.Records.{IsWithout};
-ghost use Rattle.call_laws.specs.Contents.{AnyContents};
+ghost use Rattle.cache_model.specs.Contents.{AnyContents};
 
 use crate::{Pieces, records};
 use alternate_vector::Vector;

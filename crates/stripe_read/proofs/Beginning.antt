@@ -18,7 +18,7 @@ use Rattle.cache_model.specs.Verdict.{live_vector_of}
 use Rattle.cache_model.specs.Permit.{Done, Look, Permit}
 use Rattle.cache_model.specs.Legal.{Does, DoesLook, IsQuiet}
 use Rattle.cache_model.specs.Vectors.{IsVectorAs}
-use Rattle.call_laws.specs.Contents.{Untold}
+use Rattle.call_laws.specs.Untold.{Untold}
 use Rattle.call_laws.proofs.Kept.{untold_later}
 use Rattle.stripe_pieces.specs.Covers.{Covers}
 use Rattle.stripe_pieces.specs.Still.{IsStill}

@@ -15,7 +15,7 @@ use Rattle.cache_model.specs.Permit.{Permit}
 use Rattle.cache_model.specs.Given.{IsDocumentOf, IsRead, damage_cause}
 use Rattle.cache_model.specs.Legal.{IsAsListed, IsUnlike, ReadTrouble}
 use Rattle.cache_model.proofs.Lists.{own_piece}
-use Rattle.call_laws.specs.Contents.{Contents}
+use Rattle.cache_model.specs.Contents.{Contents}
 use Rattle.stripe_pieces.specs.declared.answer.Found.{Found}
 use Rattle.stripe_pieces.specs.declared.answer.Found.TheVariants as found
 use Rattle.stripe_pieces.specs.Covers.{AllReadIsSeen, Covers}

@@ -19,7 +19,7 @@ use Rattle.cache_model.specs.Given.{IsRead, IsReadWhereLive}
 use Rattle.cache_model.specs.Legal.{IsLookup}
 use Rattle.cache_model.specs.Pair.{Documents, IsKeyPair}
 use Rattle.cache_model.specs.Vectors.{AreVectors, IsVectorAs}
-use Rattle.call_laws.specs.Contents.{Untold}
+use Rattle.call_laws.specs.Untold.{Untold}
 use Rattle.call_laws.proofs.Kept.{tells_or_not}
 use Rattle.stripe_core.specs.Counts.{CauseIsCounted}
 use Rattle.stripe_actors.specs.Actors.{ActorsSeen, AreActors}

@@ -16,7 +16,7 @@ use Rattle.cache_model.specs.Verdict.{cause_of_piece, digest_in, payload_of_piec
 use Rattle.cache_model.specs.Permit.{Permit}
 use Rattle.cache_model.specs.Given.{IsDocumentOf}
 use Rattle.cache_model.specs.Legal.{IsAsListed, ReadTrouble}
-use Rattle.call_laws.specs.Contents.{Contents}
+use Rattle.cache_model.specs.Contents.{Contents}
 use Rattle.stripe_pieces.specs.declared.answer.Found.{Found}
 use Rattle.stripe_pieces.specs.declared.answer.Found.TheVariants as found
 use Rattle.stripe_pieces.specs.Covers.{AllReadIsSeen, Covers}

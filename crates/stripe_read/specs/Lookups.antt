@@ -21,7 +21,7 @@ use Rattle.cache_model.specs.Permit.{Done, Look, Permit}
 use Rattle.cache_model.specs.Legal.{Does, IsLookup}
 use Rattle.cache_model.specs.Pair.{IsKeyPair}
 use Rattle.cache_model.specs.Vectors.{AreVectors, IsVectorAs}
-use Rattle.call_laws.specs.Contents.{Untold}
+use Rattle.call_laws.specs.Untold.{Untold}
 use Rattle.stripe_pieces.specs.Covers.{AllReadIsSeen, Covers}
 use Rattle.stripe_pieces.specs.Find.{records_of_trouble}
 use Rattle.stripe_pieces.specs.Still.{IsStill, IsUnwritten}

@@ -16,7 +16,7 @@ use Rattle.cache_model.specs.Kept.{with_records}
 use Rattle.cache_model.specs.Verdict.{cause_of_piece, digest_in, next_piece, next_row}
 use Rattle.cache_model.specs.Permit.{Done, Permit, ReadOn}
 use Rattle.cache_model.specs.Legal.{Does, IsAsListed, IsUnlike, answer_record, live_next}
-use Rattle.call_laws.specs.Contents.{Contents}
+use Rattle.cache_model.specs.Contents.{Contents}
 use Rattle.stripe_pieces.specs.Covers.{AllReadIsSeen, Covers}
 use Rattle.stripe_core.specs.Counts.{CauseIsCounted}
 use Rattle.cache_model.specs.Given.{IsDocumentOf}

@@ -14,7 +14,7 @@ use Rattle.cache_model.specs.State.{Row, State, alternates_of, live_row_of}
 use Rattle.cache_model.specs.Kept.{Kept, state_of, with_records}
 use Rattle.cache_model.specs.Vectors.{AreVectors}
 use Rattle.cache_model.proofs.VectorLaws.{live_vector_is_listed}
-use Rattle.call_laws.specs.Contents.{contents_of_vectors, spelled_content}
+use Rattle.cache_model.specs.Contents.{contents_of_vectors, spelled_content}
 use Rattle.cache_model.specs.Verdict.{live_vector_of, vector_of}
 use Rattle.cache_model.specs.Permit.{Permit}
 use Rattle.stripe_pieces.specs.Covers.{Covers}

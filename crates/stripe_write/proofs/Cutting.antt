@@ -26,7 +26,7 @@ use Rattle.stripe_pieces.specs.declared.answer.Placed.{Placed}
 use Rattle.stripe_core.specs.declared.refusal.Refusal.{Refusal}
 use Rattle.stripe_core.specs.declared.refusal.Refusal.TheVariants as refusal
 use Rattle.stripe_pieces.specs.Place.{AreOfPlace, CutsAsAsked, IsCutAs, IsExhaustedAt, IsFragmentOf, PlacesAsAsked, PlacesVector}
-use Rattle.stripe_pieces.specs.Displaced.{AreOfDisplacement}
+use Rattle.cache_model.specs.Displacing.{AreOfDisplacement}
 use Rattle.stripe_core.specs.Stripe.{AnswersOrWants}
 use Rattle.stripe_pieces.proofs.Displacing.{displaced_puts}
 use Rattle.stripe_write.specs.declared.writer.Writer.{Writer}

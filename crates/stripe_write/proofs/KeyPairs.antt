@@ -7,7 +7,7 @@ use Rattle.cache_model.specs.State.{Row, State}
 use Rattle.cache_model.specs.Permit.{Permit}
 use Rattle.cache_model.specs.Pair.{Documents, IsKeyPair}
 use Rattle.cache_model.specs.Vectors.{IsVectorAs}
-use Rattle.call_laws.specs.Contents.{Untold}
+use Rattle.call_laws.specs.Untold.{Untold}
 use Rattle.call_laws.proofs.Kept.{untold_later}
 
 -- a pair is one of more documents

@@ -26,7 +26,7 @@ use Rattle.stripe_core.specs.Stripe.{AnswersOrWants, Wanting}
 use Rattle.stripe_pieces.proofs.Covering.{covers_first, covers_last}
 use Rattle.stripe_core.proofs.Stills.{still_shows, still_then, unwritten_then}
 use Rattle.cache_model.specs.Pair.{IsKeyPair}
-use Rattle.call_laws.specs.Contents.{Untold}
+use Rattle.call_laws.specs.Untold.{Untold}
 use Rattle.stripe_write.specs.declared.finishing.Receipt.{Receipt}
 use Rattle.stripe_write.specs.declared.weighing.Vectors.{Vectors}
 use Rattle.stripe_write.specs.declared.writer.Writer.{Writer}

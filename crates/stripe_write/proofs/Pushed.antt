@@ -10,7 +10,7 @@ use Rattle.cache_model.specs.declared.record.Rec.TheVariants as rec
 use Rattle.cache_model.specs.State.{Row, State, after_all, last_vector, live_row_of, only_live, row_in, state_after}
 use Rattle.cache_model.specs.Verdict.{live_vector_of, vector_of_last}
 use Rattle.cache_model.proofs.Lists.{row_in-without}
-use Rattle.stripe_pieces.specs.Displaced.{AreOfDisplacement, IsOfDisplacement}
+use Rattle.cache_model.specs.Displacing.{AreOfDisplacement, IsOfDisplacement}
 use Rattle.stripe_pieces.specs.Place.{AreOfPlace}
 use Rattle.stripe_pieces.proofs.Displacing.{pushed_kinds}
 use Rattle.stripe_write.specs.Others.{IsRecordOfPut}

@@ -12,7 +12,7 @@ use Rattle.fragment_table.specs.Table.{TableRow, total_length}
 use Rattle.alternate_vector.specs.Alternates.{Stored}
 use Rattle.alternate_vector.specs.Spelling.{vector_bytes}
 use Rattle.cache_model.specs.State.{State, fragment_piece, list_of_put, vector_piece}
-use Rattle.call_laws.specs.Contents.{AnyContents, Content, Contents, IsToldAs, TellsVectors, contents_of_vectors}
+use Rattle.cache_model.specs.Contents.{AnyContents, Content, Contents, IsToldAs, TellsVectors, contents_of_vectors}
 use Rattle.stripe_core.specs.declared.stripe.Stripe.{Stripe}
 use Rattle.stripe_core.specs.Between.{ContinuesWith, Rests, RestsWith}
 use Rattle.stripe_core.specs.Stripe.{seen_in, state_in}

@@ -17,7 +17,7 @@ use Rattle.cache_model.specs.Permit.{Commit, Done, End, Fails, Faulted, Finish, 
 use Rattle.cache_model.specs.Vectors.{AreVectors, IsVectorAs}
 use Rattle.cache_model.specs.Legal.{MayGrow}
 use Rattle.cache_chronicle.specs.declared.chronicle.Chronicle.{Ghosts as ChronicleGhosts}
-use Rattle.call_laws.specs.Contents.{Untold}
+use Rattle.call_laws.specs.Untold.{Untold}
 use Rattle.stripe_core.specs.declared.refusal.Refusal.{Refusal}
 use Rattle.stripe_core.specs.declared.refusal.Refusal.TheVariants as refusal
 use Rattle.stripe_core.specs.declared.stripe.Stripe.{Stripe}

@@ -15,7 +15,7 @@ use Rattle.cache_model.specs.Permit.{Commit, Done, End, Exhausted, Fails, Faulte
 use Rattle.cache_model.specs.Legal.{vector_length, vector_payload}
 use Rattle.cache_model.specs.Room.{greatest_pin, has_room, limit}
 use Rattle.cache_chronicle.specs.declared.chronicle.Chronicle.{Ghosts as ChronicleGhosts}
-use Rattle.call_laws.specs.Contents.{TellsVectors}
+use Rattle.cache_model.specs.Contents.{TellsVectors}
 use Rattle.stripe_core.specs.declared.refusal.Refusal.{Refusal}
 use Rattle.stripe_core.specs.declared.refusal.Refusal.TheVariants as refusal
 use Rattle.stripe_core.specs.declared.stripe.Stripe.{Stripe}

@@ -1,7 +1,7 @@
 -- What was passed is brought, and what is left is due from the place on.
 use Rattle.std.proofs.Common.{◌≡◌, ◌≤◌, ◌+◌, ◌-◌, ◌++◌, vec_len, vec_capacity}
 use Rattle.cache_model.specs.Kept.{state_of}
-use Rattle.stripe_due.specs.Finding.{due_candidates}
+use Rattle.cache_model.specs.Due.{due_candidates}
 use Rattle.stripe_due.specs.Walk.{candidates_from}
 use Rattle.stripe_due.proofs.finding.find_due.Given as goal
 

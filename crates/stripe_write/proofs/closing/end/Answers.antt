@@ -11,7 +11,7 @@ use Rattle.stripe_write.proofs.LastSteps.{finished_where, no_rest_ends, no_rest_
 use Rattle.stripe_write.proofs.Sealing.{IsSealed, cut_same, sealed_same, sealed_writer, spelled_same, then_same}
 use Rattle.logged_disk.specs.Device.{TellsAll}
 use Rattle.logged_disk.proofs.GoingOn.{told_before}
-use Rattle.call_laws.specs.Contents.{TellsVectors}
+use Rattle.cache_model.specs.Contents.{TellsVectors}
 use Rattle.cache_model.specs.Verdict.{cuts_of}
 use Rattle.stripe_core.proofs.Continuing.{rests_with, rests_with_then}
 use Rattle.stripe_write.specs.Closing.{IsReadFor}

@@ -12,7 +12,7 @@ use Rattle.stripe_write.proofs.Pushed.{pushed_by}
 use Rattle.stripe_write.proofs.Spending.{state_behind}
 use Rattle.logged_disk.specs.Device.{DeviceState as Device}
 use Rattle.logged_disk.proofs.GoingOn.{told_before}
-use Rattle.call_laws.specs.Contents.{TellsVectors, contents_of_vectors}
+use Rattle.cache_model.specs.Contents.{TellsVectors, contents_of_vectors}
 use Rattle.stripe_pieces.specs.Standing.{IsToldPlaced}
 use Rattle.stripe_core.specs.Stripe.{kept_in, seen_in, state_in}
 use Rattle.stripe_vectors.specs.declared.spelling.Spelled.{Spelled}

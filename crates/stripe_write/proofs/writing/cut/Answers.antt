@@ -6,7 +6,7 @@ use Rattle.tape_base.specs.declared.pieces.PieceId.{PieceId}
 use Rattle.tape_base.specs.Digest.{digest_of}
 use Rattle.fragment_table.specs.Table.{made_row}
 use Rattle.cache_model.specs.Legal.{IsQuiet}
-use Rattle.call_laws.specs.Contents.{Contents, IsToldAs, contents_of_vectors}
+use Rattle.cache_model.specs.Contents.{Contents, IsToldAs, contents_of_vectors}
 use Rattle.stripe_pieces.specs.declared.answer.Placed.{Placed}
 use Rattle.stripe_pieces.specs.Place.{CutsAsAsked, IsFragmentOf, IsPlacing, IsVectorFor}
 use Rattle.stripe_pieces.specs.Standing.{IsToldPlaced}

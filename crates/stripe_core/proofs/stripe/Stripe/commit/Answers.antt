@@ -5,7 +5,7 @@ use Rattle.cache_model.specs.declared.record.Rec.TheVariants as rec
 use Rattle.cache_model.specs.State.{vector_piece}
 use Rattle.cache_model.specs.Kept.{state_of, with_records}
 use Rattle.cache_model.specs.Verdict.{cuts_of}
-use Rattle.call_laws.specs.Contents.{contents_of_vectors}
+use Rattle.cache_model.specs.Contents.{contents_of_vectors}
 use Rattle.stripe_actors.specs.Actors.{AreActors}
 use Rattle.stripe_pieces.specs.Pieces.{seen_now}
 use Rattle.stripe_core.specs.Stripe.{kept_in, seen_in, state_in}

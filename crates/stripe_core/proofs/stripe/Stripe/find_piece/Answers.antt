@@ -1,7 +1,7 @@
 use Rattle.std.proofs.Common.{◌++◌, sym, ◌∙◌, ap, subst, refl, arith}
 use Rattle.std.proofs.lemmas.Result.{err_from_is_err_and}
 use Rattle.cache_model.specs.Given.{effects_told}
-use Rattle.call_laws.specs.Contents.{contents_of_vectors}
+use Rattle.cache_model.specs.Contents.{contents_of_vectors}
 use Rattle.stripe_pieces.specs.Covers.{Covers}
 use Rattle.stripe_pieces.specs.Faults.{HasEffects}
 use Rattle.cache_model.specs.Kept.{Kept, state_of, with_records}

@@ -3,7 +3,7 @@ use Rattle.std.proofs.Common.{◌≡◌, ◌∙◌, Ok, Err, inl, inr, ap, subst
 use Rattle.std.proofs.lemmas.Result.{err_from_is_err_and}
 use Rattle.cache_model.specs.Kept.{Kept, state_of}
 use Rattle.cache_model.specs.Room.{is_flush_exhausted}
-use Rattle.call_laws.specs.Contents.{contents_of_vectors}
+use Rattle.cache_model.specs.Contents.{contents_of_vectors}
 use Rattle.stripe_pieces.specs.declared.answer.Flushed.{Flushed}
 use Rattle.stripe_pieces.specs.Flush.{FlushesAsAsked, StopsWith, TellsFlush, WritesNothing}
 use Rattle.stripe_pieces.specs.Pieces.{kept_now, seen_now, state_now}

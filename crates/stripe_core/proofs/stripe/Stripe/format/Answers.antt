@@ -1,6 +1,6 @@
 use Rattle.std.proofs.Common.{sym, subst, refl, arith}
 use Rattle.cache_model.specs.Kept.{state_of}
-use Rattle.call_laws.specs.Contents.{contents_of_vectors}
+use Rattle.cache_model.specs.Contents.{contents_of_vectors}
 use Rattle.stripe_actors.specs.Actors.{AreActors}
 use Rattle.stripe_core.proofs.stripe.Stripe.format.Goals as goal
 

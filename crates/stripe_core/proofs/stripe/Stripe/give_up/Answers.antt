@@ -2,7 +2,7 @@ use Rattle.std.proofs.Common.{sym, ◌∙◌, ap, subst, refl, arith, [], ◌∷
 use Rattle.cache_model.specs.declared.record.Rec.TheVariants as rec
 use Rattle.cache_model.specs.State.{state_after}
 use Rattle.cache_model.specs.Kept.{state_of}
-use Rattle.call_laws.specs.Contents.{contents_of_vectors}
+use Rattle.cache_model.specs.Contents.{contents_of_vectors}
 use Rattle.stripe_actors.specs.Actors.{AreActors}
 use Rattle.stripe_core.specs.Stripe.{kept_in, seen_in, state_in}
 use Rattle.stripe_pieces.proofs.Flushes.{state_of-with_records}

@@ -7,7 +7,7 @@ use Rattle.cache_model.specs.Kept.{Kept, state_of, with_records}
 use Rattle.tape_base.specs.declared.actors.Actor.{Actor}
 use Rattle.tape_base.specs.declared.keys.Key.{Key}
 use Rattle.alternate_vector.specs.Field.{Field}
-use Rattle.call_laws.specs.Contents.{contents_of_vectors}
+use Rattle.cache_model.specs.Contents.{contents_of_vectors}
 use Rattle.stripe_core.specs.Named.{IsNamed}
 use Rattle.stripe_actors.specs.Actors.{AreActors}
 use Rattle.stripe_actors.specs.Calls.{IsExhausted, OpensWhere}

@@ -4,7 +4,7 @@ use Rattle.std.proofs.lemmas.Result.{err_from_is_err_and}
 use Rattle.cache_model.specs.State.{State, after_all}
 use Rattle.cache_model.specs.Kept.{state_of}
 use Rattle.cache_model.proofs.Steps.{after_all-append}
-use Rattle.call_laws.specs.Contents.{contents_of_vectors}
+use Rattle.cache_model.specs.Contents.{contents_of_vectors}
 use Rattle.stripe_actors.specs.Actors.{AreActors}
 use Rattle.stripe_pieces.specs.declared.answer.Placed.{Placed}
 use Rattle.stripe_pieces.specs.Place.{CutsAsAsked, IsCutAs, IsStoppedAs}

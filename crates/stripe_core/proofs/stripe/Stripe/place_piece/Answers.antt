@@ -6,7 +6,7 @@ use Rattle.tape_base.specs.Piece.{is_vector}
 use Rattle.logged_disk.proofs.GoingOn.{told_before}
 use Rattle.cache_model.specs.Kept.{Kept, state_of}
 use Rattle.cache_model.specs.Room.{has_room}
-use Rattle.call_laws.specs.Contents.{IsToldAs, contents_of_vectors}
+use Rattle.cache_model.specs.Contents.{IsToldAs, contents_of_vectors}
 use Rattle.stripe_pieces.specs.Place.{CutsAsAsked, PlacesAsAsked, PlacesVector}
 use Rattle.stripe_pieces.specs.Standing.{IsToldPlaced}
 use Rattle.stripe_pieces.specs.Still.{IsStill}

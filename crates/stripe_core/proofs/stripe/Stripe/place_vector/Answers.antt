@@ -5,7 +5,7 @@ use Rattle.cache_model.specs.State.{State}
 use Rattle.cache_model.specs.Kept.{state_of, with_records}
 use Rattle.dir_table.specs.Displacement.{purge_of}
 use Rattle.tape_base.specs.Piece.{is_vector}
-use Rattle.call_laws.specs.Contents.{contents_of_vectors}
+use Rattle.cache_model.specs.Contents.{contents_of_vectors}
 use Rattle.stripe_pieces.specs.Place.{AreOfPlace, PlacesVector}
 use Rattle.stripe_pieces.specs.Pieces.{kept_now, seen_now}
 use Rattle.stripe_core.specs.Stripe.{AnswersOrWants, flushes_in, kept_in, seen_in, state_in, units_in}

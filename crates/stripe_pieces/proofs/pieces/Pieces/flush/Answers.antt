@@ -9,7 +9,7 @@ use Rattle.cache_model.specs.declared.record.Rec.TheVariants as rec
 use Rattle.cache_model.specs.State.{State, after_all, cursor_next}
 use Rattle.cache_model.specs.Kept.{state_of, with_records}
 use Rattle.cache_model.specs.Slots.{AllFit}
-use Rattle.stripe_due.specs.Finding.{most_passed}
+use Rattle.cache_model.specs.Due.{most_passed}
 use Rattle.stripe_pieces.specs.declared.answer.Stop.TheVariants as stop
 use Rattle.stripe_pieces.specs.Copying.{AreCopyable, AreTellable, AreToldCopied, begun_behind, copies_among, done_records, told_of_pieces}
 use Rattle.stripe_pieces.specs.Covers.{Uses}

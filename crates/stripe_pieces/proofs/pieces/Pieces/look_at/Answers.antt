@@ -2,7 +2,7 @@ use Rattle.std.proofs.Common.{◌≡◌, ◌+◌, ◌*◌, ◌<◌, ◌≤◌, r
 use Rattle.std.specs.Prelude.{Some, slice_get}
 use Rattle.std.proofs.lemmas.List.{length-append}
 use Rattle.tape_base.specs.Geometry.{budget_of}
-use Rattle.stripe_due.specs.Finding.{candidate_of}
+use Rattle.cache_model.specs.Due.{candidate_of}
 use Rattle.stripe_pieces.specs.Pieces.{seen_now, state_now}
 use Rattle.stripe_pieces.proofs.Adding.{reads_nothing}
 use Rattle.stripe_pieces.proofs.Noting.{kept_fits, kept_taken, left_out, none_taken, notes_none, notes_read, read_at, row_of_candidate, vector_written}

@@ -3,7 +3,7 @@ use Rattle.std.specs.Prelude.{Some, slice_get}
 use Rattle.tape_base.specs.Geometry.{budget_of}
 use Rattle.cache_model.specs.Kept.{state_of}
 use Rattle.cache_model.specs.State.{Row, State}
-use Rattle.stripe_due.specs.Finding.{candidate_of, most_passed}
+use Rattle.cache_model.specs.Due.{candidate_of, most_passed}
 use Rattle.stripe_pieces.specs.Ahead.{IsMadeFor}
 use Rattle.stripe_pieces.specs.Looks.{HasCandidateRows, HasCandidates, HasLookedAhead, IsNextToLook, LooksOn, MayBeCopied, blocks_kept}
 use Rattle.stripe_pieces.specs.Pieces.{seen_now, state_now}

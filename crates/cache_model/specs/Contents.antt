@@ -1,17 +1,15 @@
--- What is told of the bytes of pieces, and pairs that are shown only where one is not sure of them.
+-- What is told of the bytes of pieces.
 use Rattle.std.specs.Prelude.{ℕ, ◌≡◌, true, IfSome, IsSome, List, Option, Some, length, option_map}
 use Rattle.std.specs.List.{AllByRecursion}
 use Rattle.tape_base.specs.declared.geometries.Geometry.{Geometry}
 use Rattle.tape_base.specs.declared.pieces.PieceId.{PieceId}
 use Rattle.tape_base.specs.Blocks.{blocks_of}
 use Rattle.tape_base.specs.Piece.{is_vector}
-use Rattle.logged_disk.specs.Device.{DeviceState as Device, TellsAll}
 use Rattle.doc_header.specs.declared.documents.Doc.{Doc}
 use Rattle.doc_header.specs.Document.{digest_of_document}
 use Rattle.alternate_vector.specs.Alternates.{Stored}
 use Rattle.alternate_vector.specs.Spelling.{IsSpelling, vector_bytes}
 use Rattle.cache_model.specs.State.{Row, State, listed}
-use Rattle.cache_model.specs.Pair.{Documents}
 
 -- what a piece has: where its payload begins in the body of its put, and the payload
 pub record Content : Type 0 where
@@ -61,9 +59,3 @@ AnyContents contents = Unit {0}
 pub record IsToldAs (contents : Contents) (s : State) (id : PieceId) (start : ℕ) (payload : List ℕ) : Type 0 where
   pub content : IfSome (contents id (listed s id)) (λ c. c ≡ record { start = start; payload = payload })
   pub spelled : IfSome (listed s id) (λ list. IsSpelling (vector_bytes list) list)
-
--- ---- pairs
-
--- the documents of which a pair is shown, where the device did not tell its content up to a moment
-abbrev pub Untold : Device → Documents → Documents
-Untold device IsPlaced s row document = IsPlaced s row document × (TellsAll device → ⊥)
