@@ -38,7 +38,7 @@ use Rattle.stripe_pieces.specs.Records.{IsAlike}
 use Rattle.stripe_pieces.specs.Standing.{AreStanding}
 use Rattle.stripe_core.specs.Stripe.{IsSpared}
 use Rattle.stripe_pieces.proofs.Candidates.{live_is}
-use Rattle.stripe_pieces.proofs.Flushes.{state_of-with_records}
+use Rattle.stripe_pieces.proofs.RecordsAdded.{state_of-with_records}
 use Rattle.stripe_pieces.proofs.Going.{alike_is_held}
 use Rattle.stripe_core.proofs.Sparing.{one_told, spent_calm}
 use Rattle.stripe_pieces.proofs.Standing.{standing_alike}

@@ -35,7 +35,7 @@ use Rattle.stripe_pieces.specs.Find.{find_adds, found_records, records_of_troubl
 use Rattle.stripe_pieces.specs.Flush.{AreOfFlush, IsRecordOfFlush}
 use Rattle.stripe_core.specs.Named.{IsNamed, IsOwn, IsOwnOf, IsPieceOf}
 use Rattle.stripe_pieces.specs.Place.{IsFragmentOf, IsNewPiece, IsVectorFor}
-use Rattle.stripe_pieces.proofs.Flushes.{state_of-with_records}
+use Rattle.stripe_pieces.proofs.RecordsAdded.{state_of-with_records}
 use Rattle.stripe_pieces.proofs.Going.{all_left}
 use Rattle.stripe_pieces.proofs.SamePuts.{SamePuts, same_puts}
 use Rattle.cache_model.specs.Displacing.{AreOfDisplacement}

@@ -21,7 +21,7 @@ use Rattle.stripe_pieces.specs.declared.answer.Found.TheVariants as found
 use Rattle.stripe_pieces.specs.Find.{find_adds, found_records, records_of_trouble}
 use Rattle.stripe_pieces.specs.Flush.{AreOfFlush, IsRecordOfFlush}
 use Rattle.stripe_pieces.specs.Place.{AreOfPlace, cut_records}
-use Rattle.stripe_pieces.proofs.Flushes.{state_of-with_records}
+use Rattle.stripe_pieces.proofs.RecordsAdded.{state_of-with_records}
 
 -- ---- records that displace nothing
 

@@ -42,7 +42,7 @@ use Rattle.stripe_pieces.specs.Flush.{AreOfFlush, IsRecordOfFlush}
 use Rattle.stripe_pieces.specs.Place.{AreOfPlace, IsFragmentOf, PlaceAdds}
 use Rattle.stripe_pieces.specs.Units.{entries_of_unit, records_of_unit}
 use Rattle.stripe_core.specs.Stripe.{AnswersOrWants, IsSpared, refusal_of}
-use Rattle.stripe_pieces.proofs.Flushes.{state_of-with_records}
+use Rattle.stripe_pieces.proofs.RecordsAdded.{state_of-with_records}
 use Rattle.stripe_pieces.proofs.Displacing.{pushed_kinds}
 use Rattle.stripe_pieces.proofs.Groups.{cut_first, no_vector, none_cut}
 

@@ -27,7 +27,7 @@ use Rattle.stripe_pieces.specs.declared.answer.Found.{Found}
 use Rattle.stripe_pieces.specs.declared.answer.Placed.{Placed}
 use Rattle.stripe_pieces.specs.Find.{Finds, find_adds}
 use Rattle.stripe_pieces.specs.Flush.{FlushesAsAsked, StopsWith, TellsFlush}
-use Rattle.stripe_pieces.specs.Pieces.{live_place_of}
+use Rattle.stripe_pieces.specs.Whereabouts.{live_place_of}
 use Rattle.stripe_pieces.specs.Place.{CutsAsAsked, PlacesAsAsked, PlacesVector, RoomsAsAsked}
 use Rattle.stripe_pieces.specs.Standing.{IsToldPlaced}
 use Rattle.stripe_pieces.specs.Still.{IsStill, IsUnwritten}

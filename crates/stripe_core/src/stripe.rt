@@ -34,7 +34,7 @@ pub struct Stripe<D: Disk, R: Directory + Drop, C: Chronicle> {
 }
 
 impl<D: Disk, R: Directory + Drop, C: Chronicle> Stripe<D, R, C> {
-    ghost use Rattle.stripe_pieces.specs.Pieces.{live_place_of};
+    ghost use Rattle.stripe_pieces.specs.Whereabouts.{live_place_of};
     ghost use Rattle.stripe_core.specs.Stripe.{alloc_in, IsStripe, IsWanting, kept_in, seen_in, state_in};
     ghost use Rattle.stripe_core.specs.Between.{IsResting};
     ghost use Rattle.stripe_core.specs.Calls.{FindsInStripe, FlushesInStripe, HasTakenUnit, IsFormattedStripe, MakesRow, MakesUnits, PlacesFragmentInStripe, PlacesInStripe, PlacesVectorInStripe, PreparesStripe, RoomsInStripe, TakesUnit};

@@ -10,7 +10,7 @@ use Rattle.stripe_pieces.specs.declared.pieces.Pieces.{Pieces}
 use Rattle.stripe_pieces.specs.Pieces.{ArePieces, kept_now, seen_now, state_now}
 use Rattle.stripe_pieces.specs.Ahead.{IsMadeFor}
 use Rattle.stripe_pieces.specs.Calls.{AddsRecords, AsksNoDevice, FlushesAtMost, OnlyReads, TellsOf}
-use Rattle.stripe_pieces.proofs.Flushes.{with_records-nil}
+use Rattle.stripe_pieces.proofs.RecordsAdded.{with_records-nil}
 use Rattle.stripe_pieces.proofs.Uses.{nothing_used, still_uses}
 
 module _ {D R C : Type 0} {d : DiskGhosts D} {r : DirectoryGhosts R} {c : ChronicleGhosts C} (p : Pieces D R C d r c) (held : ArePieces p) where

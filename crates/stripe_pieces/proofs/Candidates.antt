@@ -17,7 +17,7 @@ use Rattle.cache_model.specs.State.{State, Row, is_live, live_row_of, only_live,
 use Rattle.cache_model.specs.Verdict.{if_at, if_still_at}
 use Rattle.cache_model.proofs.Lists.{own_piece}
 use Rattle.stripe_pieces.specs.Held.{IsHeld, entry_of_piece, rows_in_range, same_entry, times}
-use Rattle.stripe_pieces.specs.Pieces.{live_place_of}
+use Rattle.stripe_pieces.specs.Whereabouts.{live_place_of}
 use Rattle.stripe_pieces.specs.This.{is_this}
 use Rattle.tape_base.proofs.NameLaws.{same_piece-same}
 use Rattle.stripe_pieces.proofs.Entries.{one_more, same_entry-true}

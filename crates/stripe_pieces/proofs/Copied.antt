@@ -17,7 +17,7 @@ use Rattle.stripe_pieces.specs.Copying.{AreCopyable, AreToldCopied, IsCopyable, 
 use Rattle.stripe_pieces.specs.Covers.{Uses}
 use Rattle.stripe_pieces.specs.Held.{IsHeld}
 use Rattle.stripe_pieces.specs.Standing.{AreStanding}
-use Rattle.stripe_pieces.proofs.Flushes.{with_records-append, with_records-nil}
+use Rattle.stripe_pieces.proofs.RecordsAdded.{with_records-append, with_records-nil}
 use Rattle.stripe_pieces.proofs.Moving.{moved_is_held}
 use Rattle.stripe_pieces.proofs.Telling.{state_behind}
 

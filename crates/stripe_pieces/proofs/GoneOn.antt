@@ -8,7 +8,7 @@ use Rattle.cache_model.specs.State.{State, cursor_next, floor_next, state_after}
 use Rattle.cache_model.specs.Kept.{Kept, state_of, with_records}
 use Rattle.stripe_pieces.specs.Copying.{begun_behind}
 use Rattle.stripe_pieces.specs.Held.{IsHeld}
-use Rattle.stripe_pieces.proofs.Flushes.{with_records-append}
+use Rattle.stripe_pieces.proofs.RecordsAdded.{with_records-append}
 use Rattle.stripe_pieces.proofs.Holding.{next_is}
 use Rattle.stripe_pieces.proofs.Telling.{state_behind}
 

@@ -31,7 +31,7 @@ use Rattle.stripe_pieces.specs.Covers.{Covers, SpendsFirst}
 use Rattle.cache_model.specs.Damage.{TellNoDamage, tells_damage}
 use Rattle.stripe_pieces.specs.Flush.{AreOfFlush, EachWasLive, IsRecordOfFlush, StopsWith, stop_end}
 use Rattle.stripe_pieces.specs.Place.{CutsAsAsked, IsCutOrStoppedAs, IsFragmentOf, IsNewPiece, IsStoppedAs, IsVectorOf, AreOfPlace, PlaceAdds, PlacesAt, PlacesIn, IsExhaustedAt, RoomIsMade, RoomsAsAsked, FragmentStopsBehind, cut_records, place_end}
-use Rattle.stripe_pieces.proofs.Flushes.{state_of-with_records, with_records-append}
+use Rattle.stripe_pieces.proofs.RecordsAdded.{state_of-with_records, with_records-append}
 use Rattle.cache_model.specs.Given.{effects_told}
 use Rattle.stripe_pieces.specs.Faults.{HasEffects}
 use Rattle.stripe_pieces.proofs.Effects.{told_append}

@@ -11,6 +11,8 @@ mod Starting
 pub mod Candidates
 pub mod Covering
 pub mod Effects
+pub mod RecordsAdded
+pub mod HeldBehindFaults
 pub mod Flushes
 mod Uses
 mod Telling
@@ -30,6 +32,7 @@ pub mod SamePuts
 pub mod Displacing
 pub mod Groups
 mod Fronts
+mod KeptRows
 mod Lives
 pub mod Standing
 pub mod VectorsListed

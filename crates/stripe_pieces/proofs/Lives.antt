@@ -13,10 +13,8 @@ use Rattle.cyclone.specs.Cyclone.{BlocksStand, Seen, row_of_piece}
 use Rattle.cache_model.specs.State.{State, Row, live_row_of, place_now, row_in}
 use Rattle.cache_model.specs.Tape.{AreRising}
 use Rattle.cache_model.proofs.Lists.{found_row, own_piece}
-use Rattle.cache_chronicle.specs.declared.pieces.KeptPiece.{KeptPiece}
-use Rattle.cache_chronicle.specs.LivePieces.{kept_piece}
 use Rattle.stripe_pieces.specs.Held.{IsHeld, IsInLap, entry_of_piece, rows_in_range, same_entry, times}
-use Rattle.stripe_pieces.specs.Pieces.{live_place_of}
+use Rattle.stripe_pieces.specs.Whereabouts.{live_place_of}
 use Rattle.stripe_pieces.proofs.Candidates.{counts, live_is}
 use Rattle.stripe_pieces.proofs.Entries.{same_entry-true}
 
@@ -32,9 +30,6 @@ placed_row (Some row) place h = (row, refl, cc)
 
 pub live_at : (s : State) (id : PieceId) (place : ℕ) → live_place_of s id ≡ Some place → IsLiveAt s id place
 live_at s id place h = let r = placed_row (live_row_of s id) place h in record { row = r.0; live = r.1; at = r.2 }
-
-pub kept_of_live : (s : State) (id : PieceId) (row : Row) (piece : KeptPiece) → live_row_of s id ≡ Some row → Some piece ≡ option_map kept_piece (live_row_of s id) → piece ≡ kept_piece row
-kept_of_live s id row piece live h = let same : Some piece ≡ Some (kept_piece row) = h ∙ ap (option_map kept_piece) live in cc
 
 -- each row has blocks, and ends at the end of all or below it
 pub within : (id : PieceId) (low high : ℕ) (rows : List Row) → AreRising low rows high → AllByRecursion (λ (row : Row). (0 < row.blocks) × (row.place + row.blocks ≤ high)) rows

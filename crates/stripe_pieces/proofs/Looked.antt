@@ -54,7 +54,7 @@ use Rattle.stripe_pieces.proofs.Findings.{lower_rose}
 use Rattle.stripe_pieces.proofs.OneMore.{counted_later}
 use Rattle.cache_model.specs.Damage.{TellNoDamage, tells_damage}
 use Rattle.stripe_pieces.specs.Flush.{EachWasLive, FlushesAsAsked}
-use Rattle.stripe_pieces.proofs.Flushes.{state_of-with_records}
+use Rattle.stripe_pieces.proofs.RecordsAdded.{state_of-with_records}
 use Rattle.stripe_pieces.proofs.LiveBehind.{flush_before, flush_kinds, stopped_before, stopped_kinds}
 use Rattle.stripe_pieces.proofs.Readied.{IsPassed, are_copyable, copied_is, copies_within, few_copies}
 use Rattle.stripe_pieces.proofs.ToldCopies.{are_told_copied, due_told}

@@ -32,7 +32,7 @@ use Rattle.stripe_pieces.specs.Held.{IsHeld}
 use Rattle.stripe_pieces.specs.Place.{IsNewPiece, PutsIn, cut_record_of}
 use Rattle.stripe_pieces.specs.Records.{HasSlots, IsHeldBehind, IsPlaceable, placed_behind}
 use Rattle.stripe_pieces.specs.Standing.{AreStanding, IsToldPlaced}
-use Rattle.stripe_pieces.proofs.Flushes.{with_records-append}
+use Rattle.stripe_pieces.proofs.RecordsAdded.{with_records-append}
 use Rattle.stripe_pieces.proofs.Going.{alike_is_held}
 use Rattle.stripe_pieces.proofs.Purging.{placed_is_held}
 use Rattle.stripe_pieces.proofs.StandingPlaced.{standing_placed, told_alike}

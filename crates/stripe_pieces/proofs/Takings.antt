@@ -16,7 +16,7 @@ use Rattle.cache_model.specs.Verdict.{vector_of, vector_of_last}
 use Rattle.cache_model.specs.Tape.{IsSound}
 use Rattle.cache_model.proofs.Sound.{later_leaves}
 use Rattle.stripe_pieces.specs.Held.{IsHeld}
-use Rattle.stripe_pieces.specs.Pieces.{live_place_of}
+use Rattle.stripe_pieces.specs.Whereabouts.{live_place_of}
 use Rattle.stripe_pieces.specs.Records.{IsWithout}
 use Rattle.stripe_pieces.proofs.Going.{alike_is_held, all_left, passed_is_held, taken_is_held}
 use Rattle.stripe_pieces.proofs.Lives.{IsLiveAt, live_at, live_has_row}

@@ -14,7 +14,7 @@ use Rattle.stripe_pieces.specs.declared.ahead.Fate.{Fate}
 use Rattle.stripe_pieces.specs.Held.{IsHeld}
 use Rattle.stripe_pieces.specs.Standing.{AreStanding}
 use Rattle.stripe_pieces.specs.Copying.{AreTellable, told_of_piece, told_of_pieces}
-use Rattle.stripe_pieces.proofs.Flushes.{state_of-with_records, with_records-nil}
+use Rattle.stripe_pieces.proofs.RecordsAdded.{state_of-with_records, with_records-nil}
 use Rattle.stripe_pieces.proofs.Going.{alike_is_held}
 
 -- that a piece is not saved

@@ -26,7 +26,7 @@ use Rattle.stripe_pieces.specs.Copying.{AreToldCopied, bytes_for, copied_record}
 use Rattle.stripe_pieces.specs.Held.{IsHeld}
 use Rattle.stripe_pieces.specs.Standing.{AreAsSeen, AreStanding, HasContent, IsAsSeen, StandsOnDevice}
 use Rattle.stripe_pieces.proofs.Candidates.{live_is}
-use Rattle.stripe_pieces.proofs.Flushes.{write_spares}
+use Rattle.stripe_pieces.proofs.HeldBehindFaults.{write_spares}
 use Rattle.stripe_pieces.proofs.Going.{shows_same}
 use Rattle.stripe_pieces.proofs.Standing.{standing_on}
 use Rattle.stripe_pieces.proofs.Told.{AllCame, copied, more, no_room, none, refused, spoiled}

@@ -10,7 +10,7 @@ use Rattle.cache_model.specs.State.{Row, State, after_all, cursor_next, floor_ne
 use Rattle.cache_model.specs.Contents.{Contents}
 use Rattle.stripe_pieces.specs.declared.ahead.Fate.{Fate}
 use Rattle.stripe_pieces.specs.declared.ahead.Fate.TheVariants as fate
-use Rattle.stripe_pieces.specs.Pieces.{live_place_of}
+use Rattle.stripe_pieces.specs.Whereabouts.{live_place_of}
 use Rattle.stripe_pieces.specs.Records.{IsMovable}
 use Rattle.stripe_pieces.specs.Standing.{HasContent}
 

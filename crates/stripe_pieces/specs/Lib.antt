@@ -3,6 +3,7 @@ pub mod Standing
 pub mod Displaced
 pub mod Pushes
 pub mod Records
+pub mod Whereabouts
 pub mod Pieces
 pub mod This
 pub mod Still

@@ -1,11 +1,8 @@
 -- What contracts see of the pieces of a stripe: the records, and what a cyclone holds of them.
-use Rattle.std.specs.Prelude.{ℕ, ◌≡◌, Option, Some, option_map, Contains}
-use Rattle.tape_base.specs.declared.pieces.PieceId.{PieceId}
 use Rattle.logged_disk.specs.declared.device.Disk.{Ghosts as DiskGhosts}
 use Rattle.dir_table.specs.declared.directory.Directory.{Ghosts as DirectoryGhosts}
-use Rattle.dir_table.specs.declared.rows.Walk.{Walk}
 use Rattle.cyclone.specs.Cyclone.{Seen, seen_cyclone}
-use Rattle.cache_model.specs.State.{State, Row, live_row_of}
+use Rattle.cache_model.specs.State.{State}
 use Rattle.cache_model.specs.Kept.{Kept, state_of}
 use Rattle.cache_chronicle.specs.declared.chronicle.Chronicle.{Ghosts as ChronicleGhosts}
 use Rattle.cache_model.specs.Contents.{AnyContents, Contents}
@@ -43,12 +40,3 @@ module _ {D R C : Type 0} {d : DiskGhosts D} {r : DirectoryGhosts R} {c : Chroni
   -- of one that places and copies nothing
   abbrev pub GoOn : (old new : Pieces D R C d r c) → Type 0
   GoOn old new = GoOnWith AnyContents old new
-
--- the place of a live piece
-abbrev pub live_place_of : State → PieceId → Option ℕ
-live_place_of s id = option_map (λ (row : Row). row.place) (live_row_of s id)
-
--- a walk over the places that a piece may have comes to it, where it is live
-pub record WalkComesTo {R : Type 0} (directory : DirectoryGhosts R) (s : State) (id : PieceId) (d : R) (walk : Walk) : Type 0 where
-  pub walks : directory.walks d walk
-  pub ahead : (row : Row) → live_row_of s id ≡ Some row → Contains (directory.rest d walk) row.place

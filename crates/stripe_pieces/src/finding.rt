@@ -17,7 +17,8 @@ use logged_disk::Disk;
 use tape_base::{BLOCK, Digest, HEADER, PieceId};
 
 impl<D: Disk, R: Directory + Drop, C: Chronicle> Pieces<D, R, C> {
-    ghost use Rattle.stripe_pieces.specs.Pieces.{ArePieces, live_place_of, seen_now, state_now};
+    ghost use Rattle.stripe_pieces.specs.Whereabouts.{live_place_of};
+    ghost use Rattle.stripe_pieces.specs.Pieces.{ArePieces, seen_now, state_now};
     ghost use Rattle.stripe_pieces.specs.Calls.{AddsRecords, ArePrepared, FindsPiece};
 
     /// Reads a live piece and brings its payload to the front of `into`, which has room for its blocks,

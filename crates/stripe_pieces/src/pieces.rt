@@ -38,7 +38,8 @@ pub struct Pieces<D: Disk, R: Directory + Drop, C: Chronicle> {
 }
 
 impl<D: Disk, R: Directory + Drop, C: Chronicle> Pieces<D, R, C> {
-    ghost use Rattle.stripe_pieces.specs.Pieces.{ArePieces, kept_now, live_place_of, seen_now, state_now};
+    ghost use Rattle.stripe_pieces.specs.Whereabouts.{live_place_of};
+    ghost use Rattle.stripe_pieces.specs.Pieces.{ArePieces, kept_now, seen_now, state_now};
     ghost use Rattle.stripe_pieces.specs.Calls.{HasGrown, IsFormatted, OnlyGrows};
 
     /// Begins a session on an empty content area. A refusal gives back the device and the chronicle.

@@ -17,7 +17,8 @@ use logged_disk::Disk;
 use tape_base::{Digest, Key, PieceId};
 
 impl<D: Disk, R: Directory + Drop, C: Chronicle> Pieces<D, R, C> {
-    ghost use Rattle.stripe_pieces.specs.Pieces.{ArePieces, live_place_of, seen_now, state_now};
+    ghost use Rattle.stripe_pieces.specs.Whereabouts.{live_place_of};
+    ghost use Rattle.stripe_pieces.specs.Pieces.{ArePieces, seen_now, state_now};
     ghost use Rattle.stripe_pieces.specs.Calls.{AddsRecords, ArePrepared};
 
     /// Records that the bytes of a live piece are not its own, and takes its entry out.

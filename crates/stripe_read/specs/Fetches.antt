@@ -23,7 +23,7 @@ use Rattle.stripe_pieces.specs.Covers.{AllReadIsSeen, Covers}
 use Rattle.stripe_pieces.specs.Find.{HasPayload, find_adds, records_of_trouble}
 use Rattle.stripe_pieces.specs.Standing.{AreStanding}
 use Rattle.stripe_pieces.specs.Still.{IsStill}
-use Rattle.stripe_pieces.specs.Pieces.{live_place_of}
+use Rattle.stripe_pieces.specs.Whereabouts.{live_place_of}
 use Rattle.stripe_core.specs.declared.stripe.Stripe.{Stripe}
 use Rattle.stripe_core.specs.Between.{Between, Proceeds}
 use Rattle.stripe_core.specs.Stripe.{IsStripe, kept_in, seen_in, state_in, units_in}

@@ -4,7 +4,7 @@ use Rattle.cache_model.specs.Kept.{state_of}
 use Rattle.cache_model.specs.Contents.{contents_of_vectors}
 use Rattle.stripe_actors.specs.Actors.{AreActors}
 use Rattle.stripe_core.specs.Stripe.{kept_in, seen_in, state_in}
-use Rattle.stripe_pieces.proofs.Flushes.{state_of-with_records}
+use Rattle.stripe_pieces.proofs.RecordsAdded.{state_of-with_records}
 use Rattle.stripe_core.proofs.Doings.{answer_keeps_readers, answer_leaves, answer_leaves_tape, held_behind, notes, one_record, reader_behind, standing_behind}
 use Rattle.stripe_core.proofs.Sparing.{made_behind, numbered_by}
 use Rattle.stripe_core.proofs.Naming.{answer_leaves_names, named_behind}

@@ -17,7 +17,7 @@ use Rattle.stripe_core.specs.Acts.{OpensAsAsked}
 use Rattle.stripe_core.specs.Calls.{OpensPutInStripe}
 use Rattle.stripe_core.specs.Stripe.{kept_in, seen_in, state_in}
 use Rattle.stripe_pieces.specs.Units.{records_of_unit}
-use Rattle.stripe_pieces.proofs.Flushes.{state_of-with_records}
+use Rattle.stripe_pieces.proofs.RecordsAdded.{state_of-with_records}
 use Rattle.stripe_core.proofs.Doings.{LeavesPieces, held_behind, opens, reader_behind, refused_opens, standing_behind}
 use Rattle.stripe_core.proofs.Sparing.{behind_one, made_behind, numbered_by, spared_more}
 use Rattle.stripe_core.proofs.Naming.{named_behind, named_opened}

@@ -11,7 +11,7 @@ use Rattle.stripe_pieces.specs.Place.{CutsAsAsked, IsCutAs, IsStoppedAs}
 use Rattle.stripe_pieces.specs.Pieces.{kept_now, seen_now}
 use Rattle.stripe_core.specs.Stripe.{AnswersOrWants, HasMemory, Wanting, flushes_in, kept_in, seen_in, state_in, units_in}
 use Rattle.stripe_core.proofs.Asked.{stop_has_memory, stop_wants_none}
-use Rattle.stripe_pieces.proofs.Flushes.{state_of-with_records}
+use Rattle.stripe_pieces.proofs.RecordsAdded.{state_of-with_records}
 use Rattle.stripe_pieces.proofs.Displacing.{displaced_puts, pushed_kinds}
 use Rattle.stripe_core.proofs.Naming.{displaced_leaves, begun_put, flush_leaves, fragment_named, fragment_new, named_with}
 use Rattle.stripe_core.proofs.Sparing.{actors_with, answers_stop, flush_is_others, fragment_actors, fragment_readers, made_still, no_vector_id, numbered_by, numbered_others, placed_state, room_for_it, spent_by}

@@ -13,7 +13,7 @@ use Rattle.stripe_core.proofs.Between.{between-tells}
 use Rattle.stripe_pieces.proofs.Groups.{no_damage_adds, place_quiet, vector_group}
 use Rattle.stripe_pieces.proofs.Displacing.{displaced_puts, pushed_kinds}
 use Rattle.stripe_core.proofs.Naming.{displaced_leaves, begun_put, named_with, vector_named, vector_new}
-use Rattle.stripe_pieces.proofs.Flushes.{state_of-with_records}
+use Rattle.stripe_pieces.proofs.RecordsAdded.{state_of-with_records}
 use Rattle.stripe_core.proofs.Sparing.{actors_with, answers_stop, made_still, numbered_others, spent_calm, vector_others, vector_state}
 use Rattle.stripe_core.proofs.Continuing.{no_less}
 use Rattle.stripe_core.proofs.NoneDisplaced.{none_placed, none_with}

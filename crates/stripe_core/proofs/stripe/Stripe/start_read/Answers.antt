@@ -9,7 +9,7 @@ use Rattle.stripe_actors.specs.Actors.{AreActors}
 use Rattle.stripe_core.specs.Acts.{IsFollowable}
 use Rattle.stripe_core.specs.Calls.{StartsReadInStripe}
 use Rattle.stripe_core.specs.Stripe.{flushes_in, kept_in, seen_in, state_in, units_in}
-use Rattle.stripe_pieces.proofs.Flushes.{state_of-with_records}
+use Rattle.stripe_pieces.proofs.RecordsAdded.{state_of-with_records}
 use Rattle.stripe_core.proofs.Doings.{LeavesPieces, held_behind, looks, reader_behind, standing_behind}
 use Rattle.stripe_core.proofs.Naming.{name_left, named_behind}
 use Rattle.stripe_core.proofs.Sparing.{made_behind, numbered_by, one_told}

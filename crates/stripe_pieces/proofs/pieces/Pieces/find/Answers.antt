@@ -8,7 +8,8 @@ use Rattle.stripe_pieces.specs.declared.answer.Found.TheVariants as found
 use Rattle.stripe_pieces.specs.Find.{Finds, found_records}
 use Rattle.stripe_pieces.specs.Pieces.{kept_now, seen_now, state_now}
 use Rattle.stripe_pieces.proofs.Findings.{finds_nothing}
-use Rattle.stripe_pieces.proofs.Flushes.{records_use, with_records-nil}
+use Rattle.stripe_pieces.proofs.RecordsAdded.{with_records-nil}
+use Rattle.stripe_pieces.proofs.Flushes.{records_use}
 use Rattle.stripe_pieces.proofs.Takings.{no_row}
 use Rattle.stripe_pieces.proofs.pieces.Pieces.find.Goals as goal
 

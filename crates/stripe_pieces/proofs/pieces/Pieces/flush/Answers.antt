@@ -18,7 +18,9 @@ use Rattle.stripe_pieces.specs.Held.{IsHeld}
 use Rattle.stripe_pieces.specs.Standing.{AreStanding}
 use Rattle.stripe_pieces.specs.Pieces.{kept_now, seen_now, state_now}
 use Rattle.stripe_pieces.proofs.Adding.{flushes_nothing}
-use Rattle.stripe_pieces.proofs.Flushes.{can, empty_does, exhausted_does, some_filled, write_spares, writes_some, with_records-nil, state_of-with_records}
+use Rattle.stripe_pieces.proofs.RecordsAdded.{with_records-nil, state_of-with_records}
+use Rattle.stripe_pieces.proofs.HeldBehindFaults.{some_filled, write_spares}
+use Rattle.stripe_pieces.proofs.Flushes.{can, empty_does, exhausted_does, writes_some}
 use Rattle.stripe_pieces.proofs.Going.{device_may_change}
 use Rattle.stripe_pieces.proofs.Holding.{copies_end_fits, copies_end_is, next_is}
 use Rattle.stripe_pieces.proofs.LiveBehind.{live_same}

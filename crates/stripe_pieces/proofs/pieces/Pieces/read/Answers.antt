@@ -10,7 +10,9 @@ use Rattle.stripe_pieces.specs.Find.{found_records}
 use Rattle.stripe_pieces.specs.Held.{IsHeld}
 use Rattle.stripe_pieces.specs.Standing.{AreStanding}
 use Rattle.stripe_pieces.specs.Pieces.{kept_now, seen_now, state_now}
-use Rattle.stripe_pieces.proofs.Flushes.{fault_is_held, read_spares, read_uses, records_use, state_of-with_records}
+use Rattle.stripe_pieces.proofs.RecordsAdded.{state_of-with_records}
+use Rattle.stripe_pieces.proofs.HeldBehindFaults.{fault_is_held, read_spares}
+use Rattle.stripe_pieces.proofs.Flushes.{read_uses, records_use}
 use Rattle.stripe_pieces.proofs.Findings.{fault_stands, finds_fault, finds_in, finds_no_damage, finds_read, judged_adds}
 use Rattle.stripe_pieces.proofs.Going.{device_may_change}
 use Rattle.stripe_pieces.proofs.Standing.{standing_on}

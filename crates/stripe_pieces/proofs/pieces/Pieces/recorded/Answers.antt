@@ -3,7 +3,8 @@ use Rattle.tape_base.specs.Geometry.{budget_of}
 use Rattle.cyclone.specs.Cyclone.{BlocksStand}
 use Rattle.cache_chronicle.specs.declared.pieces.KeptPiece.{KeptPiece}
 use Rattle.stripe_pieces.specs.Pieces.{seen_now, state_now}
-use Rattle.stripe_pieces.proofs.Lives.{live_at, live_in_lap, live_is_stored, live_within, kept_of_live}
+use Rattle.stripe_pieces.proofs.KeptRows.{kept_of_live}
+use Rattle.stripe_pieces.proofs.Lives.{live_at, live_in_lap, live_is_stored, live_within}
 use Rattle.stripe_pieces.proofs.pieces.Pieces.recorded.Goals as goal
 
 pub returns : goal.returns

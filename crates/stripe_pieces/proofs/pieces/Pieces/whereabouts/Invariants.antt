@@ -1,5 +1,6 @@
 use Rattle.std.proofs.Common.{length}
-use Rattle.stripe_pieces.specs.Pieces.{WalkComesTo, state_now}
+use Rattle.stripe_pieces.specs.Whereabouts.{WalkComesTo}
+use Rattle.stripe_pieces.specs.Pieces.{state_now}
 use Rattle.stripe_pieces.proofs.pieces.Pieces.whereabouts.Given as goal
 
 abbrev pub invariant-walks : goal.invariant-walks
