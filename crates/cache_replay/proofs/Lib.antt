@@ -4,22 +4,17 @@ mod ActorWriters
 mod Beginnings
 mod Closings
 mod Counts
-mod CutBodies
 mod Dispatch
 mod DoneLine
-mod Endings
 mod Fed
 mod FeedEnds
 mod FeedRefused
-mod FeedRounds
 mod FeedTurns
 mod FeedWhole
 mod Formats
 mod Frames
 mod Free
 mod GivingBack
-mod KeptPuts
-mod Lookups
 mod NextLine
 mod OnPart
 mod OnSession
@@ -28,8 +23,6 @@ mod Openings
 pub mod Order
 mod OtherNext
 mod Outlines
-mod OwnContents
-mod Owned
 mod Plain
 mod PlainTurns
 mod PutEnds
@@ -39,15 +32,11 @@ mod PutWhole
 mod PutsGrown
 mod ReaderLines
 mod ReadsOn
-mod SameGeometry
 mod Stood
 mod ToldFrom
 mod ToldWriters
 pub mod Unharming
-mod Unsynced
-mod Whole
 mod WholeGets
 mod WholeLines
 mod WholeReads
-mod Witnesses
 mod WriterSteps

@@ -1,8 +1,6 @@
 pub mod Stop
 pub mod Replies
 pub mod Session
-pub mod Standing
-pub mod Moves
 pub mod Plays
 pub mod OneLine
 pub mod Deals

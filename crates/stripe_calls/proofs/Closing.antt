@@ -20,7 +20,7 @@ use Rattle.call_laws.specs.Serves.{ServesFrom}
 use Rattle.stripe_core.specs.declared.refusal.Refusal.{Refusal}
 use Rattle.stripe_core.specs.declared.refusal.Refusal.TheVariants as refusal
 use Rattle.stripe_core.specs.Counts.{IsCounted}
-use Rattle.stripe_pieces.specs.Faults.{IsAccounted}
+use Rattle.piece_answers.specs.Faults.{IsAccounted}
 use Rattle.stripe_write.specs.declared.finishing.Receipt.{Receipt}
 use Rattle.stripe_write.specs.declared.writer.Writer.{Writer}
 use Rattle.stripe_write.specs.Closes as closes

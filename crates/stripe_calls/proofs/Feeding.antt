@@ -16,14 +16,14 @@ use Rattle.call_laws.specs.Progress.{AllDone, Leaves, Progress, Stops}
 use Rattle.call_laws.specs.Serves.{ServesTold}
 use Rattle.call_laws.proofs.Grown.{one_spends}
 use Rattle.call_laws.proofs.Joined.{state_behind}
-use Rattle.stripe_pieces.specs.declared.answer.Placed.{Placed}
+use Rattle.piece_answers.specs.declared.answer.Placed.{Placed}
 use Rattle.stripe_core.specs.declared.refusal.Refusal.{Refusal}
 use Rattle.stripe_core.specs.declared.refusal.Refusal.TheVariants as refusal
-use Rattle.stripe_pieces.specs.declared.answer.Stop.{Stop}
-use Rattle.stripe_pieces.specs.declared.answer.Stop.TheVariants as stop
-use Rattle.stripe_pieces.specs.Covers.{SpendsFirst}
-use Rattle.stripe_pieces.specs.Faults.{IsAccounted}
-use Rattle.stripe_pieces.specs.Place.{IsCutAs, IsStoppedAs, cut_records, place_end}
+use Rattle.piece_answers.specs.declared.answer.Stop.{Stop}
+use Rattle.piece_answers.specs.declared.answer.Stop.TheVariants as stop
+use Rattle.piece_answers.specs.Covers.{SpendsFirst}
+use Rattle.piece_answers.specs.Faults.{IsAccounted}
+use Rattle.piece_answers.specs.Place.{IsCutAs, IsStoppedAs, cut_records, place_end}
 use Rattle.stripe_write.specs.declared.writer.Writer.{Writer}
 use Rattle.stripe_write.specs.Numbers as numbers
 use Rattle.stripe_write.specs.Writers as writers

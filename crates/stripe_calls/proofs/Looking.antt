@@ -20,7 +20,7 @@ use Rattle.call_laws.specs.Moments.{IsToldAt}
 use Rattle.call_laws.specs.Progress.{AllDone}
 use Rattle.call_laws.specs.Serves.{ServesFrom, ServesTold}
 use Rattle.call_laws.proofs.Grown.{one_spends}
-use Rattle.stripe_pieces.specs.Faults.{IsAccounted}
+use Rattle.piece_answers.specs.Faults.{IsAccounted}
 use Rattle.stripe_read.specs.declared.opening.Opened.{Opened}
 use Rattle.stripe_read.specs.declared.opening.Opened.TheVariants as opened
 use Rattle.stripe_read.specs.declared.reader.Reader.{Reader}

@@ -17,7 +17,7 @@ use Rattle.call_laws.specs.Serves.{ServesTold}
 use Rattle.stripe_core.specs.declared.refusal.Refusal.{Refusal}
 use Rattle.stripe_core.specs.declared.refusal.Refusal.TheVariants as refusal
 use Rattle.stripe_core.specs.Acts.{OpensAsAsked, write_opened_record}
-use Rattle.stripe_pieces.specs.Faults.{IsAccounted}
+use Rattle.piece_answers.specs.Faults.{IsAccounted}
 use Rattle.stripe_write.specs.declared.writer.Writer.{Writer}
 use Rattle.stripe_write.specs.Writers as writers
 use Rattle.stripe_write.specs.Writes.{AbortsAsAsked, AbortsWhere, abort_adds, number_of_opened}

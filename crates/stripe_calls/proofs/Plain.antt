@@ -13,14 +13,14 @@ use Rattle.cache_model.specs.Room.{is_flush_exhausted}
 use Rattle.call_laws.specs.Moments.{IsToldAt}
 use Rattle.call_laws.specs.Serves.{ServesTold}
 use Rattle.call_laws.proofs.Joined.{state_behind}
-use Rattle.stripe_pieces.specs.declared.answer.Flushed.{Flushed}
+use Rattle.piece_answers.specs.declared.answer.Flushed.{Flushed}
 use Rattle.stripe_core.specs.declared.refusal.Refusal.{Refusal}
 use Rattle.stripe_core.specs.declared.refusal.Refusal.TheVariants as refusal
-use Rattle.stripe_pieces.specs.declared.answer.Stop.{Stop}
-use Rattle.stripe_pieces.specs.Faults.{IsAccounted}
-use Rattle.stripe_pieces.specs.Flush as flush
-use Rattle.stripe_pieces.specs.Flush.{AreOfFlush, FlushesAsAsked, StopsWith}
-use Rattle.stripe_pieces.specs.Still.{IsStill}
+use Rattle.piece_answers.specs.declared.answer.Stop.{Stop}
+use Rattle.piece_answers.specs.Faults.{IsAccounted}
+use Rattle.piece_answers.specs.Flush as flush
+use Rattle.piece_answers.specs.Flush.{AreOfFlush, FlushesAsAsked, StopsWith}
+use Rattle.held_pieces.specs.Still.{IsStill}
 use Rattle.stripe_core.specs.Stripe.{AnswersOrWants, Wanting}
 use Rattle.stripe_write.specs.declared.removal.Removal.{Removal}
 use Rattle.stripe_write.specs.declared.removal.Removal.TheVariants as removal

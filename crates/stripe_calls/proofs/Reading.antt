@@ -18,8 +18,8 @@ use Rattle.call_laws.specs.Progress.{AllDone}
 use Rattle.call_laws.specs.Serves.{ServesFrom}
 use Rattle.call_laws.proofs.Grown.{one_spends}
 use Rattle.stripe_core.specs.Between.{IsBetween}
-use Rattle.stripe_pieces.specs.Faults.{IsAccounted}
-use Rattle.stripe_pieces.specs.Standing.{AreStanding}
+use Rattle.piece_answers.specs.Faults.{IsAccounted}
+use Rattle.piece_answers.specs.Standing.{AreStanding}
 use Rattle.stripe_read.specs.declared.reader.Reader.{Reader}
 use Rattle.stripe_read.specs.declared.reading.NextPiece.{NextPiece}
 use Rattle.stripe_read.specs.declared.reading.NextPiece.TheVariants as piece

@@ -23,10 +23,10 @@ use Rattle.call_laws.specs.Serves.{ServesFrom}
 use Rattle.call_laws.proofs.Grown.{one_spends}
 use Rattle.call_laws.proofs.Groups.{happens_plainly}
 use Rattle.call_laws.proofs.Joined.{state_behind}
-use Rattle.stripe_pieces.specs.Covers as covers
-use Rattle.stripe_pieces.specs.Covers.{Covers}
-use Rattle.stripe_pieces.specs.Faults.{IsAccounted}
-use Rattle.stripe_pieces.proofs.Covering.{made_is}
+use Rattle.piece_answers.specs.Covers as covers
+use Rattle.piece_answers.specs.Covers.{Covers}
+use Rattle.piece_answers.specs.Faults.{IsAccounted}
+use Rattle.piece_answers.proofs.Covering.{made_is}
 use Rattle.stripe_write.specs.Closing.{SpendsAll}
 use Rattle.stripe_write.proofs.Spending.{nothing_more}
 use Rattle.cache_calls.specs.Keeping.{unsynced_setting}

@@ -14,10 +14,10 @@ use Rattle.cache_model.specs.Kept.{Kept, state_of}
 use Rattle.cache_model.proofs.Steps.{all_as}
 use Rattle.stripe_core.specs.Between.{IsBetween}
 use Rattle.stripe_core.specs.Counts as counts
-use Rattle.stripe_pieces.specs.Covers as covers
-use Rattle.stripe_pieces.specs.Find as find
-use Rattle.stripe_pieces.specs.Flush as flush
-use Rattle.stripe_pieces.specs.Still.{IsStill}
+use Rattle.piece_answers.specs.Covers as covers
+use Rattle.piece_answers.specs.Find as find
+use Rattle.piece_answers.specs.Flush as flush
+use Rattle.held_pieces.specs.Still.{IsStill}
 use Rattle.stripe_core.specs.Unharmed as unharmed
 use Rattle.stripe_write.specs.declared.writer.Writer.{Writer}
 use Rattle.stripe_write.specs.Others as puts

@@ -1,6 +1,6 @@
 -- What a stripe answers, as a cache answers it.
 use Rattle.std.specs.Prelude.{Result, Ok, Err}
-use Rattle.stripe_pieces.specs.declared.answer.Flushed.{Flushed}
+use Rattle.piece_answers.specs.declared.answer.Flushed.{Flushed}
 use Rattle.stripe_core.specs.declared.refusal.Refusal.{Refusal}
 use Rattle.stripe_core.specs.declared.refusal.Refusal.TheVariants as own
 use Rattle.stripe_write.specs.declared.finishing.Receipt.{Receipt}

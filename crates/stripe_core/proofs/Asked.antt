@@ -2,8 +2,8 @@
 use Rattle.std.proofs.Common.{◌≡◌, List, Result, Ok, Err, subst}
 use Rattle.device_log.specs.Calls.{Call}
 use Rattle.cache_model.specs.Kept.{Kept}
-use Rattle.stripe_pieces.specs.declared.answer.Stop.{Stop}
-use Rattle.stripe_pieces.specs.declared.answer.Stop.TheVariants as stop
+use Rattle.piece_answers.specs.declared.answer.Stop.{Stop}
+use Rattle.piece_answers.specs.declared.answer.Stop.TheVariants as stop
 use Rattle.stripe_core.specs.declared.refusal.Refusal.{Refusal}
 use Rattle.stripe_core.specs.declared.refusal.Refusal.TheVariants as refusal
 use Rattle.stripe_core.specs.Stripe.{AnswersOrWants, HasMemory, Wanting, refusal_of}

@@ -15,11 +15,11 @@ use Rattle.cache_model.specs.Kept.{Kept, state_of, with_records}
 use Rattle.cache_model.proofs.Steps.{after_all-append}
 use Rattle.cache_model.specs.Damage.{TellNoDamage, tells_damage, has_damage}
 use Rattle.stripe_core.specs.Unharmed.{StripeIsUnharmed}
-use Rattle.stripe_pieces.specs.Faults.{IsAccounted, HasEffects}
-use Rattle.stripe_pieces.specs.Covers.{calls_since}
+use Rattle.piece_answers.specs.Faults.{IsAccounted, HasEffects}
+use Rattle.piece_answers.specs.Covers.{calls_since}
 use Rattle.stripe_core.specs.Between.{IsBetween}
-use Rattle.stripe_pieces.proofs.Covering.{since_is}
-use Rattle.stripe_pieces.proofs.Effects.{told_append, effects_none, effects_then}
+use Rattle.piece_answers.proofs.Covering.{since_is}
+use Rattle.piece_answers.proofs.Effects.{told_append, effects_none, effects_then}
 
 -- ---- each has its record
 

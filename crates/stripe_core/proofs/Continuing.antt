@@ -14,10 +14,10 @@ use Rattle.stripe_actors.specs.Calls.{StayInStep}
 use Rattle.stripe_core.specs.declared.stripe.Stripe.{Stripe}
 use Rattle.stripe_core.specs.Between.{Between, Continues, ContinuesWith, IsResting, Proceeds, Rests, RestsWith, StandIn}
 use Rattle.cyclone.specs.Cyclone.{Seen}
-use Rattle.stripe_pieces.specs.Ahead.{IsMadeFor}
-use Rattle.stripe_pieces.specs.Held.{IsHeld}
-use Rattle.stripe_pieces.specs.Standing.{AreStanding}
-use Rattle.stripe_core.specs.Named.{IsNamed}
+use Rattle.piece_answers.specs.Ahead.{IsMadeFor}
+use Rattle.held_pieces.specs.Held.{IsHeld}
+use Rattle.piece_answers.specs.Standing.{AreStanding}
+use Rattle.piece_names.specs.Named.{IsNamed}
 use Rattle.stripe_core.specs.Stripe.{IsSpared, IsStripe, kept_in, seen_in, state_in}
 use Rattle.stripe_core.proofs.Between.{accounted_none, accounted_then, between-trans, between_same}
 

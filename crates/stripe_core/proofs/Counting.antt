@@ -11,7 +11,7 @@ use Rattle.cache_model.specs.declared.record.Rec.{Rec}
 use Rattle.cache_model.specs.State.{Row, State}
 use Rattle.cache_model.specs.Permit.{IsAmong}
 use Rattle.cache_model.specs.Given.{MayCount, Trouble}
-use Rattle.stripe_pieces.proofs.Covering.{own_permit}
+use Rattle.piece_answers.proofs.Covering.{own_permit}
 use Rattle.stripe_core.specs.Counts.{CauseIsCounted, IsCounted}
 use Rattle.stripe_core.specs.declared.refusal.Refusal.{Refusal}
 use Rattle.stripe_core.specs.declared.refusal.Refusal.TheVariants as refusal

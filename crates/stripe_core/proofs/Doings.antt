@@ -32,14 +32,14 @@ use Rattle.stripe_actors.specs.Actors.{ActorsSeen, AreActors, IsKeptAs}
 use Rattle.stripe_core.specs.declared.refusal.Refusal.{Refusal}
 use Rattle.stripe_core.specs.declared.refusal.Refusal.TheVariants as refusal
 use Rattle.stripe_core.specs.Acts.{EndsReadAsAsked, IsCommitting, IsGivingUp, IsRefusedPut, LooksAsAsked, MarksAsAsked, NotesAsAsked, OpensAsAsked, RefusesAsAsked, committed_record, write_opened_record}
-use Rattle.stripe_pieces.specs.Covers.{Uses}
-use Rattle.stripe_pieces.specs.Held.{IsHeld}
-use Rattle.stripe_pieces.specs.Records.{IsAlike}
-use Rattle.stripe_pieces.specs.Standing.{AreStanding}
+use Rattle.piece_answers.specs.Covers.{Uses}
+use Rattle.held_pieces.specs.Held.{IsHeld}
+use Rattle.held_pieces.specs.Records.{IsAlike}
+use Rattle.piece_answers.specs.Standing.{AreStanding}
 use Rattle.stripe_core.specs.Stripe.{IsSpared}
-use Rattle.stripe_pieces.proofs.Candidates.{live_is}
-use Rattle.stripe_pieces.proofs.RecordsAdded.{state_of-with_records}
-use Rattle.stripe_pieces.proofs.Going.{alike_is_held}
+use Rattle.held_pieces.proofs.Candidates.{live_is}
+use Rattle.piece_answers.proofs.RecordsAdded.{state_of-with_records}
+use Rattle.held_pieces.proofs.Going.{alike_is_held}
 use Rattle.stripe_core.proofs.Sparing.{one_told, spent_calm}
 use Rattle.stripe_pieces.proofs.Standing.{standing_alike}
 

@@ -3,8 +3,6 @@ mod Rowed
 mod Sparing
 mod Doings
 mod Ready
-mod Naming
-mod NoneDisplaced
 mod Asked
 mod Making
 pub mod Between

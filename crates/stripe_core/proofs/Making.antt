@@ -6,14 +6,14 @@ use Rattle.logged_disk.specs.Device.{DeviceState as Device}
 use Rattle.cache_model.specs.State.{State}
 use Rattle.cache_model.specs.Kept.{Kept, state_of}
 use Rattle.cache_model.specs.Room.{has_room}
-use Rattle.stripe_pieces.specs.declared.answer.Flushed.{Flushed}
+use Rattle.piece_answers.specs.declared.answer.Flushed.{Flushed}
 use Rattle.stripe_core.specs.declared.refusal.Refusal.{Refusal}
 use Rattle.stripe_core.specs.declared.refusal.Refusal.TheVariants as refusal
-use Rattle.stripe_pieces.specs.declared.answer.Stop.TheVariants as stop
-use Rattle.stripe_pieces.specs.Flush.{FlushesAsAsked, StopsWith}
-use Rattle.stripe_pieces.specs.Place.{RoomsAsAsked}
+use Rattle.piece_answers.specs.declared.answer.Stop.TheVariants as stop
+use Rattle.piece_answers.specs.Flush.{FlushesAsAsked, StopsWith}
+use Rattle.piece_answers.specs.Place.{RoomsAsAsked}
 use Rattle.stripe_core.specs.Stripe.{AnswersOrWants, HasMemory, Wanting}
-use Rattle.stripe_pieces.proofs.Making.{stop_makes_none}
+use Rattle.piece_answers.proofs.Making.{stop_makes_none}
 
 pub refusal_makes_none : (now : ℕ) (old new : Kept) (before : List Call) (after : Device) (bytes : ℕ) → has_room (state_of old) bytes ≡ false → (why : Refusal) (same : Type 0)
     → AnswersOrWants {X = Flushed} (Err why) (FlushesAsAsked now old new before after) same → AnswersOrWants {X = Unit {0}} (Err why) (RoomsAsAsked now old new before after bytes) same

@@ -6,9 +6,9 @@ use Rattle.logged_disk.specs.declared.device.Disk.{Ghosts as DiskGhosts}
 use Rattle.dir_table.specs.declared.directory.Directory.{Ghosts as DirectoryGhosts}
 use Rattle.cache_chronicle.specs.declared.chronicle.Chronicle.{Ghosts as ChronicleGhosts}
 use Rattle.stripe_actors.specs.Actors.{ActorsSeen, AreActors}
-use Rattle.stripe_pieces.specs.declared.ahead.Ahead.{Ahead}
+use Rattle.piece_answers.specs.declared.ahead.Ahead.{Ahead}
 use Rattle.stripe_pieces.specs.declared.pieces.Pieces.{Pieces}
-use Rattle.stripe_pieces.specs.Ahead.{IsMadeFor}
+use Rattle.piece_answers.specs.Ahead.{IsMadeFor}
 use Rattle.stripe_pieces.specs.Calls.{ArePrepared, HasGrown, MayBeFlushed}
 use Rattle.stripe_pieces.specs.Pieces.{ArePieces, seen_now, state_now}
 use Rattle.stripe_pieces.specs.Units.{entries_of_unit, records_of_unit}

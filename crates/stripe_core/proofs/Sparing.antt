@@ -4,7 +4,7 @@ use Rattle.std.specs.Prelude.{Option, Some, None, if◌then◌else◌, nat_lt}
 use Rattle.std.proofs.lemmas.Bool.{le-leb, ltb-false}
 use Rattle.agg_buffer.specs.Buffer.{filled_of, next_place_of, room_of}
 use Rattle.tape_base.specs.Blocks.{blocks_of}
-use Rattle.stripe_pieces.specs.Held.{IsHeld}
+use Rattle.held_pieces.specs.Held.{IsHeld}
 use Rattle.std.specs.List.{AllByRecursion}
 use Rattle.std.proofs.lemmas.List.{length-append}
 use Rattle.tape_base.specs.declared.geometries.Geometry.{Geometry}
@@ -26,25 +26,25 @@ use Rattle.stripe_actors.specs.Calls.{CutsNext}
 use Rattle.stripe_actors.specs.Actors.{ActorsSeen as Actors, AreActors}
 use Rattle.stripe_actors.specs.ActorLaws.{speaks_of_actors}
 use Rattle.stripe_actors.proofs.Telling.{others}
-use Rattle.stripe_pieces.specs.declared.ahead.Ahead.{Ahead}
-use Rattle.stripe_pieces.specs.declared.answer.Found.{Found}
-use Rattle.stripe_pieces.specs.declared.answer.Found.TheVariants as found
-use Rattle.stripe_pieces.specs.declared.answer.Placed.{Placed}
+use Rattle.piece_answers.specs.declared.ahead.Ahead.{Ahead}
+use Rattle.piece_answers.specs.declared.answer.Found.{Found}
+use Rattle.piece_answers.specs.declared.answer.Found.TheVariants as found
+use Rattle.piece_answers.specs.declared.answer.Placed.{Placed}
 use Rattle.stripe_core.specs.declared.refusal.Refusal.{Refusal}
 use Rattle.stripe_core.specs.declared.refusal.Refusal.TheVariants as refusal
-use Rattle.stripe_pieces.specs.declared.answer.Stop.{Stop}
-use Rattle.stripe_pieces.specs.declared.answer.Stop.TheVariants as stop
-use Rattle.stripe_pieces.specs.Ahead.{IsMadeFor}
-use Rattle.stripe_pieces.specs.Covers.{Uses}
+use Rattle.piece_answers.specs.declared.answer.Stop.{Stop}
+use Rattle.piece_answers.specs.declared.answer.Stop.TheVariants as stop
+use Rattle.piece_answers.specs.Ahead.{IsMadeFor}
+use Rattle.piece_answers.specs.Covers.{Uses}
 use Rattle.cache_model.specs.Displacing.{AreOfDisplacement}
-use Rattle.stripe_pieces.specs.Find.{find_adds, found_records, records_of_trouble}
-use Rattle.stripe_pieces.specs.Flush.{AreOfFlush, IsRecordOfFlush}
-use Rattle.stripe_pieces.specs.Place.{AreOfPlace, IsFragmentOf, PlaceAdds}
+use Rattle.piece_answers.specs.Find.{find_adds, found_records, records_of_trouble}
+use Rattle.piece_answers.specs.Flush.{AreOfFlush, IsRecordOfFlush}
+use Rattle.piece_answers.specs.Place.{AreOfPlace, IsFragmentOf, PlaceAdds}
 use Rattle.stripe_pieces.specs.Units.{entries_of_unit, records_of_unit}
 use Rattle.stripe_core.specs.Stripe.{AnswersOrWants, IsSpared, refusal_of}
-use Rattle.stripe_pieces.proofs.RecordsAdded.{state_of-with_records}
-use Rattle.stripe_pieces.proofs.Displacing.{pushed_kinds}
-use Rattle.stripe_pieces.proofs.Groups.{cut_first, no_vector, none_cut}
+use Rattle.piece_answers.proofs.RecordsAdded.{state_of-with_records}
+use Rattle.piece_answers.proofs.Displacing.{pushed_kinds}
+use Rattle.piece_answers.proofs.Groups.{cut_first, no_vector, none_cut}
 
 -- ---- records that speak of no actor
 

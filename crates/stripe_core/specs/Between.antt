@@ -8,9 +8,9 @@ use Rattle.cache_model.specs.Kept.{Kept, state_of}
 use Rattle.cache_model.specs.Legal.{IsQuiet}
 use Rattle.cache_model.specs.Contents.{AnyContents, Contents}
 use Rattle.stripe_core.specs.declared.stripe.Stripe.{Stripe}
-use Rattle.stripe_pieces.specs.Faults.{IsAccounted}
+use Rattle.piece_answers.specs.Faults.{IsAccounted}
 use Rattle.stripe_core.specs.Stripe.{IsStripe, kept_in, seen_in, state_in}
-use Rattle.stripe_pieces.specs.Standing.{AreStanding}
+use Rattle.piece_answers.specs.Standing.{AreStanding}
 use Rattle.stripe_core.specs.Unharmed.{StripeIsUnharmed}
 
 -- what a call keeps: the device goes on, what it took and refused is told, and where it tells its content no more pieces are told as

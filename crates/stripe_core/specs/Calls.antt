@@ -22,15 +22,15 @@ use Rattle.cache_chronicle.specs.declared.chronicle.Chronicle.{Ghosts as Chronic
 use Rattle.cache_model.specs.Contents.{AnyContents, Contents}
 use Rattle.stripe_actors.specs.Actors.{reader_room_of}
 use Rattle.stripe_actors.specs.Calls.{with_room_of_readers}
-use Rattle.stripe_pieces.specs.declared.answer.Flushed.{Flushed}
-use Rattle.stripe_pieces.specs.declared.answer.Found.{Found}
-use Rattle.stripe_pieces.specs.declared.answer.Placed.{Placed}
-use Rattle.stripe_pieces.specs.Find.{Finds, find_adds}
-use Rattle.stripe_pieces.specs.Flush.{FlushesAsAsked, StopsWith, TellsFlush}
-use Rattle.stripe_pieces.specs.Whereabouts.{live_place_of}
-use Rattle.stripe_pieces.specs.Place.{CutsAsAsked, PlacesAsAsked, PlacesVector, RoomsAsAsked}
-use Rattle.stripe_pieces.specs.Standing.{IsToldPlaced}
-use Rattle.stripe_pieces.specs.Still.{IsStill, IsUnwritten}
+use Rattle.piece_answers.specs.declared.answer.Flushed.{Flushed}
+use Rattle.piece_answers.specs.declared.answer.Found.{Found}
+use Rattle.piece_answers.specs.declared.answer.Placed.{Placed}
+use Rattle.piece_answers.specs.Find.{Finds, find_adds}
+use Rattle.piece_answers.specs.Flush.{FlushesAsAsked, StopsWith, TellsFlush}
+use Rattle.held_pieces.specs.Whereabouts.{live_place_of}
+use Rattle.piece_answers.specs.Place.{CutsAsAsked, PlacesAsAsked, PlacesVector, RoomsAsAsked}
+use Rattle.piece_answers.specs.Standing.{IsToldPlaced}
+use Rattle.held_pieces.specs.Still.{IsStill, IsUnwritten}
 use Rattle.stripe_core.specs.declared.refusal.Refusal.{Refusal}
 use Rattle.stripe_core.specs.declared.stripe.Stripe.{Stripe}
 use Rattle.stripe_core.specs.Acts.{LooksAsAsked, MarksAsAsked, OpensAsAsked, write_opened_record}

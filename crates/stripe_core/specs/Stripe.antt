@@ -13,14 +13,14 @@ use Rattle.open_directory.specs.Directory.{room_for_fragments}
 use Rattle.stripe_actors.specs.Actors.{AreActors, reader_room_of, ActorsSeen as Actors}
 use Rattle.stripe_core.specs.declared.refusal.Refusal.{Refusal}
 use Rattle.stripe_core.specs.declared.refusal.Refusal.TheVariants as refusal
-use Rattle.stripe_pieces.specs.declared.answer.Stop.{Stop}
-use Rattle.stripe_pieces.specs.declared.answer.Stop.TheVariants as stop
+use Rattle.piece_answers.specs.declared.answer.Stop.{Stop}
+use Rattle.piece_answers.specs.declared.answer.Stop.TheVariants as stop
 use Rattle.stripe_core.specs.declared.stripe.Stripe.{Stripe}
 use Rattle.std.specs.declared.alloc.Global.{Global}
 use Rattle.cache_model.specs.Contents.{contents_of_vectors}
-use Rattle.stripe_pieces.specs.Ahead.{IsMadeFor}
-use Rattle.stripe_pieces.specs.Standing.{AreStanding}
-use Rattle.stripe_core.specs.Named.{IsNamed}
+use Rattle.piece_answers.specs.Ahead.{IsMadeFor}
+use Rattle.piece_answers.specs.Standing.{AreStanding}
+use Rattle.piece_names.specs.Named.{IsNamed}
 use Rattle.stripe_pieces.specs.Units.{entries_of_unit, records_of_unit}
 use Rattle.stripe_pieces.specs.Pieces.{ArePieces, kept_now, seen_now, state_now}
 

@@ -22,7 +22,7 @@ use tape_base::{Actor, Digest, Key, LIMIT, MAX_WRITERS, PieceId};
 
 // How many writers may be open.
 impl<D: Disk, R: Directory + Drop, C: Chronicle> Stripe<D, R, C> {
-    ghost use Rattle.stripe_pieces.specs.Whereabouts.{live_place_of};
+    ghost use Rattle.held_pieces.specs.Whereabouts.{live_place_of};
     ghost use Rattle.stripe_core.specs.Stripe.{IsStripe, state_in, units_in};
     ghost use Rattle.stripe_core.specs.Between.{IsResting};
     ghost use Rattle.stripe_core.specs.Calls.{AddsInStripe, MarksInStripe, OpensPutInStripe, StartsReadInStripe};

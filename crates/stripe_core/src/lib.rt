@@ -7,4 +7,4 @@ mod stripe;
 
 pub use refusal::Refusal;
 pub use stripe::Stripe;
-pub use stripe_pieces::{Flushed, Found, Placed, Stop};
+pub use piece_answers::{Flushed, Found, Placed, Stop};

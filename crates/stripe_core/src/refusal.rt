@@ -2,8 +2,8 @@
 ghost use Rattle.std.specs.Prelude.{◌≡◌};
 
 use cache_model::Cause;
+use piece_answers::Stop;
 use std::alloc::AllocError;
-use stripe_pieces::Stop;
 
 /// Why a call of a stripe did less than it was asked.
 #[derive(Clone, Copy, Debug, PartialEq, Eq)]

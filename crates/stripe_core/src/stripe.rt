@@ -7,19 +7,20 @@ ghost use Rattle.cache_model.specs.State.{floor_now};
 ghost use Rattle.cache_model.specs.Kept.{all_of};
 ghost use Rattle.cache_model.specs.Verdict.{payload_of_piece};
 ghost use Rattle.cache_model.specs.Legal.{is_writing};
-ghost use Rattle.stripe_pieces.specs.Find.{HasRoomFor};
+ghost use Rattle.piece_answers.specs.Find.{HasRoomFor};
 ghost use Rattle.cache_model.specs.Contents.{contents_of_vectors};
-ghost use Rattle.stripe_pieces.specs.Standing.{IsToldPlaced};
-ghost use Rattle.stripe_pieces.specs.Place.{IsFragmentOf, IsPlacing, IsVectorFor};
+ghost use Rattle.piece_answers.specs.Standing.{IsToldPlaced};
+ghost use Rattle.piece_answers.specs.Place.{IsFragmentOf, IsPlacing, IsVectorFor};
 
 use crate::refusal::Refusal;
 use cache_chronicle::Chronicle;
 use dir_table::Directory;
 use logged_disk::Disk;
 use open_directory::OpenDirectory;
+use piece_answers::{Ahead, Flushed, Found, Placed};
 use std::alloc::{AllocError, Global};
 use stripe_actors::Actors;
-use stripe_pieces::{Ahead, Flushed, Found, Pieces, Placed};
+use stripe_pieces::Pieces;
 use tape_base::{Digest, Geometry, PieceId, blocks_of};
 
 /// The pieces on a device, the chronicle that tells of them, and the open writers and readers.
@@ -34,7 +35,7 @@ pub struct Stripe<D: Disk, R: Directory + Drop, C: Chronicle> {
 }
 
 impl<D: Disk, R: Directory + Drop, C: Chronicle> Stripe<D, R, C> {
-    ghost use Rattle.stripe_pieces.specs.Whereabouts.{live_place_of};
+    ghost use Rattle.held_pieces.specs.Whereabouts.{live_place_of};
     ghost use Rattle.stripe_core.specs.Stripe.{alloc_in, IsStripe, IsWanting, kept_in, seen_in, state_in};
     ghost use Rattle.stripe_core.specs.Between.{IsResting};
     ghost use Rattle.stripe_core.specs.Calls.{FindsInStripe, FlushesInStripe, HasTakenUnit, IsFormattedStripe, MakesRow, MakesUnits, PlacesFragmentInStripe, PlacesInStripe, PlacesVectorInStripe, PreparesStripe, RoomsInStripe, TakesUnit};

@@ -5,13 +5,13 @@ use Rattle.logged_disk.proofs.GoingOn.{asked_nothing}
 use Rattle.dir_table.specs.declared.directory.Directory.{Ghosts as DirectoryGhosts}
 use Rattle.cache_chronicle.specs.declared.chronicle.Chronicle.{Ghosts as ChronicleGhosts}
 use Rattle.cache_model.specs.Contents.{Contents}
-use Rattle.stripe_pieces.specs.declared.ahead.Ahead.{Ahead}
+use Rattle.piece_answers.specs.declared.ahead.Ahead.{Ahead}
 use Rattle.stripe_pieces.specs.declared.pieces.Pieces.{Pieces}
 use Rattle.stripe_pieces.specs.Pieces.{ArePieces, kept_now, seen_now, state_now}
-use Rattle.stripe_pieces.specs.Ahead.{IsMadeFor}
+use Rattle.piece_answers.specs.Ahead.{IsMadeFor}
 use Rattle.stripe_pieces.specs.Calls.{AddsRecords, AsksNoDevice, FlushesAtMost, OnlyReads, TellsOf}
-use Rattle.stripe_pieces.proofs.RecordsAdded.{with_records-nil}
-use Rattle.stripe_pieces.proofs.Uses.{nothing_used, still_uses}
+use Rattle.piece_answers.proofs.RecordsAdded.{with_records-nil}
+use Rattle.piece_answers.proofs.Uses.{nothing_used, still_uses}
 
 module _ {D R C : Type 0} {d : DiskGhosts D} {r : DirectoryGhosts R} {c : ChronicleGhosts C} (p : Pieces D R C d r c) (held : ArePieces p) where
   pub adds_nothing : (Told : Contents → Type 0) (records entries : ℕ) → AddsRecords Told [] records entries p p

@@ -12,13 +12,13 @@ use Rattle.cache_model.specs.declared.record.Rec.TheVariants as rec
 use Rattle.cache_model.specs.State.{State, after_all, place_now, state_after}
 use Rattle.cache_model.specs.Kept.{Kept, state_of, with_records}
 use Rattle.cache_model.specs.Contents.{Contents}
-use Rattle.stripe_pieces.specs.declared.ahead.Fate.{Fate}
+use Rattle.piece_answers.specs.declared.ahead.Fate.{Fate}
 use Rattle.stripe_pieces.specs.Copying.{AreCopyable, AreToldCopied, IsCopyable, IsToldCopied, blocks_for, bytes_for, copied_by, copied_of, copied_record, copies_among, copies_by}
-use Rattle.stripe_pieces.specs.Covers.{Uses}
-use Rattle.stripe_pieces.specs.Held.{IsHeld}
-use Rattle.stripe_pieces.specs.Standing.{AreStanding}
-use Rattle.stripe_pieces.proofs.RecordsAdded.{with_records-append, with_records-nil}
-use Rattle.stripe_pieces.proofs.Moving.{moved_is_held}
+use Rattle.piece_answers.specs.Covers.{Uses}
+use Rattle.held_pieces.specs.Held.{IsHeld}
+use Rattle.piece_answers.specs.Standing.{AreStanding}
+use Rattle.piece_answers.proofs.RecordsAdded.{with_records-append, with_records-nil}
+use Rattle.held_pieces.proofs.Moving.{moved_is_held}
 use Rattle.stripe_pieces.proofs.Telling.{state_behind}
 
 pub copied_is_held : (packed : Bool) (s : State) (c new : Seen) (x : Candidate) (bytes : List ℕ) → IsHeld s c → IsCopyable packed s x bytes

@@ -24,18 +24,18 @@ use Rattle.cache_model.specs.Permit.{IsAmong, Permit}
 use Rattle.cache_model.specs.Given.{CountsRead, Denied, IsGiven, Trouble, block_at, effects_told}
 use Rattle.cache_model.specs.Verdict.{cause_of_piece}
 use Rattle.cache_model.proofs.Lists.{found_row, own_piece}
-use Rattle.stripe_pieces.specs.declared.answer.Found.{Found}
-use Rattle.stripe_pieces.specs.declared.answer.Found.TheVariants as found
-use Rattle.stripe_pieces.specs.Held.{IsBufferedWhereNew, IsHeld, IsIntactWhereWritten}
+use Rattle.piece_answers.specs.declared.answer.Found.{Found}
+use Rattle.piece_answers.specs.declared.answer.Found.TheVariants as found
+use Rattle.held_pieces.specs.Held.{IsBufferedWhereNew, IsHeld, IsIntactWhereWritten}
 use Rattle.cache_model.specs.Damage.{TellNoDamage}
-use Rattle.stripe_pieces.specs.Covers.{AllReadIsSeen, Covers, ReadIsSeen}
-use Rattle.stripe_pieces.specs.Faults.{HasEffects}
+use Rattle.piece_answers.specs.Covers.{AllReadIsSeen, Covers, ReadIsSeen}
+use Rattle.piece_answers.specs.Faults.{HasEffects}
 use Rattle.cache_model.specs.Contents.{Contents}
-use Rattle.stripe_pieces.specs.Standing.{AreStanding}
-use Rattle.stripe_pieces.specs.Find.{Finds, HasPayload, IsFoundAs, IsJudged, IsRecorded, TellsCount, find_adds, found_records, judged_records, records_of_trouble}
-use Rattle.stripe_pieces.proofs.Effects.{effects_none}
-use Rattle.stripe_pieces.proofs.Covering.{block_is, made_is}
-use Rattle.stripe_pieces.proofs.Candidates.{live_is}
+use Rattle.piece_answers.specs.Standing.{AreStanding}
+use Rattle.piece_answers.specs.Find.{Finds, HasPayload, IsFoundAs, IsJudged, IsRecorded, TellsCount, find_adds, found_records, judged_records, records_of_trouble}
+use Rattle.piece_answers.proofs.Effects.{effects_none}
+use Rattle.piece_answers.proofs.Covering.{block_is, made_is}
+use Rattle.held_pieces.proofs.Candidates.{live_is}
 use Rattle.stripe_pieces.proofs.Payloads.{content_by, found_content}
 
 -- ---- records

@@ -7,9 +7,9 @@ use Rattle.tape_base.specs.Blocks.{blocks_of}
 use Rattle.tape_base.specs.Geometry.{budget_of}
 use Rattle.cyclone.specs.Cyclone.{Seen}
 use Rattle.cache_model.specs.State.{Row, State, live_row_of}
-use Rattle.stripe_pieces.specs.Find.{HasRoomFor}
-use Rattle.stripe_pieces.specs.Held.{IsHeld}
-use Rattle.stripe_pieces.proofs.Lives.{live_in_lap}
+use Rattle.piece_answers.specs.Find.{HasRoomFor}
+use Rattle.held_pieces.specs.Held.{IsHeld}
+use Rattle.held_pieces.proofs.Lives.{live_in_lap}
 
 room_by : (o : Option Row) (budget : ℕ) (into : List ℕ) → length into ≡ 512 * budget → ((row : Row) → o ≡ Some row → row.blocks ≤ budget)
     → IfSome (option_map (λ (row : Row). row.blocks) o) (λ blocks. 512 * blocks ≤ length into)

@@ -7,9 +7,9 @@ use Rattle.cache_model.specs.declared.record.Rec.TheVariants as rec
 use Rattle.cache_model.specs.State.{State, cursor_next, floor_next, state_after}
 use Rattle.cache_model.specs.Kept.{Kept, state_of, with_records}
 use Rattle.stripe_pieces.specs.Copying.{begun_behind}
-use Rattle.stripe_pieces.specs.Held.{IsHeld}
-use Rattle.stripe_pieces.proofs.RecordsAdded.{with_records-append}
-use Rattle.stripe_pieces.proofs.Holding.{next_is}
+use Rattle.held_pieces.specs.Held.{IsHeld}
+use Rattle.piece_answers.proofs.RecordsAdded.{with_records-append}
+use Rattle.held_pieces.proofs.Holding.{next_is}
 use Rattle.stripe_pieces.proofs.Telling.{state_behind}
 
 module _ (k mid : Kept) (c seen : Seen) (told : List Rec) (held : IsHeld (state_of k) c) (mid_held : IsHeld (state_of mid) seen) (rest : SameButRows c seen)

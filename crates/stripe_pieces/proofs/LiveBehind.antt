@@ -23,8 +23,8 @@ use Rattle.cache_model.proofs.Rows.{apart-part, each_part}
 use Rattle.cache_model.proofs.Sound.{AllLeaveTape, buffer_left, least_left}
 use Rattle.cache_model.proofs.SoundFlush.{copies_part, copies_ready, due_part, front_leaves, part_ready}
 use Rattle.cache_model.proofs.Steps.{after_all-append, all_append}
-use Rattle.stripe_pieces.specs.Flush.{AreOfFlush, EachWasLive, IsRecordOfFlush, IsStillPiece}
-use Rattle.stripe_pieces.proofs.Candidates.{live_is}
+use Rattle.piece_answers.specs.Flush.{AreOfFlush, EachWasLive, IsRecordOfFlush, IsStillPiece}
+use Rattle.held_pieces.proofs.Candidates.{live_is}
 
 -- ---- records beside the pieces that are copied
 

@@ -37,24 +37,24 @@ use Rattle.cache_model.proofs.Walks.{all_among}
 use Rattle.cache_model.proofs.Written.{passes}
 use Rattle.cache_model.proofs.Steps.{all_append, all_parts}
 use Rattle.cache_model.specs.Due.{most_passed}
-use Rattle.stripe_pieces.specs.declared.ahead.Ahead.{Ahead}
-use Rattle.stripe_pieces.specs.declared.answer.Flushed.{Flushed}
-use Rattle.stripe_pieces.specs.declared.answer.Stop.TheVariants as stop
-use Rattle.stripe_pieces.specs.Ahead.{LooksAhead}
+use Rattle.piece_answers.specs.declared.ahead.Ahead.{Ahead}
+use Rattle.piece_answers.specs.declared.answer.Flushed.{Flushed}
+use Rattle.piece_answers.specs.declared.answer.Stop.TheVariants as stop
+use Rattle.piece_answers.specs.Ahead.{LooksAhead}
 use Rattle.stripe_pieces.specs.Copying.{AreCopyable, AreTellable, AreToldCopied, begun_behind, copied_of, copies_among, done_records, told_of_pieces}
-use Rattle.stripe_pieces.specs.Covers.{Covers, Uses}
-use Rattle.stripe_pieces.specs.Faults.{HasEffects, effects_among, effects_of}
-use Rattle.stripe_pieces.specs.Held.{IsBufferedWhereNew, IsHeld}
+use Rattle.piece_answers.specs.Covers.{Covers, Uses}
+use Rattle.piece_answers.specs.Faults.{HasEffects, effects_among, effects_of}
+use Rattle.held_pieces.specs.Held.{IsBufferedWhereNew, IsHeld}
 use Rattle.cache_model.specs.Contents.{Contents}
-use Rattle.stripe_pieces.specs.Standing.{StandsOnDevice}
-use Rattle.stripe_pieces.specs.declared.ahead.Fate.{Fate}
-use Rattle.stripe_pieces.proofs.Effects.{effects_then, told_append}
-use Rattle.stripe_pieces.proofs.Covering.{block_is, covers_first, own_covers, own_permit}
+use Rattle.piece_answers.specs.Standing.{StandsOnDevice}
+use Rattle.piece_answers.specs.declared.ahead.Fate.{Fate}
+use Rattle.piece_answers.proofs.Effects.{effects_then, told_append}
+use Rattle.piece_answers.proofs.Covering.{block_is, covers_first, own_covers, own_permit}
 use Rattle.stripe_pieces.proofs.Findings.{lower_rose}
-use Rattle.stripe_pieces.proofs.OneMore.{counted_later}
+use Rattle.piece_answers.proofs.OneMore.{counted_later}
 use Rattle.cache_model.specs.Damage.{TellNoDamage, tells_damage}
-use Rattle.stripe_pieces.specs.Flush.{EachWasLive, FlushesAsAsked}
-use Rattle.stripe_pieces.proofs.RecordsAdded.{state_of-with_records}
+use Rattle.piece_answers.specs.Flush.{EachWasLive, FlushesAsAsked}
+use Rattle.piece_answers.proofs.RecordsAdded.{state_of-with_records}
 use Rattle.stripe_pieces.proofs.LiveBehind.{flush_before, flush_kinds, stopped_before, stopped_kinds}
 use Rattle.stripe_pieces.proofs.Readied.{IsPassed, are_copyable, copied_is, copies_within, few_copies}
 use Rattle.stripe_pieces.proofs.ToldCopies.{are_told_copied, due_told}

@@ -21,12 +21,12 @@ use Rattle.cyclone.proofs.Calls.{reads_go_on}
 use Rattle.cache_model.specs.State.{Row, State, floor_now, live_row_of, row_in}
 use Rattle.cache_model.proofs.Lists.{found_row}
 use Rattle.cache_model.specs.Contents.{Contents}
-use Rattle.stripe_pieces.specs.declared.answer.Found.{Found}
-use Rattle.stripe_pieces.specs.declared.answer.Found.TheVariants as found
-use Rattle.stripe_pieces.specs.Find.{HasPayload, IsJudged}
-use Rattle.stripe_pieces.specs.Held.{IsHeld}
-use Rattle.stripe_pieces.specs.Standing.{AreStanding, HasContent, StandsInBuffer, StandsOnDevice}
-use Rattle.stripe_pieces.proofs.Candidates.{live_is}
+use Rattle.piece_answers.specs.declared.answer.Found.{Found}
+use Rattle.piece_answers.specs.declared.answer.Found.TheVariants as found
+use Rattle.piece_answers.specs.Find.{HasPayload, IsJudged}
+use Rattle.held_pieces.specs.Held.{IsHeld}
+use Rattle.piece_answers.specs.Standing.{AreStanding, HasContent, StandsInBuffer, StandsOnDevice}
+use Rattle.held_pieces.proofs.Candidates.{live_is}
 
 pub payload_told : (bytes : List ℕ) (doc : Doc) (payload : List ℕ) → length payload < 2 ^ 32 → BeginsWith bytes doc payload → payload_of bytes ≡ payload
 payload_told bytes doc payload few begins =

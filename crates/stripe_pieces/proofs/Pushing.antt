@@ -10,8 +10,8 @@ use Rattle.cache_model.specs.declared.record.Rec.{Rec}
 use Rattle.cache_model.specs.declared.record.Rec.TheVariants as rec
 use Rattle.cache_model.specs.State.{State}
 use Rattle.cache_model.specs.Kept.{Kept, state_of, with_record, with_records}
-use Rattle.stripe_pieces.specs.Displaced.{displaced_from, displaced_of, displaced_piece, last_at}
-use Rattle.stripe_pieces.proofs.RecordsAdded.{with_records-append}
+use Rattle.held_pieces.specs.Displaced.{displaced_from, displaced_of, displaced_piece, last_at}
+use Rattle.piece_answers.proofs.RecordsAdded.{with_records-append}
 use Rattle.stripe_pieces.proofs.Telling.{state_behind}
 
 -- so many places are behind: what was pushed of them. What was placed last at each place is as it was

@@ -25,16 +25,16 @@ use Rattle.cache_model.specs.Kept.{Kept, state_of, with_records}
 use Rattle.cache_model.specs.Room.{doc_at, has_room}
 use Rattle.cache_model.proofs.Sound.{later_leaves}
 use Rattle.cache_model.specs.Contents.{Contents}
-use Rattle.stripe_pieces.specs.Covers.{Uses}
+use Rattle.piece_answers.specs.Covers.{Uses}
 use Rattle.cache_model.specs.Displacing.{PushesOut}
-use Rattle.stripe_pieces.specs.Displaced.{displaced_of}
-use Rattle.stripe_pieces.specs.Held.{IsHeld}
-use Rattle.stripe_pieces.specs.Place.{IsNewPiece, PutsIn, cut_record_of}
-use Rattle.stripe_pieces.specs.Records.{HasSlots, IsHeldBehind, IsPlaceable, placed_behind}
-use Rattle.stripe_pieces.specs.Standing.{AreStanding, IsToldPlaced}
-use Rattle.stripe_pieces.proofs.RecordsAdded.{with_records-append}
-use Rattle.stripe_pieces.proofs.Going.{alike_is_held}
-use Rattle.stripe_pieces.proofs.Purging.{placed_is_held}
+use Rattle.held_pieces.specs.Displaced.{displaced_of}
+use Rattle.held_pieces.specs.Held.{IsHeld}
+use Rattle.piece_answers.specs.Place.{IsNewPiece, PutsIn, cut_record_of}
+use Rattle.held_pieces.specs.Records.{HasSlots, IsHeldBehind, IsPlaceable, placed_behind}
+use Rattle.piece_answers.specs.Standing.{AreStanding, IsToldPlaced}
+use Rattle.piece_answers.proofs.RecordsAdded.{with_records-append}
+use Rattle.held_pieces.proofs.Going.{alike_is_held}
+use Rattle.held_pieces.proofs.Purging.{placed_is_held}
 use Rattle.stripe_pieces.proofs.StandingPlaced.{standing_placed, told_alike}
 use Rattle.stripe_pieces.proofs.Telling.{state_behind}
 

@@ -13,13 +13,13 @@ use Rattle.cache_model.specs.Permit.{Permit}
 use Rattle.cache_model.specs.Given.{IsGiven}
 use Rattle.cache_model.specs.Outcomes.{Copied, ReadRefused, Spoiled}
 use Rattle.cache_model.specs.Due.{candidate_of}
-use Rattle.stripe_pieces.specs.declared.ahead.Fate.{Fate}
-use Rattle.stripe_pieces.specs.declared.ahead.Fate.TheVariants as fate
-use Rattle.stripe_pieces.specs.Covers.{Covers}
-use Rattle.stripe_pieces.specs.Looks.{Comes, IsBeside, IsJudgedAs, MayBeCopied}
-use Rattle.stripe_pieces.specs.Held.{IsHeld}
+use Rattle.piece_answers.specs.declared.ahead.Fate.{Fate}
+use Rattle.piece_answers.specs.declared.ahead.Fate.TheVariants as fate
+use Rattle.piece_answers.specs.Covers.{Covers}
+use Rattle.piece_answers.specs.Looks.{Comes, IsBeside, IsJudgedAs, MayBeCopied}
+use Rattle.held_pieces.specs.Held.{IsHeld}
 use Rattle.stripe_pieces.proofs.Findings.{counts_read, given_read, effects_failed, effects_read, right_by}
-use Rattle.stripe_pieces.proofs.Lives.{live_is_stored, live_within}
+use Rattle.held_pieces.proofs.Lives.{live_is_stored, live_within}
 
 -- ---- a read
 

@@ -13,9 +13,9 @@ use Rattle.cache_model.proofs.FewerRows.{slot_left}
 use Rattle.cache_model.proofs.Lesser.{IsLesser, all_lesser}
 use Rattle.cache_model.proofs.Live.{IsFound}
 use Rattle.cache_model.specs.Due.{candidate_of}
-use Rattle.stripe_pieces.specs.declared.ahead.Fate.{Fate}
-use Rattle.stripe_pieces.specs.declared.ahead.Fate.TheVariants as fate
-use Rattle.stripe_pieces.specs.Ahead.{StandFrom}
+use Rattle.piece_answers.specs.declared.ahead.Fate.{Fate}
+use Rattle.piece_answers.specs.declared.ahead.Fate.TheVariants as fate
+use Rattle.piece_answers.specs.Ahead.{StandFrom}
 use Rattle.stripe_pieces.specs.Copying.{AreCopyable, IsCopyable, bytes_for, copied_of, copied_record, copies_among}
 use Rattle.stripe_pieces.proofs.Told.{AllCame, copied, more, no_room, none, refused, spoiled}
 

@@ -18,14 +18,14 @@ use Rattle.cache_model.specs.State.{Row, State, after_all, cursor_next, floor_ne
 use Rattle.cache_model.specs.Tape.{AreRising}
 use Rattle.cache_model.specs.Legal.{format_records}
 use Rattle.cache_model.specs.Contents.{Contents, IsRecordedAs}
-use Rattle.stripe_pieces.specs.Held.{IsBufferedWhereNew, IsHeld, IsIntactWhereWritten}
-use Rattle.stripe_pieces.specs.Records.{IsAlike, IsWithout, IsWrittenOut, SparesPieces}
-use Rattle.stripe_pieces.specs.Standing.{AreStanding, HasContent, StandsInBuffer, StandsOnDevice}
-use Rattle.stripe_pieces.proofs.Beginning.{next_behind, none_new, was_intact}
-use Rattle.stripe_pieces.proofs.Going.{all_left, spared_places}
-use Rattle.stripe_pieces.proofs.Holding.{next_is}
-use Rattle.stripe_pieces.proofs.Intact.{span_stays}
-use Rattle.stripe_pieces.proofs.Takings.{all_committed, damaged_without}
+use Rattle.held_pieces.specs.Held.{IsBufferedWhereNew, IsHeld, IsIntactWhereWritten}
+use Rattle.held_pieces.specs.Records.{IsAlike, IsWithout, IsWrittenOut, SparesPieces}
+use Rattle.piece_answers.specs.Standing.{AreStanding, HasContent, StandsInBuffer, StandsOnDevice}
+use Rattle.held_pieces.proofs.Beginning.{next_behind, none_new, was_intact}
+use Rattle.held_pieces.proofs.Going.{all_left, spared_places}
+use Rattle.held_pieces.proofs.Holding.{next_is}
+use Rattle.held_pieces.proofs.Intact.{span_stays}
+use Rattle.held_pieces.proofs.Takings.{all_committed, damaged_without}
 
 -- ---- the device goes on
 

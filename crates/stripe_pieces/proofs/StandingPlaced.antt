@@ -32,13 +32,13 @@ use Rattle.cache_model.proofs.Lists.{found_row}
 use Rattle.cache_model.specs.Contents.{Content, Contents, IsRecordedAs, IsRecordedWith, IsToldAs, doc_of_row}
 use Rattle.stripe_pieces.specs.Copying.{IsCopyable, IsToldRow, copied_record}
 use Rattle.cache_model.specs.Displacing.{AreOfDisplacement, IsOfDisplacement}
-use Rattle.stripe_pieces.specs.Displaced.{displaced_from, displaced_of, displaced_piece, last_at}
-use Rattle.stripe_pieces.specs.Held.{IsBuffered, IsBufferedWhereNew, IsHeld}
-use Rattle.stripe_pieces.specs.Records.{IsPlaceable, placed_behind}
-use Rattle.stripe_pieces.specs.Standing.{AreStanding, BeginsAs, HasContent, IsToldPlaced, StandsInBuffer, StandsOnDevice}
-use Rattle.stripe_pieces.proofs.Displacing.{displaced_listed}
-use Rattle.stripe_pieces.proofs.Going.{all_left}
-use Rattle.stripe_pieces.proofs.Holding.{end_is}
+use Rattle.held_pieces.specs.Displaced.{displaced_from, displaced_of, displaced_piece, last_at}
+use Rattle.held_pieces.specs.Held.{IsBuffered, IsBufferedWhereNew, IsHeld}
+use Rattle.held_pieces.specs.Records.{IsPlaceable, placed_behind}
+use Rattle.piece_answers.specs.Standing.{AreStanding, BeginsAs, HasContent, IsToldPlaced, StandsInBuffer, StandsOnDevice}
+use Rattle.piece_answers.proofs.Displacing.{displaced_listed}
+use Rattle.held_pieces.proofs.Going.{all_left}
+use Rattle.held_pieces.proofs.Holding.{end_is}
 use Rattle.stripe_pieces.proofs.Telling.{state_behind}
 
 -- ---- what is told

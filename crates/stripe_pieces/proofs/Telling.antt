@@ -10,12 +10,12 @@ use Rattle.cache_model.specs.State.{State, after_all, state_after}
 use Rattle.cache_model.specs.Kept.{Kept, state_of, with_records}
 use Rattle.cache_model.proofs.Sound.{later_leaves}
 use Rattle.cache_model.specs.Contents.{Contents}
-use Rattle.stripe_pieces.specs.declared.ahead.Fate.{Fate}
-use Rattle.stripe_pieces.specs.Held.{IsHeld}
-use Rattle.stripe_pieces.specs.Standing.{AreStanding}
+use Rattle.piece_answers.specs.declared.ahead.Fate.{Fate}
+use Rattle.held_pieces.specs.Held.{IsHeld}
+use Rattle.piece_answers.specs.Standing.{AreStanding}
 use Rattle.stripe_pieces.specs.Copying.{AreTellable, told_of_piece, told_of_pieces}
-use Rattle.stripe_pieces.proofs.RecordsAdded.{state_of-with_records, with_records-nil}
-use Rattle.stripe_pieces.proofs.Going.{alike_is_held}
+use Rattle.piece_answers.proofs.RecordsAdded.{state_of-with_records, with_records-nil}
+use Rattle.held_pieces.proofs.Going.{alike_is_held}
 
 -- that a piece is not saved
 pub unsaved_is_held : (s : State) (c : Seen) (piece : PieceId) (place : ℕ) (fault : Bool) → IsHeld s c → IsHeld (state_after s (rec.Unsaved piece place fault)) c

@@ -16,10 +16,10 @@ use Rattle.cache_model.proofs.Lists.{row_in-without}
 use Rattle.cache_model.proofs.Live.{IsFound}
 use Rattle.cache_model.proofs.Steps.{after_all-append}
 use Rattle.cache_model.specs.Due.{candidate_of}
-use Rattle.stripe_pieces.specs.declared.ahead.Fate.{Fate}
-use Rattle.stripe_pieces.specs.declared.ahead.Fate.TheVariants as fate
-use Rattle.stripe_pieces.specs.Ahead.{AreFates, IsFate}
-use Rattle.stripe_pieces.specs.Faults.{CountsUpTo}
+use Rattle.piece_answers.specs.declared.ahead.Fate.{Fate}
+use Rattle.piece_answers.specs.declared.ahead.Fate.TheVariants as fate
+use Rattle.piece_answers.specs.Ahead.{AreFates, IsFate}
+use Rattle.piece_answers.specs.Faults.{CountsUpTo}
 use Rattle.stripe_pieces.specs.Copying.{AreTellable, IsTellable, copies_among, copies_by, told_of_piece, told_of_pieces}
 
 -- ---- what came of each piece, and what was kept of that

@@ -19,15 +19,15 @@ use Rattle.cache_model.proofs.Live.{IsFound, due_are_live}
 use Rattle.cache_model.proofs.Written.{due_are_written}
 use Rattle.cache_model.specs.Contents.{Contents}
 use Rattle.cache_model.specs.Due.{candidate_of}
-use Rattle.stripe_pieces.specs.declared.ahead.Fate.{Fate}
-use Rattle.stripe_pieces.specs.declared.ahead.Fate.TheVariants as fate
-use Rattle.stripe_pieces.specs.Ahead.{StandFrom}
+use Rattle.piece_answers.specs.declared.ahead.Fate.{Fate}
+use Rattle.piece_answers.specs.declared.ahead.Fate.TheVariants as fate
+use Rattle.piece_answers.specs.Ahead.{StandFrom}
 use Rattle.stripe_pieces.specs.Copying.{AreToldCopied, bytes_for, copied_record}
-use Rattle.stripe_pieces.specs.Held.{IsHeld}
-use Rattle.stripe_pieces.specs.Standing.{AreAsSeen, AreStanding, HasContent, IsAsSeen, StandsOnDevice}
-use Rattle.stripe_pieces.proofs.Candidates.{live_is}
-use Rattle.stripe_pieces.proofs.HeldBehindFaults.{write_spares}
-use Rattle.stripe_pieces.proofs.Going.{shows_same}
+use Rattle.held_pieces.specs.Held.{IsHeld}
+use Rattle.piece_answers.specs.Standing.{AreAsSeen, AreStanding, HasContent, IsAsSeen, StandsOnDevice}
+use Rattle.held_pieces.proofs.Candidates.{live_is}
+use Rattle.held_pieces.proofs.HeldBehindFaults.{write_spares}
+use Rattle.held_pieces.proofs.Going.{shows_same}
 use Rattle.stripe_pieces.proofs.Standing.{standing_on}
 use Rattle.stripe_pieces.proofs.Told.{AllCame, copied, more, no_room, none, refused, spoiled}
 

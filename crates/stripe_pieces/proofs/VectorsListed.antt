@@ -10,8 +10,8 @@ use Rattle.cyclone.specs.Cyclone.{Seen}
 use Rattle.cache_model.specs.State.{Row, State}
 use Rattle.cache_model.specs.Vectors.{AreVectors, IsListed, IsVectorRow}
 use Rattle.cache_model.specs.Contents.{IsRecordedAs, IsRecordedWith, contents_of_vectors, spelled_content}
-use Rattle.stripe_pieces.specs.Held.{IsHeld, IsInLap}
-use Rattle.stripe_pieces.specs.Standing.{AreStanding}
+use Rattle.held_pieces.specs.Held.{IsHeld, IsInLap}
+use Rattle.piece_answers.specs.Standing.{AreStanding}
 
 vector_listed : (s : State) (row : Row) → row.blocks ≤ budget_of s.geometry → IsRecordedAs contents_of_vectors s.geometry row → IsListed s row
 vector_listed s row small h = λ vector. by row.alternates refl (h.lists vector) h.content h.spelled where

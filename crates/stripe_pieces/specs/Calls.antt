@@ -14,14 +14,14 @@ use Rattle.cache_model.specs.State.{cursor_next}
 use Rattle.cache_chronicle.specs.declared.chronicle.Chronicle.{Ghosts as ChronicleGhosts}
 use Rattle.cache_model.specs.Contents.{Contents}
 use Rattle.stripe_actors.specs.Actors.{ActorsSeen, AreActors}
-use Rattle.stripe_pieces.specs.declared.ahead.Ahead.{Ahead}
-use Rattle.stripe_pieces.specs.declared.answer.Found.{Found}
+use Rattle.piece_answers.specs.declared.ahead.Ahead.{Ahead}
+use Rattle.piece_answers.specs.declared.answer.Found.{Found}
 use Rattle.stripe_pieces.specs.declared.pieces.Pieces.{Pieces}
-use Rattle.stripe_pieces.specs.Ahead.{IsMadeFor}
-use Rattle.stripe_pieces.specs.Covers.{Uses}
-use Rattle.stripe_pieces.specs.Find.{Finds, find_adds}
+use Rattle.piece_answers.specs.Ahead.{IsMadeFor}
+use Rattle.piece_answers.specs.Covers.{Uses}
+use Rattle.piece_answers.specs.Find.{Finds, find_adds}
 use Rattle.stripe_pieces.specs.Pieces.{ArePieces, GoOn, GoOnWith, Stand, kept_now, seen_now, state_now}
-use Rattle.stripe_pieces.specs.Still.{IsUnwritten}
+use Rattle.held_pieces.specs.Still.{IsUnwritten}
 use Rattle.stripe_pieces.specs.Units.{entries_of_unit, records_of_unit}
 
 module _ {D R C : Type 0} {d : DiskGhosts D} {r : DirectoryGhosts R} {c : ChronicleGhosts C} where

@@ -8,11 +8,11 @@ use Rattle.cache_model.specs.declared.record.Rec.{Rec}
 use Rattle.cache_model.specs.declared.record.Rec.TheVariants as rec
 use Rattle.cache_model.specs.State.{Row, State, after_all, cursor_next, floor_next, place_now, row_of, state_after}
 use Rattle.cache_model.specs.Contents.{Contents}
-use Rattle.stripe_pieces.specs.declared.ahead.Fate.{Fate}
-use Rattle.stripe_pieces.specs.declared.ahead.Fate.TheVariants as fate
-use Rattle.stripe_pieces.specs.Whereabouts.{live_place_of}
-use Rattle.stripe_pieces.specs.Records.{IsMovable}
-use Rattle.stripe_pieces.specs.Standing.{HasContent}
+use Rattle.piece_answers.specs.declared.ahead.Fate.{Fate}
+use Rattle.piece_answers.specs.declared.ahead.Fate.TheVariants as fate
+use Rattle.held_pieces.specs.Whereabouts.{live_place_of}
+use Rattle.held_pieces.specs.Records.{IsMovable}
+use Rattle.piece_answers.specs.Standing.{HasContent}
 
 -- ---- what is told
 

@@ -6,8 +6,8 @@ use Rattle.cache_model.specs.State.{State}
 use Rattle.cache_model.specs.Kept.{Kept, state_of}
 use Rattle.cache_chronicle.specs.declared.chronicle.Chronicle.{Ghosts as ChronicleGhosts}
 use Rattle.cache_model.specs.Contents.{AnyContents, Contents}
-use Rattle.stripe_pieces.specs.Held.{IsHeld}
-use Rattle.stripe_pieces.specs.Standing.{AreStanding}
+use Rattle.held_pieces.specs.Held.{IsHeld}
+use Rattle.piece_answers.specs.Standing.{AreStanding}
 use Rattle.stripe_pieces.specs.declared.pieces.Pieces.{Pieces}
 
 module _ {D R C : Type 0} {d : DiskGhosts D} {r : DirectoryGhosts R} {c : ChronicleGhosts C} where

@@ -6,15 +6,14 @@ ghost use Rattle.cache_model.specs.State.{cursor_next, floor_next};
 ghost use Rattle.cache_model.specs.declared.record.Rec.TheVariants.{Began, Fault};
 ghost use Rattle.logged_disk.specs.Device.{TellsAll};
 ghost use Rattle.stripe_pieces.specs.Copying.{AreCopyable, AreTellable, AreToldCopied, IsCopyable, IsCopyableWhereCopied, IsTellable, IsToldCopied, IsToldRow, begun_behind, blocks_for, copied_by, copied_of, copied_record, copies_among, copies_by, done_records, left_records, told_of_piece, told_of_pieces};
-ghost use Rattle.stripe_pieces.specs.declared.answer.Stop.TheVariants.{DeviceFault};
+ghost use Rattle.piece_answers.specs.declared.answer.Stop.TheVariants.{DeviceFault};
 
-use crate::ahead::{Ahead, Fate};
-use crate::answer::Stop;
 use crate::{Pieces, records};
 use cache_chronicle::Chronicle;
 use dir_table::Directory;
 use evacuator::Candidate;
 use logged_disk::Disk;
+use piece_answers::{Ahead, Fate, Stop};
 use tape_base::BLOCK;
 
 impl<D: Disk, R: Directory + Drop, C: Chronicle> Pieces<D, R, C> {

@@ -2,10 +2,9 @@
 ghost use Rattle.std.specs.Prelude.{◌≡◌, ◌*◌, ◌≤◌, ◌^◌, Some, length, take};
 ghost use Rattle.doc_header.specs.Reading.{payload_of};
 ghost use Rattle.cache_model.specs.Contents.{AnyContents};
-ghost use Rattle.stripe_pieces.specs.Find.{HasBlocks, HasRoomFor, IsJudged, IsToBeRead, judged_records};
+ghost use Rattle.piece_answers.specs.Find.{HasBlocks, HasRoomFor, IsJudged, IsToBeRead, judged_records};
 ghost use Rattle.stripe_pieces.specs.Load.{CanLoad, Loads};
 
-use crate::answer::Found;
 use crate::{Pieces, records};
 use cache_chronicle::Chronicle;
 use cache_model::Cause;
@@ -14,10 +13,11 @@ use dir_table::Directory;
 use doc_header::{document_digest, payload};
 use edge_io::Failed;
 use logged_disk::Disk;
+use piece_answers::Found;
 use tape_base::{BLOCK, Digest, HEADER, PieceId};
 
 impl<D: Disk, R: Directory + Drop, C: Chronicle> Pieces<D, R, C> {
-    ghost use Rattle.stripe_pieces.specs.Whereabouts.{live_place_of};
+    ghost use Rattle.held_pieces.specs.Whereabouts.{live_place_of};
     ghost use Rattle.stripe_pieces.specs.Pieces.{ArePieces, seen_now, state_now};
     ghost use Rattle.stripe_pieces.specs.Calls.{AddsRecords, ArePrepared, FindsPiece};
 

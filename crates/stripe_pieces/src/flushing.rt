@@ -7,15 +7,14 @@ ghost use Rattle.cache_model.specs.Legal.{IsQuiet};
 ghost use Rattle.cache_model.specs.Room.{has_room};
 ghost use Rattle.cache_model.specs.Contents.{AnyContents};
 ghost use Rattle.cache_model.specs.Due.{most_passed};
-ghost use Rattle.stripe_pieces.specs.Flush.{AnswersFlush, FlushesAsAsked, WritesNothing};
-ghost use Rattle.stripe_pieces.specs.Place.{AnswersRoom, RoomsAsAsked};
+ghost use Rattle.piece_answers.specs.Flush.{AnswersFlush, FlushesAsAsked, WritesNothing};
+ghost use Rattle.piece_answers.specs.Place.{AnswersRoom, RoomsAsAsked};
 
-use crate::ahead::Ahead;
-use crate::answer::{Flushed, Stop};
 use crate::{Pieces, records};
 use cache_chronicle::Chronicle;
 use dir_table::Directory;
 use logged_disk::Disk;
+use piece_answers::{Ahead, Flushed, Stop};
 use stripe_actors::Actors;
 use tape_base::{LIMIT, blocks_of};
 

@@ -6,17 +6,17 @@ ghost use Rattle.evacuator.specs.Choice.{CandidatesRise, IsChoice, blocks_of_all
 ghost use Rattle.cache_model.specs.State.{Row};
 ghost use Rattle.stripe_actors.specs.Actors.{AreActors};
 ghost use Rattle.cache_model.specs.Due.{candidate_of};
-ghost use Rattle.stripe_pieces.specs.Ahead.{IsMadeFor, LooksAhead};
-ghost use Rattle.stripe_pieces.specs.Looks.{AreOfRows, Comes, HasCandidates, HasLookedAhead, HasRow, IsJudgedAs, IsNextToLook, LooksAt, MayBeCopied, StaysMade};
+ghost use Rattle.piece_answers.specs.Ahead.{IsMadeFor, LooksAhead};
+ghost use Rattle.piece_answers.specs.Looks.{AreOfRows, Comes, HasCandidates, HasLookedAhead, HasRow, IsJudgedAs, IsNextToLook, LooksAt, MayBeCopied, StaysMade};
 
 use crate::Pieces;
-use crate::ahead::{Ahead, Fate};
 use crate::finding::load;
 use cache_chronicle::Chronicle;
 use dir_table::Directory;
 use doc_header::document_digest;
 use evacuator::{Candidate, choose};
 use logged_disk::Disk;
+use piece_answers::{Ahead, Fate};
 use stripe_actors::Actors;
 use stripe_due::find_due;
 use tape_base::{BLOCK, floor_of};

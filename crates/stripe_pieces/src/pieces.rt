@@ -5,7 +5,7 @@ ghost use Rattle.cache_model.specs.Legal.{format_records};
 ghost use Rattle.cyclone.specs.Cyclone.{IsCyclone, seen_cyclone};
 ghost use Rattle.logged_disk.specs.Device.{Affords};
 ghost use Rattle.stripe_pieces.specs.Units.{records_of_unit};
-ghost use Rattle.stripe_pieces.specs.This.{is_this};
+ghost use Rattle.held_pieces.specs.This.{is_this};
 
 use crate::records;
 use cache_chronicle::Chronicle;
@@ -38,7 +38,7 @@ pub struct Pieces<D: Disk, R: Directory + Drop, C: Chronicle> {
 }
 
 impl<D: Disk, R: Directory + Drop, C: Chronicle> Pieces<D, R, C> {
-    ghost use Rattle.stripe_pieces.specs.Whereabouts.{live_place_of};
+    ghost use Rattle.held_pieces.specs.Whereabouts.{live_place_of};
     ghost use Rattle.stripe_pieces.specs.Pieces.{ArePieces, kept_now, seen_now, state_now};
     ghost use Rattle.stripe_pieces.specs.Calls.{HasGrown, IsFormatted, OnlyGrows};
 

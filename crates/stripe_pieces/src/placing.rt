@@ -5,16 +5,15 @@ ghost use Rattle.tape_base.specs.Geometry.{budget_of};
 ghost use Rattle.cache_model.specs.Room.{doc_at, has_room};
 ghost use Rattle.dir_table.specs.Displacement.{purge_of};
 ghost use Rattle.cache_model.specs.Due.{most_passed};
-ghost use Rattle.stripe_pieces.specs.Standing.{IsToldPlaced};
-ghost use Rattle.stripe_pieces.specs.Place.{CutsAsAsked, HasBufferRoom, IsFragmentOf, IsNewPiece, PlacesIn, PutsIn};
+ghost use Rattle.piece_answers.specs.Standing.{IsToldPlaced};
+ghost use Rattle.piece_answers.specs.Place.{CutsAsAsked, HasBufferRoom, IsFragmentOf, IsNewPiece, PlacesIn, PutsIn};
 
-use crate::ahead::Ahead;
-use crate::answer::{Placed, Stop};
 use crate::{Pieces, records};
 use cache_chronicle::Chronicle;
 use dir_table::Directory;
 use doc_header::Doc;
 use logged_disk::Disk;
+use piece_answers::{Ahead, Placed, Stop};
 use stripe_actors::Actors;
 use tape_base::{Digest, LIMIT, PieceId, blocks_of};
 

@@ -4,8 +4,8 @@ ghost use Rattle.std.specs.Prelude.{◌≡◌, ◌+◌, ◌≤◌, [], ◌∷◌
 ghost use Rattle.cache_model.specs.Kept.{state_of, with_records};
 ghost use Rattle.cache_model.specs.Legal.{answer_record, format_records};
 ghost use Rattle.cache_model.specs.declared.record.Rec.TheVariants.{Aborted, Began, Committed, Damaged, Fault, Moved, Placed, ReadClosed, ReadOpened, Removed, Unsaved, WriteOpened};
-ghost use Rattle.stripe_pieces.specs.Displaced.{displaced_of};
-ghost use Rattle.stripe_pieces.specs.Place.{cut_record_of};
+ghost use Rattle.held_pieces.specs.Displaced.{displaced_of};
+ghost use Rattle.piece_answers.specs.Place.{cut_record_of};
 ghost use Rattle.stripe_pieces.specs.Pushes.{Pushes};
 
 use alternate_vector::{Fields, Vector};

@@ -5,8 +5,8 @@ ghost use Rattle.cyclone.specs.Cyclone.{SameButRows};
 ghost use Rattle.cache_model.specs.State.{State, state_after, vector_piece};
 ghost use Rattle.cache_model.specs.Verdict.{live_vector_of, vector_of};
 ghost use Rattle.cache_model.specs.declared.record.Rec.TheVariants.{Committed, Damaged, Removed};
-ghost use Rattle.stripe_pieces.specs.Held.{IsHeld};
-ghost use Rattle.stripe_pieces.specs.Records.{IsWithout};
+ghost use Rattle.held_pieces.specs.Held.{IsHeld};
+ghost use Rattle.held_pieces.specs.Records.{IsWithout};
 ghost use Rattle.cache_model.specs.Contents.{AnyContents};
 
 use crate::{Pieces, records};
@@ -17,7 +17,7 @@ use logged_disk::Disk;
 use tape_base::{Digest, Key, PieceId};
 
 impl<D: Disk, R: Directory + Drop, C: Chronicle> Pieces<D, R, C> {
-    ghost use Rattle.stripe_pieces.specs.Whereabouts.{live_place_of};
+    ghost use Rattle.held_pieces.specs.Whereabouts.{live_place_of};
     ghost use Rattle.stripe_pieces.specs.Pieces.{ArePieces, seen_now, state_now};
     ghost use Rattle.stripe_pieces.specs.Calls.{AddsRecords, ArePrepared};
 

@@ -20,8 +20,8 @@ use Rattle.cache_model.specs.Legal.{Does, DoesLook, IsQuiet}
 use Rattle.cache_model.specs.Vectors.{IsVectorAs}
 use Rattle.call_laws.specs.Untold.{Untold}
 use Rattle.call_laws.proofs.Kept.{untold_later}
-use Rattle.stripe_pieces.specs.Covers.{Covers}
-use Rattle.stripe_pieces.specs.Still.{IsStill}
+use Rattle.piece_answers.specs.Covers.{Covers}
+use Rattle.held_pieces.specs.Still.{IsStill}
 use Rattle.stripe_core.proofs.Counting.{cause_later}
 use Rattle.stripe_vectors.proofs.Seeing.{seen_before, still_seen}
 use Rattle.stripe_read.specs.declared.opening.Looked.{Looked}

@@ -16,11 +16,11 @@ use Rattle.cache_model.specs.Given.{IsDocumentOf, IsRead, damage_cause}
 use Rattle.cache_model.specs.Legal.{IsAsListed, IsUnlike, ReadTrouble}
 use Rattle.cache_model.proofs.Lists.{own_piece}
 use Rattle.cache_model.specs.Contents.{Contents}
-use Rattle.stripe_pieces.specs.declared.answer.Found.{Found}
-use Rattle.stripe_pieces.specs.declared.answer.Found.TheVariants as found
-use Rattle.stripe_pieces.specs.Covers.{AllReadIsSeen, Covers}
-use Rattle.stripe_pieces.specs.Find.{Finds, HasPayload, IsFoundAs, find_adds, found_records, records_of_trouble}
-use Rattle.stripe_pieces.proofs.Candidates.{live_is}
+use Rattle.piece_answers.specs.declared.answer.Found.{Found}
+use Rattle.piece_answers.specs.declared.answer.Found.TheVariants as found
+use Rattle.piece_answers.specs.Covers.{AllReadIsSeen, Covers}
+use Rattle.piece_answers.specs.Find.{Finds, HasPayload, IsFoundAs, find_adds, found_records, records_of_trouble}
+use Rattle.held_pieces.proofs.Candidates.{live_is}
 use Rattle.stripe_read.specs.declared.fetching.Unlike.{Unlike}
 use Rattle.stripe_read.specs.Fetches.{Fetches, IsCompared, IsFetched, IsOtherPiece, IsPieceAsListed, IsUnlikePiece}
 

@@ -19,14 +19,14 @@ use Rattle.cache_model.specs.Given.{IsReadWhereLive}
 use Rattle.cache_model.specs.Legal.{Does, IsAsListed, IsNextAsListed, IsQuiet, IsReading, answer_record, live_next}
 use Rattle.cache_model.proofs.Found.{end_gives_none, no_truth}
 use Rattle.cache_model.specs.Contents.{Contents}
-use Rattle.stripe_pieces.specs.declared.answer.Found.{Found}
-use Rattle.stripe_pieces.specs.declared.answer.Found.TheVariants as found
+use Rattle.piece_answers.specs.declared.answer.Found.{Found}
+use Rattle.piece_answers.specs.declared.answer.Found.TheVariants as found
 use Rattle.stripe_core.specs.Acts.{NotesAsAsked}
 use Rattle.stripe_core.specs.Counts.{CauseIsCounted}
-use Rattle.stripe_pieces.specs.Covers.{AllReadIsSeen, Covers}
-use Rattle.stripe_pieces.proofs.Covering.{own_covers, own_permit}
-use Rattle.stripe_pieces.specs.Find.{HasPayload, find_adds, found_records, records_of_trouble}
-use Rattle.stripe_pieces.specs.Standing.{AreStanding}
+use Rattle.piece_answers.specs.Covers.{AllReadIsSeen, Covers}
+use Rattle.piece_answers.proofs.Covering.{own_covers, own_permit}
+use Rattle.piece_answers.specs.Find.{HasPayload, find_adds, found_records, records_of_trouble}
+use Rattle.piece_answers.specs.Standing.{AreStanding}
 use Rattle.stripe_read.specs.declared.reader.Reader.{Reader}
 use Rattle.stripe_read.specs.declared.reading.NextPiece.{NextPiece}
 use Rattle.stripe_read.specs.declared.reading.NextPiece.TheVariants as piece

@@ -17,13 +17,13 @@ use Rattle.cache_model.specs.Permit.{Permit}
 use Rattle.cache_model.specs.Given.{IsDocumentOf}
 use Rattle.cache_model.specs.Legal.{IsAsListed, ReadTrouble}
 use Rattle.cache_model.specs.Contents.{Contents}
-use Rattle.stripe_pieces.specs.declared.answer.Found.{Found}
-use Rattle.stripe_pieces.specs.declared.answer.Found.TheVariants as found
-use Rattle.stripe_pieces.specs.Covers.{AllReadIsSeen, Covers}
-use Rattle.stripe_pieces.specs.Find.{HasPayload, find_adds, records_of_trouble}
-use Rattle.stripe_pieces.specs.Standing.{AreStanding}
-use Rattle.stripe_pieces.specs.Still.{IsStill}
-use Rattle.stripe_pieces.specs.Whereabouts.{live_place_of}
+use Rattle.piece_answers.specs.declared.answer.Found.{Found}
+use Rattle.piece_answers.specs.declared.answer.Found.TheVariants as found
+use Rattle.piece_answers.specs.Covers.{AllReadIsSeen, Covers}
+use Rattle.piece_answers.specs.Find.{HasPayload, find_adds, records_of_trouble}
+use Rattle.piece_answers.specs.Standing.{AreStanding}
+use Rattle.held_pieces.specs.Still.{IsStill}
+use Rattle.held_pieces.specs.Whereabouts.{live_place_of}
 use Rattle.stripe_core.specs.declared.stripe.Stripe.{Stripe}
 use Rattle.stripe_core.specs.Between.{Between, Proceeds}
 use Rattle.stripe_core.specs.Stripe.{IsStripe, kept_in, seen_in, state_in, units_in}

@@ -22,9 +22,9 @@ use Rattle.cache_model.specs.Legal.{Does, IsLookup}
 use Rattle.cache_model.specs.Pair.{IsKeyPair}
 use Rattle.cache_model.specs.Vectors.{AreVectors, IsVectorAs}
 use Rattle.call_laws.specs.Untold.{Untold}
-use Rattle.stripe_pieces.specs.Covers.{AllReadIsSeen, Covers}
-use Rattle.stripe_pieces.specs.Find.{records_of_trouble}
-use Rattle.stripe_pieces.specs.Still.{IsStill, IsUnwritten}
+use Rattle.piece_answers.specs.Covers.{AllReadIsSeen, Covers}
+use Rattle.piece_answers.specs.Find.{records_of_trouble}
+use Rattle.held_pieces.specs.Still.{IsStill, IsUnwritten}
 use Rattle.stripe_core.specs.declared.stripe.Stripe.{Stripe}
 use Rattle.stripe_core.specs.Acts.{IsFollowable}
 use Rattle.stripe_core.specs.Between.{Continues, Rests}

@@ -17,12 +17,12 @@ use Rattle.cache_model.specs.Verdict.{cause_of_piece, digest_in, next_piece, nex
 use Rattle.cache_model.specs.Permit.{Done, Permit, ReadOn}
 use Rattle.cache_model.specs.Legal.{Does, IsAsListed, IsUnlike, answer_record, live_next}
 use Rattle.cache_model.specs.Contents.{Contents}
-use Rattle.stripe_pieces.specs.Covers.{AllReadIsSeen, Covers}
+use Rattle.piece_answers.specs.Covers.{AllReadIsSeen, Covers}
 use Rattle.stripe_core.specs.Counts.{CauseIsCounted}
 use Rattle.cache_model.specs.Given.{IsDocumentOf}
-use Rattle.stripe_pieces.specs.Find.{records_of_trouble}
-use Rattle.stripe_pieces.specs.Standing.{AreStanding}
-use Rattle.stripe_pieces.specs.Still.{IsStill}
+use Rattle.piece_answers.specs.Find.{records_of_trouble}
+use Rattle.piece_answers.specs.Standing.{AreStanding}
+use Rattle.held_pieces.specs.Still.{IsStill}
 use Rattle.stripe_core.specs.declared.stripe.Stripe.{Stripe}
 use Rattle.stripe_core.specs.Between.{Between, IsResting, Proceeds}
 use Rattle.stripe_core.specs.Stripe.{kept_in, seen_in, state_in}

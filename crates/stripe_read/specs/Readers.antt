@@ -10,7 +10,7 @@ use Rattle.cache_model.specs.State.{ReaderRow, State, reader_of}
 use Rattle.cache_model.specs.Permit.{Done, Permit, StopReading}
 use Rattle.cache_model.specs.Kept.{with_records}
 use Rattle.cache_model.specs.Legal.{Does}
-use Rattle.stripe_pieces.specs.Still.{IsStill}
+use Rattle.held_pieces.specs.Still.{IsStill}
 use Rattle.stripe_core.specs.declared.stripe.Stripe.{Stripe}
 use Rattle.stripe_core.specs.Stripe.{kept_in, seen_in, state_in}
 use Rattle.stripe_core.specs.Between.{IsResting, Rests}

@@ -10,8 +10,8 @@ use Rattle.cache_model.specs.Kept.{Kept, state_of, with_records}
 use Rattle.cache_model.specs.Verdict.{live_vector_of}
 use Rattle.cache_model.proofs.Steps.{after_all-append}
 use Rattle.stripe_core.specs.Counts.{CauseIsCounted}
-use Rattle.stripe_pieces.specs.Find.{records_of_trouble}
-use Rattle.stripe_pieces.proofs.Covering.{own_covers, own_permit}
+use Rattle.piece_answers.specs.Find.{records_of_trouble}
+use Rattle.piece_answers.proofs.Covering.{own_covers, own_permit}
 use Rattle.stripe_vectors.specs.declared.reading.KeyVector.TheVariants as answer
 use Rattle.stripe_vectors.specs.Reading.{FindsVector, IsVectorFound, trouble_records, vector_adds}
 

@@ -17,12 +17,12 @@ use Rattle.cache_model.proofs.VectorLaws.{live_vector_is_listed}
 use Rattle.cache_model.specs.Contents.{contents_of_vectors, spelled_content}
 use Rattle.cache_model.specs.Verdict.{live_vector_of, vector_of}
 use Rattle.cache_model.specs.Permit.{Permit}
-use Rattle.stripe_pieces.specs.Covers.{Covers}
-use Rattle.stripe_pieces.specs.declared.answer.Found.TheVariants as found
-use Rattle.stripe_pieces.specs.Find.{Finds, HasPayload, IsFoundAs, find_adds, found_records}
-use Rattle.stripe_pieces.specs.Standing.{AreStanding}
+use Rattle.piece_answers.specs.Covers.{Covers}
+use Rattle.piece_answers.specs.declared.answer.Found.TheVariants as found
+use Rattle.piece_answers.specs.Find.{Finds, HasPayload, IsFoundAs, find_adds, found_records}
+use Rattle.piece_answers.specs.Standing.{AreStanding}
 use Rattle.cache_model.specs.Given.{IsDocumentOf}
-use Rattle.stripe_pieces.proofs.Covering.{own_covers, own_permit}
+use Rattle.piece_answers.proofs.Covering.{own_covers, own_permit}
 use Rattle.stripe_vectors.specs.declared.reading.KeyVector.TheVariants as answer
 use Rattle.stripe_vectors.specs.Reading.{FindsVector, IsVectorFound, VectorIsReadAs, alternates_spelled, spelled_in, trouble_records, vector_adds}
 

@@ -4,9 +4,9 @@ use Rattle.std.specs.List.{AllByRecursion}
 use Rattle.device_log.specs.Calls.{Call, Read}
 use Rattle.device_log.proofs.Spans.{span_same}
 use Rattle.logged_disk.specs.Device.{DeviceState as Device, seen as content_of}
-use Rattle.stripe_pieces.specs.Covers.{AllReadIsSeen, ReadIsSeen}
-use Rattle.stripe_pieces.specs.Still.{IsStill}
-use Rattle.stripe_pieces.proofs.Covering.{made_is}
+use Rattle.piece_answers.specs.Covers.{AllReadIsSeen, ReadIsSeen}
+use Rattle.held_pieces.specs.Still.{IsStill}
+use Rattle.piece_answers.proofs.Covering.{made_is}
 
 -- where no call was made
 pub seen_none : (old new : Device) → new.past ≡ old.past → AllReadIsSeen old new

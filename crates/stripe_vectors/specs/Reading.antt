@@ -20,9 +20,9 @@ use Rattle.cache_model.specs.Permit.{Permit}
 use Rattle.cache_model.specs.Given.{IsGiven, IsWritten, Trouble}
 use Rattle.cache_model.specs.Pair.{IsKeyPair}
 use Rattle.cache_model.specs.Vectors.{AreVectors, IsVectorAs}
-use Rattle.stripe_pieces.specs.Covers.{AllReadIsSeen, Covers}
-use Rattle.stripe_pieces.specs.Find.{records_of_trouble}
-use Rattle.stripe_pieces.specs.Still.{IsUnwritten}
+use Rattle.piece_answers.specs.Covers.{AllReadIsSeen, Covers}
+use Rattle.piece_answers.specs.Find.{records_of_trouble}
+use Rattle.held_pieces.specs.Still.{IsUnwritten}
 use Rattle.stripe_core.specs.declared.stripe.Stripe.{Stripe}
 use Rattle.stripe_core.specs.Stripe.{kept_in, room_for, seen_in, state_in, units_in}
 use Rattle.stripe_core.specs.Between.{Continues}

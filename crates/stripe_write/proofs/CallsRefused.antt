@@ -9,7 +9,7 @@ use Rattle.cache_chronicle.specs.declared.chronicle.Chronicle.{Ghosts as Chronic
 use Rattle.alternate_vector.specs.Field.{Field}
 use Rattle.cache_model.specs.Kept.{state_of}
 use Rattle.cache_model.specs.State.{State, most_fragments}
-use Rattle.stripe_pieces.specs.Still.{IsStill}
+use Rattle.held_pieces.specs.Still.{IsStill}
 use Rattle.stripe_core.specs.declared.refusal.Refusal.{Refusal}
 use Rattle.stripe_core.specs.declared.refusal.Refusal.TheVariants as refusal
 use Rattle.stripe_core.specs.declared.stripe.Stripe.{Stripe}

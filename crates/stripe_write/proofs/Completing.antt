@@ -26,16 +26,16 @@ use Rattle.cache_model.specs.Permit.{Commit, Done, Exhausted, Fails, Finish}
 use Rattle.cache_model.proofs.Found.{cuts_found}
 use Rattle.cache_model.proofs.Lists.{row_in-placed}
 use Rattle.cache_model.proofs.Steps.{after_all-append}
-use Rattle.stripe_pieces.specs.declared.answer.Placed.{Placed}
+use Rattle.piece_answers.specs.declared.answer.Placed.{Placed}
 use Rattle.stripe_core.specs.declared.refusal.Refusal.{Refusal}
 use Rattle.stripe_core.specs.declared.refusal.Refusal.TheVariants as refusal
-use Rattle.stripe_pieces.specs.declared.answer.Stop.{Stop}
-use Rattle.stripe_pieces.specs.declared.answer.Stop.TheVariants as stop
+use Rattle.piece_answers.specs.declared.answer.Stop.{Stop}
+use Rattle.piece_answers.specs.declared.answer.Stop.TheVariants as stop
 use Rattle.stripe_core.specs.Acts.{CommitsAsAsked, committed_record}
 use Rattle.stripe_core.specs.Stripe.{AnswersOrWants, HasMemory}
-use Rattle.stripe_pieces.specs.Covers.{Covers}
-use Rattle.stripe_pieces.specs.Place.{AreOfPlace, IsExhaustedAt, IsVectorFor, IsVectorOf, PlacesAt, PlacesIn, PlacesVector}
-use Rattle.stripe_pieces.proofs.Displacing.{displaced_list}
+use Rattle.piece_answers.specs.Covers.{Covers}
+use Rattle.piece_answers.specs.Place.{AreOfPlace, IsExhaustedAt, IsVectorFor, IsVectorOf, PlacesAt, PlacesIn, PlacesVector}
+use Rattle.piece_answers.proofs.Displacing.{displaced_list}
 use Rattle.stripe_vectors.specs.declared.spelling.Spelled.{Spelled}
 use Rattle.stripe_vectors.specs.Spelled.{IsSpelled, listed_with}
 use Rattle.stripe_write.specs.declared.weighing.Vectors.{Vectors}

@@ -8,12 +8,12 @@ use Rattle.logged_disk.specs.Device.{DeviceState as Device}
 use Rattle.cache_model.specs.declared.cause.Cause.TheVariants as cause
 use Rattle.cache_model.specs.State.{State}
 use Rattle.cache_model.specs.Kept.{Kept, state_of, with_records}
-use Rattle.stripe_pieces.specs.declared.answer.Placed.{Placed}
+use Rattle.piece_answers.specs.declared.answer.Placed.{Placed}
 use Rattle.stripe_core.specs.declared.refusal.Refusal.{Refusal}
 use Rattle.stripe_core.specs.declared.refusal.Refusal.TheVariants as refusal
 use Rattle.stripe_core.specs.Counts.{IsCounted}
-use Rattle.stripe_pieces.specs.Flush.{StopsWith}
-use Rattle.stripe_pieces.specs.Place.{CutsAsAsked, PlacesVector}
+use Rattle.piece_answers.specs.Flush.{StopsWith}
+use Rattle.piece_answers.specs.Place.{CutsAsAsked, PlacesVector}
 use Rattle.stripe_core.specs.Stripe.{AnswersOrWants}
 use Rattle.stripe_vectors.specs.declared.reading.KeyVector.{KeyVector}
 use Rattle.stripe_vectors.specs.declared.reading.KeyVector.TheVariants as found

@@ -21,8 +21,8 @@ use Rattle.cache_model.proofs.ByNumber.{find-changed}
 use Rattle.cache_model.proofs.SoundFlush.{front_aside, stopped_aside}
 use Rattle.cache_model.proofs.Steps.{all_append}
 use Rattle.cache_model.proofs.Syncing.{unmark_aside}
-use Rattle.stripe_pieces.specs.Covers.{Covers, calls_since}
-use Rattle.stripe_pieces.proofs.Covering.{never_syncs, own_covers}
+use Rattle.piece_answers.specs.Covers.{Covers, calls_since}
+use Rattle.piece_answers.proofs.Covering.{never_syncs, own_covers}
 use Rattle.stripe_write.specs.declared.finishing.Receipt.{Receipt}
 use Rattle.stripe_core.specs.declared.refusal.Refusal.{Refusal}
 use Rattle.stripe_write.specs.declared.weighing.Vectors.{Vectors}

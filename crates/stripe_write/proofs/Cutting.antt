@@ -22,13 +22,13 @@ use Rattle.cache_model.specs.Legal.{IsQuiet}
 use Rattle.cache_model.specs.Room.{placed_record}
 use Rattle.cache_model.proofs.Steps.{after_all-append, all_append}
 use Rattle.cache_model.proofs.ByNumber.{find-changed}
-use Rattle.stripe_pieces.specs.declared.answer.Placed.{Placed}
+use Rattle.piece_answers.specs.declared.answer.Placed.{Placed}
 use Rattle.stripe_core.specs.declared.refusal.Refusal.{Refusal}
 use Rattle.stripe_core.specs.declared.refusal.Refusal.TheVariants as refusal
-use Rattle.stripe_pieces.specs.Place.{AreOfPlace, CutsAsAsked, IsCutAs, IsExhaustedAt, IsFragmentOf, PlacesAsAsked, PlacesVector}
+use Rattle.piece_answers.specs.Place.{AreOfPlace, CutsAsAsked, IsCutAs, IsExhaustedAt, IsFragmentOf, PlacesAsAsked, PlacesVector}
 use Rattle.cache_model.specs.Displacing.{AreOfDisplacement}
 use Rattle.stripe_core.specs.Stripe.{AnswersOrWants}
-use Rattle.stripe_pieces.proofs.Displacing.{displaced_puts}
+use Rattle.piece_answers.proofs.Displacing.{displaced_puts}
 use Rattle.stripe_write.specs.declared.writer.Writer.{Writer}
 use Rattle.stripe_write.proofs.Ended.{own_number}
 use Rattle.stripe_write.proofs.Flushed.{LeavesActors, flush_is_own, flush_leaves}

@@ -12,10 +12,10 @@ use Rattle.cache_model.specs.State.{LastVector, Row, State, after_all, last_vect
 use Rattle.cache_model.specs.Verdict.{live_vector_of, vector_of_last}
 use Rattle.stripe_core.specs.declared.refusal.Refusal.{Refusal}
 use Rattle.stripe_core.specs.declared.refusal.Refusal.TheVariants as refusal
-use Rattle.stripe_pieces.specs.declared.answer.Stop.{Stop}
-use Rattle.stripe_pieces.specs.declared.answer.Stop.TheVariants as stop
+use Rattle.piece_answers.specs.declared.answer.Stop.{Stop}
+use Rattle.piece_answers.specs.declared.answer.Stop.TheVariants as stop
 use Rattle.stripe_core.specs.Stripe.{AnswersOrWants, HasMemory}
-use Rattle.stripe_pieces.specs.Flush.{AreOfFlush, EachWasLive, IsRecordOfFlush, IsStillPiece}
+use Rattle.piece_answers.specs.Flush.{AreOfFlush, EachWasLive, IsRecordOfFlush, IsStillPiece}
 use Rattle.stripe_write.specs.Others.{IsRecordOfPut}
 
 -- puts, readers, vectors and inserts are as they were

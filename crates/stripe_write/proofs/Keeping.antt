@@ -16,8 +16,8 @@ use Rattle.cache_model.specs.Kept.{Kept, state_of}
 use Rattle.cache_model.specs.Room.{doc_at, placed_record}
 use Rattle.cache_model.specs.Verdict.{live_vector_of, vector_of_last}
 use Rattle.cache_model.specs.Displacing.{AreOfDisplacement}
-use Rattle.stripe_pieces.specs.Flush.{AreOfFlush, EachWasLive, IsStillPiece}
-use Rattle.stripe_pieces.proofs.Displacing.{displaced_puts}
+use Rattle.piece_answers.specs.Flush.{AreOfFlush, EachWasLive, IsStillPiece}
+use Rattle.piece_answers.proofs.Displacing.{displaced_puts}
 use Rattle.stripe_vectors.specs.Spelled.{IsSpelled}
 use Rattle.stripe_write.specs.declared.weighing.Vectors.{Vectors}
 use Rattle.stripe_write.specs.declared.writer.Writer.{Writer}

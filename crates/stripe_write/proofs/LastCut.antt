@@ -13,14 +13,14 @@ use Rattle.cache_model.specs.Kept.{Kept, state_of}
 use Rattle.cache_model.specs.Permit.{Done, Exhausted, Fails, Faulted, Permit, Reason}
 use Rattle.cache_model.specs.Verdict.{is_open}
 use Rattle.cache_model.specs.Legal.{MayGrow, is_writing}
-use Rattle.stripe_pieces.specs.declared.answer.Placed.{Placed}
+use Rattle.piece_answers.specs.declared.answer.Placed.{Placed}
 use Rattle.stripe_core.specs.declared.refusal.Refusal.{Refusal}
 use Rattle.stripe_core.specs.declared.refusal.Refusal.TheVariants as refusal
-use Rattle.stripe_pieces.specs.declared.answer.Stop.{Stop}
-use Rattle.stripe_pieces.specs.declared.answer.Stop.TheVariants as stop
-use Rattle.stripe_pieces.specs.Covers.{SpendsFirst}
-use Rattle.stripe_pieces.specs.Flush.{AreOfFlush}
-use Rattle.stripe_pieces.specs.Place.{CutsAsAsked, IsCutAs, IsStoppedAs}
+use Rattle.piece_answers.specs.declared.answer.Stop.{Stop}
+use Rattle.piece_answers.specs.declared.answer.Stop.TheVariants as stop
+use Rattle.piece_answers.specs.Covers.{SpendsFirst}
+use Rattle.piece_answers.specs.Flush.{AreOfFlush}
+use Rattle.piece_answers.specs.Place.{CutsAsAsked, IsCutAs, IsStoppedAs}
 use Rattle.stripe_core.specs.Stripe.{AnswersOrWants, HasMemory}
 use Rattle.stripe_write.specs.declared.writer.Writer.{Writer}
 use Rattle.stripe_write.specs.Closing.{SpendsAll, asked_of_rest, closing_rows, row_of_rest}

@@ -16,14 +16,14 @@ use Rattle.cache_model.specs.Vectors.{AreTold, IsVectorAs}
 use Rattle.cache_model.proofs.Steps.{grows_on}
 use Rattle.stripe_core.specs.declared.refusal.Refusal.{Refusal}
 use Rattle.stripe_core.specs.declared.refusal.Refusal.TheVariants as refusal
-use Rattle.stripe_pieces.specs.declared.answer.Stop.{Stop}
-use Rattle.stripe_pieces.specs.declared.answer.Stop.TheVariants as stop
-use Rattle.stripe_pieces.specs.Covers.{Covers, SpendsFirst}
-use Rattle.stripe_pieces.specs.Flush.{stop_end}
-use Rattle.stripe_pieces.specs.Place.{IsExhaustedAt}
-use Rattle.stripe_pieces.specs.Still.{IsStill, IsUnwritten}
+use Rattle.piece_answers.specs.declared.answer.Stop.{Stop}
+use Rattle.piece_answers.specs.declared.answer.Stop.TheVariants as stop
+use Rattle.piece_answers.specs.Covers.{Covers, SpendsFirst}
+use Rattle.piece_answers.specs.Flush.{stop_end}
+use Rattle.piece_answers.specs.Place.{IsExhaustedAt}
+use Rattle.held_pieces.specs.Still.{IsStill, IsUnwritten}
 use Rattle.stripe_core.specs.Stripe.{AnswersOrWants, Wanting}
-use Rattle.stripe_pieces.proofs.Covering.{covers_first, covers_last}
+use Rattle.piece_answers.proofs.Covering.{covers_first, covers_last}
 use Rattle.stripe_core.proofs.Stills.{still_shows, still_then, unwritten_then}
 use Rattle.cache_model.specs.Pair.{IsKeyPair}
 use Rattle.call_laws.specs.Untold.{Untold}

@@ -11,8 +11,8 @@ use Rattle.cache_model.specs.State.{Row, State, after_all, last_vector, live_row
 use Rattle.cache_model.specs.Verdict.{live_vector_of, vector_of_last}
 use Rattle.cache_model.proofs.Lists.{row_in-without}
 use Rattle.cache_model.specs.Displacing.{AreOfDisplacement, IsOfDisplacement}
-use Rattle.stripe_pieces.specs.Place.{AreOfPlace}
-use Rattle.stripe_pieces.proofs.Displacing.{pushed_kinds}
+use Rattle.piece_answers.specs.Place.{AreOfPlace}
+use Rattle.piece_answers.proofs.Displacing.{pushed_kinds}
 use Rattle.stripe_write.specs.Others.{IsRecordOfPut}
 
 -- all that the entry of a piece displaces is recorded as displaced

@@ -11,9 +11,9 @@ use Rattle.cache_model.specs.Legal.{vector_length}
 use Rattle.cache_model.specs.Room.{copies_end, has_room}
 use Rattle.stripe_core.specs.declared.refusal.Refusal.{Refusal}
 use Rattle.stripe_core.specs.declared.refusal.Refusal.TheVariants as refusal
-use Rattle.stripe_pieces.specs.declared.answer.Stop.TheVariants as stop
-use Rattle.stripe_pieces.specs.Flush.{StopsWith}
-use Rattle.stripe_pieces.specs.Place.{IsExhaustedAt, PlacesAt, exhausted_number}
+use Rattle.piece_answers.specs.declared.answer.Stop.TheVariants as stop
+use Rattle.piece_answers.specs.Flush.{StopsWith}
+use Rattle.piece_answers.specs.Place.{IsExhaustedAt, PlacesAt, exhausted_number}
 use Rattle.stripe_write.specs.declared.finishing.Receipt.{Receipt}
 use Rattle.stripe_write.specs.declared.writer.Writer.{Writer}
 use Rattle.stripe_write.specs.Closing.{closing_rows, row_of_rest}

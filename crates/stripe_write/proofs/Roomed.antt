@@ -21,12 +21,12 @@ use Rattle.cache_model.proofs.SoundFlush.{flush_is_sound}
 use Rattle.cache_model.proofs.Steps.{grows_on}
 use Rattle.stripe_core.specs.declared.refusal.Refusal.{Refusal}
 use Rattle.stripe_core.specs.declared.refusal.Refusal.TheVariants as refusal
-use Rattle.stripe_pieces.specs.declared.answer.Stop.{Stop}
-use Rattle.stripe_pieces.specs.declared.answer.Stop.TheVariants as stop
-use Rattle.stripe_pieces.specs.Flush.{EachWasLive, StopsWith}
-use Rattle.stripe_pieces.specs.Place.{IsExhaustedAt, RoomsAsAsked}
+use Rattle.piece_answers.specs.declared.answer.Stop.{Stop}
+use Rattle.piece_answers.specs.declared.answer.Stop.TheVariants as stop
+use Rattle.piece_answers.specs.Flush.{EachWasLive, StopsWith}
+use Rattle.piece_answers.specs.Place.{IsExhaustedAt, RoomsAsAsked}
 use Rattle.stripe_core.specs.Stripe.{AnswersOrWants}
-use Rattle.stripe_pieces.proofs.Covering.{covers_first, covers_last, never_syncs, own_covers, own_permit}
+use Rattle.piece_answers.proofs.Covering.{covers_first, covers_last, never_syncs, own_covers, own_permit}
 use Rattle.stripe_write.specs.declared.finishing.Receipt.{Receipt}
 use Rattle.stripe_write.specs.declared.weighing.Vectors.{Vectors}
 use Rattle.stripe_write.specs.declared.writer.Writer.{Writer}

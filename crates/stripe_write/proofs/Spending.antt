@@ -7,7 +7,7 @@ use Rattle.cache_model.specs.Kept.{Kept, state_of, with_records}
 use Rattle.cache_model.specs.Permit.{Done, End, Intent, Permit}
 use Rattle.cache_model.specs.Legal.{Does, IsQuiet}
 use Rattle.cache_model.proofs.Steps.{after_all-append, grows_by, grows_on}
-use Rattle.stripe_pieces.specs.Covers.{SpendsFirst}
+use Rattle.piece_answers.specs.Covers.{SpendsFirst}
 use Rattle.stripe_write.specs.Closing.{SpendsAll}
 
 -- one group of records

@@ -29,14 +29,14 @@ use Rattle.call_laws.specs.Untold.{Untold}
 use Rattle.call_laws.proofs.Kept.{tells_or_not}
 use Rattle.stripe_core.specs.declared.refusal.Refusal.{Refusal}
 use Rattle.stripe_core.specs.declared.refusal.Refusal.TheVariants as refusal
-use Rattle.stripe_pieces.specs.Covers.{AllReadIsSeen, Covers, SpendsFirst}
-use Rattle.stripe_pieces.specs.Still.{IsUnwritten}
+use Rattle.piece_answers.specs.Covers.{AllReadIsSeen, Covers, SpendsFirst}
+use Rattle.held_pieces.specs.Still.{IsUnwritten}
 use Rattle.stripe_core.specs.declared.stripe.Stripe.{Stripe}
 use Rattle.stripe_core.specs.Between.{Continues}
 use Rattle.stripe_core.specs.Counts.{IsCounted}
 use Rattle.stripe_core.specs.Stripe.{Wanting, kept_in, seen_in}
 use Rattle.stripe_core.proofs.Continuing.{continues_still}
-use Rattle.stripe_pieces.proofs.Covering.{own_covers, own_permit}
+use Rattle.piece_answers.proofs.Covering.{own_covers, own_permit}
 use Rattle.stripe_vectors.specs.declared.reading.KeyVector.{KeyVector}
 use Rattle.stripe_vectors.specs.declared.reading.KeyVector.TheVariants as found
 use Rattle.stripe_vectors.specs.declared.spelling.Spelled.{Spelled}

@@ -20,7 +20,7 @@ use Rattle.cache_model.specs.Legal.{DoesWeigh, IsWriting, is_writing}
 use Rattle.cache_model.specs.Pair.{IsKeyPair}
 use Rattle.cache_model.specs.Vectors.{AreVectors, IsVectorAs}
 use Rattle.cache_chronicle.proofs.RowLemmas.{row_in-named, row_in-without}
-use Rattle.stripe_pieces.specs.Find.{records_of_trouble}
+use Rattle.piece_answers.specs.Find.{records_of_trouble}
 use Rattle.stripe_vectors.specs.declared.reading.KeyVector.{KeyVector}
 use Rattle.stripe_vectors.specs.declared.reading.KeyVector.TheVariants as found
 use Rattle.stripe_vectors.specs.Reading.{HasAlternates, IsVectorFound, ReadIsListed, VectorIsReadAs, trouble_records, vector_adds}

@@ -25,8 +25,8 @@ use Rattle.stripe_core.specs.declared.stripe.Stripe.{Stripe}
 use Rattle.stripe_core.specs.Between.{Continues, RestsWith}
 use Rattle.stripe_core.specs.Counts.{IsCounted}
 use Rattle.stripe_core.specs.Stripe.{Wanting, kept_in, room_for, seen_in, state_in, units_in}
-use Rattle.stripe_pieces.specs.Covers.{Covers, SpendsFirst}
-use Rattle.stripe_pieces.specs.Still.{IsStill, IsUnwritten}
+use Rattle.piece_answers.specs.Covers.{Covers, SpendsFirst}
+use Rattle.held_pieces.specs.Still.{IsStill, IsUnwritten}
 use Rattle.cache_model.specs.Pair.{IsKeyPair}
 use Rattle.stripe_write.specs.declared.finishing.Receipt.{Receipt}
 use Rattle.stripe_write.specs.declared.weighing.Vectors.{Vectors}

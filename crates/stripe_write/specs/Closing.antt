@@ -24,8 +24,8 @@ use Rattle.stripe_core.specs.declared.stripe.Stripe.{Stripe}
 use Rattle.stripe_core.specs.Between.{Rests}
 use Rattle.stripe_core.specs.Counts.{IsCounted}
 use Rattle.stripe_core.specs.Stripe.{Wanting, kept_in, room_for, seen_in, state_in, units_in}
-use Rattle.stripe_pieces.specs.Covers.{AllReadIsSeen, Covers, SpendsFirst}
-use Rattle.stripe_pieces.specs.Still.{IsUnwritten}
+use Rattle.piece_answers.specs.Covers.{AllReadIsSeen, Covers, SpendsFirst}
+use Rattle.held_pieces.specs.Still.{IsUnwritten}
 use Rattle.stripe_vectors.specs.declared.spelling.Spelled.{Spelled}
 use Rattle.cache_model.specs.Pair.{IsKeyPair}
 use Rattle.stripe_vectors.specs.Spelled.{IsSpelled}

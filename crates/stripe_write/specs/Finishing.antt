@@ -23,9 +23,9 @@ use Rattle.stripe_core.specs.Acts.{CommitsAsAsked, committed_record}
 use Rattle.stripe_core.specs.Between.{Continues, Rests, RestsWith}
 use Rattle.stripe_core.specs.Counts.{IsCounted}
 use Rattle.stripe_core.specs.Stripe.{AnswersOrWants, kept_in, seen_in, state_in, units_in}
-use Rattle.stripe_pieces.specs.Covers.{Covers}
-use Rattle.stripe_pieces.specs.Flush.{StopsWith}
-use Rattle.stripe_pieces.specs.Place.{IsExhaustedAt, RoomsAsAsked}
+use Rattle.piece_answers.specs.Covers.{Covers}
+use Rattle.piece_answers.specs.Flush.{StopsWith}
+use Rattle.piece_answers.specs.Place.{IsExhaustedAt, RoomsAsAsked}
 use Rattle.stripe_vectors.specs.declared.spelling.Spelled.{Spelled}
 use Rattle.stripe_write.specs.declared.finishing.Receipt.{Receipt}
 use Rattle.stripe_write.specs.declared.weighing.Vectors.{Vectors}

@@ -3,7 +3,7 @@ use Rattle.std.specs.Prelude.{ℕ}
 use Rattle.cache_model.specs.State.{State}
 use Rattle.stripe_core.specs.declared.refusal.Refusal.{Refusal}
 use Rattle.stripe_core.specs.declared.refusal.Refusal.TheVariants as refusal
-use Rattle.stripe_pieces.specs.Place.{IsExhaustedAt}
+use Rattle.piece_answers.specs.Place.{IsExhaustedAt}
 
 -- a call that stops at the limit, when a piece of so many bytes was to be placed, tells that number
 abbrev pub StopsExhausted : State → ℕ → Refusal → Type 0

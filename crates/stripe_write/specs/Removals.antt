@@ -12,7 +12,7 @@ use Rattle.cache_model.specs.Kept.{with_records}
 use Rattle.cache_model.specs.Verdict.{cause_of_miss, live_vector_of}
 use Rattle.cache_model.specs.Permit.{Done, Permit, Remove}
 use Rattle.cache_model.specs.Legal.{Does}
-use Rattle.stripe_pieces.specs.Still.{IsStill}
+use Rattle.held_pieces.specs.Still.{IsStill}
 use Rattle.stripe_core.specs.declared.stripe.Stripe.{Stripe}
 use Rattle.stripe_core.specs.Between.{Rests}
 use Rattle.stripe_core.specs.Stripe.{kept_in, seen_in, state_in}

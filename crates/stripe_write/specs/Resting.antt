@@ -10,11 +10,11 @@ use Rattle.cache_model.specs.State.{State}
 use Rattle.cache_model.specs.Kept.{Kept, state_of, with_records}
 use Rattle.cache_model.specs.Legal.{is_writing}
 use Rattle.cache_model.specs.Permit.{Done, End, Permit}
-use Rattle.stripe_pieces.specs.declared.answer.Placed.{Placed}
-use Rattle.stripe_pieces.specs.declared.answer.Stop.{Stop}
-use Rattle.stripe_pieces.specs.Covers.{Covers}
-use Rattle.stripe_pieces.specs.Flush.{stop_end}
-use Rattle.stripe_pieces.specs.Place.{IsCutAs, IsStoppedAs}
+use Rattle.piece_answers.specs.declared.answer.Placed.{Placed}
+use Rattle.piece_answers.specs.declared.answer.Stop.{Stop}
+use Rattle.piece_answers.specs.Covers.{Covers}
+use Rattle.piece_answers.specs.Flush.{stop_end}
+use Rattle.piece_answers.specs.Place.{IsCutAs, IsStoppedAs}
 use Rattle.stripe_core.specs.declared.refusal.Refusal.{Refusal}
 use Rattle.stripe_core.specs.declared.stripe.Stripe.{Stripe}
 use Rattle.stripe_core.specs.Between.{RestsWith}

@@ -20,15 +20,15 @@ use Rattle.logged_disk.specs.declared.device.Disk.{Ghosts as DiskGhosts}
 use Rattle.dir_table.specs.declared.directory.Directory.{Ghosts as DirectoryGhosts}
 use Rattle.cache_chronicle.specs.declared.chronicle.Chronicle.{Ghosts as ChronicleGhosts}
 use Rattle.cache_model.specs.Contents.{Contents}
-use Rattle.stripe_pieces.specs.declared.answer.Placed.{Placed}
+use Rattle.piece_answers.specs.declared.answer.Placed.{Placed}
 use Rattle.stripe_core.specs.declared.refusal.Refusal.{Refusal}
 use Rattle.stripe_core.specs.declared.refusal.Refusal.TheVariants as refusal
-use Rattle.stripe_pieces.specs.declared.answer.Stop.{Stop}
-use Rattle.stripe_pieces.specs.declared.answer.Stop.TheVariants as stop
-use Rattle.stripe_pieces.specs.Covers.{Covers, SpendsFirst}
+use Rattle.piece_answers.specs.declared.answer.Stop.{Stop}
+use Rattle.piece_answers.specs.declared.answer.Stop.TheVariants as stop
+use Rattle.piece_answers.specs.Covers.{Covers, SpendsFirst}
 use Rattle.cache_model.specs.Damage.{TellNoDamage}
-use Rattle.stripe_pieces.specs.Place.{CutsAsAsked, IsCutOrStoppedAs, place_end}
-use Rattle.stripe_pieces.specs.Still.{IsStill}
+use Rattle.piece_answers.specs.Place.{CutsAsAsked, IsCutOrStoppedAs, place_end}
+use Rattle.held_pieces.specs.Still.{IsStill}
 use Rattle.stripe_core.specs.declared.stripe.Stripe.{Stripe}
 use Rattle.stripe_core.specs.Acts.{OpensAsAsked, write_opened_record}
 use Rattle.stripe_core.specs.Between.{Rests, RestsWith}

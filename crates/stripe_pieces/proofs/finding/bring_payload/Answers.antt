@@ -1,5 +1,5 @@
 use Rattle.std.proofs.Common.{◌+◌, ◌≤◌, ◌∙◌, ap, arith, length, take}
-use Rattle.stripe_pieces.proofs.Fronts.{payload_fits, payload_in_front}
+use Rattle.piece_answers.proofs.Fronts.{payload_fits, payload_in_front}
 use Rattle.stripe_pieces.proofs.finding.bring_payload.Goals as goal
 
 pub copy_within-requires-clause-in_bounds : goal.copy_within-requires-clause-in_bounds

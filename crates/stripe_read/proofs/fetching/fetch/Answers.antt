@@ -2,7 +2,7 @@ use Rattle.std.proofs.Common.{◌≡◌, ◌∙◌, ap, arith, inl, subst}
 use Rattle.std.proofs.lemmas.Result.{err_from_is_err_and}
 use Rattle.cache_model.specs.State.{live_row_of}
 use Rattle.cache_model.specs.Kept.{Kept, state_of, with_records}
-use Rattle.stripe_pieces.specs.Find.{Finds, find_adds}
+use Rattle.piece_answers.specs.Find.{Finds, find_adds}
 use Rattle.stripe_core.specs.Stripe.{kept_in, seen_in, state_in}
 use Rattle.stripe_pieces.proofs.Fitting.{budget_has_room}
 use Rattle.stripe_read.specs.Fetches.{IsCompared, IsOtherPiece}

@@ -2,8 +2,8 @@ use Rattle.std.proofs.Common.{◌≡◌, ◌≤◌, ◌∙◌, subst, refl, arit
 use Rattle.std.proofs.lemmas.Result.{err_from_is_err_and}
 use Rattle.cache_model.specs.State.{State, live_row_of}
 use Rattle.cache_model.specs.Kept.{with_records}
-use Rattle.stripe_pieces.specs.declared.answer.Found.TheVariants as found
-use Rattle.stripe_pieces.specs.Find.{find_adds}
+use Rattle.piece_answers.specs.declared.answer.Found.TheVariants as found
+use Rattle.piece_answers.specs.Find.{find_adds}
 use Rattle.stripe_core.specs.Stripe.{kept_in, seen_in, state_in}
 use Rattle.stripe_core.proofs.Continuing.{continues_proceeds, proceeds_then}
 use Rattle.stripe_read.specs.Fetches.{Fetches}

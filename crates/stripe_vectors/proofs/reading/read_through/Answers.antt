@@ -1,8 +1,8 @@
 use Rattle.std.proofs.Common.{◌≡◌, ◌∙◌, ap, subst}
 use Rattle.std.proofs.lemmas.Result.{err_from_is_err_and}
 use Rattle.cache_model.specs.Kept.{with_records}
-use Rattle.stripe_pieces.specs.Find.{Finds, find_adds}
-use Rattle.stripe_pieces.specs.declared.answer.Found.TheVariants as found
+use Rattle.piece_answers.specs.Find.{Finds, find_adds}
+use Rattle.piece_answers.specs.declared.answer.Found.TheVariants as found
 use Rattle.logged_disk.proofs.GoingOn.{told_before}
 use Rattle.stripe_core.specs.Stripe.{kept_in, seen_in, state_in}
 use Rattle.stripe_pieces.proofs.VectorsListed.{are_listed}

@@ -4,8 +4,8 @@ use Rattle.device_log.specs.Calls.{Call}
 use Rattle.cache_model.specs.Kept.{Kept, state_of}
 use Rattle.cache_model.specs.State.{PutRow, vector_piece}
 use Rattle.stripe_core.specs.Acts.{IsCommitting}
-use Rattle.stripe_pieces.specs.Place.{PlacesVector}
-use Rattle.stripe_pieces.specs.declared.answer.Placed.{Placed}
+use Rattle.piece_answers.specs.Place.{PlacesVector}
+use Rattle.piece_answers.specs.declared.answer.Placed.{Placed}
 use Rattle.stripe_write.specs.declared.writer.Writer.{Writer}
 use Rattle.stripe_write.proofs.Counted.{vector_counted}
 use Rattle.stripe_write.proofs.Pushed.{pushed_by}
@@ -13,7 +13,7 @@ use Rattle.stripe_write.proofs.Spending.{state_behind}
 use Rattle.logged_disk.specs.Device.{DeviceState as Device}
 use Rattle.logged_disk.proofs.GoingOn.{told_before}
 use Rattle.cache_model.specs.Contents.{TellsVectors, contents_of_vectors}
-use Rattle.stripe_pieces.specs.Standing.{IsToldPlaced}
+use Rattle.piece_answers.specs.Standing.{IsToldPlaced}
 use Rattle.stripe_core.specs.Stripe.{kept_in, seen_in, state_in}
 use Rattle.stripe_vectors.specs.declared.spelling.Spelled.{Spelled}
 use Rattle.stripe_write.specs.Finishing.{picked}
@@ -21,7 +21,7 @@ use Rattle.stripe_write.proofs.Owning.{owns, owns_none, owns_vector, then_owns}
 use Rattle.stripe_write.proofs.Completing.{IsClosing, completes, is_closing, not_placed, picked_lists, refused_finishes, refused_writer, vector_for, vector_of_put, vector_state, vector_where}
 use Rattle.stripe_core.proofs.Continuing.{continues_still, rests_with}
 use Rattle.stripe_write.proofs.ToldPieces.{own_vectors, rests_before, told_vector}
-use Rattle.stripe_pieces.proofs.Displacing.{displaced_puts}
+use Rattle.piece_answers.proofs.Displacing.{displaced_puts}
 use Rattle.stripe_write.proofs.finishing.complete.Goals as goal
 
 -- behind its vector a put may be committed

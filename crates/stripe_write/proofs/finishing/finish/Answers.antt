@@ -1,7 +1,7 @@
 use Rattle.std.proofs.Common.{sym, ◌∙◌, subst}
 use Rattle.logged_disk.proofs.GoingOn.{told_before}
 use Rattle.cache_model.specs.Contents.{TellsVectors}
-use Rattle.stripe_pieces.specs.Place.{RoomsAsAsked}
+use Rattle.piece_answers.specs.Place.{RoomsAsAsked}
 use Rattle.stripe_core.specs.Stripe.{kept_in, seen_in, state_in}
 use Rattle.stripe_write.specs.Closing.{AreSpelled}
 use Rattle.stripe_write.specs.Finishing.{bytes_now}

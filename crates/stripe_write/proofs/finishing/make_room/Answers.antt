@@ -1,8 +1,8 @@
 use Rattle.std.proofs.Common.{◌≡◌, true, false, ◌∙◌, ap, subst, arith}
 use Rattle.std.specs.Prelude.{IfErr, OnErr, OnOk, length}
 use Rattle.cache_model.specs.Room.{has_room}
-use Rattle.stripe_pieces.specs.Flush.{StopsWith}
-use Rattle.stripe_pieces.specs.Place.{RoomsAsAsked}
+use Rattle.piece_answers.specs.Flush.{StopsWith}
+use Rattle.piece_answers.specs.Place.{RoomsAsAsked}
 use Rattle.stripe_core.specs.Stripe.{AnswersOrWants, kept_in, seen_in, state_in}
 use Rattle.stripe_vectors.specs.declared.spelling.Spelled.{Spelled}
 use Rattle.stripe_write.specs.Finishing.{bytes_now, picked}

@@ -7,9 +7,9 @@ use Rattle.tape_base.specs.Digest.{digest_of}
 use Rattle.fragment_table.specs.Table.{made_row}
 use Rattle.cache_model.specs.Legal.{IsQuiet}
 use Rattle.cache_model.specs.Contents.{Contents, IsToldAs, contents_of_vectors}
-use Rattle.stripe_pieces.specs.declared.answer.Placed.{Placed}
-use Rattle.stripe_pieces.specs.Place.{CutsAsAsked, IsFragmentOf, IsPlacing, IsVectorFor}
-use Rattle.stripe_pieces.specs.Standing.{IsToldPlaced}
+use Rattle.piece_answers.specs.declared.answer.Placed.{Placed}
+use Rattle.piece_answers.specs.Place.{CutsAsAsked, IsFragmentOf, IsPlacing, IsVectorFor}
+use Rattle.piece_answers.specs.Standing.{IsToldPlaced}
 use Rattle.stripe_core.specs.Stripe.{AnswersOrWants, kept_in, seen_in, state_in}
 use Rattle.stripe_core.proofs.Continuing.{continues_rests, continues_with_rests, rests_with}
 use Rattle.stripe_core.proofs.Stills.{wanting_unstopped}

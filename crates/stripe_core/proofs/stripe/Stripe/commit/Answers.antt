@@ -9,13 +9,13 @@ use Rattle.cache_model.specs.Contents.{contents_of_vectors}
 use Rattle.stripe_actors.specs.Actors.{AreActors}
 use Rattle.stripe_pieces.specs.Pieces.{seen_now}
 use Rattle.stripe_core.specs.Stripe.{kept_in, seen_in, state_in}
-use Rattle.stripe_pieces.proofs.RecordsAdded.{state_of-with_records}
+use Rattle.piece_answers.proofs.RecordsAdded.{state_of-with_records}
 use Rattle.stripe_core.proofs.Doings.{commits, one_less, open_cuts, reader_behind}
 use Rattle.stripe_core.proofs.Sparing.{made_behind, numbered_by}
-use Rattle.stripe_core.proofs.Naming.{named_behind, named_committed}
+use Rattle.piece_names.proofs.Naming.{named_behind, named_committed}
 use Rattle.stripe_core.proofs.Between.{between-tells}
 use Rattle.stripe_core.proofs.Continuing.{no_less}
-use Rattle.stripe_core.proofs.NoneDisplaced.{none_behind}
+use Rattle.piece_answers.proofs.NoneDisplaced.{none_behind}
 use Rattle.stripe_core.proofs.Ready.{one_record_ready}
 use Rattle.stripe_core.proofs.stripe.Stripe.commit.Goals as goal
 

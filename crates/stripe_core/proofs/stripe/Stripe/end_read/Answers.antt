@@ -5,12 +5,12 @@ use Rattle.cache_model.specs.Kept.{state_of}
 use Rattle.cache_model.specs.Contents.{contents_of_vectors}
 use Rattle.stripe_actors.specs.Actors.{AreActors}
 use Rattle.stripe_core.specs.Stripe.{kept_in, seen_in, state_in}
-use Rattle.stripe_pieces.proofs.RecordsAdded.{state_of-with_records}
+use Rattle.piece_answers.proofs.RecordsAdded.{state_of-with_records}
 use Rattle.stripe_core.proofs.Doings.{LeavesPieces, ends_read, held_behind, one_record, reader_behind, standing_behind}
 use Rattle.stripe_core.proofs.Sparing.{made_behind, numbered_by}
-use Rattle.stripe_core.proofs.Naming.{name_left, named_behind}
+use Rattle.piece_names.proofs.Naming.{name_left, named_behind}
 use Rattle.stripe_core.proofs.Between.{between-tells}
-use Rattle.stripe_core.proofs.NoneDisplaced.{none_behind}
+use Rattle.piece_answers.proofs.NoneDisplaced.{none_behind}
 use Rattle.stripe_core.proofs.stripe.Stripe.end_read.Goals as goal
 
 pub returns : goal.returns

@@ -2,19 +2,19 @@ use Rattle.std.proofs.Common.{◌++◌, sym, ◌∙◌, ap, subst, refl, arith}
 use Rattle.std.proofs.lemmas.Result.{err_from_is_err_and}
 use Rattle.cache_model.specs.Given.{effects_told}
 use Rattle.cache_model.specs.Contents.{contents_of_vectors}
-use Rattle.stripe_pieces.specs.Covers.{Covers}
-use Rattle.stripe_pieces.specs.Faults.{HasEffects}
+use Rattle.piece_answers.specs.Covers.{Covers}
+use Rattle.piece_answers.specs.Faults.{HasEffects}
 use Rattle.cache_model.specs.Kept.{Kept, state_of, with_records}
-use Rattle.stripe_pieces.specs.Find.{Finds, find_adds}
+use Rattle.piece_answers.specs.Find.{Finds, find_adds}
 use Rattle.stripe_pieces.specs.Pieces.{seen_now}
-use Rattle.stripe_pieces.specs.Standing.{AreStanding}
+use Rattle.piece_answers.specs.Standing.{AreStanding}
 use Rattle.stripe_core.specs.Calls.{FindsInStripe}
 use Rattle.stripe_core.specs.Stripe.{flushes_in, kept_in, room_for, seen_in, state_in, units_in}
 use Rattle.stripe_core.proofs.Sparing.{actors_with, find_are_others, made_still, numbered_others, spent_calm}
-use Rattle.stripe_core.proofs.Naming.{find_leaves, named_with}
+use Rattle.piece_names.proofs.Naming.{find_leaves, named_with}
 use Rattle.logged_disk.proofs.GoingOn.{goes_further}
 use Rattle.stripe_core.proofs.Between.{between-adds, between-trans}
-use Rattle.stripe_core.proofs.NoneDisplaced.{find_displaces, none_with}
+use Rattle.piece_answers.proofs.NoneDisplaced.{find_displaces, none_with}
 use Rattle.stripe_core.proofs.Ready.{ready_with}
 use Rattle.stripe_core.proofs.Stills.{still_shows}
 use Rattle.stripe_core.proofs.stripe.Stripe.find_piece.Goals as goal

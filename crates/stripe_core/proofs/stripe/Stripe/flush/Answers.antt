@@ -4,17 +4,17 @@ use Rattle.std.proofs.lemmas.Result.{err_from_is_err_and}
 use Rattle.cache_model.specs.Kept.{Kept, state_of}
 use Rattle.cache_model.specs.Room.{is_flush_exhausted}
 use Rattle.cache_model.specs.Contents.{contents_of_vectors}
-use Rattle.stripe_pieces.specs.declared.answer.Flushed.{Flushed}
-use Rattle.stripe_pieces.specs.Flush.{FlushesAsAsked, StopsWith, TellsFlush, WritesNothing}
+use Rattle.piece_answers.specs.declared.answer.Flushed.{Flushed}
+use Rattle.piece_answers.specs.Flush.{FlushesAsAsked, StopsWith, TellsFlush, WritesNothing}
 use Rattle.stripe_pieces.specs.Pieces.{kept_now, seen_now, state_now}
-use Rattle.stripe_pieces.specs.Still.{IsStill}
+use Rattle.held_pieces.specs.Still.{IsStill}
 use Rattle.stripe_core.specs.Calls.{FlushesInStripe}
 use Rattle.stripe_core.specs.Stripe.{AnswersOrWants, HasMemory, Wanting, flushes_in, kept_in, room_for, seen_in, state_in, units_in}
 use Rattle.stripe_core.proofs.Asked.{behind_unit, stop_has_memory, stop_wants_none}
-use Rattle.stripe_core.proofs.Naming.{flush_leaves, named_with}
+use Rattle.piece_names.proofs.Naming.{flush_leaves, named_with}
 use Rattle.stripe_core.proofs.Sparing.{actors_with, answers_stop, flush_is_others, made_still, nothing_in_buffer, numbered_others, spent_by}
 use Rattle.stripe_core.proofs.Between.{between-adds, between-trans}
-use Rattle.stripe_core.proofs.NoneDisplaced.{flush_displaces, none_with}
+use Rattle.piece_answers.proofs.NoneDisplaced.{flush_displaces, none_with}
 use Rattle.stripe_core.proofs.Ready.{ready_to_flush}
 use Rattle.stripe_core.proofs.Stills.{still_as, still_then}
 use Rattle.stripe_core.proofs.stripe.Stripe.flush.Goals as goal

@@ -2,7 +2,7 @@ use Rattle.std.proofs.Common.{arith, refl}
 use Rattle.std.proofs.lemmas.Grind.{common_steps}
 use Rattle.std.proofs.lemmas.Result.{IfOk-from_err}
 use Rattle.stripe_pieces.specs.Pieces.{kept_now, seen_now}
-use Rattle.stripe_pieces.proofs.Going.{still_of}
+use Rattle.held_pieces.proofs.Going.{still_of}
 use Rattle.stripe_core.proofs.Between.{between-none}
 use Rattle.stripe_core.proofs.Continuing.{continues_beside, continues_same}
 use Rattle.stripe_core.proofs.Ready.{grown_device}

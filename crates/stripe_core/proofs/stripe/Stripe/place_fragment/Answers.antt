@@ -6,18 +6,18 @@ use Rattle.cache_model.specs.Kept.{state_of}
 use Rattle.cache_model.proofs.Steps.{after_all-append}
 use Rattle.cache_model.specs.Contents.{contents_of_vectors}
 use Rattle.stripe_actors.specs.Actors.{AreActors}
-use Rattle.stripe_pieces.specs.declared.answer.Placed.{Placed}
-use Rattle.stripe_pieces.specs.Place.{CutsAsAsked, IsCutAs, IsStoppedAs}
+use Rattle.piece_answers.specs.declared.answer.Placed.{Placed}
+use Rattle.piece_answers.specs.Place.{CutsAsAsked, IsCutAs, IsStoppedAs}
 use Rattle.stripe_pieces.specs.Pieces.{kept_now, seen_now}
 use Rattle.stripe_core.specs.Stripe.{AnswersOrWants, HasMemory, Wanting, flushes_in, kept_in, seen_in, state_in, units_in}
 use Rattle.stripe_core.proofs.Asked.{stop_has_memory, stop_wants_none}
-use Rattle.stripe_pieces.proofs.RecordsAdded.{state_of-with_records}
-use Rattle.stripe_pieces.proofs.Displacing.{displaced_puts, pushed_kinds}
-use Rattle.stripe_core.proofs.Naming.{displaced_leaves, begun_put, flush_leaves, fragment_named, fragment_new, named_with}
+use Rattle.piece_answers.proofs.RecordsAdded.{state_of-with_records}
+use Rattle.piece_answers.proofs.Displacing.{displaced_puts, pushed_kinds}
+use Rattle.piece_names.proofs.Naming.{displaced_leaves, begun_put, flush_leaves, fragment_named, fragment_new, named_with}
 use Rattle.stripe_core.proofs.Sparing.{actors_with, answers_stop, flush_is_others, fragment_actors, fragment_readers, made_still, no_vector_id, numbered_by, numbered_others, placed_state, room_for_it, spent_by}
 use Rattle.stripe_core.proofs.Between.{between-adds}
 use Rattle.stripe_core.proofs.Continuing.{continues_beside, continues_with}
-use Rattle.stripe_core.proofs.NoneDisplaced.{flush_displaces, none_placed, none_with, told_fragment}
+use Rattle.piece_answers.proofs.NoneDisplaced.{flush_displaces, none_placed, none_with, told_fragment}
 use Rattle.stripe_core.proofs.Ready.{ready_to_flush}
 use Rattle.stripe_core.proofs.Stills.{still_wanting}
 use Rattle.stripe_core.proofs.stripe.Stripe.place_fragment.Goals as goal

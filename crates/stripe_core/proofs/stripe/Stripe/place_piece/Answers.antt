@@ -7,9 +7,9 @@ use Rattle.logged_disk.proofs.GoingOn.{told_before}
 use Rattle.cache_model.specs.Kept.{Kept, state_of}
 use Rattle.cache_model.specs.Room.{has_room}
 use Rattle.cache_model.specs.Contents.{IsToldAs, contents_of_vectors}
-use Rattle.stripe_pieces.specs.Place.{CutsAsAsked, PlacesAsAsked, PlacesVector}
-use Rattle.stripe_pieces.specs.Standing.{IsToldPlaced}
-use Rattle.stripe_pieces.specs.Still.{IsStill}
+use Rattle.piece_answers.specs.Place.{CutsAsAsked, PlacesAsAsked, PlacesVector}
+use Rattle.piece_answers.specs.Standing.{IsToldPlaced}
+use Rattle.held_pieces.specs.Still.{IsStill}
 use Rattle.stripe_core.specs.Calls.{PlacesInStripe}
 use Rattle.stripe_core.specs.Stripe.{kept_in, room_for, seen_in}
 use Rattle.stripe_core.proofs.Asked.{behind_unit, never_wants}

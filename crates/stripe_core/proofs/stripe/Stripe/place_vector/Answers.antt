@@ -6,17 +6,17 @@ use Rattle.cache_model.specs.Kept.{state_of, with_records}
 use Rattle.dir_table.specs.Displacement.{purge_of}
 use Rattle.tape_base.specs.Piece.{is_vector}
 use Rattle.cache_model.specs.Contents.{contents_of_vectors}
-use Rattle.stripe_pieces.specs.Place.{AreOfPlace, PlacesVector}
+use Rattle.piece_answers.specs.Place.{AreOfPlace, PlacesVector}
 use Rattle.stripe_pieces.specs.Pieces.{kept_now, seen_now}
 use Rattle.stripe_core.specs.Stripe.{AnswersOrWants, flushes_in, kept_in, seen_in, state_in, units_in}
 use Rattle.stripe_core.proofs.Between.{between-tells}
-use Rattle.stripe_pieces.proofs.Groups.{no_damage_adds, place_quiet, vector_group}
-use Rattle.stripe_pieces.proofs.Displacing.{displaced_puts, pushed_kinds}
-use Rattle.stripe_core.proofs.Naming.{displaced_leaves, begun_put, named_with, vector_named, vector_new}
-use Rattle.stripe_pieces.proofs.RecordsAdded.{state_of-with_records}
+use Rattle.piece_answers.proofs.Groups.{no_damage_adds, place_quiet, vector_group}
+use Rattle.piece_answers.proofs.Displacing.{displaced_puts, pushed_kinds}
+use Rattle.piece_names.proofs.Naming.{displaced_leaves, begun_put, named_with, vector_named, vector_new}
+use Rattle.piece_answers.proofs.RecordsAdded.{state_of-with_records}
 use Rattle.stripe_core.proofs.Sparing.{actors_with, answers_stop, made_still, numbered_others, spent_calm, vector_others, vector_state}
 use Rattle.stripe_core.proofs.Continuing.{no_less}
-use Rattle.stripe_core.proofs.NoneDisplaced.{none_placed, none_with}
+use Rattle.piece_answers.proofs.NoneDisplaced.{none_placed, none_with}
 use Rattle.stripe_core.proofs.Ready.{ready_with}
 use Rattle.stripe_core.proofs.stripe.Stripe.place_vector.Goals as goal
 

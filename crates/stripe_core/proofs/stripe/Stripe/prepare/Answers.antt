@@ -1,7 +1,7 @@
 use Rattle.std.proofs.Common.{◌∙◌, ap, arith, subst, sym}
 use Rattle.std.proofs.lemmas.Result.{err_from_is_err_and}
 use Rattle.cyclone.specs.Cyclone.{Seen}
-use Rattle.stripe_pieces.specs.Still.{IsStill}
+use Rattle.held_pieces.specs.Still.{IsStill}
 use Rattle.stripe_core.specs.Calls.{PreparesStripe}
 use Rattle.stripe_core.specs.Stripe.{room_for, seen_in}
 use Rattle.stripe_core.proofs.Continuing.{continues_then}

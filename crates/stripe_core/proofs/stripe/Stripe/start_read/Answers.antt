@@ -9,13 +9,13 @@ use Rattle.stripe_actors.specs.Actors.{AreActors}
 use Rattle.stripe_core.specs.Acts.{IsFollowable}
 use Rattle.stripe_core.specs.Calls.{StartsReadInStripe}
 use Rattle.stripe_core.specs.Stripe.{flushes_in, kept_in, seen_in, state_in, units_in}
-use Rattle.stripe_pieces.proofs.RecordsAdded.{state_of-with_records}
+use Rattle.piece_answers.proofs.RecordsAdded.{state_of-with_records}
 use Rattle.stripe_core.proofs.Doings.{LeavesPieces, held_behind, looks, reader_behind, standing_behind}
-use Rattle.stripe_core.proofs.Naming.{name_left, named_behind}
+use Rattle.piece_names.proofs.Naming.{name_left, named_behind}
 use Rattle.stripe_core.proofs.Sparing.{made_behind, numbered_by, one_told}
 use Rattle.stripe_core.proofs.Between.{between-tells, between-trans}
 use Rattle.stripe_core.proofs.Continuing.{continues_beside, continues_then}
-use Rattle.stripe_core.proofs.NoneDisplaced.{none_behind}
+use Rattle.piece_answers.proofs.NoneDisplaced.{none_behind}
 use Rattle.stripe_core.proofs.stripe.Stripe.start_read.Goals as goal
 
 pub returns-in_err-take_unit : goal.returns-in_err-take_unit

@@ -6,11 +6,11 @@ use Rattle.cache_model.specs.State.{cursor_next, floor_next}
 use Rattle.logged_disk.proofs.Moments.{seen_image}
 use Rattle.cyclone.specs.Cyclone.{seen_cyclone}
 use Rattle.stripe_pieces.specs.Pieces.{kept_now, seen_now, state_now}
-use Rattle.stripe_pieces.specs.Records.{IsWrittenOut}
-use Rattle.stripe_pieces.proofs.Beginning.{begun_is_held}
+use Rattle.held_pieces.specs.Records.{IsWrittenOut}
+use Rattle.held_pieces.proofs.Beginning.{begun_is_held}
 use Rattle.stripe_pieces.proofs.Standing.{standing_begun}
 use Rattle.stripe_pieces.proofs.Telling.{held_behind, stands_behind}
-use Rattle.stripe_pieces.proofs.Uses.{still_uses}
+use Rattle.piece_answers.proofs.Uses.{still_uses}
 use Rattle.stripe_pieces.proofs.pieces.Pieces.begin.Goals as goal
 
 pub returns : goal.returns

@@ -5,7 +5,7 @@ use Rattle.cyclone.specs.Cyclone.{Seen}
 use Rattle.stripe_pieces.specs.Pieces.{kept_now, seen_now, state_now}
 use Rattle.stripe_pieces.proofs.Standing.{standing_committed}
 use Rattle.stripe_pieces.proofs.Telling.{held_behind, stands_behind}
-use Rattle.stripe_pieces.proofs.Uses.{rows_use}
+use Rattle.piece_answers.proofs.Uses.{rows_use}
 use Rattle.stripe_pieces.proofs.pieces.Pieces.commit.Goals as goal
 
 pub returns : goal.returns

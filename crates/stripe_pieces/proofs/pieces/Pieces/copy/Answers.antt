@@ -2,7 +2,7 @@ use Rattle.std.proofs.Common.{◌≡◌, ◌+◌, ◌<◌, arith, length}
 use Rattle.stripe_pieces.specs.Copying.{blocks_for}
 use Rattle.stripe_pieces.specs.Pieces.{kept_now, seen_now}
 use Rattle.stripe_pieces.proofs.Copied.{all_copied, bytes_taken, copied_more, copies_left, nothing_copied, taken_twice}
-use Rattle.stripe_pieces.proofs.Uses.{still_uses}
+use Rattle.piece_answers.proofs.Uses.{still_uses}
 use Rattle.stripe_pieces.proofs.pieces.Pieces.copy.Goals as goal
 
 pub loop-i-init : goal.loop-i-init

@@ -3,9 +3,9 @@ use Rattle.cache_model.specs.declared.record.Rec.TheVariants as rec
 use Rattle.cyclone.specs.Cyclone.{Seen, seen_cyclone}
 use Rattle.stripe_pieces.specs.Pieces.{kept_now, seen_now, state_now}
 use Rattle.stripe_pieces.proofs.Standing.{standing_damaged}
-use Rattle.stripe_pieces.proofs.Takings.{damaged_is_held}
+use Rattle.held_pieces.proofs.Takings.{damaged_is_held}
 use Rattle.stripe_pieces.proofs.Telling.{held_behind, stands_behind}
-use Rattle.stripe_pieces.proofs.Uses.{rows_use}
+use Rattle.piece_answers.proofs.Uses.{rows_use}
 use Rattle.stripe_pieces.proofs.pieces.Pieces.damage.Goals as goal
 
 pub returns-clause-keeps : goal.returns-clause-keeps

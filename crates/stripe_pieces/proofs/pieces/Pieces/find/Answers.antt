@@ -4,13 +4,13 @@ use Rattle.logged_disk.proofs.GoingOn.{stays_put}
 use Rattle.cache_model.specs.Damage.{TellNoDamage}
 use Rattle.cache_model.specs.Kept.{with_records}
 use Rattle.cache_model.specs.State.{live_row_of}
-use Rattle.stripe_pieces.specs.declared.answer.Found.TheVariants as found
-use Rattle.stripe_pieces.specs.Find.{Finds, found_records}
+use Rattle.piece_answers.specs.declared.answer.Found.TheVariants as found
+use Rattle.piece_answers.specs.Find.{Finds, found_records}
 use Rattle.stripe_pieces.specs.Pieces.{kept_now, seen_now, state_now}
 use Rattle.stripe_pieces.proofs.Findings.{finds_nothing}
-use Rattle.stripe_pieces.proofs.RecordsAdded.{with_records-nil}
-use Rattle.stripe_pieces.proofs.Flushes.{records_use}
-use Rattle.stripe_pieces.proofs.Takings.{no_row}
+use Rattle.piece_answers.proofs.RecordsAdded.{with_records-nil}
+use Rattle.piece_answers.proofs.Flushes.{records_use}
+use Rattle.held_pieces.proofs.Takings.{no_row}
 use Rattle.stripe_pieces.proofs.pieces.Pieces.find.Goals as goal
 
 pub returns-in-Some : goal.returns-in-Some

@@ -10,24 +10,24 @@ use Rattle.cache_model.specs.State.{State, after_all, cursor_next}
 use Rattle.cache_model.specs.Kept.{state_of, with_records}
 use Rattle.cache_model.specs.Slots.{AllFit}
 use Rattle.cache_model.specs.Due.{most_passed}
-use Rattle.stripe_pieces.specs.declared.answer.Stop.TheVariants as stop
+use Rattle.piece_answers.specs.declared.answer.Stop.TheVariants as stop
 use Rattle.stripe_pieces.specs.Copying.{AreCopyable, AreTellable, AreToldCopied, begun_behind, copies_among, done_records, told_of_pieces}
-use Rattle.stripe_pieces.specs.Covers.{Uses}
-use Rattle.stripe_pieces.specs.Flush.{FlushesAsAsked, StopsWith}
-use Rattle.stripe_pieces.specs.Held.{IsHeld}
-use Rattle.stripe_pieces.specs.Standing.{AreStanding}
+use Rattle.piece_answers.specs.Covers.{Uses}
+use Rattle.piece_answers.specs.Flush.{FlushesAsAsked, StopsWith}
+use Rattle.held_pieces.specs.Held.{IsHeld}
+use Rattle.piece_answers.specs.Standing.{AreStanding}
 use Rattle.stripe_pieces.specs.Pieces.{kept_now, seen_now, state_now}
 use Rattle.stripe_pieces.proofs.Adding.{flushes_nothing}
-use Rattle.stripe_pieces.proofs.RecordsAdded.{with_records-nil, state_of-with_records}
-use Rattle.stripe_pieces.proofs.HeldBehindFaults.{some_filled, write_spares}
-use Rattle.stripe_pieces.proofs.Flushes.{can, empty_does, exhausted_does, writes_some}
-use Rattle.stripe_pieces.proofs.Going.{device_may_change}
-use Rattle.stripe_pieces.proofs.Holding.{copies_end_fits, copies_end_is, next_is}
+use Rattle.piece_answers.proofs.RecordsAdded.{with_records-nil, state_of-with_records}
+use Rattle.held_pieces.proofs.HeldBehindFaults.{some_filled, write_spares}
+use Rattle.piece_answers.proofs.Flushes.{can, empty_does, exhausted_does, writes_some}
+use Rattle.held_pieces.proofs.Going.{device_may_change}
+use Rattle.held_pieces.proofs.Holding.{copies_end_fits, copies_end_is, next_is}
 use Rattle.stripe_pieces.proofs.LiveBehind.{live_same}
 use Rattle.stripe_pieces.proofs.Looked.{copyable, few_entries, few_records, flush_asked, flush_uses, half_is_free, left_by_write, stop_asked, taken_by_write, tellable, told_copied}
-use Rattle.stripe_pieces.proofs.Slotted.{held_fit}
+use Rattle.held_pieces.proofs.Slotted.{held_fit}
 use Rattle.stripe_pieces.proofs.ToldCopies.{stands_out}
-use Rattle.stripe_pieces.proofs.Effects.{effects_none}
+use Rattle.piece_answers.proofs.Effects.{effects_none}
 use Rattle.stripe_pieces.proofs.pieces.Pieces.flush.Goals as goal
 
 pub returns-then-blocks-eq0-clause-keeps : goal.returns-then-blocks-eq0-clause-keeps

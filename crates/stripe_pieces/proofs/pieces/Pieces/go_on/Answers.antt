@@ -5,7 +5,7 @@ use Rattle.cache_model.specs.Kept.{with_records}
 use Rattle.stripe_pieces.specs.Copying.{AreCopyable, AreToldCopied, copied_of, told_of_pieces}
 use Rattle.stripe_pieces.specs.Pieces.{kept_now, seen_now}
 use Rattle.stripe_pieces.proofs.GoneOn.{adds_behind, begun_is, cursor_stays}
-use Rattle.stripe_pieces.proofs.Uses.{still_uses}
+use Rattle.piece_answers.proofs.Uses.{still_uses}
 use Rattle.stripe_pieces.proofs.pieces.Pieces.go_on.Goals as goal
 
 pub tell-requires-clause-ready : goal.tell-requires-clause-ready

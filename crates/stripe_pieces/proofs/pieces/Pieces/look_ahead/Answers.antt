@@ -3,7 +3,7 @@ use Rattle.std.proofs.Common.{◌≤◌, ◌∙◌, ap, arith, length}
 use Rattle.cache_model.specs.Due.{due_pieces}
 use Rattle.cache_model.specs.Due.{most_passed}
 use Rattle.stripe_pieces.specs.Pieces.{seen_now, state_now}
-use Rattle.stripe_pieces.proofs.Due.{due_are_few, due_in_order, due_rows, looks_by}
+use Rattle.piece_answers.proofs.Due.{due_are_few, due_in_order, due_rows, looks_by}
 use Rattle.stripe_pieces.proofs.pieces.Pieces.look_ahead.Goals as goal
 
 pub mark_kept-requires-clause-rising : goal.mark_kept-requires-clause-rising

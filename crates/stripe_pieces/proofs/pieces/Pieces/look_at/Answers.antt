@@ -5,7 +5,7 @@ use Rattle.tape_base.specs.Geometry.{budget_of}
 use Rattle.cache_model.specs.Due.{candidate_of}
 use Rattle.stripe_pieces.specs.Pieces.{seen_now, state_now}
 use Rattle.stripe_pieces.proofs.Adding.{reads_nothing}
-use Rattle.stripe_pieces.proofs.Noting.{kept_fits, kept_taken, left_out, none_taken, notes_none, notes_read, read_at, row_of_candidate, vector_written}
+use Rattle.piece_answers.proofs.Noting.{kept_fits, kept_taken, left_out, none_taken, notes_none, notes_read, read_at, row_of_candidate, vector_written}
 use Rattle.stripe_pieces.proofs.pieces.Pieces.look_at.Goals as goal
 
 pub slice_bounds-read_ahead-end : goal.slice_bounds-read_ahead-end

@@ -1,8 +1,8 @@
 use Rattle.std.proofs.Common.{◌≡◌, sym, ◌∙◌, true, false}
 use Rattle.stripe_pieces.specs.Pieces.{kept_now, seen_now, state_now}
 use Rattle.stripe_pieces.proofs.Adding.{flushes_nothing}
-use Rattle.stripe_pieces.proofs.Making.{flush_makes, room_behind, room_stands, stop_makes_none}
-use Rattle.stripe_pieces.proofs.Rooms.{no_room, some_room}
+use Rattle.piece_answers.proofs.Making.{flush_makes, room_behind, room_stands, stop_makes_none}
+use Rattle.held_pieces.proofs.Rooms.{no_room, some_room}
 use Rattle.stripe_pieces.proofs.pieces.Pieces.make_room.Goals as goal
 
 pub returns-then-blocks_of-room-clause-keeps : goal.returns-then-blocks_of-room-clause-keeps

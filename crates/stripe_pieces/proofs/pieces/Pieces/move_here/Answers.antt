@@ -7,7 +7,7 @@ use Rattle.stripe_pieces.specs.Pieces.{kept_now, seen_now, state_now}
 use Rattle.stripe_pieces.proofs.Copied.{copied_is_held}
 use Rattle.stripe_pieces.proofs.StandingPlaced.{stands_behind, standing_copied}
 use Rattle.stripe_pieces.proofs.Telling.{held_behind}
-use Rattle.stripe_pieces.proofs.Uses.{still_uses}
+use Rattle.piece_answers.proofs.Uses.{still_uses}
 use Rattle.stripe_pieces.proofs.pieces.Pieces.move_here.Goals as goal
 
 pub returns : goal.returns

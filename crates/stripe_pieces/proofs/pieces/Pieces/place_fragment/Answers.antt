@@ -2,10 +2,10 @@ use Rattle.std.proofs.Common.{◌≡◌, sym, ◌∙◌, ap, arith, length}
 use Rattle.tape_base.specs.declared.geometries.Geometry.{Geometry}
 use Rattle.dir_table.specs.Displacement.{purge_of}
 use Rattle.stripe_pieces.specs.Pieces.{kept_now, seen_now, state_now}
-use Rattle.stripe_pieces.proofs.Results.{if_ok_map}
-use Rattle.stripe_pieces.proofs.Groups.{cuts_behind, cuts_stop, mid_new, no_vector}
+use Rattle.piece_answers.proofs.Results.{if_ok_map}
+use Rattle.piece_answers.proofs.Groups.{cuts_behind, cuts_stop, mid_new, no_vector}
 use Rattle.stripe_pieces.proofs.StandingPlaced.{told_of_fragment}
-use Rattle.stripe_pieces.proofs.Uses.{uses_behind, uses_more}
+use Rattle.piece_answers.proofs.Uses.{uses_behind, uses_more}
 use Rattle.stripe_pieces.proofs.pieces.Pieces.place_fragment.Goals as goal
 
 pub make_room-requires-clause-ready : goal.make_room-requires-clause-ready

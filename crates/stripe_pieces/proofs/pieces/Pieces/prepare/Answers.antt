@@ -1,10 +1,10 @@
 use Rattle.std.proofs.Common.{sym, subst}
 use Rattle.cache_model.specs.Kept.{state_of}
 use Rattle.cyclone.specs.Cyclone.{seen_cyclone}
-use Rattle.stripe_pieces.specs.Held.{IsHeld}
+use Rattle.held_pieces.specs.Held.{IsHeld}
 use Rattle.stripe_pieces.specs.Pieces.{seen_now, state_now}
-use Rattle.stripe_pieces.specs.Standing.{AreStanding}
-use Rattle.stripe_pieces.proofs.Going.{room_may_grow, steady}
+use Rattle.piece_answers.specs.Standing.{AreStanding}
+use Rattle.held_pieces.proofs.Going.{room_may_grow, steady}
 use Rattle.stripe_pieces.proofs.Standing.{standing_grown}
 use Rattle.stripe_pieces.proofs.pieces.Pieces.prepare.Goals as goal
 

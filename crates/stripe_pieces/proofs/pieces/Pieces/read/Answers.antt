@@ -5,19 +5,19 @@ use Rattle.cache_model.specs.declared.record.Rec.TheVariants as rec
 use Rattle.cache_model.specs.Damage.{TellNoDamage}
 use Rattle.cache_model.specs.Kept.{state_of, with_records}
 use Rattle.cyclone.specs.Cyclone.{Seen, seen_cyclone}
-use Rattle.stripe_pieces.specs.declared.answer.Found.TheVariants as found
-use Rattle.stripe_pieces.specs.Find.{found_records}
-use Rattle.stripe_pieces.specs.Held.{IsHeld}
-use Rattle.stripe_pieces.specs.Standing.{AreStanding}
+use Rattle.piece_answers.specs.declared.answer.Found.TheVariants as found
+use Rattle.piece_answers.specs.Find.{found_records}
+use Rattle.held_pieces.specs.Held.{IsHeld}
+use Rattle.piece_answers.specs.Standing.{AreStanding}
 use Rattle.stripe_pieces.specs.Pieces.{kept_now, seen_now, state_now}
-use Rattle.stripe_pieces.proofs.RecordsAdded.{state_of-with_records}
-use Rattle.stripe_pieces.proofs.HeldBehindFaults.{fault_is_held, read_spares}
-use Rattle.stripe_pieces.proofs.Flushes.{read_uses, records_use}
+use Rattle.piece_answers.proofs.RecordsAdded.{state_of-with_records}
+use Rattle.held_pieces.proofs.HeldBehindFaults.{fault_is_held, read_spares}
+use Rattle.piece_answers.proofs.Flushes.{read_uses, records_use}
 use Rattle.stripe_pieces.proofs.Findings.{fault_stands, finds_fault, finds_in, finds_no_damage, finds_read, judged_adds}
-use Rattle.stripe_pieces.proofs.Going.{device_may_change}
+use Rattle.held_pieces.proofs.Going.{device_may_change}
 use Rattle.stripe_pieces.proofs.Standing.{standing_on}
 use Rattle.cyclone.proofs.Calls.{reads_go_on, reads_same}
-use Rattle.stripe_pieces.specs.Still.{IsUnwritten}
+use Rattle.held_pieces.specs.Still.{IsUnwritten}
 use Rattle.stripe_pieces.proofs.pieces.Pieces.read.Goals as goal
 
 pub judge-requires-clause-ready : goal.judge-requires-clause-ready

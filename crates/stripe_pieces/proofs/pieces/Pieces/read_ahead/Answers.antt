@@ -2,8 +2,8 @@ use Rattle.std.proofs.Common.{◌<◌, refl, ◌∙◌, ap, arith}
 use Rattle.logged_disk.specs.Device.{DeviceState as Device}
 use Rattle.cyclone.specs.Cyclone.{seen_cyclone}
 use Rattle.stripe_pieces.specs.Pieces.{seen_now, state_now}
-use Rattle.stripe_pieces.proofs.HeldBehindFaults.{read_spares}
-use Rattle.stripe_pieces.proofs.Going.{device_may_change}
+use Rattle.held_pieces.proofs.HeldBehindFaults.{read_spares}
+use Rattle.held_pieces.proofs.Going.{device_may_change}
 use Rattle.stripe_pieces.proofs.ReadAhead.{comes_of, comes_refused, has_blocks, is_stored, reads_row}
 use Rattle.cyclone.proofs.Calls.{reads_ask, reads_same}
 use Rattle.stripe_pieces.proofs.pieces.Pieces.read_ahead.Goals as goal

@@ -4,12 +4,12 @@ use Rattle.tape_base.specs.Geometry.{budget_of}
 use Rattle.cache_model.specs.Kept.{state_of}
 use Rattle.cache_model.specs.State.{Row, State}
 use Rattle.cache_model.specs.Due.{candidate_of, most_passed}
-use Rattle.stripe_pieces.specs.Ahead.{IsMadeFor}
-use Rattle.stripe_pieces.specs.Looks.{HasCandidateRows, HasCandidates, HasLookedAhead, IsNextToLook, LooksOn, MayBeCopied, blocks_kept}
+use Rattle.piece_answers.specs.Ahead.{IsMadeFor}
+use Rattle.piece_answers.specs.Looks.{HasCandidateRows, HasCandidates, HasLookedAhead, IsNextToLook, LooksOn, MayBeCopied, blocks_kept}
 use Rattle.stripe_pieces.specs.Pieces.{seen_now, state_now}
-use Rattle.stripe_pieces.proofs.Kept.{IsNext, choice_there, next_row, tape_on, taken_on}
+use Rattle.piece_answers.proofs.Kept.{IsNext, choice_there, next_row, tape_on, taken_on}
 use Rattle.logged_disk.proofs.GoingOn.{asked_further, asked_nothing}
-use Rattle.stripe_pieces.proofs.OneMore.{looked_more, looked_none}
+use Rattle.piece_answers.proofs.OneMore.{looked_more, looked_none}
 use Rattle.stripe_pieces.proofs.pieces.Pieces.read_kept.Goals as goal
 
 pub loop-i-init : goal.loop-i-init

@@ -4,8 +4,8 @@ use Rattle.logged_disk.specs.Device.{IsAsked, SeenStays}
 use Rattle.cyclone.specs.Cyclone.{SameTape}
 use Rattle.evacuator.specs.Choice.{blocks_of_all, kept_blocks}
 use Rattle.cache_model.specs.State.{Row}
-use Rattle.stripe_pieces.specs.Ahead.{IsMadeFor}
-use Rattle.stripe_pieces.specs.Looks.{AreOfRows, HasLookedAhead}
+use Rattle.piece_answers.specs.Ahead.{IsMadeFor}
+use Rattle.piece_answers.specs.Looks.{AreOfRows, HasLookedAhead}
 use Rattle.stripe_pieces.specs.Pieces.{ArePieces, seen_now, state_now}
 use Rattle.stripe_pieces.proofs.pieces.Pieces.read_kept.Given as goal
 

@@ -4,7 +4,7 @@ use Rattle.cyclone.specs.Cyclone.{BlocksStand}
 use Rattle.cache_chronicle.specs.declared.pieces.KeptPiece.{KeptPiece}
 use Rattle.stripe_pieces.specs.Pieces.{seen_now, state_now}
 use Rattle.stripe_pieces.proofs.KeptRows.{kept_of_live}
-use Rattle.stripe_pieces.proofs.Lives.{live_at, live_in_lap, live_is_stored, live_within}
+use Rattle.held_pieces.proofs.Lives.{live_at, live_in_lap, live_is_stored, live_within}
 use Rattle.stripe_pieces.proofs.pieces.Pieces.recorded.Goals as goal
 
 pub returns : goal.returns

@@ -5,9 +5,9 @@ use Rattle.cache_model.specs.State.{state_after}
 use Rattle.cyclone.specs.Cyclone.{Seen}
 use Rattle.stripe_pieces.specs.Pieces.{kept_now, seen_now, state_now}
 use Rattle.stripe_pieces.proofs.Standing.{standing_without}
-use Rattle.stripe_pieces.proofs.Takings.{removed_without}
+use Rattle.held_pieces.proofs.Takings.{removed_without}
 use Rattle.stripe_pieces.proofs.Telling.{held_behind, stands_behind}
-use Rattle.stripe_pieces.proofs.Uses.{rows_use}
+use Rattle.piece_answers.proofs.Uses.{rows_use}
 use Rattle.stripe_pieces.proofs.pieces.Pieces.remove.Goals as goal
 
 pub returns-clause-keeps : goal.returns-clause-keeps

@@ -5,11 +5,11 @@ use Rattle.cache_model.specs.Kept.{with_records}
 use Rattle.cyclone.specs.Cyclone.{Seen}
 use Rattle.stripe_pieces.specs.Copying.{told_of_pieces}
 use Rattle.stripe_pieces.specs.Pieces.{kept_now, seen_now, state_now}
-use Rattle.stripe_pieces.proofs.RecordsAdded.{with_records-append}
-use Rattle.stripe_pieces.proofs.HeldBehindFaults.{counted_is_held}
+use Rattle.piece_answers.proofs.RecordsAdded.{with_records-append}
+use Rattle.held_pieces.proofs.HeldBehindFaults.{counted_is_held}
 use Rattle.stripe_pieces.proofs.Standing.{standing_fault}
 use Rattle.stripe_pieces.proofs.Telling.{held_behind, stands_behind}
-use Rattle.stripe_pieces.proofs.Uses.{rows_use}
+use Rattle.piece_answers.proofs.Uses.{rows_use}
 use Rattle.stripe_pieces.proofs.pieces.Pieces.stop.Goals as goal
 
 pub tell-requires-clause-ready : goal.tell-requires-clause-ready

@@ -1,6 +1,6 @@
 use Rattle.std.proofs.Common.{sym}
 use Rattle.stripe_pieces.specs.Pieces.{seen_now, state_now}
-use Rattle.stripe_pieces.proofs.Takings.{committed_is_held, committed_without, none_earlier, other_put, own_earlier}
+use Rattle.held_pieces.proofs.Takings.{committed_is_held, committed_without, none_earlier, other_put, own_earlier}
 use Rattle.stripe_pieces.proofs.pieces.Pieces.take_earlier.Goals as goal
 
 pub returns-in-Some-clause-held : goal.returns-in-Some-clause-held

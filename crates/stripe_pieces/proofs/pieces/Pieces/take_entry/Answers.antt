@@ -1,7 +1,7 @@
 use Rattle.std.proofs.Common.{sym}
 use Rattle.cyclone.specs.Cyclone.{seen_cyclone}
 use Rattle.stripe_pieces.specs.Pieces.{seen_now, state_now}
-use Rattle.stripe_pieces.proofs.Takings.{live_entry_goes, no_entry_goes}
+use Rattle.held_pieces.proofs.Takings.{live_entry_goes, no_entry_goes}
 use Rattle.stripe_pieces.proofs.pieces.Pieces.take_entry.Goals as goal
 
 pub returns-in-Some-clause-gone : goal.returns-in-Some-clause-gone

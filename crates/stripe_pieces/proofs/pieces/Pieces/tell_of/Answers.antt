@@ -4,8 +4,8 @@ use Rattle.cache_model.specs.Kept.{with_records}
 use Rattle.stripe_pieces.specs.Copying.{left_records}
 use Rattle.stripe_pieces.specs.Pieces.{kept_now, seen_now, state_now}
 use Rattle.stripe_pieces.proofs.Adding.{tells_nothing}
-use Rattle.stripe_pieces.proofs.RecordsAdded.{with_records-append}
-use Rattle.stripe_pieces.proofs.HeldBehindFaults.{counted_is_held}
+use Rattle.piece_answers.proofs.RecordsAdded.{with_records-append}
+use Rattle.held_pieces.proofs.HeldBehindFaults.{counted_is_held}
 use Rattle.stripe_pieces.proofs.Standing.{standing_fault}
 use Rattle.stripe_pieces.proofs.Telling.{held_behind, stands_behind}
 use Rattle.stripe_pieces.proofs.pieces.Pieces.tell_of.Goals as goal

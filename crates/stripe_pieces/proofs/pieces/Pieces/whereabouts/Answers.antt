@@ -6,7 +6,7 @@ use Rattle.cache_model.specs.State.{Row, live_row_of}
 use Rattle.cache_model.specs.Verdict.{piece_at}
 use Rattle.cache_model.proofs.Known.{live_is_known}
 use Rattle.stripe_pieces.specs.Pieces.{state_now, seen_now}
-use Rattle.stripe_pieces.proofs.Candidates.{live_is_candidate, not_this, beyond_first}
+use Rattle.held_pieces.proofs.Candidates.{live_is_candidate, not_this, beyond_first}
 use Rattle.stripe_pieces.proofs.pieces.Pieces.whereabouts.Goals as goal
 
 pub walks-init : goal.walks-init

@@ -1,5 +1,5 @@
 use Rattle.std.proofs.Common.{length}
-use Rattle.stripe_pieces.specs.Whereabouts.{WalkComesTo}
+use Rattle.held_pieces.specs.Whereabouts.{WalkComesTo}
 use Rattle.stripe_pieces.specs.Pieces.{state_now}
 use Rattle.stripe_pieces.proofs.pieces.Pieces.whereabouts.Given as goal
 

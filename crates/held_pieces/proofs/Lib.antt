@@ -1,0 +1,17 @@
+pub mod Entries
+pub mod Counts
+pub mod Holding
+pub mod Permuted
+pub mod Slotted
+pub mod Intact
+pub mod Placements
+pub mod Beginning
+pub mod Going
+pub mod Starting
+pub mod Candidates
+pub mod HeldBehindFaults
+pub mod Rooms
+pub mod Purging
+pub mod Lives
+pub mod Moving
+pub mod Takings

@@ -1,0 +1,11 @@
+pub mod CutBodies
+pub mod Endings
+pub mod FeedRounds
+pub mod KeptPuts
+pub mod Lookups
+pub mod OwnContents
+pub mod Owned
+pub mod SameGeometry
+pub mod Unsynced
+pub mod Whole
+pub mod Witnesses

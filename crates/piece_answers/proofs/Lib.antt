@@ -1,0 +1,16 @@
+pub mod Covering
+pub mod Effects
+pub mod RecordsAdded
+pub mod Flushes
+pub mod Uses
+pub mod SamePuts
+pub mod Displacing
+pub mod Groups
+pub mod Fronts
+pub mod Making
+pub mod Noting
+pub mod OneMore
+pub mod Kept
+pub mod Due
+pub mod Results
+pub mod NoneDisplaced

@@ -1,0 +1,1 @@
+//! Which pieces stand, by the puts that they are of, record by record.

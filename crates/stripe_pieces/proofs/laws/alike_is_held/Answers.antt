@@ -1,5 +1,0 @@
-use Rattle.stripe_pieces.proofs.Going.{alike_is_held}
-use Rattle.stripe_pieces.proofs.laws.alike_is_held.Goals as goal
-
-pub returns : goal.returns
-returns c = alike_is_held

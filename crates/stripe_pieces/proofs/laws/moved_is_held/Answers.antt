@@ -1,5 +1,0 @@
-use Rattle.stripe_pieces.proofs.Moving.{moved_is_held}
-use Rattle.stripe_pieces.proofs.laws.moved_is_held.Goals as goal
-
-pub returns : goal.returns
-returns c = moved_is_held

@@ -1,5 +1,0 @@
-use Rattle.stripe_pieces.proofs.Going.{room_may_grow}
-use Rattle.stripe_pieces.proofs.laws.room_may_grow.Goals as goal
-
-pub returns : goal.returns
-returns c = room_may_grow
