@@ -34,7 +34,9 @@ fn main(rt: HostRuntime) -> io::Result<ExitCode> {
     let alloc = rt.alloc();
     let words: Vec<String> = env::args(&rt)?.skip(1).collect(alloc)?;
     let Some((size, count)) = numbers(&words) else {
-        eprintln!(rt; "digest_tool SIZE COUNT: digests SIZE bytes, each `a`, COUNT times, and prints the digest")?;
+        eprintln!(rt;
+            "digest_tool SIZE COUNT: digests SIZE bytes, each `a`, COUNT times, and prints the digest"
+        )?;
         return Ok(ExitCode::from(USAGE));
     };
     let bytes = Vec::from_elem(alloc, b'a', size as usize)?;
