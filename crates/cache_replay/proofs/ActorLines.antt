@@ -31,15 +31,15 @@ use Rattle.cache_replay.specs.declared.session.ActorHolding.{ActorHolding}
 use Rattle.cache_replay.specs.declared.session.Part.{Part}
 use Rattle.cache_replay.specs.declared.stop.Stop.{Stop}
 use Rattle.cache_replay.specs.declared.stop.Stop.TheVariants.{Memory}
-use Rattle.line_laws.specs.Moves.{MovesOrShows}
+use Rattle.line_calls.specs.Moves.{MovesOrShows}
 use Rattle.cache_replay.specs.OneLine.{AnswersActor}
 use Rattle.run_promise.specs.Outline.{count_in}
 use Rattle.cache_replay.specs.Plays.{IsHeldAs, PartEnds, PlaysIn, PlaysPart}
-use Rattle.line_laws.specs.Standing.{OwnStands}
+use Rattle.line_calls.specs.Standing.{OwnStands}
 use Rattle.cache_replay.specs.Session.{AreHeld, HoldingSeen, IsActive, IsHeldByActor, at_in, holding_seen, slots_of, state_in_part}
 use Rattle.cache_replay.proofs.Frames.{Changed, leaves_all, part_behind}
 use Rattle.cache_replay.proofs.Plain.{none_else, still_plays}
-use Rattle.line_laws.proofs.Whole.{moves_line, serves_whole}
+use Rattle.line_calls.proofs.Whole.{moves_line, serves_whole}
 
 -- ---- slots
 

@@ -29,13 +29,13 @@ use Rattle.cache_replay.specs.declared.session.ActorHolding.{ActorHolding}
 use Rattle.cache_replay.specs.declared.session.Part.{Part}
 use Rattle.cache_replay.specs.declared.stop.Stop.{Stop}
 use Rattle.cache_replay.specs.declared.stop.Stop.TheVariants.{Memory}
-use Rattle.line_laws.specs.Moves.{Moves}
+use Rattle.line_calls.specs.Moves.{Moves}
 use Rattle.cache_replay.specs.OneLine.{AnswersActor}
 use Rattle.run_promise.specs.Outline.{count_in}
 use Rattle.cache_replay.specs.Plays.{IsHeldAs, IsStreamOf, PartEnds, PlaysIn, PlaysPart}
 use Rattle.cache_replay.specs.Session.{ActorsAreApart, AnswerTellsCount, AreHeld, Differ, HoldingSeen, IsActive, IsHeldByActor, IsOpenWriter, LeavesBut, ReaderHeld, WriterHeld, at_in, slots_of}
 use Rattle.cache_replay.specs.Session.{state_in_part}
-use Rattle.line_laws.specs.Standing.{IsToldFrom, OwnStands, TellsOwn}
+use Rattle.line_calls.specs.Standing.{IsToldFrom, OwnStands, TellsOwn}
 use Rattle.cache_replay.specs.WriterLines.{ClosesLine, FeedsLine, GivesUpLine, HasNoWriter, IsPlayed, IsWriterLeft, LeavesWriter, OpenDoes, OpensLine, TakesWriter, WriterDoes, WriterEnds, WriterLine}
 use Rattle.cache_replay.specs.WriterLines.{WriterMoves, held_in, step_of_writer, writes_in}
 use Rattle.cache_replay.proofs.ActorLines.{DoesNothing, changed_from, held_is, names_are, names_within, seen_same, still_line, with_here, with_other}

@@ -44,8 +44,8 @@ use Rattle.cache_replay.specs.Replies.{closed_answer, receipt_answer}
 use Rattle.cache_replay.specs.Session.{IsOpenWriter}
 use Rattle.cache_replay.specs.WriterLines.{ClosesLine, IsPlayed, WriterDoes}
 use Rattle.cache_replay.proofs.Counts.{at_most, loss_counts}
-use Rattle.line_laws.proofs.Endings.{AreClosing, EndsInCommit, IsEnded, ended_along, key_of, rows_then}
-use Rattle.line_laws.proofs.Whole.{serves_whole}
+use Rattle.line_calls.proofs.Endings.{AreClosing, EndsInCommit, IsEnded, ended_along, key_of, rows_then}
+use Rattle.line_calls.proofs.Whole.{serves_whole}
 use Rattle.cache_replay.proofs.WriterSteps.{LeftOpen, cuts_at, gathered_at, has_put, held_open, key_at, of_left, writer_ends}
 
 -- ---- what is asked

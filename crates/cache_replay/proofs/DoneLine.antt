@@ -25,7 +25,7 @@ use Rattle.script_run.specs.Answers as says
 use Rattle.script_run.specs.Behind.{still_open}
 use Rattle.cache_replay.specs.declared.session.ActorHolding.{ActorHolding}
 use Rattle.cache_replay.specs.declared.session.Part.{Part}
-use Rattle.line_laws.specs.Moves.{MovesOrShows}
+use Rattle.line_calls.specs.Moves.{MovesOrShows}
 use Rattle.cache_replay.specs.OneLine.{AnswersActor}
 use Rattle.cache_replay.specs.Plays.{PartEnds, PlaysPart}
 use Rattle.cache_replay.specs.ReaderLines.{reader_held}
@@ -34,7 +34,7 @@ use Rattle.cache_replay.proofs.ActorLines.{names_within, still_line}
 use Rattle.cache_replay.proofs.Frames.{part_behind, reader_leaves}
 use Rattle.cache_replay.proofs.ReaderLines.{Took, Turns, apart_else, held_reader, reader_ends, reads_none, reads_with, still_held, turns_active}
 use Rattle.cache_replay.proofs.Stood.{IsLawful}
-use Rattle.line_laws.proofs.Whole.{moves_line, serves_whole}
+use Rattle.line_calls.proofs.Whole.{moves_line, serves_whole}
 
 -- it is closed then
 closed_is_none : (s : State) (reader : ℕ) → reader_of (state_after s (rec.ReadClosed reader)) reader ≡ None

@@ -33,7 +33,7 @@ use Rattle.cache_replay.specs.Replies.{count_of_refusal, fed_answer, refusal_ans
 use Rattle.cache_replay.specs.Plays.{IsStreamOf}
 use Rattle.cache_replay.specs.Session.{IsOpenWriter}
 use Rattle.cache_replay.specs.WriterLines.{FeedsLine, IsPlayed, WriterDoes}
-use Rattle.line_laws.proofs.Whole.{serves_whole}
+use Rattle.line_calls.proofs.Whole.{serves_whole}
 use Rattle.cache_replay.proofs.WriterSteps.{LeftOpen, cuts_at, feeding_asks, has_put, held_open, of_left, writer_ends}
 
 -- what it took is that before and what it took now

@@ -22,8 +22,8 @@ use Rattle.cache_calls.specs.Keeping.{state_at}
 use Rattle.script_run.specs.Asked.{feed_intents, rest_behind, whole_fragments}
 use Rattle.cache_replay.specs.Replies.{count_of_refusal}
 use Rattle.cache_replay.specs.Feeding.{FeedsAsAsked, FeedsWhere, IsCutUp, IsCutWhere, IsFed, IsOpenBehind, feed_progress, taken_by_feed}
-use Rattle.line_laws.proofs.CutBodies.{cut_first, not_most, rest_first, whole_first}
-use Rattle.line_laws.proofs.FeedRounds.{Cuts, Wrote, few, serves_later, within}
+use Rattle.line_calls.proofs.CutBodies.{cut_first, not_most, rest_first, whole_first}
+use Rattle.line_calls.proofs.FeedRounds.{Cuts, Wrote, few, serves_later, within}
 use Rattle.cache_replay.proofs.Frames.{adds_then}
 
 -- ---- what holds where feeding ends

@@ -29,8 +29,8 @@ use Rattle.script_run.specs.Asked.{feed_intents}
 use Rattle.script_run.proofs.Ended.{IsFoundOpen, open_row}
 use Rattle.cache_replay.specs.Replies.{count_of_refusal}
 use Rattle.cache_replay.specs.Feeding.{FeedsAsAsked, FeedsWhere, IsOpenBehind, feed_progress}
-use Rattle.line_laws.proofs.CutBodies.{cut_first, cut_many, no_cleanup, not_most}
-use Rattle.line_laws.proofs.FeedRounds.{asks_cut, asks_many, asks_sealed, few_of, flush_leaves, found_changed, takes_within, writing_found}
+use Rattle.line_calls.proofs.CutBodies.{cut_first, cut_many, no_cleanup, not_most}
+use Rattle.line_calls.proofs.FeedRounds.{asks_cut, asks_many, asks_sealed, few_of, flush_leaves, found_changed, takes_within, writing_found}
 use Rattle.cache_replay.proofs.FeedEnds.{Ends}
 
 -- nothing that a writer is asked is a clean-up

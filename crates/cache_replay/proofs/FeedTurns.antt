@@ -17,8 +17,8 @@ use Rattle.cache_calls.specs.Standing.{IsToldNext, IsToldWritten, StaysStanding}
 use Rattle.cache_calls.specs.Writers.{Writes}
 use Rattle.cache_calls.proofs.Keeping.{keeps_then}
 use Rattle.cache_replay.specs.Feeding.{HasFed}
-use Rattle.line_laws.specs.Standing.{IsToldFrom}
-use Rattle.line_laws.proofs.FeedRounds.{Cuts, Wrote, cut_or_all, cuts, few, within}
+use Rattle.line_calls.specs.Standing.{IsToldFrom}
+use Rattle.line_calls.proofs.FeedRounds.{Cuts, Wrote, cut_or_all, cuts, few, within}
 use Rattle.cache_replay.proofs.FeedEnds.{Ends, then_ends}
 use Rattle.cache_replay.proofs.FeedWhole.{last_ends}
 use Rattle.cache_replay.proofs.FeedRefused.{refused_ends}

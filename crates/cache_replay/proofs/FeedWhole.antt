@@ -15,8 +15,8 @@ use Rattle.cache_calls.specs.Asked.{cuts_next, fills_fragment, gathered_with}
 use Rattle.cache_calls.specs.Keeping.{state_at}
 use Rattle.script_run.specs.Asked.{feed_intents, rest_behind, whole_fragments}
 use Rattle.script_run.proofs.Ended.{IsFoundOpen, open_row}
-use Rattle.line_laws.proofs.CutBodies.{cut_first, cut_short, not_most, rest_first, rest_short, whole_first, whole_short}
-use Rattle.line_laws.proofs.FeedRounds.{Cuts, Gathers, Wrote, cuts, few, gathers}
+use Rattle.line_calls.proofs.CutBodies.{cut_first, cut_short, not_most, rest_first, rest_short, whole_first, whole_short}
+use Rattle.line_calls.proofs.FeedRounds.{Cuts, Gathers, Wrote, cuts, few, gathers}
 use Rattle.cache_replay.proofs.FeedEnds.{Ends, length_more, total_more}
 
 module _ (now : ℕ) (old new : At) (w v : WriterSeen) (bytes : List ℕ) (n : ℕ) (h : Wrote now old new w v bytes n) (all_taken : n ≡ length bytes) where

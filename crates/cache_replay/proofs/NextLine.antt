@@ -44,12 +44,12 @@ use Rattle.script_run.specs.Takes.{IsNextPiece, IsPiece}
 use Rattle.script_run.proofs.Reading.{read_is_own}
 use Rattle.cache_replay.specs.declared.stop.Stop.{Stop}
 use Rattle.cache_replay.specs.declared.stop.Stop.TheVariants.{Memory}
-use Rattle.line_laws.specs.Moves.{ShowsIn}
+use Rattle.line_calls.specs.Moves.{ShowsIn}
 use Rattle.cache_replay.specs.ReaderLines.{IsReadBy, IsWithin, NextEnds, ReadsOnLine, next_answer}
-use Rattle.line_laws.specs.Standing.{OwnStands, own_contents}
+use Rattle.line_calls.specs.Standing.{OwnStands, own_contents}
 use Rattle.cache_replay.proofs.Frames.{same_added}
-use Rattle.line_laws.proofs.OwnContents.{given_is_own, tells_own}
-use Rattle.line_laws.proofs.Whole.{moves_line, serves_whole, shows_line}
+use Rattle.line_calls.proofs.OwnContents.{given_is_own, tells_own}
+use Rattle.line_calls.proofs.Whole.{moves_line, serves_whole, shows_line}
 
 -- ---- what the reader was told
 

@@ -20,7 +20,7 @@ use Rattle.cache_replay.specs.declared.session.Session.{Session}
 use Rattle.cache_replay.specs.declared.stop.Stop.{Stop}
 use Rattle.cache_replay.specs.declared.stop.Stop.TheVariants.{Memory}
 use Rattle.cache_replay.specs.Session.{AreLater, IsActive, IsAt, IsSession, at_in, past_of, return_of, slots_in, state_in_part}
-use Rattle.line_laws.specs.Moves.{ShowsIn}
+use Rattle.line_calls.specs.Moves.{ShowsIn}
 use Rattle.cache_replay.specs.Plays.{CallsAt, IsUnharmedAt, OwnStandsAt, PartEnds, PartMoves, Plays, PlaysAt, PlaysPart}
 use Rattle.cache_replay.specs.Plays.{StepEnds, StepMoves, StepPair}
 use Rattle.cache_replay.specs.OneLine.{AnswersActor, AnswersLine}

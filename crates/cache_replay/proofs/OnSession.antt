@@ -21,10 +21,10 @@ use Rattle.cache_replay.specs.declared.session.Part.{Part}
 use Rattle.cache_replay.specs.declared.session.Session.{Session}
 use Rattle.cache_replay.specs.declared.stop.Stop.{Stop}
 use Rattle.cache_replay.specs.Session.{AreHeld, HoldingSeen, IsActive, IsHeldByActor, IsPart, IsSession, ReaderHeld, WriterHeld, at_in, slots_in, state_in_part}
-use Rattle.line_laws.specs.Moves.{Moves, MovesOrShows, ShowsIn}
+use Rattle.line_calls.specs.Moves.{Moves, MovesOrShows, ShowsIn}
 use Rattle.cache_replay.specs.Plays.{IsHeldAs, PartEnds, Plays, PlaysIn, PlaysPart, StepEnds}
 use Rattle.cache_replay.specs.OneLine.{AnswersLine, AnswersPlainly}
-use Rattle.line_laws.specs.Standing.{IsToldPlainly, OwnStands, TellsPut, body_of_step}
+use Rattle.line_calls.specs.Standing.{IsToldPlainly, OwnStands, TellsPut, body_of_step}
 use Rattle.run_promise.specs.Needs.{NeedsSession}
 use Rattle.cache_replay.proofs.Frames.{SameStreams, some_is}
 use Rattle.cache_replay.proofs.Free.{no_next_put, none_reads_next, none_writes_next}

@@ -35,7 +35,7 @@ use Rattle.script_run.specs.Answers as says
 use Rattle.script_run.specs.Behind.{open_reader_at, or_else}
 use Rattle.cache_replay.specs.declared.session.ActorHolding.{ActorHolding}
 use Rattle.cache_replay.specs.declared.session.Part.{Part}
-use Rattle.line_laws.specs.Moves.{MovesOrShows}
+use Rattle.line_calls.specs.Moves.{MovesOrShows}
 use Rattle.cache_replay.specs.OneLine.{AnswersActor}
 use Rattle.cache_replay.specs.Plays.{IsHeldAs, PartEnds, PlaysPart}
 use Rattle.cache_replay.specs.ReaderLines.{as_held, opened_answer, reader_opened}
@@ -44,10 +44,10 @@ use Rattle.cache_replay.proofs.ActorLines.{names_within, still_line}
 use Rattle.cache_replay.proofs.Counts.{missed_tells}
 use Rattle.cache_replay.proofs.Frames.{Changed, part_behind, reader_leaves, same_added}
 use Rattle.cache_replay.proofs.Free.{no_next_reader, others_read_older}
-use Rattle.line_laws.proofs.Lookups.{miss_reads, open_finds}
+use Rattle.line_calls.proofs.Lookups.{miss_reads, open_finds}
 use Rattle.cache_replay.proofs.ReaderLines.{Turns, as_run, holds_none, none_some, reader_ends, turns_active}
 use Rattle.cache_replay.proofs.Stood.{IsLawful}
-use Rattle.line_laws.proofs.Whole.{moves_line, serves_whole, shows_line, shows_piece}
+use Rattle.line_calls.proofs.Whole.{moves_line, serves_whole, shows_line, shows_piece}
 
 -- ---- what opened
 

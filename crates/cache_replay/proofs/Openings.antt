@@ -38,7 +38,7 @@ use Rattle.cache_replay.specs.Plays.{IsStreamOf}
 use Rattle.cache_replay.specs.Replies.{refused_answer}
 use Rattle.cache_replay.specs.WriterLines.{OpenDoes, OpensLine}
 use Rattle.cache_replay.proofs.Free.{next_is_free}
-use Rattle.line_laws.proofs.Whole.{serves_whole}
+use Rattle.line_calls.proofs.Whole.{serves_whole}
 use Rattle.cache_replay.proofs.WriterSteps.{writer_ends}
 
 -- ---- a put that has begun

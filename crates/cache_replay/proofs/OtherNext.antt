@@ -16,7 +16,7 @@ use Rattle.script_run.specs.Own.{AreOwn}
 use Rattle.script_run.proofs.Fragments.{own_is_kept}
 use Rattle.script_run.proofs.Others.{none_is_unlike}
 use Rattle.cache_replay.specs.Getting.{HasCalls, IsUnderway, ShowsBy, StaysSound}
-use Rattle.line_laws.proofs.Whole.{later_shows}
+use Rattle.line_calls.proofs.Whole.{later_shows}
 
 -- ---- a reader that reads on
 

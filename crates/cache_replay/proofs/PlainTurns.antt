@@ -37,14 +37,14 @@ use Rattle.cache_replay.specs.declared.session.Part.{Part}
 use Rattle.cache_replay.specs.declared.stop.Stop.{Stop}
 use Rattle.cache_replay.specs.declared.stop.Stop.TheVariants.{Memory}
 use Rattle.cache_replay.specs.Session.{AnswerTellsCount, IsPart, LeavesBut, at_in, state_in_part}
-use Rattle.line_laws.specs.Moves.{MovesOrShows}
+use Rattle.line_calls.specs.Moves.{MovesOrShows}
 use Rattle.cache_replay.specs.OneLine.{AnswersPlainly}
-use Rattle.line_laws.specs.Standing.{OwnStands}
+use Rattle.line_calls.specs.Standing.{OwnStands}
 use Rattle.run_promise.specs.Outline.{count_of_cause}
 use Rattle.cache_replay.specs.Replies.{flush_refused}
 use Rattle.cache_replay.proofs.Counts.{miss_counts}
 use Rattle.cache_replay.proofs.Frames.{any_leaves, leaves_all, part_behind, same_added}
-use Rattle.line_laws.proofs.Whole.{moves_line, serves_whole}
+use Rattle.line_calls.proofs.Whole.{moves_line, serves_whole}
 
 module _ {S W R : Type 0} {c : CallsGhosts S W R} where
   -- ---- in general

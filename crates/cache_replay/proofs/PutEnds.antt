@@ -35,8 +35,8 @@ use Rattle.cache_replay.specs.Putting.{FillsWhere, IsFilledAs, IsFreshWriter, Pu
 use Rattle.cache_replay.specs.Session.{IsOpenWriter}
 use Rattle.cache_replay.proofs.Closings.{asks_ending, cause_at, closing_ended, complete_said, same_asks}
 use Rattle.cache_replay.proofs.Counts.{at_most, loss_counts}
-use Rattle.line_laws.proofs.Endings.{IsEnded}
-use Rattle.line_laws.proofs.FeedRounds.{PairsAt, serves_later}
+use Rattle.line_calls.proofs.Endings.{IsEnded}
+use Rattle.line_calls.proofs.FeedRounds.{PairsAt, serves_later}
 use Rattle.cache_replay.proofs.WriterSteps.{key_at}
 
 -- nothing that closing asks is a clean-up

@@ -24,16 +24,16 @@ use Rattle.script_run.specs.Asked.{put_intents}
 use Rattle.script_run.specs.Run.{Run}
 use Rattle.cache_replay.specs.declared.session.Part.{Part}
 use Rattle.cache_replay.specs.declared.stop.Stop.TheVariants.{Memory}
-use Rattle.line_laws.specs.Moves.{MovesOrShows}
+use Rattle.line_calls.specs.Moves.{MovesOrShows}
 use Rattle.cache_replay.specs.OneLine.{AnswersPlainly}
-use Rattle.line_laws.specs.Standing.{IsToldPlainly, TellsPut}
+use Rattle.line_calls.specs.Standing.{IsToldPlainly, TellsPut}
 use Rattle.run_promise.specs.Outline.{count_in}
 use Rattle.cache_replay.specs.Replies.{closed_answer, count_of_refusal, receipt_answer}
 use Rattle.cache_replay.specs.Putting.{IsSaidAs, PutsWhere, TellsOfPut, progress_with, reason_of}
 use Rattle.cache_replay.specs.Session.{IsPart, at_in, state_in_part}
 use Rattle.cache_replay.proofs.Fed.{refused_counts}
 use Rattle.cache_replay.proofs.Frames.{part_behind, put_leaves}
-use Rattle.line_laws.proofs.Whole.{moves_line, serves_whole}
+use Rattle.line_calls.proofs.Whole.{moves_line, serves_whole}
 
 ends_with : (why : Option Reason) → EndsWith (progress_with why) why
 ends_with None = Progress.EndsWith.in_full

@@ -33,9 +33,9 @@ use Rattle.cache_replay.specs.Replies.{count_of_refusal}
 use Rattle.cache_replay.specs.Putting.{BodyEndsWhere, IsFreshWriter, IsSaidAs, PutsWhere, Says, ending_intents, progress_with, reason_of}
 use Rattle.cache_replay.specs.Session.{IsOpenWriter}
 use Rattle.cache_replay.proofs.FeedRefused.{feed_cleans_none}
-use Rattle.line_laws.proofs.FeedRounds.{PairsAt, serves_later}
+use Rattle.line_calls.proofs.FeedRounds.{PairsAt, serves_later}
 use Rattle.cache_replay.proofs.Free.{next_is_free}
-use Rattle.line_laws.proofs.KeptPuts.{leave_puts}
+use Rattle.line_calls.proofs.KeptPuts.{leave_puts}
 use Rattle.cache_replay.proofs.Openings.{nothing_cut, writes_it}
 use Rattle.cache_replay.proofs.PutEnds.{closing_cleans_none}
 use Rattle.cache_replay.proofs.PutWhole.{unless_as}

@@ -29,9 +29,9 @@ use Rattle.cache_calls.specs.Keeping.{state_at}
 use Rattle.cache_calls.specs.Writers.{GivesUp}
 use Rattle.cache_replay.specs.Replies.{count_of_refusal}
 use Rattle.cache_replay.specs.Putting.{BodyEndsWhere, FillsWhere, IsFilledAs, IsSaidAs, PutIsOver, Says, TellsOfPut, UnlessMemory, progress_with, reason_of, unless_memory}
-use Rattle.line_laws.proofs.FeedRounds.{PairsAt, serves_later}
+use Rattle.line_calls.proofs.FeedRounds.{PairsAt, serves_later}
 use Rattle.cache_replay.proofs.Frames.{adds_then}
-use Rattle.line_laws.proofs.KeptPuts.{leave_puts}
+use Rattle.line_calls.proofs.KeptPuts.{leave_puts}
 
 -- what holds unless memory was wanting, as something else
 pub unless_as : {A B : Type 0} (result : Result Receipt Refusal) → (A → B) → UnlessMemory result A → UnlessMemory result B

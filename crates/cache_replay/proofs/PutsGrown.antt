@@ -18,9 +18,9 @@ use Rattle.call_laws.specs.Moments.{At}
 use Rattle.call_laws.proofs.Joined.{state_behind}
 use Rattle.cache_calls.specs.Adds.{AddsAll, AddsOnly, IsOfPut}
 use Rattle.cache_calls.specs.Keeping.{FallBelow, IsAtRest, state_at}
-use Rattle.line_laws.specs.Standing.{TellsPut, piece_content}
+use Rattle.line_calls.specs.Standing.{TellsPut, piece_content}
 use Rattle.cache_replay.proofs.Free.{unheard}
-use Rattle.line_laws.proofs.SameGeometry.{BeginsNone, one_same}
+use Rattle.line_calls.proofs.SameGeometry.{BeginsNone, one_same}
 
 -- ---- one put
 

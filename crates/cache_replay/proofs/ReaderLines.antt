@@ -16,9 +16,9 @@ use Rattle.script_run.specs.Turn.{Turn}
 use Rattle.script_run.specs.Behind.{holds_behind, in_session, still_open, streams_behind}
 use Rattle.cache_replay.specs.declared.session.ActorHolding.{ActorHolding}
 use Rattle.cache_replay.specs.declared.session.Part.{Part}
-use Rattle.line_laws.specs.Moves.{Moves}
+use Rattle.line_calls.specs.Moves.{Moves}
 use Rattle.cache_replay.specs.Plays.{IsHeldAs, PartEnds, PlaysPart}
-use Rattle.line_laws.specs.Standing.{OwnStands}
+use Rattle.line_calls.specs.Standing.{OwnStands}
 use Rattle.cache_replay.specs.ReaderLines.{as_held, left_without_reader, reader_held}
 use Rattle.cache_replay.specs.Session.{ActorsAreApart, Differ, HoldingSeen, IsActive, IsHeldByActor, IsPart, LeavesBut, ReaderHeld, WriterHeld, at_in, slots_of, state_in_part}
 use Rattle.cache_replay.proofs.ActorLines.{changed_from, held_is, names_are, with_here, with_other, with_same}

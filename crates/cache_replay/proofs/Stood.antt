@@ -22,14 +22,14 @@ use Rattle.script_run.proofs.Cuts.{HaveCut, have_same}
 use Rattle.script_run.proofs.Fragments.{own_is_kept}
 use Rattle.script_run.proofs.Stepping.{steps_keep}
 use Rattle.cache_replay.specs.declared.session.Part.{Part}
-use Rattle.line_laws.specs.Moves.{Moves, ShowsIn}
+use Rattle.line_calls.specs.Moves.{Moves, ShowsIn}
 use Rattle.cache_replay.specs.Session.{at_in, state_in_part}
-use Rattle.line_laws.specs.Standing.{OwnStands, TellsOwn, own_contents, piece_content}
-use Rattle.line_laws.proofs.KeptPuts.{grown_leaves}
-use Rattle.line_laws.proofs.Owned.{own_stays, writer_is_ended}
-use Rattle.line_laws.proofs.OwnContents.{kept_is_own, tells_own}
+use Rattle.line_calls.specs.Standing.{OwnStands, TellsOwn, own_contents, piece_content}
+use Rattle.line_calls.proofs.KeptPuts.{grown_leaves}
+use Rattle.line_calls.proofs.Owned.{own_stays, writer_is_ended}
+use Rattle.line_calls.proofs.OwnContents.{kept_is_own, tells_own}
 use Rattle.cache_replay.proofs.PutsGrown.{GrowsFrom, told_grown}
-use Rattle.line_laws.proofs.Whole.{shows_placed}
+use Rattle.line_calls.proofs.Whole.{shows_placed}
 
 -- ---- what is told
 

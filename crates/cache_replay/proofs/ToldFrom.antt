@@ -21,9 +21,9 @@ use Rattle.script_run.proofs.Ended.{IsFoundOpen, open_row}
 use Rattle.cache_replay.specs.Feeding.{IsFed}
 use Rattle.cache_replay.specs.Putting.{IsFreshWriter}
 use Rattle.cache_replay.specs.Session.{IsOpenWriter}
-use Rattle.line_laws.specs.Standing.{IsToldFrom, TellsPut}
+use Rattle.line_calls.specs.Standing.{IsToldFrom, TellsPut}
 use Rattle.cache_replay.proofs.FeedEnds.{rest_is, rows_count}
-use Rattle.line_laws.proofs.FeedRounds.{Cuts, Wrote}
+use Rattle.line_calls.proofs.FeedRounds.{Cuts, Wrote}
 use Rattle.cache_replay.proofs.PutsGrown.{GrowsFrom, told_grown}
 
 -- ---- fragments

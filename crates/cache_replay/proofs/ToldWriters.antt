@@ -34,7 +34,7 @@ use Rattle.script_run.proofs.Values.{value_by, value_here}
 use Rattle.cache_replay.specs.Feeding.{feed_asks}
 use Rattle.cache_replay.specs.Plays.{IsStreamOf}
 use Rattle.cache_replay.specs.Session.{IsOpenWriter}
-use Rattle.line_laws.specs.Standing.{IsToldFrom, TellsOwn, TellsPut}
+use Rattle.line_calls.specs.Standing.{IsToldFrom, TellsOwn, TellsPut}
 use Rattle.cache_replay.proofs.ToldFrom.{IsLater, piece_behind, told_closed, told_from}
 
 -- ---- what was cut before is the same behind the line

@@ -42,7 +42,7 @@ use Rattle.script_lang.specs.declared.answer.StepAnswer.TheVariants as answer
 use Rattle.cache_replay.specs.Getting.{ComesOfCache, GetIsAnswered, IsKnownTo, IsUnderway}
 use Rattle.cache_replay.proofs.Frames.{same_added}
 use Rattle.cache_replay.proofs.Free.{no_next_reader}
-use Rattle.line_laws.proofs.Lookups.{miss_reads, open_finds, open_tells}
+use Rattle.line_calls.proofs.Lookups.{miss_reads, open_finds, open_tells}
 use Rattle.cache_replay.proofs.WholeReads.{IsDoneAtOnce, grown, one_done, one_pair, placed_pair}
 
 -- ---- the reader that opens

@@ -24,9 +24,9 @@ use Rattle.script_run.specs.Run.{Run}
 use Rattle.script_run.specs.Asked.{get_intents}
 use Rattle.script_run.specs.Own.{AreOwn}
 use Rattle.cache_replay.specs.Getting.{GetIsAnswered, StaysSound}
-use Rattle.line_laws.specs.Moves.{MovesOrShows, ShowsIn}
-use Rattle.line_laws.specs.Standing.{OwnStands}
-use Rattle.line_laws.proofs.Whole.{shows_line, turn_by}
+use Rattle.line_calls.specs.Moves.{MovesOrShows, ShowsIn}
+use Rattle.line_calls.specs.Standing.{OwnStands}
+use Rattle.line_calls.proofs.Whole.{shows_line, turn_by}
 
 clash : {X : Type 0} → false ≡ true → X
 clash e = cc

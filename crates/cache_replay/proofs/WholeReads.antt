@@ -61,11 +61,11 @@ use Rattle.script_lang.specs.declared.answer.StepAnswer.{StepAnswer}
 use Rattle.script_lang.specs.declared.answer.StepAnswer.TheVariants as answer
 use Rattle.cache_replay.proofs.Frames.{same_added}
 use Rattle.cache_replay.proofs.NextLine.{later_none}
-use Rattle.line_laws.proofs.OwnContents.{given_is_own, tells_own}
-use Rattle.line_laws.proofs.SameGeometry.{grown_same}
-use Rattle.line_laws.proofs.Whole.{later_shows}
+use Rattle.line_calls.proofs.OwnContents.{given_is_own, tells_own}
+use Rattle.line_calls.proofs.SameGeometry.{grown_same}
+use Rattle.line_calls.proofs.Whole.{later_shows}
 use Rattle.cache_replay.specs.Getting.{AnswersGet, ComesOfCache, GetIsAnswered, IsHit, IsKnownTo, IsUnderway, Knowing, Underway, rows_to_give}
-use Rattle.line_laws.specs.Standing.{OwnStands, own_contents}
+use Rattle.line_calls.specs.Standing.{OwnStands, own_contents}
 
 -- ---- what was answered among records
 

@@ -32,8 +32,8 @@ use Rattle.cache_replay.specs.Feeding.{feed_asks}
 use Rattle.cache_replay.specs.Plays.{IsStreamOf}
 use Rattle.cache_replay.specs.Session.{IsOpenWriter}
 use Rattle.cache_replay.specs.WriterLines.{ClosesLine, FeedsLine, GivesUpLine, IsPlayed, IsWriterLeft, OpensLine, WriterDoes, WriterEnds, WriterLine, step_of_writer, writes_in}
-use Rattle.line_laws.proofs.Owned.{writer_is_ended}
-use Rattle.line_laws.proofs.Whole.{serves_whole, shows_line, shows_piece, takes_line, turn_by}
+use Rattle.line_calls.proofs.Owned.{writer_is_ended}
+use Rattle.line_calls.proofs.Whole.{serves_whole, shows_line, shows_piece, takes_line, turn_by}
 
 -- ---- the put of an actor
 

@@ -31,7 +31,7 @@ use Rattle.script_run.specs.Turn.{lookup_in, told_in}
 use Rattle.script_run.specs.Answers.{broken_said, get_said, miss_said}
 use Rattle.script_run.specs.Own.{AreOwn, IsPlacedAs}
 use Rattle.script_run.specs.Takes.{IsBody}
-use Rattle.line_laws.specs.Standing.{OwnStands}
+use Rattle.line_calls.specs.Standing.{OwnStands}
 use Rattle.cache_replay.specs.declared.getting.Got.{Got}
 use Rattle.cache_replay.specs.declared.getting.Got.TheVariants as got
 use Rattle.run_promise.specs.Outline.{count_in, count_of_cause}

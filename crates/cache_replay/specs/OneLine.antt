@@ -15,9 +15,9 @@ use Rattle.cache_replay.specs.declared.session.Session.{Session}
 use Rattle.cache_replay.specs.declared.stop.Stop.{Stop}
 use Rattle.cache_replay.specs.declared.stop.Stop.TheVariants.{Memory}
 use Rattle.cache_replay.specs.Session.{AnswerTellsCount, AreLater, IsActive, IsPart, IsSession, LeavesBut, at_in, devices_of, names_in, return_in, slots_of, state_in_part}
-use Rattle.line_laws.specs.Moves.{MovesOrShows, ShowsIn}
+use Rattle.line_calls.specs.Moves.{MovesOrShows, ShowsIn}
 use Rattle.cache_replay.specs.Plays.{PartEnds, Plays, PlaysPart, StepEnds}
-use Rattle.line_laws.specs.Standing.{IsToldPlainly, OwnStands}
+use Rattle.line_calls.specs.Standing.{IsToldPlainly, OwnStands}
 use Rattle.cache_replay.specs.Stop.{IsSessionStop}
 
 module _ {S W R : Type 0} {c : CallsGhosts S W R} where

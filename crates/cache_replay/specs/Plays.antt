@@ -23,8 +23,8 @@ use Rattle.cache_replay.specs.declared.session.Session.{Session}
 use Rattle.cache_replay.specs.declared.stop.Stop.{Stop}
 use Rattle.cache_replay.specs.declared.stop.Stop.TheVariants.{Memory}
 use Rattle.cache_replay.specs.Session.{HoldingSeen, IsSession, ReaderHeld, WriterHeld, at_in, names_in, past_of, return_in, slots_in, slots_of, state_in_part}
-use Rattle.line_laws.specs.Moves.{Moves, ShowsIn}
-use Rattle.line_laws.specs.Standing.{OwnStands}
+use Rattle.line_calls.specs.Moves.{Moves, ShowsIn}
+use Rattle.line_calls.specs.Standing.{OwnStands}
 use Rattle.run_promise.specs.Outline.{IsAnswered, Outline, doubted, outline_after, outline_in, told_of, with_calls_of}
 use Rattle.run_promise.specs.Needs.{AttachesAs, NeedsSession}
 

@@ -22,8 +22,8 @@ use Rattle.script_run.specs.Answers.{broken_said, miss_said}
 use Rattle.script_run.specs.Losses.{NoLossIsAFault}
 use Rattle.script_run.specs.Own.{AreOwn}
 use Rattle.cache_replay.specs.declared.stop.Stop.{Stop}
-use Rattle.line_laws.specs.Moves.{Moves, ShowsIn}
-use Rattle.line_laws.specs.Standing.{OwnStands}
+use Rattle.line_calls.specs.Moves.{Moves, ShowsIn}
+use Rattle.line_calls.specs.Standing.{OwnStands}
 use Rattle.run_promise.specs.Outline.{count_in}
 use Rattle.cache_replay.specs.Session.{HoldingSeen, ReaderHeld, WriterHeld}
 

@@ -17,7 +17,7 @@ use Rattle.script_run.specs.Run.{Run, HoldsWriter, held_by}
 use Rattle.script_run.specs.Behind.{holds_behind, streams_behind}
 use Rattle.script_run.specs.Losses.{NoLossIsAFault}
 use Rattle.cache_replay.specs.declared.session.ActorHolding.{ActorHolding}
-use Rattle.line_laws.specs.Moves.{Moves, ShowsIn}
+use Rattle.line_calls.specs.Moves.{Moves, ShowsIn}
 use Rattle.run_promise.specs.Outline.{count_in}
 use Rattle.cache_replay.specs.Plays.{IsStreamOf}
 use Rattle.cache_replay.specs.Session.{HoldingSeen, IsOpenWriter, ReaderHeld, WriterHeld, slots_of}

@@ -3,7 +3,7 @@ ghost use Rattle.cache_calls.specs.Keeping.{KeepsUnharmed, state_at};
 ghost use Rattle.cache_calls.specs.Standing.{StaysStanding};
 ghost use Rattle.cache_replay.specs.Feeding.{FeedsWhere, HasFed};
 ghost use Rattle.cache_replay.specs.Session.{IsOpenWriter};
-ghost use Rattle.line_laws.specs.Standing.{IsToldFrom};
+ghost use Rattle.line_calls.specs.Standing.{IsToldFrom};
 
 use cache_calls::{Calls, Refusal};
 

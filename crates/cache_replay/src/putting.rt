@@ -6,7 +6,7 @@ ghost use Rattle.cache_calls.specs.Keeping.{KeepsUnharmed, state_at};
 ghost use Rattle.cache_calls.specs.Standing.{StaysStanding};
 ghost use Rattle.cache_replay.specs.Putting.{BodyEndsWhere, FillsWhere, IsFreshWriter, PutsWhere, TellsOfPut, unless_memory};
 ghost use Rattle.cache_replay.specs.Session.{IsOpenWriter};
-ghost use Rattle.line_laws.specs.Standing.{TellsPut};
+ghost use Rattle.line_calls.specs.Standing.{TellsPut};
 
 use crate::feeding::feed;
 use alternate_vector::Fields;

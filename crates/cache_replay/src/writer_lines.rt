@@ -10,7 +10,7 @@ ghost use Rattle.cache_replay.specs.OneLine.{AnswersActor, AnswersLine};
 ghost use Rattle.cache_replay.specs.Replies.{fed_answer};
 ghost use Rattle.cache_replay.specs.Session.{IsActive, IsOpenWriter, IsSession, names_in, slots_of};
 ghost use Rattle.cache_replay.specs.declared.stop.Stop.TheVariants as stop;
-ghost use Rattle.line_laws.specs.Standing.{IsToldFrom};
+ghost use Rattle.line_calls.specs.Standing.{IsToldFrom};
 ghost use Rattle.cache_replay.specs.WriterLines.{ClosesLine, FeedsLine, GivesUpLine, LeavesWriter, OpenDoes, OpensLine, TakesWriter, WriterDoes, held_in};
 
 use crate::answers::{answer_unless_memory, closed_answer};

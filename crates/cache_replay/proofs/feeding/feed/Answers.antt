@@ -5,9 +5,9 @@ use Rattle.step_laws.proofs.ToldGroups.{told_group}
 use Rattle.call_laws.proofs.Kept.{told_serves}
 use Rattle.cache_calls.proofs.Keeping.{keeps_then}
 use Rattle.cache_replay.proofs.FeedEnds.{Ends}
-use Rattle.line_laws.proofs.FeedRounds.{Wrote}
+use Rattle.line_calls.proofs.FeedRounds.{Wrote}
 use Rattle.cache_replay.proofs.FeedTurns.{all_ends, all_stand, bounds, fed_at, goes_on, part, refused_stands, refuses, smaller}
-use Rattle.line_laws.proofs.KeptPuts.{leave_puts}
+use Rattle.line_calls.proofs.KeptPuts.{leave_puts}
 use Rattle.cache_replay.proofs.feeding.feed.Given.{Over}
 use Rattle.cache_replay.proofs.feeding.feed.Goals.{In-Ok}
 use Rattle.cache_replay.proofs.feeding.feed.Goals as goal

@@ -1,6 +1,6 @@
 use Rattle.std.proofs.Common.{rules, ◌≤◌, sym, ◌∙◌, subst}
 use Rattle.cache_replay.specs.Getting.{given_in, got_answer}
-use Rattle.line_laws.specs.Moves.{MovesOrShows}
+use Rattle.line_calls.specs.Moves.{MovesOrShows}
 use Rattle.run_promise.specs.Outline.{count_in}
 use Rattle.script_lang.specs.declared.step.Step.TheVariants as step
 use Rattle.cache_replay.proofs.Frames.{reader_leaves}

@@ -5,7 +5,7 @@ use Rattle.cache_calls.specs.Adds.{AddsOnly, IsOfPut}
 use Rattle.cache_calls.specs.Keeping.{state_at}
 use Rattle.cache_calls.proofs.Keeping.{keeps_then}
 use Rattle.cache_replay.specs.Replies.{count_of_refusal}
-use Rattle.line_laws.specs.Standing.{TellsPut}
+use Rattle.line_calls.specs.Standing.{TellsPut}
 use Rattle.cache_replay.proofs.Frames.{adds_then, losses_kept}
 use Rattle.cache_replay.proofs.PutEnds.{err_when}
 use Rattle.cache_replay.proofs.PutOpens.{is_fresh, is_open, open_counts, puts_opened, puts_refused}

@@ -28,7 +28,7 @@ use Rattle.script_run.specs.Answers.{session_said}
 use Rattle.script_run.specs.Asked.{asked}
 use Rattle.script_run.specs.Own.{IsPlacedAs}
 use Rattle.script_run.specs.Takes.{GivesOwn, SessionTakes, streams_with}
-use Rattle.line_laws.specs.Moves.{MovesOrShows, ShowsIn}
+use Rattle.line_calls.specs.Moves.{MovesOrShows, ShowsIn}
 
 -- ---- a pair of a vector is one of a piece
 

@@ -37,7 +37,7 @@ use Rattle.cache_calls.specs.Asked.{cuts_next, fed_asks, fills_fragment, gathere
 use Rattle.cache_calls.specs.Keeping.{state_at}
 use Rattle.cache_calls.specs.Writers.{CutsAs, HasTaken, IsTaking, TakesBytes, fragment_records, piece_cut_next}
 use Rattle.script_run.proofs.Ended.{IsFoundOpen, open_row}
-use Rattle.line_laws.proofs.CutBodies.{not_most}
+use Rattle.line_calls.proofs.CutBodies.{not_most}
 
 -- ---- what is added
 

@@ -18,7 +18,7 @@ use Rattle.cache_calls.specs.Standing.{GivesPayload}
 use Rattle.script_run.specs.Run.{Stream}
 use Rattle.script_run.specs.Own.{AreAlternates, AreOwn, ArePayloadsOwn, HasCutPayload, IsOwnRow, piece_of}
 use Rattle.script_run.proofs.Reading.{live_row}
-use Rattle.line_laws.specs.Standing.{TellsOwn, own_contents, piece_content}
+use Rattle.line_calls.specs.Standing.{TellsOwn, own_contents, piece_content}
 
 -- the index of a fragment is not that of a vector
 no_vector : (n : ℕ) → 0 < n → (n == 0) ≡ false

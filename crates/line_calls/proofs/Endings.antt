@@ -23,7 +23,7 @@ use Rattle.cache_model.proofs.ByNumber.{find-changed}
 use Rattle.cache_model.proofs.Found.{no_truth, number_of}
 use Rattle.cache_model.proofs.Syncing.{flush_among_syncs}
 use Rattle.script_run.proofs.Synced.{AllSyncing, IsSyncing, unmark_syncing}
-use Rattle.line_laws.proofs.KeptPuts.{displaced_puts, flush_leaves}
+use Rattle.line_calls.proofs.KeptPuts.{displaced_puts, flush_leaves}
 
 -- ---- what closing asks of a put
 
