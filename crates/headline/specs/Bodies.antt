@@ -10,7 +10,7 @@ use Rattle.script_run.specs.Run.{fresh, put_written_by}
 use Rattle.script_run.specs.Turn.{Turn}
 use Rattle.script_run.specs.Behind.{after_line}
 use Rattle.script_run.specs.Takes.{run_after}
-use Rattle.reader_laws.specs.Along.{AreOfSession}
+use Rattle.line_laws.specs.Along.{AreOfSession}
 use Rattle.headline.specs.Account.{Account, HistoryTells, RunLogs}
 use Rattle.headline.specs.Reads.{DidBefore}
 

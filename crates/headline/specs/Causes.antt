@@ -17,7 +17,7 @@ use Rattle.script_run.specs.Run.{fresh}
 use Rattle.script_run.specs.Turn.{Turn}
 use Rattle.script_run.specs.Takes.{run_after}
 use Rattle.script_laws.specs.Causes.{cause_answered}
-use Rattle.reader_laws.specs.Along.{AreOfSession}
+use Rattle.line_laws.specs.Along.{AreOfSession}
 use Rattle.headline.specs.Account.{Account, HistoryTells, IsDeviceBehind, RunLogs}
 use Rattle.headline.specs.Reads.{DidBefore}
 use Rattle.headline.specs.Standing.{HasRecorded}

@@ -7,9 +7,9 @@ use Rattle.script_lang.specs.declared.step.Step.TheVariants as step
 use Rattle.script_lang.specs.declared.answer.StepAnswer.TheVariants as answer
 use Rattle.script_run.specs.Run.{fresh}
 use Rattle.script_run.specs.Takes.{run_after}
-use Rattle.reader_laws.specs.Actors.{pieces_told}
-use Rattle.reader_laws.specs.Along.{AreOfSession}
-use Rattle.reader_laws.specs.Laws.{WasPutFor}
+use Rattle.line_laws.specs.Actors.{pieces_told}
+use Rattle.line_laws.specs.Along.{AreOfSession}
+use Rattle.line_laws.specs.Laws.{WasPutFor}
 use Rattle.headline.specs.Account.{Account, HistoryTells, RunLogs}
 use Rattle.headline.specs.Reads.{DidBefore, ReadsOnBehind}
 use Rattle.headline.specs.Standing.{ClosesPut, HasRecorded}

@@ -11,7 +11,7 @@ use Rattle.script_lang.specs.declared.answer.StepAnswer.TheVariants as answer
 use Rattle.script_run.specs.Run.{Run, fresh, reader_by}
 use Rattle.script_run.specs.Turn.{Turn}
 use Rattle.script_run.specs.Takes.{IsRun, run_after}
-use Rattle.reader_laws.specs.Laws.{WasPutFor}
+use Rattle.line_laws.specs.Laws.{WasPutFor}
 use Rattle.headline.specs.Account.{Account, HistoryTells, RunLogs}
 
 -- what these lines did, and then the line behind them

@@ -18,7 +18,7 @@ use Rattle.script_lang.specs.declared.answer.StepAnswer.TheVariants as answer
 use Rattle.script_run.specs.Run.{fresh}
 use Rattle.script_run.specs.Turn.{Turn}
 use Rattle.script_run.specs.Takes.{IsRun, run_after}
-use Rattle.reader_laws.specs.Along.{AreOfSession}
+use Rattle.line_laws.specs.Along.{AreOfSession}
 use Rattle.headline.specs.Account.{Account, HistoryTells, RunLogs}
 use Rattle.headline.specs.Answered.{WasGivenUpSo, WasPut}
 use Rattle.headline.specs.Misses.{MissesKey}

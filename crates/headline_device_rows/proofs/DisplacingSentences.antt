@@ -18,13 +18,13 @@ use Rattle.headline.specs.Misses
 use Rattle.headline.specs.Misses.{DisplacedWasTold, VectorWasLost}
 use Rattle.headline.specs.Reads
 use Rattle.headline.specs.Verdicts.{AbsencesAreCaused, BreaksAreCaused, GetsAreCaused, LossesAreCaused, MissesAreCaused}
-use Rattle.headline_rows.specs.Script.{name_of_reader}
-use Rattle.headline_device_rows.specs.Displacing.{displacing_key, displacing_lines, displaced_cause, displacing_turns, line_to_close, writer_name, turn_of_close}
+use Rattle.worked_runs.specs.Script.{name_of_reader}
+use Rattle.device_runs.specs.Displacing.{displacing_key, displacing_lines, displaced_cause, displacing_turns, line_to_close, writer_name, turn_of_close}
 use Rattle.headline_device_rows.specs.DisplacingSentences.{TheDisplacedAbsenceIsCaused, TheBreakWasDisplaced, TheDisplacedBreakIsCaused, TheDisplacedGetIsCaused, TheDisplacedMissIsCaused, TheDisplacementWasTold, TheGetWasDisplaced, TheLostPutWasAnswered, TheLossIsCaused, TheLostWasDisplaced, TheVectorWasLost}
-use Rattle.headline_device_rows.specs.DisplacingTold.{TellsDisplacing, TheDisplacingScriptIsAnswered, displacing_answers, displacing_logs}
-use Rattle.headline_device_rows.specs.History.{each_answered}
-use Rattle.headline_rows.proofs.Along.{are_run, reads_front, takes_front}
-use Rattle.headline_device_rows.proofs.DisplacingScript.{DisplacingStepwise, are_read, are_taken, close_is_read, displacing_script, get_is_read, next_is_read, removal_is_read}
+use Rattle.device_runs.specs.DisplacingTold.{TellsDisplacing, TheDisplacingScriptIsAnswered, displacing_answers, displacing_logs}
+use Rattle.device_runs.specs.History.{each_answered}
+use Rattle.worked_runs.proofs.Along.{are_run, reads_front, takes_front}
+use Rattle.device_runs.proofs.DisplacingScript.{DisplacingStepwise, are_read, are_taken, close_is_read, displacing_script, get_is_read, next_is_read, removal_is_read}
 
 -- one line of the script, with its answer
 module _ (said : TheDisplacingScriptIsAnswered) (a : Account displacing_logs) (tells : TellsDisplacing a) where

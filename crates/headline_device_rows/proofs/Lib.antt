@@ -1,16 +1,4 @@
-mod Blocks
-mod Flushed
-mod Given
-mod Script
-mod Tells
 mod Sentences
-mod Displacing
-mod Gone
-mod DisplacingScript
-mod DisplacingTells
 mod DisplacingSentences
-mod PassedSteps
-mod PassedScript
-mod PassedTells
 mod PassedSentences
 mod PassedAgreeing

@@ -21,13 +21,13 @@ use Rattle.run_promise.specs.Lines.{answers_of}
 use Rattle.headline.specs.Account.{Account, AllTell}
 use Rattle.headline.specs.Parting.{HistoryBegins}
 use Rattle.refusal_laws.specs.Runs.{AllCount, CountsEach, HistoriesAgreeInRefusals}
-use Rattle.headline_rows.proofs.Along.{answers_are, answers_by, reads_front}
-use Rattle.headline_device_rows.specs.History.{each_answered}
-use Rattle.headline_device_rows.specs.Passed.{TellsPassed, ThePassedScriptHasAnAccount, doc_of_piece, filler_block, filler_piece, filling, listing_block, passed_answers, passed_block, passed_device, passed_lines, passed_logs, passed_piece, passed_turns}
+use Rattle.worked_runs.proofs.Along.{answers_are, answers_by, reads_front}
+use Rattle.device_runs.specs.History.{each_answered}
+use Rattle.device_runs.specs.Passed.{TellsPassed, ThePassedScriptHasAnAccount, doc_of_piece, filler_block, filler_piece, filling, listing_block, passed_answers, passed_block, passed_device, passed_lines, passed_logs, passed_piece, passed_turns}
 use Rattle.headline_device_rows.specs.PassedSentences.{EachHistoryIsAnsweredSo}
-use Rattle.headline_device_rows.proofs.Blocks.{small_block}
-use Rattle.headline_device_rows.proofs.PassedScript.{are_read, are_said, front_is_run, passed_script}
-use Rattle.headline_device_rows.proofs.PassedSteps.{both_are, filler_is_four, filling_is_bytes, listing_is_block, listing_is_bytes, passed_is_four}
+use Rattle.device_runs.proofs.Blocks.{small_block}
+use Rattle.device_runs.proofs.PassedScript.{are_read, are_said, front_is_run, passed_script}
+use Rattle.device_runs.proofs.PassedSteps.{both_are, filler_is_four, filling_is_bytes, listing_is_block, listing_is_bytes, passed_is_four}
 
 -- ---- the device
 

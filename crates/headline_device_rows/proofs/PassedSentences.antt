@@ -9,20 +9,20 @@ use Rattle.script_lang.specs.declared.step.Step.TheVariants as step
 use Rattle.script_lang.specs.declared.answer.StepAnswer.{StepAnswer}
 use Rattle.script_lang.specs.declared.answer.StepAnswer.TheVariants as answer
 use Rattle.script_lang.specs.Grammar.{reading_of}
-use Rattle.reader_laws.specs.Along.{AreOfSession}
+use Rattle.line_laws.specs.Along.{AreOfSession}
 use Rattle.headline.specs.Account.{Account, HistoryTells}
 use Rattle.headline.specs.Bodies.{ClosedPutStays}
 use Rattle.headline.specs.Breaks.{BreakWasPassed, GetWasPassed}
 use Rattle.headline.specs.Misses
 use Rattle.headline.specs.Reads.{DidBefore}
 use Rattle.headline.specs.Standing.{PassedWasPlaced}
-use Rattle.headline_rows.specs.Script.{name_of_reader, silent_turn}
-use Rattle.headline_rows.proofs.Along.{are_of_session, reads_front}
-use Rattle.headline_device_rows.specs.Displacing.{writer_name}
-use Rattle.headline_device_rows.specs.History.{each_answered}
-use Rattle.headline_device_rows.specs.Passed.{TellsPassed, ThePassedScriptIsAnswered, fragment_passed, listing_records, passed_answers, passed_key, passed_lines, passed_logs, passed_turns, vector_passed}
+use Rattle.worked_runs.specs.Script.{name_of_reader, silent_turn}
+use Rattle.worked_runs.proofs.Along.{are_of_session, reads_front}
+use Rattle.device_runs.specs.Displacing.{writer_name}
+use Rattle.device_runs.specs.History.{each_answered}
+use Rattle.device_runs.specs.Passed.{TellsPassed, ThePassedScriptIsAnswered, fragment_passed, listing_records, passed_answers, passed_key, passed_lines, passed_logs, passed_turns, vector_passed}
 use Rattle.headline_device_rows.specs.PassedSentences.{TheBreakWasPassed, TheClosedPutStays, TheGetWasPassed, TheVectorWasPassed}
-use Rattle.headline_device_rows.proofs.PassedScript.{are_read, close_is_read, front_is_run, get_is_read, next_is_read, passed_script}
+use Rattle.device_runs.proofs.PassedScript.{are_read, close_is_read, front_is_run, get_is_read, next_is_read, passed_script}
 
 -- one line of the script, with its answer
 module _ (said : ThePassedScriptIsAnswered) (a : Account passed_logs) (tells : TellsPassed a) where

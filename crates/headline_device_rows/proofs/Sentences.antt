@@ -14,12 +14,12 @@ use Rattle.headline.specs.Reads
 use Rattle.headline.specs.Reads.{GotIsWhole}
 use Rattle.headline.specs.Troubles.{CountsAreReached, NoFalseDamage, NoFalseFaults}
 use Rattle.headline.specs.Verdicts.{BreaksAreCaused, GetsAreCaused, MissesAreCaused}
-use Rattle.headline_rows.specs.Script.{body_of_a, fragment_digest, key_of_a, name_of_reader, vector_digest}
-use Rattle.headline_device_rows.specs.History.{TheTroubledScriptIsAnswered, each_answered, troubled_answers}
+use Rattle.worked_runs.specs.Script.{body_of_a, fragment_digest, key_of_a, name_of_reader, vector_digest}
+use Rattle.device_runs.specs.History.{TheTroubledScriptIsAnswered, each_answered, troubled_answers}
 use Rattle.headline_device_rows.specs.Sentences.{NoCountIsAbove, NoDamageInMemory, NoFaultInMemory, NoneStopsInMemory, TheTroubledBreakIsCaused, TheTroubledGetIsCaused, TheDamagedMissIsCaused, TheFlushWasRefused, TheFragmentStaysOther, TheFragmentWasOther, TheGetOnFileIsWhole, TheVectorWasOther}
-use Rattle.headline_device_rows.specs.Told.{TellsTroubled, file_device, memory_device, troubled_logs}
-use Rattle.headline_device_rows.specs.Troubled.{fragment_damage, other_digest, troubled_lines, vector_damage}
-use Rattle.headline_device_rows.proofs.Script.{flush_is_read, get_is_read, next_is_read, sessions_are}
+use Rattle.device_runs.specs.Told.{TellsTroubled, file_device, memory_device, troubled_logs}
+use Rattle.device_runs.specs.Troubled.{fragment_damage, other_digest, troubled_lines, vector_damage}
+use Rattle.device_runs.proofs.Script.{flush_is_read, get_is_read, next_is_read, sessions_are}
 
 -- one line of the script, with its answer
 module _ (said : TheTroubledScriptIsAnswered) (a : Account troubled_logs) (tells : TellsTroubled a) where

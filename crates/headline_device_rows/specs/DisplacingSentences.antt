@@ -11,9 +11,9 @@ use Rattle.headline.specs.Answered.{WasGivenUpSo}
 use Rattle.headline.specs.Displacements.{BrokeDisplaced, GetDisplaced, LostDisplaced}
 use Rattle.headline.specs.Misses.{VectorWasDisplaced, WasRecorded}
 use Rattle.headline.specs.Verdicts.{AbsenceIsCaused, BreakIsCaused, GetIsCaused, LossIsCaused, MissIsCaused}
-use Rattle.headline_rows.specs.Script.{name_of_reader}
-use Rattle.headline_device_rows.specs.Displacing.{displacing_key, displacing_lines, displaced_cause, displacing_turns, writer_name}
-use Rattle.headline_device_rows.specs.DisplacingTold.{TellsDisplacing, displacing_logs}
+use Rattle.worked_runs.specs.Script.{name_of_reader}
+use Rattle.device_runs.specs.Displacing.{displacing_key, displacing_lines, displaced_cause, displacing_turns, writer_name}
+use Rattle.device_runs.specs.DisplacingTold.{TellsDisplacing, displacing_logs}
 
 -- an earlier line recorded that the piece at which the reader broke was displaced so, and no record since is of a loss of it
 abbrev pub TheBreakWasDisplaced : Type 0

@@ -1,11 +1,3 @@
-pub mod Troubled
-pub mod Steps
-pub mod History
-pub mod Told
 pub mod Sentences
-pub mod Displacing
-pub mod DisplacingSteps
-pub mod DisplacingTold
 pub mod DisplacingSentences
-pub mod Passed
 pub mod PassedSentences

@@ -10,9 +10,9 @@ use Rattle.headline.specs.Breaks.{BrokePassed, GetPassed}
 use Rattle.headline.specs.Parting.{HistoryBegins}
 use Rattle.headline.specs.Standing.{WasPassed}
 use Rattle.refusal_laws.specs.Lines.{HaveSameCalls}
-use Rattle.headline_rows.specs.Script.{name_of_reader}
-use Rattle.headline_device_rows.specs.History.{each_answered}
-use Rattle.headline_device_rows.specs.Passed.{TellsPassed, passed_answers, passed_key, passed_lines, passed_logs, passed_turns}
+use Rattle.worked_runs.specs.Script.{name_of_reader}
+use Rattle.device_runs.specs.History.{each_answered}
+use Rattle.device_runs.specs.Passed.{TellsPassed, passed_answers, passed_key, passed_lines, passed_logs, passed_turns}
 
 -- the piece at which the reader broke was placed at 36 by an earlier line, last, and the floor is 40
 abbrev pub TheBreakWasPassed : Type 0

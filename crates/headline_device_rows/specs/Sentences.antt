@@ -9,9 +9,9 @@ use Rattle.headline.specs.Account.{Account, HistoryTells, RunAnswers, sessions_b
 use Rattle.headline.specs.Causes.{WasGiven, WasKept, WasRefusedInLine}
 use Rattle.headline.specs.Reads.{IsWholePut}
 use Rattle.headline.specs.Verdicts.{BreakIsCaused, GetIsCaused, MissIsCaused}
-use Rattle.headline_rows.specs.Script.{body_of_a, fragment_digest, key_of_a, name_of_reader, vector_digest}
-use Rattle.headline_device_rows.specs.Told.{TellsTroubled, file_device, troubled_logs}
-use Rattle.headline_device_rows.specs.Troubled.{fragment_damage, other_digest, troubled_lines, vector_damage}
+use Rattle.worked_runs.specs.Script.{body_of_a, fragment_digest, key_of_a, name_of_reader, vector_digest}
+use Rattle.device_runs.specs.Told.{TellsTroubled, file_device, troubled_logs}
+use Rattle.device_runs.specs.Troubled.{fragment_damage, other_digest, troubled_lines, vector_damage}
 
 -- in the line that was answered `device-fault 1` the file refused a call, with that count behind it
 abbrev pub TheFlushWasRefused : Type 0

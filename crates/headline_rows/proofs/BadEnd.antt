@@ -20,9 +20,9 @@ use Rattle.run_promise.specs.declared.status.Status.TheVariants as status
 use Rattle.headline.specs.Account.{begun_in}
 use Rattle.headline.specs.Endings.{AreTakeable, EndsAreCaused, MayBeTaken}
 use Rattle.headline_rows.specs.BadEnd.{TheBadLineEndsIt, TheBadRunIsConcluded, line_that_is_bad, logs_to_bad, reads_to_bad, writes_to_bad}
-use Rattle.headline_rows.specs.History.{TheScriptIsARun, TheScriptIsAnswered, script_answers}
-use Rattle.headline_rows.specs.Script.{script_lines, script_turns}
-use Rattle.headline_rows.proofs.Tells.{answered_each, back_by_answers, back_by_records, lines_are_takeable, no_newline, taken_lines, went_out as answers_went_out}
+use Rattle.worked_runs.specs.History.{TheScriptIsARun, TheScriptIsAnswered, script_answers}
+use Rattle.worked_runs.specs.Script.{script_lines, script_turns}
+use Rattle.worked_runs.proofs.Tells.{answered_each, back_by_answers, back_by_records, lines_are_takeable, no_newline, taken_lines, went_out as answers_went_out}
 
 abbrev held_bytes : List ℕ
 held_bytes = line_that_is_bad ++ 10 ∷ []

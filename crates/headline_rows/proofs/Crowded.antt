@@ -23,10 +23,10 @@ use Rattle.cache_model.specs.State.{Closed, Complete, ReaderRow, Row, State, aft
 use Rattle.cache_model.specs.Verdict.{digest_in, live_vector_of, lookup_verdict, reader_verdict}
 use Rattle.script_run.specs.Asked.{get_intents, put_intents}
 use Rattle.headline_rows.specs.Crowded.{broken_records, crowded_alternate, crowded_body, crowded_digest, crowded_geometry, crowded_records, crowded_vector_digest}
-use Rattle.headline_rows.specs.Script.{silent}
-use Rattle.headline_rows.specs.Writers.{fed_row}
-use Rattle.headline_rows.proofs.PutIn.{no_fields}
-use Rattle.headline_rows.proofs.WritersSteps.{are_bytes, fewer}
+use Rattle.worked_runs.specs.Script.{silent}
+use Rattle.worked_runs.specs.Writers.{fed_row}
+use Rattle.worked_runs.proofs.PutIn.{no_fields}
+use Rattle.worked_runs.proofs.WritersSteps.{are_bytes, fewer}
 
 -- ---- a directory of one bucket
 

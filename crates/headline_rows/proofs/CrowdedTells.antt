@@ -28,12 +28,12 @@ use Rattle.headline.specs.Account.{Account, ComeBackFrom, HistoryTells}
 use Rattle.headline.specs.Endings.{AreTakeable}
 use Rattle.headline.specs.Verdicts.{GetsAreCaused}
 use Rattle.headline_rows.specs.Crowded.{TellsCrowded, TheBrokenGetIsCaused, TheCrowdedHasAnAccount, TheCrowdedIsARun, TheCrowdedIsAnswered, TheCrowdedIsConcluded, crowded_answers, crowded_body, crowded_geometry, crowded_lines, crowded_logs, crowded_reads, crowded_turns, crowded_turns_with, crowded_writes, line_to_format_few, line_to_put_four}
-use Rattle.headline_rows.specs.Script.{key_of_a, line_to_get}
-use Rattle.headline_rows.specs.Told.{script_device}
-use Rattle.headline_rows.proofs.Along.{AreAnsweredBy, AreRead, AreTakeableBy, StepsTake, answers_by, are_answered, are_takeable, outline_by, outline_is, run_by, run_is}
+use Rattle.worked_runs.specs.Script.{key_of_a, line_to_get}
+use Rattle.worked_runs.specs.Told.{script_device}
+use Rattle.worked_runs.proofs.Along.{AreAnsweredBy, AreRead, AreTakeableBy, StepsTake, answers_by, are_answered, are_takeable, outline_by, outline_is, run_by, run_is}
 use Rattle.headline_rows.proofs.Crowded.{broken_is_a_step, crowded_is_a_step}
-use Rattle.headline_rows.proofs.Readings.{get_is_read}
-use Rattle.headline_rows.proofs.Tells.{all_takeable, is_line_to_get, no_newline}
+use Rattle.worked_runs.proofs.Readings.{get_is_read}
+use Rattle.worked_runs.proofs.Tells.{all_takeable, is_line_to_get, no_newline}
 
 -- ---- the lines as steps
 

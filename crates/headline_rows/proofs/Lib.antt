@@ -1,18 +1,6 @@
-mod Keys
-mod Missed
-mod PutIn
-mod Gotten
-mod Readings
-pub mod Along
-mod Script
-mod Tells
 mod Fine
 mod Sentences
 mod Whole
-mod WritersReadings
-mod WritersSteps
-mod Writers
-mod WritersTells
 mod WritersSentences
 mod Crowded
 mod CrowdedTells

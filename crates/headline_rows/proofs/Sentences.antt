@@ -16,7 +16,7 @@ use Rattle.script_run.specs.Run.{fresh}
 use Rattle.script_run.specs.Takes.{IsRun}
 use Rattle.cache_model.specs.declared.cause.Cause.TheVariants as cause
 use Rattle.cache_model.specs.declared.record.Rec.TheVariants as rec
-use Rattle.reader_laws.specs.Along.{AreOfSession}
+use Rattle.line_laws.specs.Along.{AreOfSession}
 use Rattle.headline.specs.Account.{Account, AllTell, HistoryTells, HonestRunsAreWhole}
 use Rattle.headline.specs.Answered.{AnsweredPutWasCompleted, AnsweredRemovalWasRecorded, CompletedWasAnswered, RecordsBehind, RemovalWasAnswered}
 use Rattle.headline.specs.Bodies.{GotIsTheBody, PutTookItsBody}
@@ -30,15 +30,15 @@ use Rattle.headline.specs.Reads.{DidBefore, GotIsWhole, HitIsWhole}
 use Rattle.headline.specs.Standing
 use Rattle.headline.specs.Standing.{FoundIsListed, RemovedWasRecorded}
 use Rattle.headline.specs.Verdicts.{MissesAreCaused}
-use Rattle.headline_rows.specs.History.{TheScriptIsAnswered, script_answers, script_output}
-use Rattle.headline_rows.specs.Script.{alternate_of_a, body_of_a, key_of_a, line_to_put, line_to_remove, name_of_reader, script_lines, script_turns, turn_at_last, turn_of_put, turn_of_removal}
+use Rattle.worked_runs.specs.History.{TheScriptIsAnswered, script_answers, script_output}
+use Rattle.worked_runs.specs.Script.{alternate_of_a, body_of_a, key_of_a, line_to_put, line_to_remove, name_of_reader, script_lines, script_turns, turn_at_last, turn_of_put, turn_of_removal}
 use Rattle.headline_rows.specs.Sentences.{EachRunIsDone, EachRunPrintsIt, ItWasRemoved, NothingWasPut, TheEndIsRead, TheGetIsWhole, TheGotIsTheBody, TheHistoryIsWhole, TheHitIsWhole, TheMissIsCaused, ThePutIsListed, ThePutTookItsBody, ThePutWasAnswered, ThePutWasCompleted, TheRemovalWasAnswered, TheRemovalWasRecorded}
-use Rattle.headline_rows.specs.Told.{TellsScript, TheScriptIsConcluded, script_device, script_logs, script_writes}
-use Rattle.headline_rows.proofs.Along.{are_of_session, are_run, reads_front, takes_front}
+use Rattle.worked_runs.specs.Told.{TellsScript, TheScriptIsConcluded, script_device, script_logs, script_writes}
+use Rattle.worked_runs.proofs.Along.{are_of_session, are_run, reads_front, takes_front}
 use Rattle.headline_rows.proofs.Fine.{is_fine}
-use Rattle.headline_rows.proofs.Readings.{get_is_read, next_is_read, opening_is_read, put_is_read, removal_is_read}
-use Rattle.headline_rows.proofs.Script.{are_read, are_taken, steps_with}
-use Rattle.headline_rows.proofs.Tells.{lines_are_takeable, taken_lines}
+use Rattle.worked_runs.proofs.Readings.{get_is_read, next_is_read, opening_is_read, put_is_read, removal_is_read}
+use Rattle.worked_runs.proofs.Script.{are_read, are_taken, steps_with}
+use Rattle.worked_runs.proofs.Tells.{lines_are_takeable, taken_lines}
 
 -- one line of the script, with its answer
 module _ (said : TheScriptIsAnswered) (a : Account script_logs) (tells : TellsScript a) where

@@ -33,14 +33,14 @@ use Rattle.headline.specs.Endings.{EndsAreCaused, RunsAreTold}
 use Rattle.headline.specs.Fixed.{AreSwitched, SwitchedRunsAreSteady}
 use Rattle.headline.specs.Parting.{HistoriesAgreeBeforeTrouble, HistoryBegins, RunsAgreeBeforeTrouble}
 use Rattle.headline.specs.Troubles.{CountsAreReached, NoFalseDamage, NoFalseFaults}
-use Rattle.headline_rows.specs.Script.{key_of_a, line_to_format, script_lines, script_turns, turns_with}
-use Rattle.headline_rows.specs.Told.{TellsScript, TheScriptIsConcluded, script_device, script_logs, script_reads}
+use Rattle.worked_runs.specs.Script.{key_of_a, line_to_format, script_lines, script_turns, turns_with}
+use Rattle.worked_runs.specs.Told.{TellsScript, TheScriptIsConcluded, script_device, script_logs, script_reads}
 use Rattle.headline_rows.specs.Whole.{EachHistoryPrintsIt, EachRunAgrees, NoCountIsTold, NoDamageIsTold, NoFaultIsTold, TheRunEnds, TheRunIsSteady, TheRunIsTold}
-use Rattle.headline_rows.proofs.Along.{AreRead, begun_by_step}
-use Rattle.headline_rows.proofs.Readings.{format_is_read}
-use Rattle.headline_rows.proofs.Script.{are_read, steps_with}
+use Rattle.worked_runs.proofs.Along.{AreRead, begun_by_step}
+use Rattle.worked_runs.proofs.Readings.{format_is_read}
+use Rattle.worked_runs.proofs.Script.{are_read, steps_with}
 use Rattle.headline_rows.proofs.Sentences.{all_tell, device_tells, output_is}
-use Rattle.headline_rows.proofs.Tells.{taken_lines}
+use Rattle.worked_runs.proofs.Tells.{taken_lines}
 
 -- ---- its account and its end
 

@@ -21,13 +21,13 @@ use Rattle.headline.specs.Reads
 use Rattle.headline.specs.Reads.{AsksFor, FollowWasPut, gets, opens}
 use Rattle.headline.specs.Standing.{AbortedWasLast, FitsNone, NoMatchFitsNone}
 use Rattle.headline.specs.Verdicts.{AbsencesAreCaused, BreaksAreCaused}
-use Rattle.headline_rows.specs.Script.{key_of_a, name_of_reader}
-use Rattle.headline_rows.specs.Writers.{TheWritersAreAnswered, fed_body, line_to_give_up, name_of_writer, other_request, turn_of_giving_up, writers_answers, writers_lines, writers_turns}
-use Rattle.headline_rows.specs.WritersTold.{TellsWriters, TheAbortWasLast, TheAbortWasRecorded, TheAbsenceIsCaused, TheBreakIsCaused, TheBreakWasAborted, TheDataTookItsBytes, TheFollowedWasPut, TheGivingUpWasAnswered, TheRequestFitsNone, writers_logs}
-use Rattle.headline_rows.proofs.Along.{are_run, reads_front, takes_front}
-use Rattle.headline_rows.proofs.Readings.{get_is_read, next_is_read, opening_is_read, removal_is_read}
-use Rattle.headline_rows.proofs.Writers.{writers_are_read, writers_are_taken, writers_steps}
-use Rattle.headline_rows.proofs.WritersReadings.{feed_is_read, giving_up_is_read, other_is_read}
+use Rattle.worked_runs.specs.Script.{key_of_a, name_of_reader}
+use Rattle.worked_runs.specs.Writers.{TheWritersAreAnswered, fed_body, line_to_give_up, name_of_writer, other_request, turn_of_giving_up, writers_answers, writers_lines, writers_turns}
+use Rattle.worked_runs.specs.WritersTold.{TellsWriters, TheAbortWasLast, TheAbortWasRecorded, TheAbsenceIsCaused, TheBreakIsCaused, TheBreakWasAborted, TheDataTookItsBytes, TheFollowedWasPut, TheGivingUpWasAnswered, TheRequestFitsNone, writers_logs}
+use Rattle.worked_runs.proofs.Along.{are_run, reads_front, takes_front}
+use Rattle.worked_runs.proofs.Readings.{get_is_read, next_is_read, opening_is_read, removal_is_read}
+use Rattle.worked_runs.proofs.Writers.{writers_are_read, writers_are_taken, writers_steps}
+use Rattle.worked_runs.proofs.WritersReadings.{feed_is_read, giving_up_is_read, other_is_read}
 
 -- one line of the script, with its answer
 module _ (said : TheWritersAreAnswered) (a : Account writers_logs) (tells : TellsWriters a) where

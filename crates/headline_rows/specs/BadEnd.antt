@@ -5,8 +5,8 @@ use Rattle.edge_io.specs.Text.{spelled}
 use Rattle.run_promise.specs.declared.status.Status.TheVariants as status
 use Rattle.headline.specs.Account.{IsConcluded, RunLogs}
 use Rattle.headline.specs.Endings.{EndsFirst}
-use Rattle.headline_rows.specs.Script.{script_lines}
-use Rattle.headline_rows.specs.Told.{script_logs, script_writes}
+use Rattle.worked_runs.specs.Script.{script_lines}
+use Rattle.worked_runs.specs.Told.{script_logs, script_writes}
 
 -- its first word is no verb
 abbrev pub line_that_is_bad : List ℕ

@@ -27,9 +27,9 @@ use Rattle.run_promise.specs.declared.status.Status.TheVariants as status
 use Rattle.headline.specs.Account.{Account, IsConcluded, RunLogs}
 use Rattle.headline.specs.Endings.{IsAccountOf}
 use Rattle.headline.specs.Verdicts.{GetIsCaused}
-use Rattle.headline_rows.specs.Script.{key_of_a, line_to_get, silent_turn}
-use Rattle.headline_rows.specs.Told.{script_device}
-use Rattle.headline_rows.specs.Writers.{fed_body, fed_row}
+use Rattle.worked_runs.specs.Script.{key_of_a, line_to_get, silent_turn}
+use Rattle.worked_runs.specs.Told.{script_device}
+use Rattle.worked_runs.specs.Writers.{fed_body, fed_row}
 
 -- ---- the lines
 

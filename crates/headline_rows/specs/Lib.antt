@@ -1,10 +1,4 @@
-pub mod Script
-pub mod Steps
-pub mod History
-pub mod Told
 pub mod Sentences
 pub mod Whole
-pub mod Writers
-pub mod WritersTold
 pub mod Crowded
 pub mod BadEnd

@@ -20,9 +20,9 @@ use Rattle.headline.specs.Readers.{IsReadToEnd}
 use Rattle.headline.specs.Reads.{IsStoredPut, IsWholePut}
 use Rattle.headline.specs.Standing.{IsListedPut, WasRemoved}
 use Rattle.headline.specs.Verdicts.{MissIsCaused}
-use Rattle.headline_rows.specs.History.{script_output}
-use Rattle.headline_rows.specs.Script.{body_of_a, key_of_a, name_of_reader, script_lines, script_turns}
-use Rattle.headline_rows.specs.Told.{TellsScript, script_logs}
+use Rattle.worked_runs.specs.History.{script_output}
+use Rattle.worked_runs.specs.Script.{body_of_a, key_of_a, name_of_reader, script_lines, script_turns}
+use Rattle.worked_runs.specs.Told.{TellsScript, script_logs}
 
 -- the get behind the put gave all that the writer of put 1 took, which an earlier line opened under the key
 abbrev pub TheGetIsWhole : Type 0

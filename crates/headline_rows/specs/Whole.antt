@@ -16,9 +16,9 @@ use Rattle.headline.specs.Account.{Account, AllTell, HistoryTells, IsConcluded, 
 use Rattle.headline.specs.Endings.{EndsFirst, IsAccountOf}
 use Rattle.headline.specs.Fixed.{AreSteady, GiveSame}
 use Rattle.headline.specs.Parting.{HistoryBegins, RunsPart}
-use Rattle.headline_rows.specs.History.{script_output}
-use Rattle.headline_rows.specs.Script.{script_lines, script_turns}
-use Rattle.headline_rows.specs.Told.{TellsScript, script_logs}
+use Rattle.worked_runs.specs.History.{script_output}
+use Rattle.worked_runs.specs.Script.{script_lines, script_turns}
+use Rattle.worked_runs.specs.Told.{TellsScript, script_logs}
 
 -- ---- its account and its end
 

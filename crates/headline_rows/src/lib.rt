@@ -1,112 +1,35 @@
-//! Three runs, worked by hand, and what the laws of `headline` say of them.
+//! What the laws of `headline` say of three runs that were worked by hand.
 #![tactic(auto)]
 
-ghost use Rattle.headline_rows.specs.Steps.{AHitIsAStep, AMissIsAStep, APieceIsAStep, AnEndIsAStep, APutIsAStep, AGetIsAStep, ARemovalIsAStep, AMissBehindItIsAStep, ThePutHolds};
-ghost use Rattle.headline_rows.specs.History.{OnlyTheBodyIsGiven, TheScriptIsARun, TheScriptIsAnswered, TheScriptPrints};
-ghost use Rattle.headline_rows.specs.Told.{TheScriptHasAnAccount, TheScriptIsConcluded};
 ghost use Rattle.headline_rows.specs.Sentences.{EachRunIsDone, EachRunPrintsIt, ItWasRemoved, NothingWasPut, TheEndIsRead, TheGetIsWhole, TheGotIsTheBody, TheHistoryIsWhole, TheHitIsWhole, TheMissIsCaused, ThePutIsListed, ThePutTookItsBody, ThePutWasAnswered, ThePutWasCompleted, TheRemovalWasAnswered, TheRemovalWasRecorded};
 ghost use Rattle.headline_rows.specs.Whole.{EachHistoryPrintsIt, EachRunAgrees, NoCountIsTold, NoDamageIsTold, NoFaultIsTold, TheRunEnds, TheRunIsSteady, TheRunIsTold};
-ghost use Rattle.headline_rows.specs.Writers.{TheWritersAreARun, TheWritersAreAnswered, TheWritersPrint};
-ghost use Rattle.headline_rows.specs.WritersTold.{TheAbortWasLast, TheAbortWasRecorded, TheAbsenceIsCaused, TheBreakIsCaused, TheBreakWasAborted, TheDataTookItsBytes, TheFollowedWasPut, TheGivingUpWasAnswered, TheRequestFitsNone, TheWritersAreConcluded, TheWritersHaveAnAccount};
+ghost use Rattle.worked_runs.specs.WritersTold.{TheAbortWasLast, TheAbortWasRecorded, TheAbsenceIsCaused, TheBreakIsCaused, TheBreakWasAborted, TheDataTookItsBytes, TheFollowedWasPut, TheGivingUpWasAnswered, TheRequestFitsNone};
 ghost use Rattle.headline_rows.specs.Crowded.{TheBrokenGetIsCaused, TheCrowdedHasAnAccount, TheCrowdedIsARun, TheCrowdedIsAnswered, TheCrowdedIsConcluded};
 ghost use Rattle.headline_rows.specs.BadEnd.{TheBadLineEndsIt, TheBadRunIsConcluded};
 
-use edge_io::texts_have_lines;
-use headline::{
-    aborted_was_last, absences_are_caused, answered_abort_was_recorded, answered_put_was_completed,
-    answered_removal_was_recorded, break_was_aborted, breaks_are_caused, completed_was_answered,
-    counts_are_reached, data_took_its_bytes, done_where_fine, end_is_read, ends_are_caused,
-    follow_was_put, found_is_listed, gets_are_caused, giving_up_was_answered, got_is_the_body,
-    got_is_whole, histories_agree_before_trouble, hit_is_whole, honest_runs_are_whole,
-    misses_are_caused, never_put_was_none, no_false_damage, no_false_faults, no_match_fits_none,
-    put_took_its_body, removal_was_answered, removed_was_recorded, runs_agree_before_trouble,
-    runs_are_told, source_fixes_sink, switched_runs_are_steady,
+use account_laws::{
+    completed_was_answered, follow_was_put, giving_up_was_answered, got_is_whole, hit_is_whole,
+    removal_was_answered,
 };
-use run_promise::texts_are_output;
-
-/// A lookup before the put finds nothing.
-pub fn a_miss_is_a_step()
-    ensures { AMissIsAStep }
-{}
-
-/// One byte is put.
-pub fn a_put_is_a_step()
-    ensures { APutIsAStep }
-{}
-
-/// Its fragment and its vector then stand in the first two blocks of the buffer, and the key has that vector.
-pub fn the_put_holds()
-    ensures { ThePutHolds }
-{}
-
-/// An actor opens a reader of it.
-pub fn a_hit_is_a_step()
-    ensures { AHitIsAStep }
-{}
-
-/// The reader is given it.
-pub fn a_piece_is_a_step()
-    ensures { APieceIsAStep }
-{}
-
-/// And comes to the end.
-pub fn an_end_is_a_step()
-    ensures { AnEndIsAStep }
-{}
-
-/// It is got whole.
-pub fn a_get_is_a_step()
-    ensures { AGetIsAStep }
-{}
-
-/// It is removed.
-pub fn a_removal_is_a_step()
-    ensures { ARemovalIsAStep }
-{}
-
-/// And not found any more.
-pub fn a_miss_behind_it_is_a_step()
-    ensures { AMissBehindItIsAStep }
-{}
-
-/// The lines of the script have a legal history, written out by hand.
-pub fn the_script_is_a_run()
-    ensures { TheScriptIsARun }
-{}
-
-/// In it the get gives the body of the put, and no other bytes.
-pub fn only_the_body_is_given()
-    ensures { OnlyTheBodyIsGiven }
-{}
-
-/// By these turns each line is answered so.
-pub fn the_script_is_answered()
-    ensures { TheScriptIsAnswered }
-{}
-
-/// And that is what is printed.
-pub fn the_script_prints()
-    ensures { TheScriptPrints }
-{
-    the_script_is_answered();
-    texts_are_output();
-}
-
-/// The run has an account, with these lines, turns and answers.
-pub fn the_script_has_an_account()
-    ensures { TheScriptHasAnAccount }
-{
-    the_script_is_a_run();
-    the_script_is_answered();
-}
-
-/// What the top call concludes with the status Done holds of its logs.
-pub fn the_script_is_concluded()
-    ensures { TheScriptIsConcluded }
-{
-    the_script_is_a_run();
-    the_script_is_answered();
-}
+use cause_laws::{
+    aborted_was_last, absences_are_caused, break_was_aborted, breaks_are_caused, end_is_read,
+    found_is_listed, gets_are_caused, misses_are_caused, never_put_was_none, no_match_fits_none,
+    removed_was_recorded,
+};
+use edge_io::texts_have_lines;
+use headline::honest_runs_are_whole;
+use put_laws::{
+    answered_abort_was_recorded, answered_put_was_completed, answered_removal_was_recorded,
+    data_took_its_bytes, got_is_the_body, put_took_its_body,
+};
+use run_laws::{
+    counts_are_reached, done_where_fine, ends_are_caused, histories_agree_before_trouble,
+    no_false_damage, no_false_faults, runs_agree_before_trouble, runs_are_told, source_fixes_sink,
+    switched_runs_are_steady,
+};
+use worked_runs::{
+    the_script_is_a_run, the_script_is_answered, the_script_is_concluded, the_writers_are_answered,
+};
 
 /// The get gave all that the writer of put 1 took.
 pub fn the_get_is_whole()
@@ -295,40 +218,6 @@ pub fn each_run_agrees()
 {
     runs_agree_before_trouble();
     the_script_is_concluded();
-}
-
-/// The lines of the second script have a legal history, written out by hand.
-pub fn the_writers_are_a_run()
-    ensures { TheWritersAreARun }
-{}
-
-/// By these turns each of its lines is answered so.
-pub fn the_writers_are_answered()
-    ensures { TheWritersAreAnswered }
-{}
-
-/// And that is what is printed.
-pub fn the_writers_print()
-    ensures { TheWritersPrint }
-{
-    the_writers_are_answered();
-    texts_are_output();
-}
-
-/// The second run has an account, with these lines, turns and answers.
-pub fn the_writers_have_an_account()
-    ensures { TheWritersHaveAnAccount }
-{
-    the_writers_are_a_run();
-    the_writers_are_answered();
-}
-
-/// What the top call concludes with the status Done holds of its logs.
-pub fn the_writers_are_concluded()
-    ensures { TheWritersAreConcluded }
-{
-    the_writers_are_a_run();
-    the_writers_are_answered();
 }
 
 /// What the reader follows an earlier line opened.

@@ -4,12 +4,8 @@ pub mod TapeLaws
 pub mod FlushLaws
 pub mod Agreeing
 pub mod Purging
-pub mod SyncLaws
-pub mod PayloadLaws
-pub mod ForgetLaws
 pub mod RoomLaws
 pub use Rattle.step_laws.specs.PlaceLaws
 pub use Rattle.step_laws.specs.StepLaws
 pub use Rattle.step_laws.specs.PairLaws
 pub use Rattle.step_laws.specs.VectorLaws
-pub use Rattle.step_laws.specs.AskLaws

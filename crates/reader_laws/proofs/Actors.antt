@@ -25,14 +25,14 @@ use Rattle.script_run.specs.Turn.{Turn}
 use Rattle.script_run.specs.Behind.{after_format, after_line, after_reading, behind, held_behind, holds_behind, in_session, open_reader_at, or_else, still_open, writer_at}
 use Rattle.script_run.specs.Takes.{IsRun, ReadingTakes, SessionTakes, Takes, run_after}
 use Rattle.script_run.proofs.Values.{value_by}
-use Rattle.reader_laws.specs.Along.{KeepsSession, begins_session}
-use Rattle.reader_laws.specs.Given.{given_by_line, given_to, given_where}
-use Rattle.reader_laws.specs.Actors.{asked_by, given_by_name}
-use Rattle.reader_laws.proofs.Beside.{AllBeside, AllOther, AnyNumber, IsBeside, IsOther, grown_beside}
-use Rattle.reader_laws.proofs.Fronts.{own_begun}
+use Rattle.line_laws.specs.Along.{KeepsSession, begins_session}
+use Rattle.line_laws.specs.Given.{given_by_line, given_to, given_where}
+use Rattle.line_laws.specs.Actors.{asked_by, given_by_name}
+use Rattle.line_laws.proofs.Beside.{AllBeside, AllOther, AnyNumber, IsBeside, IsOther, grown_beside}
+use Rattle.line_laws.proofs.Fronts.{own_begun}
 use Rattle.reader_laws.proofs.Names.{Extends, HasCome, behind_extends, come, extends_self, extends_then, known_kept, same_number}
-use Rattle.reader_laws.proofs.Since.{HasAlong}
-use Rattle.reader_laws.proofs.Standing.{Goes, Keeps, KeepsIn, OfKept, begins, goes, reading_keeps, stays, steps, waits}
+use Rattle.line_laws.proofs.Since.{HasAlong}
+use Rattle.line_laws.proofs.Standing.{Goes, Keeps, KeepsIn, OfKept, begins, goes, reading_keeps, stays, steps, waits}
 
 -- ---- what an actor has behind a step
 

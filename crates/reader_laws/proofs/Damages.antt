@@ -39,12 +39,12 @@ use Rattle.script_run.specs.Own.{ArePayloadsOwn}
 use Rattle.script_run.specs.Takes.{IsRun, SessionTakes, run_after}
 use Rattle.script_run.proofs.Carried.{all_filter}
 use Rattle.script_run.proofs.Finding.{found_in}
-use Rattle.reader_laws.specs.Along.{StandsWhere}
-use Rattle.reader_laws.specs.Laws.{IsOfOtherBytes}
-use Rattle.reader_laws.proofs.Asking.{close_other, feeding_other, free_other, has_other, put_other}
-use Rattle.reader_laws.proofs.Beside.{AllOther, AnyNumber, IsOther}
-use Rattle.reader_laws.proofs.Firsts.{ArePlaced, IsPlaced, lines_place, records_place}
-use Rattle.reader_laws.proofs.Standing.{Keeps, OfKept, keeps_after}
+use Rattle.line_laws.specs.Along.{StandsWhere}
+use Rattle.line_laws.specs.Laws.{IsOfOtherBytes}
+use Rattle.line_laws.proofs.Asking.{close_other, feeding_other, free_other, has_other, put_other}
+use Rattle.line_laws.proofs.Beside.{AllOther, AnyNumber, IsOther}
+use Rattle.line_laws.proofs.Firsts.{ArePlaced, IsPlaced, lines_place, records_place}
+use Rattle.line_laws.proofs.Standing.{Keeps, OfKept, keeps_after}
 
 -- ---- what is asked
 

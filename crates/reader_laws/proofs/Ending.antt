@@ -27,13 +27,13 @@ use Rattle.script_run.specs.Own.{ArePayloadsOwn, IsOwnPut, IsOwnReader, IsTableO
 use Rattle.script_run.specs.Takes.{IsRun, SessionTakes, StepTakes, Takes, run_after}
 use Rattle.script_run.proofs.Finding.{found_in}
 use Rattle.script_run.proofs.Reading.{kept_is_followed, kept_is_given}
-use Rattle.reader_laws.specs.Along.{IsOpenAt, KeptAlong}
-use Rattle.reader_laws.specs.Given.{given_to}
-use Rattle.reader_laws.specs.Laws.{HasGivenAll}
-use Rattle.reader_laws.proofs.Fronts.{reader_begun}
-use Rattle.reader_laws.proofs.Nexts.{GoesOn}
-use Rattle.reader_laws.proofs.Lines.{OfSteps}
-use Rattle.reader_laws.proofs.Running.{run_goes, stands_first}
+use Rattle.line_laws.specs.Along.{IsOpenAt, KeptAlong}
+use Rattle.line_laws.specs.Given.{given_to}
+use Rattle.line_laws.specs.Laws.{HasGivenAll}
+use Rattle.line_laws.proofs.Fronts.{reader_begun}
+use Rattle.line_laws.proofs.Nexts.{GoesOn}
+use Rattle.line_laws.proofs.Lines.{OfSteps}
+use Rattle.line_laws.proofs.Running.{run_goes, stands_first}
 
 -- ---- the answer
 

@@ -35,15 +35,15 @@ use Rattle.script_run.specs.Turn.{Turn, lookup_in, told_in}
 use Rattle.script_run.specs.Answers.{broken_said, end_said, get_said, hit_length, if_free, lookup_said, miss_said, step_answer, step_said}
 use Rattle.script_run.specs.Laws.{HitIsPut, IsPutFor}
 use Rattle.script_run.specs.Takes.{IsBody, IsRun, SessionTakes, StepTakes, Takes, run_after}
-use Rattle.reader_laws.specs.Along.{OpenedAlong, StandsWhere}
-use Rattle.reader_laws.specs.Laws
-use Rattle.reader_laws.specs.Laws.{AnswersFollow, AnswersHit, WasPutFor}
+use Rattle.line_laws.specs.Along.{OpenedAlong, StandsWhere}
+use Rattle.line_laws.specs.Laws
+use Rattle.line_laws.specs.Laws.{AnswersFollow, AnswersHit, WasPutFor}
 use Rattle.script_run.proofs.Finding.{found_true}
 use Rattle.script_run.proofs.Hitting.{step_answers}
 use Rattle.script_run.proofs.Values.{value_here}
 use Rattle.reader_laws.proofs.Opening.{follow_by}
 use Rattle.reader_laws.proofs.Origins.{found_opened, put_opened}
-use Rattle.reader_laws.proofs.Standing.{Keeps, KeepsIn, OfKept, keeps_after}
+use Rattle.line_laws.proofs.Standing.{Keeps, KeepsIn, OfKept, keeps_after}
 
 -- ---- what the words of an answer tell
 

@@ -16,15 +16,15 @@ use Rattle.script_run.specs.Turn.{Turn}
 use Rattle.script_run.specs.Answers.{step_answer}
 use Rattle.script_run.specs.Behind.{after_line, after_reading, behind}
 use Rattle.script_run.specs.Takes.{IsRun, ReadingTakes, SessionTakes, StepTakes, Takes, run_after}
-use Rattle.reader_laws.specs.Along.{AreOfSession, IsOfScript, IsOpenAt, KeptAlong, LineOpens, StandsWhere}
-use Rattle.reader_laws.specs.Given.{given_to}
-use Rattle.reader_laws.specs.Laws.{HasGiven, HasGivenAll}
-use Rattle.reader_laws.proofs.Fronts.{own_begun}
-use Rattle.reader_laws.proofs.Lines.{OfSteps}
-use Rattle.reader_laws.proofs.Running.{RunGoes, fragments_given, run_goes}
+use Rattle.line_laws.specs.Along.{AreOfSession, IsOfScript, IsOpenAt, KeptAlong, LineOpens, StandsWhere}
+use Rattle.line_laws.specs.Given.{given_to}
+use Rattle.line_laws.specs.Laws.{HasGiven, HasGivenAll}
+use Rattle.line_laws.proofs.Fronts.{own_begun}
+use Rattle.line_laws.proofs.Lines.{OfSteps}
+use Rattle.line_laws.proofs.Running.{RunGoes, fragments_given, run_goes}
 use Rattle.reader_laws.proofs.Ending.{end_is_all}
 use Rattle.reader_laws.proofs.Opening.{opens_first}
-use Rattle.reader_laws.proofs.Standing.{Keeps, KeepsIn, OfKept, kept_along, keeps_after, reading_keeps}
+use Rattle.line_laws.proofs.Standing.{Keeps, KeepsIn, OfKept, kept_along, keeps_after, reading_keeps}
 
 pub record OfReaders : Type 0 where
   pub steps : OfSteps

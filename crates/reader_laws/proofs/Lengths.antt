@@ -35,13 +35,13 @@ use Rattle.script_run.specs.Behind.{after_step, behind}
 use Rattle.script_run.specs.Own.{ArePayloadsOwn}
 use Rattle.script_run.specs.Takes.{IsRun, StepTakes, Takes, run_after}
 use Rattle.script_run.proofs.OnlyReading.{reads_keep}
-use Rattle.reader_laws.specs.Along.{StandsWhere}
-use Rattle.reader_laws.specs.Laws
-use Rattle.reader_laws.specs.Laws.{AnswersHit}
+use Rattle.line_laws.specs.Along.{StandsWhere}
+use Rattle.line_laws.specs.Laws
+use Rattle.line_laws.specs.Laws.{AnswersHit}
 use Rattle.reader_laws.proofs.Ending.{end_told, hit_told}
 use Rattle.reader_laws.proofs.Hits.{IsGot, OpensHit, free_hit, got_by, look_hit}
-use Rattle.reader_laws.proofs.Keeping.{gave_reader}
-use Rattle.reader_laws.proofs.Standing.{Keeps, KeepsIn, OfKept, keeps_after, reading_keeps}
+use Rattle.line_laws.proofs.Keeping.{gave_reader}
+use Rattle.line_laws.proofs.Standing.{Keeps, KeepsIn, OfKept, keeps_after, reading_keeps}
 
 -- ---- the ends that records tell
 

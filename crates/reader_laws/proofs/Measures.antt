@@ -27,9 +27,9 @@ use Rattle.script_run.specs.Own.{AreCuts, ArePayloadsOwn, IsOwnPut, piece_of}
 use Rattle.script_run.specs.Takes.{IsRun, StepTakes, Takes, run_after}
 use Rattle.script_run.proofs.Changed.{changed_to, itself}
 use Rattle.script_run.proofs.Cuts.{length-piece, total_cuts}
-use Rattle.reader_laws.specs.Laws
-use Rattle.reader_laws.specs.Laws.{AnswersPutComplete, IsMeasured}
-use Rattle.reader_laws.proofs.Standing.{KeepsIn, OfKept, keeps_after, reading_keeps}
+use Rattle.line_laws.specs.Laws
+use Rattle.line_laws.specs.Laws.{AnswersPutComplete, IsMeasured}
+use Rattle.line_laws.proofs.Standing.{KeepsIn, OfKept, keeps_after, reading_keeps}
 
 -- ---- where nothing is refused, all that is asked is done
 

@@ -30,18 +30,18 @@ use Rattle.script_run.specs.Behind.{after_line}
 use Rattle.script_run.specs.Laws.{HitIsPut}
 use Rattle.script_run.specs.Takes.{IsRun, ReadingTakes, SessionTakes, StepTakes, Takes, run_after}
 use Rattle.script_run.proofs.Values.{value_here}
-use Rattle.reader_laws.specs.Along.{LineOpens, StandsWhere}
-use Rattle.reader_laws.specs.Laws
-use Rattle.reader_laws.specs.Laws.{WasPutFor}
-use Rattle.reader_laws.specs.Given.{given_to}
-use Rattle.reader_laws.specs.Actors as Opened
-use Rattle.reader_laws.specs.Actors.{IsOpenedBy, IsSaidToOpen, given_by_name}
+use Rattle.line_laws.specs.Along.{LineOpens, StandsWhere}
+use Rattle.line_laws.specs.Laws
+use Rattle.line_laws.specs.Laws.{WasPutFor}
+use Rattle.line_laws.specs.Given.{given_to}
+use Rattle.line_laws.specs.Actors as Opened
+use Rattle.line_laws.specs.Actors.{IsOpenedBy, IsSaidToOpen, given_by_name}
 use Rattle.reader_laws.proofs.Actors.{AreApart, Has, IsKnown, Makes, all_given, apart_after, fresh_apart, known_on, known_opened, line_before, reader_held, reading_apart, run_extends}
-use Rattle.reader_laws.proofs.Fronts.{own_begun}
+use Rattle.line_laws.proofs.Fronts.{own_begun}
 use Rattle.reader_laws.proofs.Hits.{follow_is_asked, hit_is_asked}
 use Rattle.reader_laws.proofs.Names.{same_number}
-use Rattle.reader_laws.proofs.Since.{MadeAlong, made_along}
-use Rattle.reader_laws.proofs.Standing.{Keeps, KeepsIn, OfKept, keeps_after, reading_keeps}
+use Rattle.line_laws.proofs.Since.{MadeAlong, made_along}
+use Rattle.line_laws.proofs.Standing.{Keeps, KeepsIn, OfKept, keeps_after, reading_keeps}
 
 -- ---- what a lookup was answered that opened a reader
 

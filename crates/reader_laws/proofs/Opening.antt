@@ -28,8 +28,8 @@ use Rattle.script_run.specs.Takes.{SessionTakes}
 use Rattle.script_run.proofs.Finding.{found_in}
 use Rattle.script_run.proofs.OnlyReading.{reads_keep}
 use Rattle.script_run.proofs.Values.{value_here}
-use Rattle.reader_laws.specs.Along.{IsOpenAt}
-use Rattle.reader_laws.proofs.Fronts.{own_begun}
+use Rattle.line_laws.specs.Along.{IsOpenAt}
+use Rattle.line_laws.proofs.Fronts.{own_begun}
 
 -- ---- a put that is followed
 

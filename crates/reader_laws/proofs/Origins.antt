@@ -21,8 +21,8 @@ use Rattle.script_run.specs.Behind.{after_line, after_reading}
 use Rattle.script_run.specs.Takes.{IsRun, LineTakes, ReadingTakes, run_after}
 use Rattle.script_run.proofs.Changed.{either}
 use Rattle.script_run.proofs.Finding.{found_in}
-use Rattle.reader_laws.specs.Along.{AreOfSession, KeepsSession, OpenedAlong, begins_session}
-use Rattle.reader_laws.proofs.Standing.{Goes, begins, goes, stays, steps, waits}
+use Rattle.line_laws.specs.Along.{AreOfSession, KeepsSession, OpenedAlong, begins_session}
+use Rattle.line_laws.proofs.Standing.{Goes, begins, goes, stays, steps, waits}
 
 -- ---- the line that opened a put
 

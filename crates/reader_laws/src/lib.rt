@@ -4,7 +4,6 @@
 mod laws;
 
 pub use laws::{
-    all_given, damage_is_given, end_is_all, first_given, follow_is_asked, fragments_given,
-    got_is_put, hit_is_asked, hit_opens, legal_is_kept, legal_is_own, length_is_told, opens_first,
-    own_is_kept_along, put_is_measured, reader_is_opened,
+    all_given, damage_is_given, end_is_all, first_given, follow_is_asked, got_is_put, hit_is_asked,
+    hit_opens, length_is_told, opens_first, put_is_measured, reader_is_opened,
 };

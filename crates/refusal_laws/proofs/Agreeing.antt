@@ -20,7 +20,7 @@ use Rattle.cache_model.proofs.Steps.{seen}
 use Rattle.model_laws.specs.Agreeing.{GroupsAgree, HoldTheSame, IsUntroubled, TellTheSame, without_copy_digest}
 use Rattle.model_laws.specs.RoomLaws.{TellNoDisplacement}
 use Rattle.model_laws.proofs.DigestSteps.{all_alike}
-use Rattle.reader_laws.proofs.Firsts.{ArePlaced, records_place}
+use Rattle.line_laws.proofs.Firsts.{ArePlaced, records_place}
 use Rattle.refusal_laws.specs.Steps.{AreCountsApart, MakeSameCalls, TakeFragments, only_clean_up, read_no_piece, read_out, reads_apart}
 use Rattle.refusal_laws.proofs.Flushing.{both_stopped, both_taken, not_stopped, not_taken}
 use Rattle.refusal_laws.proofs.Sorts

@@ -26,7 +26,7 @@ use Rattle.cache_model.proofs.Found.{no_truth, none_is, same_some}
 use Rattle.model_laws.specs.Agreeing.{HoldTheSame, IsUntroubled, without_digest}
 use Rattle.model_laws.specs.RoomLaws.{TellNoDisplacement}
 use Rattle.model_laws.proofs.Digests.{live_row_too}
-use Rattle.reader_laws.proofs.Firsts.{ArePlaced, IsPlaced, records_place}
+use Rattle.line_laws.proofs.Firsts.{ArePlaced, IsPlaced, records_place}
 use Rattle.refusal_laws.specs.Steps.{AreCountsApart, MakeSameCalls, only_clean_up, read_no_piece, read_out, reads_apart}
 use Rattle.refusal_laws.proofs.Slots.{one_block}
 use Rattle.refusal_laws.proofs.Walking.{one_slot}

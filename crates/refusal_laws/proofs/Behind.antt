@@ -20,7 +20,7 @@ use Rattle.cache_model.specs.Legal.{Advances, Does, DoesReadAll, MayGrow, MayRea
 use Rattle.cache_model.proofs.Found.{end_gives_none, no_truth, same_some}
 use Rattle.cache_model.proofs.Steps.{all_parts}
 use Rattle.model_laws.specs.RoomLaws.{TellNoDisplacement, is_displacement}
-use Rattle.reader_laws.proofs.Keeping.{gave_reader}
+use Rattle.line_laws.proofs.Keeping.{gave_reader}
 use Rattle.refusal_laws.specs.Steps.{AreCountsApart, only_clean_up, read_no_piece, reads_piece}
 use Rattle.refusal_laws.proofs.Walking.{RefusesWrite, refusals}
 use Rattle.refusal_laws.proofs.Flushing.{stop_writes, stopped, took}

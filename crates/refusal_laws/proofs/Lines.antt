@@ -35,7 +35,7 @@ use Rattle.script_laws.proofs.Devices.{format_too, moment_too, without_device}
 use Rattle.script_laws.proofs.Parting.{asked_same, given_same, left_same, said_same, turns_same}
 use Rattle.run_promise.specs.Needs.{NeedsSession}
 use Rattle.run_promise.specs.Lines.{TextsAreOutput, answers_of, reading_answer, texts_of}
-use Rattle.reader_laws.proofs.Firsts.{records_place}
+use Rattle.line_laws.proofs.Firsts.{records_place}
 use Rattle.refusal_laws.specs.Steps.{AreCountsApart, MakeSameCalls, StepsAgreeInRefusals, TakeFragments}
 use Rattle.refusal_laws.specs.Lines.{GoAlike, HaveSameCalls, IsInOrder, IsOnSession, NoneDamaged, TellCountsApart}
 use Rattle.refusal_laws.proofs.Asked.{asked_apart}

@@ -3,8 +3,8 @@ ghost use Rattle.refusal_laws.specs.Lines.{LinesAgreeInRefusals};
 ghost use Rattle.refusal_laws.specs.Runs.{BayLogsCount, HistoriesAgreeInRefusals, ReadRunsAgreeInRefusals, RunsAgreeInRefusals};
 ghost use Rattle.refusal_laws.specs.Steps.{StepsAgreeInRefusals};
 
-use headline::runs_agree_before_trouble;
 use model_laws::groups_agree;
+use run_laws::runs_agree_before_trouble;
 use run_promise::texts_are_output;
 use script_laws::undamaged_turns;
 

@@ -1,8 +1,8 @@
 use Rattle.std.proofs.Common.{◌∙◌}
 use Rattle.script_run.specs.Run.{fresh}
 use Rattle.headline_rows.specs.Crowded.{crowded_lines, crowded_turns}
-use Rattle.headline_rows.specs.Script.{key_of_a}
-use Rattle.headline_rows.proofs.Along.{answers_are}
+use Rattle.worked_runs.specs.Script.{key_of_a}
+use Rattle.worked_runs.proofs.Along.{answers_are}
 use Rattle.headline_rows.proofs.CrowdedTells.{crowded_are_read, crowded_are_said, crowded_steps}
 use Rattle.headline_rows.proofs.the_crowded_is_answered.Goals as goal
 

@@ -1,0 +1,157 @@
+-- What the lines of a legal history leave: how many sessions they began, that no piece is lost by a fault, and what the
+-- devices that came back show of it.
+use Rattle.std.proofs.Common.{◌≡◌, ℕ, ◌+◌, List, [], ◌∷◌, ◌++◌, length, refl, sym, ◌∙◌, subst, arith, length-append, false}
+use Rattle.std.specs.Prelude.{Option, Some, None, if◌then◌else◌, is_none}
+use Rattle.std.proofs.lemmas.Bool.{false_from_ne_true}
+use Rattle.std.proofs.lemmas.List.{append_cancel_left}
+use Rattle.tape_base.specs.declared.geometries.BadGeometry.{BadGeometry}
+use Rattle.tape_base.specs.Limits.{first_refusal}
+use Rattle.device_log.specs.Calls.{Call}
+use Rattle.logged_disk.specs.Device.{DeviceState as Device, TellsAll}
+use Rattle.cache_model.specs.State.{State, after_all, nothing_yet}
+use Rattle.cache_model.specs.Damage.{has_damage}
+use Rattle.cache_model.proofs.Found.{no_truth}
+use Rattle.script_lang.specs.declared.line.LineAnswer.{LineAnswer}
+use Rattle.script_lang.specs.declared.line.LineAnswer.TheVariants as line
+use Rattle.script_lang.specs.declared.step.Step.{Step}
+use Rattle.script_lang.specs.declared.step.Step.TheVariants as step
+use Rattle.script_lang.specs.Grammar.{reading_of}
+use Rattle.script_run.specs.Run.{Harm, Run, fresh}
+use Rattle.script_run.specs.Turn.{Turn}
+use Rattle.script_run.specs.Asked.{asked}
+use Rattle.script_run.specs.Behind.{after_format, after_line, after_reading, behind, harm_in, harm_of, harms_of}
+use Rattle.script_run.specs.Takes.{IsRun, ReadingTakes, SessionTakes, Takes, run_after}
+use Rattle.script_run.specs.Losses.{NoLossIsAFault}
+use Rattle.script_run.specs.Ledger.{GoesOnFrom}
+use Rattle.script_run.proofs.Losses.{formats_lose_none, losses_stay}
+use Rattle.script_laws.specs.Damages.{DamageStays}
+use Rattle.line_laws.proofs.Standing.{Goes, begins, goes, stays, steps, waits}
+use Rattle.headline.specs.Account.{AreBack, ComeBackFrom, IsDeviceBehind, RunLogs, begun_in, sessions_begun}
+use Rattle.account_laws.proofs.Devices.{goes_on}
+
+-- ---- sessions
+
+format_length : (run : Run) (turn : Turn) (name : List ℕ) (bad : Option BadGeometry) → length (harms_of (after_format run name turn.added bad)) ≡ length (harms_of run) + (if is_none bad then 1 else 0)
+format_length run turn name None = omega (arith, length-append (harms_of run) (harm_in [] (after_all nothing_yet turn.added) ∷ []))
+format_length run turn name (Some bad) = omega arith
+
+session_length : (ended : List Harm) (calls : List Call) (h : Harm) (o : Option State) (s : State) → o ≡ Some s → length (ended ++ h ∷ []) ≡ length (ended ++ harm_of calls o) + 0
+session_length ended calls h o s e =
+    subst (λ (x : Option State). length (ended ++ h ∷ []) ≡ length (ended ++ harm_of calls x) + 0) (sym e)
+    (omega (arith, length-append ended (h ∷ []), length-append ended (harm_in calls s ∷ [])))
+
+step_length : (run : Run) (turn : Turn) (o : Option State) (st : Step) → run.state ≡ o → Takes run turn o st → length (harms_of (behind run turn o st)) ≡ length (harms_of run) + begun_in (line.Step st)
+step_length run turn o (step.Format name segments buckets content agg reach fragment generation alternates) e takes =
+    format_length run turn name (first_refusal segments buckets content agg reach fragment alternates)
+step_length run turn o (step.Now at) e takes = omega arith
+step_length run turn (Some s) _ e takes = session_length run.ended run.calls (harm_in (turn.device.events ++ run.calls) (after_all s turn.added)) run.state s e
+step_length run turn None _ e takes = absurd takes
+
+reading_length : (run : Run) (turn : Turn) (l : LineAnswer) → ReadingTakes run turn l → length (harms_of (after_reading run turn l)) ≡ length (harms_of run) + begun_in l
+reading_length run turn (line.Step st) takes = step_length run turn run.state st refl takes
+reading_length run turn line.Nothing takes = omega arith
+reading_length run turn (line.Bad fault) takes = absurd takes
+
+pub run_length : (lines : List (List ℕ)) (turns : List Turn) (run : Run) → IsRun run lines turns → length (harms_of (run_after run lines turns)) ≡ length (harms_of run) + sessions_begun lines
+run_length [] [] run is = omega arith
+run_length [] (turn ∷ turns) run is = absurd is
+run_length (bytes ∷ lines) [] run is = absurd is
+run_length (bytes ∷ lines) (turn ∷ turns) run is =
+    omega (arith, reading_length run turn (reading_of bytes) is.0, run_length lines turns (after_line run turn bytes) is.1)
+
+-- ---- losses
+
+abbrev LossesWhere : Option State → Type 0
+LossesWhere None = Unit {0}
+LossesWhere (Some s) = NoLossIsAFault s
+
+goes_losses : (run : Run) (turn : Turn) {o : Option State} {st : Step} {after : Run} → Goes run turn o st after → LossesWhere o → LossesWhere run.state → LossesWhere after.state
+goes_losses run turn (begins name g is) h now = subst (λ recs. NoLossIsAFault (after_all nothing_yet recs)) (sym is) (formats_lose_none nothing_yet g)
+goes_losses run turn (stays same) h now = now
+goes_losses run turn (waits at same) h now = now
+goes_losses run turn (steps s same takes) h now = losses_stay s turn.added h
+
+reading_losses : (run : Run) (turn : Turn) (l : LineAnswer) → ReadingTakes run turn l → LossesWhere run.state → LossesWhere (after_reading run turn l).state
+reading_losses run turn (line.Step st) takes now = goes_losses run turn (goes run turn run.state st takes) now now
+reading_losses run turn line.Nothing takes now = now
+reading_losses run turn (line.Bad fault) takes now = absurd takes
+
+losses_after : (lines : List (List ℕ)) (turns : List Turn) (run : Run) → IsRun run lines turns → LossesWhere run.state → LossesWhere (run_after run lines turns).state
+losses_after [] turns run is h = h
+losses_after (bytes ∷ lines) [] run is h = absurd is
+losses_after (bytes ∷ lines) (turn ∷ turns) run is h = losses_after lines turns (after_line run turn bytes) is.1 (reading_losses run turn (reading_of bytes) is.0 h)
+
+pub no_loss : (lines : List (List ℕ)) (turns : List Turn) (s : State) → IsRun fresh lines turns → (run_after fresh lines turns).state ≡ Some s → NoLossIsAFault s
+no_loss lines turns s is e = subst LossesWhere e (losses_after lines turns fresh is tt)
+
+-- ---- what a device shows of it
+
+-- the calls that were told are in its log, and where it told its content to the end, no damage was told
+pub record IsSeen (h : Harm) (d : Device) : Type 0 where
+  pub calls : GoesOnFrom h.calls d.past
+  pub unharmed : TellsAll d → h.damaged ≡ false
+
+abbrev pub AreSeen : List Harm → List Device → Type 0
+AreSeen [] ds = Unit {0}
+AreSeen (h ∷ hs) [] = ⊥
+AreSeen (h ∷ hs) (d ∷ ds) = IsSeen h d × AreSeen hs ds
+
+back_seen : (hs : List Harm) (ds : List Device) → AreBack hs ds → AreSeen hs ds
+back_seen [] ds b = tt
+back_seen (h ∷ hs) [] b = absurd b
+back_seen (h ∷ hs) (d ∷ ds) b = (record { calls = b.0.made; unharmed = b.0.unharmed }, back_seen hs ds b.1)
+
+front_seen : (hs more : List Harm) (ds : List Device) → AreSeen (hs ++ more) ds → AreSeen hs ds
+front_seen [] more ds s = tt
+front_seen (h ∷ hs) more [] s = absurd s
+front_seen (h ∷ hs) more (d ∷ ds) s = (s.0, front_seen hs more ds s.1)
+
+last_seen : (hs : List Harm) (h g : Harm) (ds : List Device) → ((d : Device) → IsSeen h d → IsSeen g d) → AreSeen (hs ++ h ∷ []) ds → AreSeen (hs ++ g ∷ []) ds
+last_seen [] h g [] f s = absurd s
+last_seen [] h g (d ∷ ds) f s = (f d s.0, tt)
+last_seen (x ∷ hs) h g [] f s = absurd s
+last_seen (x ∷ hs) h g (d ∷ ds) f s = (s.0, last_seen hs h g ds f s.1)
+
+seen_at : (hs : List Harm) (h : Harm) (earlier : List Device) (d : Device) (later : List Device) → AreSeen (hs ++ h ∷ []) (earlier ++ d ∷ later) → length earlier ≡ length hs → IsSeen h d
+seen_at [] h [] d later s n = s.0
+seen_at [] h (x ∷ earlier) d later s n = absurd (omega (arith, n))
+seen_at (x ∷ hs) h [] d later s n = absurd (omega (arith, n))
+seen_at (x ∷ hs) h (y ∷ earlier) d later s n = seen_at hs h earlier d later s.1 (omega (arith, n))
+
+module _ (law : DamageStays) (ds : List Device) where
+  session_seen : (run : Run) (s : State) (turn : Turn) (st : Step) → SessionTakes run s turn st → (d : Device) → IsSeen (harm_in (turn.device.events ++ run.calls) (after_all s turn.added)) d → IsSeen (harm_in run.calls s) d
+  session_seen run s turn st takes d h = record {
+    calls = goes_on run.calls (turn.device.events ++ run.calls) d.past (record { later = turn.device.events; is = refl }) h.calls;
+    unharmed = λ tells. false_from_ne_true (has_damage s) (λ e. no_truth (sym (law turn.device s (asked run s st) turn.added turn.refused takes.legal e) ∙ h.unharmed tells));
+  }
+
+  goes_seen : (run : Run) (turn : Turn) {o : Option State} {st : Step} {after : Run} → Goes run turn o st after → run.state ≡ o → AreSeen (harms_of after) ds → AreSeen (harms_of run) ds
+  goes_seen run turn (begins name g is) e h = front_seen (harms_of run) (harm_in [] (after_all nothing_yet turn.added) ∷ []) ds h
+  goes_seen run turn (stays same) e h = h
+  goes_seen run turn (waits at same) e h = h
+  goes_seen run turn {st = st} (steps s same takes) e h =
+      subst (λ (x : Option State). AreSeen (run.ended ++ harm_of run.calls x) ds) (sym e)
+      (last_seen run.ended (harm_in (turn.device.events ++ run.calls) (after_all s turn.added)) (harm_in run.calls s) ds (session_seen run s turn st takes) h)
+
+  pub reading_seen : (run : Run) (turn : Turn) (l : LineAnswer) → ReadingTakes run turn l → AreSeen (harms_of (after_reading run turn l)) ds → AreSeen (harms_of run) ds
+  reading_seen run turn (line.Step st) takes h = goes_seen run turn (goes run turn run.state st takes) refl h
+  reading_seen run turn line.Nothing takes h = h
+  reading_seen run turn (line.Bad fault) takes h = absurd takes
+
+  pub run_seen : (lines : List (List ℕ)) (turns : List Turn) (run : Run) → IsRun run lines turns → AreSeen (harms_of (run_after run lines turns)) ds → AreSeen (harms_of run) ds
+  run_seen [] turns run is h = h
+  run_seen (bytes ∷ lines) [] run is h = absurd is
+  run_seen (bytes ∷ lines) (turn ∷ turns) run is h =
+      reading_seen run turn (reading_of bytes) is.0 (run_seen lines turns (after_line run turn bytes) is.1 h)
+
+-- the device of a line shows what was told of its session
+pub device_seen : (l : RunLogs) (before : List (List ℕ)) (device : Device) (ended : List Harm) (h : Harm) (ds : List Device) → l.now.returned ≡ l.before.returned ++ ds → AreSeen (ended ++ h ∷ []) ds
+    → IsDeviceBehind l before device → sessions_begun before ≡ length ended + 1 → IsSeen h device
+device_seen l before device ended h ds returned seen at begun =
+    let same : ds ≡ at.earlier ++ device ∷ at.later = append_cancel_left l.before.returned ds (at.earlier ++ device ∷ at.later) (sym returned ∙ at.returned) in
+    seen_at ended h at.earlier device at.later (subst (λ (xs : List Device). AreSeen (ended ++ h ∷ []) xs) same seen) (omega (arith, begun, at.which))
+
+-- what the devices that came back show of a run from which the others went on
+pub all_seen : (law : DamageStays) (l : RunLogs) (run : Run) (after : List (List ℕ)) (later : List Turn) → IsRun run after later → (come : ComeBackFrom l (harms_of (run_after run after later)))
+    → AreSeen (harms_of run) come.devices
+all_seen law l run after later goes come = run_seen law come.devices after later run goes (back_seen (harms_of (run_after run after later)) come.devices come.told)

@@ -1,0 +1,15 @@
+pub mod Devices
+pub mod Outlines
+pub mod Places
+pub mod Along
+pub mod Counting
+pub mod Whole
+pub mod Troubles
+pub mod Lost
+pub mod Missing
+pub mod Causing
+pub mod Staying
+pub mod Last
+pub mod Written
+pub mod Opened
+pub mod Answered

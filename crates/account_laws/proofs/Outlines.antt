@@ -1,0 +1,185 @@
+-- What the answers of lines tell of devices.
+use Rattle.std.proofs.Common.{◌≡◌, ℕ, ◌+◌, List, [], ◌∷◌, ◌++◌, length, refl, ◌∙◌, arith, length-append}
+use Rattle.std.specs.Prelude.{Bool, Option, Some, None, map, option_map, if◌then◌else◌, is_none}
+use Rattle.device_log.specs.Calls.{Call}
+use Rattle.tape_base.specs.declared.geometries.BadGeometry.{BadGeometry}
+use Rattle.tape_base.specs.Limits.{first_refusal}
+use Rattle.cache_model.specs.State.{State}
+use Rattle.script_lang.specs.declared.line.LineAnswer.{LineAnswer}
+use Rattle.script_lang.specs.declared.line.LineAnswer.TheVariants as line
+use Rattle.script_lang.specs.declared.step.Step.{Step}
+use Rattle.script_lang.specs.declared.step.Step.TheVariants as step
+use Rattle.script_lang.specs.declared.answer.StepAnswer.{StepAnswer}
+use Rattle.script_lang.specs.Grammar.{reading_of}
+use Rattle.script_run.specs.Run.{Harm, Run, fresh, loosened, no_harm}
+use Rattle.script_run.specs.Turn.{Turn}
+use Rattle.script_run.specs.Behind.{harm_in, harm_of, harms_of}
+use Rattle.script_run.specs.Takes.{run_after}
+use Rattle.run_promise.specs.Outline.{Outline, all_told, begun, begun_by, count_in, doubted, outline_in, raised, told_of, with_calls_of, with_told_count}
+use Rattle.run_promise.specs.Lines.{AreAnswered, IsReadAs, outline_of, outline_read}
+use Rattle.run_promise.specs.Story.{ShownAlong, DevicesTold, all_in}
+use Rattle.headline.specs.Account.{ComeBackFrom, RunLogs, begun_in, doubted_harms, sessions_begun}
+use Rattle.headline.proofs.Honest.{doubt}
+use Rattle.account_laws.proofs.Devices.{AreWithin, IsWithin, all_within_self, all_within_trans, come_within, goes_on_none, within_behind, within_front}
+
+-- ---- more is told behind each line
+
+raised_within : (count : ℕ) (h : Harm) → IsWithin h (raised count h)
+raised_within count h = record { faults = omega arith; damage = λ e. e; calls = goes_on_none h.calls }
+
+own_within : (count : ℕ) (session : Option Harm) → AreWithin (told_of session) (told_of (option_map (raised count) session))
+own_within count None = tt
+own_within count (Some h) = (raised_within count h, tt)
+
+joined_within : (o : Outline) (count : ℕ) → AreWithin (all_told o) (all_told (with_told_count o count))
+joined_within o count = within_behind o.ended (told_of o.session) (told_of (option_map (raised count) o.session)) (own_within count o.session)
+
+begun_within : (o : Outline) (name : List ℕ) (bad : Option BadGeometry) → AreWithin (all_told o) (all_told (begun o name bad))
+begun_within o name None = within_front (all_told o) (loosened no_harm ∷ [])
+begun_within o name (Some bad) = all_within_self (all_told o)
+
+begun_by_within : (o : Outline) (step : Step) → AreWithin (all_told o) (all_told (begun_by o step))
+begun_by_within o (step.Format name segments buckets content agg reach fragment generation alternates) =
+    begun_within o name (first_refusal segments buckets content agg reach fragment alternates)
+begun_by_within o _ = all_within_self (all_told o)
+
+read_within : (o : Outline) (read : LineAnswer) (said : Option StepAnswer) → AreWithin (all_told o) (all_told (outline_read o read said))
+read_within o (line.Step step) (Some said) =
+    all_within_trans (all_told o) (all_told (begun_by o step)) (all_told (with_told_count (begun_by o step) (count_in said))) (begun_by_within o step) (joined_within (begun_by o step) (count_in said))
+read_within o (line.Step step) None = all_within_self (all_told o)
+read_within o line.Nothing said = all_within_self (all_told o)
+read_within o (line.Bad fault) said = all_within_self (all_told o)
+
+pub outline_within : (o : Outline) (lines : List (List ℕ)) (answers : List (Option StepAnswer)) → AreWithin (all_told o) (all_told (outline_of o lines answers))
+outline_within o [] answers = all_within_self (all_told o)
+outline_within o (bytes ∷ lines) [] = all_within_self (all_told o)
+outline_within o (bytes ∷ lines) (said ∷ answers) =
+    let next : Outline = outline_read o (reading_of bytes) said in
+    all_within_trans (all_told o) (all_told next) (all_told (outline_of next lines answers)) (read_within o (reading_of bytes) said) (outline_within next lines answers)
+
+-- what is doubted was told of a run whose device made more calls, and of its outline
+doubted_told : (calls : List Call) (state : Option State)
+    → AreWithin (map doubt (harm_of calls state)) (told_of (option_map doubt (option_map (λ s. loosened (harm_in calls s)) state)))
+doubted_told calls None = tt
+doubted_told calls (Some s) = (record { faults = omega arith; damage = λ e. e; calls = goes_on_none calls }, tt)
+
+doubted_calls : (calls made : List Call) (state : Option State) → AreWithin (harm_of calls state) (map doubt (harm_of (made ++ calls) state))
+doubted_calls calls made None = tt
+doubted_calls calls made (Some s) = (record { faults = omega arith; damage = λ e. refl; calls = record { later = made; is = refl } }, tt)
+
+called_within : (run : Run) (turn : Turn) → AreWithin (harms_of run) (doubted_harms (with_calls_of run turn))
+called_within run turn =
+    within_behind run.ended (harm_of run.calls run.state) (map doubt (harm_of (turn.device.events ++ run.calls) run.state))
+    (doubted_calls run.calls turn.device.events run.state)
+
+doubted_within : (run : Run) → AreWithin (doubted_harms run) (all_told (doubted (outline_in run)))
+doubted_within run =
+    within_behind run.ended (map doubt (harm_of run.calls run.state)) (told_of (doubted (outline_in run)).session) (doubted_told run.calls run.state)
+
+-- what the records told before a pair was shown, and the calls of the turn that shows it, are told in the end; of its device
+-- what is told is doubted
+pub shown_made : (l : RunLogs) (lines : List (List ℕ)) (answers : List (Option StepAnswer)) (Devices : DevicesTold → Type 0) (Behind : Outline → Type 0) → ((t : DevicesTold) → Devices t → ComeBackFrom l (all_in t))
+    → (p : ShownAlong lines answers Devices Behind)
+    → ComeBackFrom l (doubted_harms (with_calls_of (run_after fresh p.before p.earlier) p.turn))
+shown_made l lines answers Devices Behind back p =
+    let run : Run = with_calls_of (run_after fresh p.before p.earlier) p.turn in
+    let first : Outline = doubted (outline_in run) in
+    let last : Outline = outline_of first (p.bytes ∷ p.after) p.rest in
+    come_within l (doubted_harms run) (all_told last)
+    (all_within_trans (doubted_harms run) (all_told first) (all_told last) (doubted_within run) (outline_within first (p.bytes ∷ p.after) p.rest))
+    (back _ p.outline.devices)
+
+pub shown_before : (l : RunLogs) (run : Run) (turn : Turn) → ComeBackFrom l (doubted_harms (with_calls_of run turn)) → ComeBackFrom l (harms_of run)
+shown_before l run turn come = come_within l (harms_of run) (doubted_harms (with_calls_of run turn)) (called_within run turn) come
+
+-- ---- how many sessions were begun
+
+same_length : {X : Type 0} (xs ys zs : List X) → length ys ≡ length zs → length (xs ++ ys) ≡ length (xs ++ zs)
+same_length xs ys zs h = omega (arith, length-append xs ys, length-append xs zs, h)
+
+own_length : (count : ℕ) (session : Option Harm) → length (told_of (option_map (raised count) session)) ≡ length (told_of session)
+own_length count None = refl
+own_length count (Some h) = refl
+
+begun_length : (o : Outline) (name : List ℕ) (bad : Option BadGeometry) → length (all_told (begun o name bad)) ≡ length (all_told o) + (if is_none bad then 1 else 0)
+begun_length o name None = omega (arith, length-append (all_told o) (loosened no_harm ∷ []))
+begun_length o name (Some bad) = omega arith
+
+begun_by_length : (o : Outline) (step : Step) → length (all_told (begun_by o step)) ≡ length (all_told o) + begun_in (line.Step step)
+begun_by_length o (step.Format name segments buckets content agg reach fragment generation alternates) =
+    begun_length o name (first_refusal segments buckets content agg reach fragment alternates)
+begun_by_length o _ = omega arith
+
+pub read_length : (o : Outline) (read : LineAnswer) (said : Option StepAnswer) → IsReadAs o read said → length (all_told (outline_read o read said)) ≡ length (all_told o) + begun_in read
+read_length o (line.Step step) (Some said) is =
+    same_length (begun_by o step).ended (told_of (option_map (raised (count_in said)) (begun_by o step).session)) (told_of (begun_by o step).session) (own_length (count_in said) (begun_by o step).session)
+    ∙ begun_by_length o step
+read_length o (line.Step step) None is = absurd is
+read_length o line.Nothing said is = omega arith
+read_length o (line.Bad fault) said is = absurd is
+
+pub outline_length : (o : Outline) (lines : List (List ℕ)) (answers : List (Option StepAnswer)) → AreAnswered o lines answers
+    → length (all_told (outline_of o lines answers)) ≡ length (all_told o) + sessions_begun lines
+outline_length o [] [] are = omega arith
+outline_length o [] (said ∷ answers) are = absurd are
+outline_length o (bytes ∷ lines) [] are = absurd are
+outline_length o (bytes ∷ lines) (said ∷ answers) are =
+    omega (arith, read_length o (reading_of bytes) said are.0, outline_length (outline_read o (reading_of bytes) said) lines answers are.1)
+
+-- where no session stands in the end, none was begun
+none_raised : (count : ℕ) (session : Option Harm) → option_map (raised count) session ≡ None → session ≡ None
+none_raised count None e = refl
+none_raised count (Some h) e = absurd cc
+
+abbrev one_where : Bool → ℕ
+one_where b = if b then 1 else 0
+
+begun_none : (o : Outline) (name : List ℕ) (bad : Option BadGeometry) → (begun o name bad).session ≡ None → (o.session ≡ None) × (one_where (is_none bad) ≡ 0)
+begun_none o name None e = absurd cc
+begun_none o name (Some bad) e = (e, refl)
+
+begun_by_none : (o : Outline) (step : Step) → (begun_by o step).session ≡ None → (o.session ≡ None) × (begun_in (line.Step step) ≡ 0)
+begun_by_none o (step.Format name segments buckets content agg reach fragment generation alternates) e =
+    begun_none o name (first_refusal segments buckets content agg reach fragment alternates) e
+begun_by_none o _ e = (e, refl)
+
+read_none : (o : Outline) (read : LineAnswer) (said : Option StepAnswer) → IsReadAs o read said → (outline_read o read said).session ≡ None → (o.session ≡ None) × (begun_in read ≡ 0)
+read_none o (line.Step step) (Some said) is e = begun_by_none o step (none_raised (count_in said) (begun_by o step).session e)
+read_none o (line.Step step) None is e = absurd is
+read_none o line.Nothing said is e = (e, refl)
+read_none o (line.Bad fault) said is e = absurd is
+
+pub none_begun : (o : Outline) (lines : List (List ℕ)) (answers : List (Option StepAnswer)) → AreAnswered o lines answers
+    → (outline_of o lines answers).session ≡ None → (o.session ≡ None) × (sessions_begun lines ≡ 0)
+none_begun o [] [] are e = (e, refl)
+none_begun o [] (said ∷ answers) are e = absurd are
+none_begun o (bytes ∷ lines) [] are e = absurd are
+none_begun o (bytes ∷ lines) (said ∷ answers) are e =
+    let rest = none_begun (outline_read o (reading_of bytes) said) lines answers are.1 e in
+    let here = read_none o (reading_of bytes) said are.0 rest.0 in
+    (here.0, omega (arith, here.1, rest.1))
+
+-- ---- the outline at a line
+
+-- the lines before a line, it, and those behind it, each answered as it may be
+pub record AreSplit (o : Outline) (before : List (List ℕ)) (front : List (Option StepAnswer)) (read : LineAnswer) (said : Option StepAnswer) (later : List (List ℕ)) (rest : List (Option StepAnswer)) : Type 0 where
+  pub first : AreAnswered o before front
+  pub here : IsReadAs (outline_of o before front) read said
+  pub behind : AreAnswered (outline_read (outline_of o before front) read said) later rest
+
+pub split_answers : (o : Outline) (before : List (List ℕ)) (bytes : List ℕ) (later : List (List ℕ)) (front : List (Option StepAnswer)) (said : Option StepAnswer) (rest : List (Option StepAnswer))
+    → length front ≡ length before → AreAnswered o (before ++ bytes ∷ later) (front ++ said ∷ rest) → AreSplit o before front (reading_of bytes) said later rest
+split_answers o [] bytes later [] said rest n are = record { first = tt; here = are.0; behind = are.1 }
+split_answers o [] bytes later (f ∷ front) said rest n are = absurd (omega (arith, n))
+split_answers o (b ∷ before) bytes later [] said rest n are = absurd (omega (arith, n))
+split_answers o (b ∷ before) bytes later (f ∷ front) said rest n are =
+    let h = split_answers (outline_read o (reading_of b) f) before bytes later front said rest (omega (arith, n)) are.1 in
+    record { first = (are.0, h.first); here = h.here; behind = h.behind }
+
+pub outline_split : (o : Outline) (before : List (List ℕ)) (bytes : List ℕ) (later : List (List ℕ)) (front : List (Option StepAnswer)) (said : Option StepAnswer) (rest : List (Option StepAnswer))
+    → length front ≡ length before
+    → outline_of o (before ++ bytes ∷ later) (front ++ said ∷ rest) ≡ outline_of (outline_read (outline_of o before front) (reading_of bytes) said) later rest
+outline_split o [] bytes later [] said rest n = refl
+outline_split o [] bytes later (f ∷ front) said rest n = absurd (omega (arith, n))
+outline_split o (b ∷ before) bytes later [] said rest n = absurd (omega (arith, n))
+outline_split o (b ∷ before) bytes later (f ∷ front) said rest n = outline_split (outline_read o (reading_of b) f) before bytes later front said rest (omega (arith, n))

@@ -1,0 +1,125 @@
+-- What a record of a line brings about, and no other record undoes, holds behind each later line of its session.
+use Rattle.std.proofs.Common.{◌≡◌, ℕ, List, [], ◌∷◌, ◌++◌, Bool, true, false, refl, sym, ◌∙◌, ap, subst, inl, inr}
+use Rattle.std.specs.Prelude.{Option, Some, None, cond, is_none}
+use Rattle.std.specs.List.{AllByRecursion}
+use Rattle.tape_base.specs.declared.geometries.BadGeometry.{BadGeometry}
+use Rattle.tape_base.specs.declared.geometries.Geometry.{Geometry}
+use Rattle.tape_base.specs.declared.keys.Key.{Key}
+use Rattle.tape_base.specs.Key.{same_key}
+use Rattle.tape_base.specs.Limits.{first_refusal}
+use Rattle.tape_base.proofs.NameLaws.{same_key-same}
+use Rattle.cache_model.specs.declared.record.Rec.{Rec}
+use Rattle.cache_model.specs.State.{State, after_all, state_after}
+use Rattle.cache_model.specs.Permit.{IsAmong, Permit}
+use Rattle.cache_model.specs.Legal.{format_records}
+use Rattle.cache_model.proofs.Found.{no_truth, none_is}
+use Rattle.script_lang.specs.declared.line.LineAnswer.{LineAnswer}
+use Rattle.script_lang.specs.declared.line.LineAnswer.TheVariants as line
+use Rattle.script_lang.specs.declared.step.Step.{Step}
+use Rattle.script_lang.specs.declared.step.Step.TheVariants as step
+use Rattle.script_lang.specs.Grammar.{reading_of}
+use Rattle.script_run.specs.Run.{Run, fresh}
+use Rattle.script_run.specs.Turn.{Turn}
+use Rattle.script_run.specs.Behind.{after_format, after_line, after_reading, behind}
+use Rattle.script_run.specs.Takes.{FormatTakes, IsRun, ReadingTakes, Takes, run_after}
+use Rattle.script_laws.proofs.Groups.{IsKept}
+use Rattle.script_laws.proofs.Walking.{walked}
+use Rattle.line_laws.specs.Along.{AreOfSession, KeepsSession, begins_session}
+use Rattle.line_laws.proofs.Since.{GoesOn, goes_on}
+use Rattle.headline.specs.Standing.{HasRecorded}
+
+-- ---- look-ups by a key
+
+-- what is found behind what is not there
+pub other_by : {X : Type 0} (b : Bool) (x : X) (o : Option X) → cond b (Some x) o ≡ None → o ≡ None
+other_by true x o h = none_is (sym h)
+other_by false x o h = h
+
+-- the key finds what is first
+pub found_none : {X : Type 0} (key k : Key) (x : X) (o : Option X) → k ≡ key → cond (same_key k key) (Some x) o ≡ None → ⊥
+found_none key k x o same h = none_is (sym h ∙ ap (λ b. cond b (Some x) o) (subst (λ n. same_key n key ≡ true) (sym same) (same_key-same key)))
+
+-- ---- lines
+
+module _ (Makes : Rec → Type 0) (Has : State → Type 0)
+    (none_of_format : (g : Geometry) (told : Rec) → IsAmong told (format_records g) → Makes told → ⊥)
+    (has_by : (s : State) (r : Rec) → Makes r → Has (state_after s r))
+    (has_still : (p : Permit) (s : State) (r : Rec) → IsKept p r → Has s → Has (state_after s r)) where
+  -- so it is where there is a session
+  abbrev pub HasWhere : Option State → Type 0
+  HasWhere None = ⊥
+  HasWhere (Some s) = Has s
+
+  still_all : (p : Permit) (s : State) (recs : List Rec) → AllByRecursion (IsKept p) recs → Has s → Has (after_all s recs)
+  still_all p s [] kept has = has
+  still_all p s (r ∷ recs) kept has = still_all p (state_after s r) recs kept.1 (has_still p s r kept.0 has)
+
+  by_among : (p : Permit) (s : State) (recs : List Rec) (told : Rec) → AllByRecursion (IsKept p) recs → IsAmong told recs → Makes told → Has (after_all s recs)
+  by_among p s [] told kept among makes = absurd among
+  by_among p s (r ∷ recs) told kept (inl same) makes = still_all p (state_after s r) recs kept.1 (has_by s r (subst Makes same makes))
+  by_among p s (r ∷ recs) told kept (inr later) makes = by_among p (state_after s r) recs told kept.1 later makes
+
+  -- ---- behind the line that recorded it
+
+  by_format : (run : Run) (turn : Turn) (name : List ℕ) (segments buckets content agg reach fragment generation alternates : ℕ) (bad : Option BadGeometry) (told : Rec)
+      → FormatTakes turn.added segments buckets content agg reach fragment generation alternates bad → IsAmong told turn.added → Makes told → HasWhere (after_format run name turn.added bad).state
+  by_format run turn name segments buckets content agg reach fragment generation alternates (Some bad) told takes among makes = absurd (subst (IsAmong told) takes among)
+  by_format run turn name segments buckets content agg reach fragment generation alternates None told takes among makes =
+      absurd (none_of_format takes.0 told (subst (IsAmong told) takes.2 among) makes)
+
+  by_step : (run : Run) (turn : Turn) (o : Option State) (st : Step) (told : Rec) → Takes run turn o st → IsAmong told turn.added → Makes told
+      → HasWhere (behind run turn o st).state
+  by_step run turn o (step.Format name segments buckets content agg reach fragment generation alternates) told takes among makes =
+      by_format run turn name segments buckets content agg reach fragment generation alternates (first_refusal segments buckets content agg reach fragment alternates) told takes among makes
+  by_step run turn o (step.Now at) told takes among makes = absurd (subst (λ (t : Turn). IsAmong told t.added) takes among)
+  by_step run turn (Some s) _ told takes among makes = by_among turn.device s turn.added told (walked takes.legal.grows).kept among makes
+  by_step run turn None _ told takes among makes = absurd takes
+
+  by_reading : (run : Run) (turn : Turn) (l : LineAnswer) (told : Rec) → ReadingTakes run turn l → IsAmong told turn.added → Makes told
+      → HasWhere (after_reading run turn l).state
+  by_reading run turn (line.Step st) told takes among makes = by_step run turn run.state st told takes among makes
+  by_reading run turn line.Nothing told takes among makes = absurd (subst (λ (t : Turn). IsAmong told t.added) takes among)
+  by_reading run turn (line.Bad fault) told takes among makes = absurd takes
+
+  -- ---- and behind each later line of the session
+
+  format_stays : (run : Run) (turn : Turn) (name : List ℕ) (bad : Option BadGeometry) → is_none bad ≡ false → HasWhere run.state
+      → HasWhere (after_format run name turn.added bad).state
+  format_stays run turn name (Some bad) keeps has = has
+  format_stays run turn name None keeps has = no_truth keeps
+
+  step_stays : (run : Run) (turn : Turn) (o : Option State) (st : Step) → run.state ≡ o → begins_session st ≡ false → Takes run turn o st → HasWhere o
+      → HasWhere (behind run turn o st).state
+  step_stays run turn o (step.Format name segments buckets content agg reach fragment generation alternates) e keeps takes has =
+      format_stays run turn name (first_refusal segments buckets content agg reach fragment alternates) keeps (subst HasWhere (sym e) has)
+  step_stays run turn o (step.Now at) e keeps takes has = subst HasWhere (sym e) has
+  step_stays run turn (Some s) _ e keeps takes has = still_all turn.device s turn.added (walked takes.legal.grows).kept has
+  step_stays run turn None _ e keeps takes has = absurd has
+
+  reading_stays : (run : Run) (turn : Turn) (l : LineAnswer) → KeepsSession l → ReadingTakes run turn l → HasWhere run.state → HasWhere (after_reading run turn l).state
+  reading_stays run turn (line.Step st) keeps takes has = step_stays run turn run.state st refl keeps takes has
+  reading_stays run turn line.Nothing keeps takes has = has
+  reading_stays run turn (line.Bad fault) keeps takes has = absurd takes
+
+  lines_stay : (lines : List (List ℕ)) (turns : List Turn) (run : Run) → IsRun run lines turns → AreOfSession lines → HasWhere run.state
+      → HasWhere (run_after run lines turns).state
+  lines_stay [] turns run is same has = has
+  lines_stay (bytes ∷ lines) [] run is same has = absurd is
+  lines_stay (bytes ∷ lines) (turn ∷ turns) run is same has =
+      lines_stay lines turns (after_line run turn bytes) is.1 same.1 (reading_stays run turn (reading_of bytes) same.0 is.0 has)
+
+  pub has_still_where : (lines : List (List ℕ)) (turns : List Turn) → IsRun fresh lines turns → HasRecorded Makes lines turns → HasWhere (run_after fresh lines turns).state
+  has_still_where lines turns is h =
+      let g : GoesOn fresh h.before h.earlier h.turn h.bytes h.later h.rest = goes_on fresh h.before h.earlier h.turn h.bytes h.later h.rest h.legal
+      (subst (λ (xs : List (List ℕ)). IsRun fresh xs (h.earlier ++ h.turn ∷ h.rest)) h.lines_are (subst (IsRun fresh lines) h.turns_are is)) in
+      let has : HasWhere (after_line (run_after fresh h.before h.earlier) h.turn h.bytes).state =
+      by_reading (run_after fresh h.before h.earlier) h.turn (reading_of h.bytes) h.told g.takes h.among h.tells in
+      let behind_all : HasWhere (run_after fresh (h.before ++ h.bytes ∷ h.later) (h.earlier ++ h.turn ∷ h.rest)).state =
+      subst (λ (run : Run). HasWhere run.state) (sym g.ends) (lines_stay h.later h.rest _ g.goes h.same_session has) in
+      subst (λ (xs : List (List ℕ)). HasWhere (run_after fresh xs turns).state) (sym h.lines_are)
+      (subst (λ (xs : List Turn). HasWhere (run_after fresh (h.before ++ h.bytes ∷ h.later) xs).state) (sym h.turns_are) behind_all)
+
+  -- so no line recorded it where it does not hold
+  pub recorded_none : (lines : List (List ℕ)) (turns : List Turn) (s : State) → IsRun fresh lines turns → (run_after fresh lines turns).state ≡ Some s → (Has s → ⊥)
+      → HasRecorded Makes lines turns → ⊥
+  recorded_none lines turns s is e none h = none (subst HasWhere e (has_still_where lines turns is h))

@@ -1,0 +1,11 @@
+mod Displaced
+mod NeverPut
+mod Keeping
+mod Standing
+mod Listing
+mod Breaking
+mod Getting
+mod Verdicts
+mod Displacing
+mod Closing
+mod Readers

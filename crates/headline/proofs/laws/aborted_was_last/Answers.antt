@@ -1,5 +1,0 @@
-use Rattle.headline.proofs.Standing.{aborted_was_last}
-use Rattle.headline.proofs.laws.aborted_was_last.Goals as goal
-
-pub returns : goal.returns
-returns c = aborted_was_last c.legal_is_kept.ensures

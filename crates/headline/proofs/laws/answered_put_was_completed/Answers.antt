@@ -1,5 +1,0 @@
-use Rattle.headline.proofs.Recording.{answered_put_was_completed}
-use Rattle.headline.proofs.laws.answered_put_was_completed.Goals as goal
-
-pub returns : goal.returns
-returns c = answered_put_was_completed c.legal_is_kept.ensures

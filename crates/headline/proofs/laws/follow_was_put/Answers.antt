@@ -1,5 +1,0 @@
-use Rattle.headline.proofs.Whole.{follow_was_put}
-use Rattle.headline.proofs.laws.follow_was_put.Goals as goal
-
-pub returns : goal.returns
-returns c = follow_was_put c.follow_is_asked.ensures

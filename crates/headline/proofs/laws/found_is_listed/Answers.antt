@@ -1,5 +1,0 @@
-use Rattle.headline.proofs.Listing.{found_is_listed}
-use Rattle.headline.proofs.laws.found_is_listed.Goals as goal
-
-pub returns : goal.returns
-returns c = found_is_listed c.legal_is_kept.ensures

@@ -1,5 +1,0 @@
-use Rattle.headline.proofs.Getting.{get_was_passed}
-use Rattle.headline.proofs.laws.get_was_passed.Goals as goal
-
-pub returns : goal.returns
-returns c = get_was_passed

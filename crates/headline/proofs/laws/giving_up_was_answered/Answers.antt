@@ -1,5 +1,0 @@
-use Rattle.headline.proofs.Answered.{giving_up_was_answered}
-use Rattle.headline.proofs.laws.giving_up_was_answered.Goals as goal
-
-pub returns : goal.returns
-returns c = giving_up_was_answered c.legal_is_kept.ensures

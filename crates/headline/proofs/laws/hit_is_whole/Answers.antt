@@ -1,5 +1,0 @@
-use Rattle.headline.proofs.Whole.{hit_is_whole}
-use Rattle.headline.proofs.laws.hit_is_whole.Goals as goal
-
-pub returns : goal.returns
-returns c = hit_is_whole c.hit_is_asked.ensures c.length_is_told.ensures

@@ -1,5 +1,0 @@
-use Rattle.headline.proofs.Closing.{losses_are_caused}
-use Rattle.headline.proofs.laws.losses_are_caused.Goals as goal
-
-pub returns : goal.returns
-returns c = losses_are_caused

@@ -1,5 +1,0 @@
-use Rattle.headline.proofs.Closing.{lost_was_displaced}
-use Rattle.headline.proofs.laws.lost_was_displaced.Goals as goal
-
-pub returns : goal.returns
-returns c = lost_was_displaced

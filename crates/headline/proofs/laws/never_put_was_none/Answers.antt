@@ -1,5 +1,0 @@
-use Rattle.headline.proofs.NeverPut.{never_put_was_none}
-use Rattle.headline.proofs.laws.never_put_was_none.Goals as goal
-
-pub returns : goal.returns
-returns c = never_put_was_none c.vectors_are_on_record.ensures

@@ -1,5 +1,0 @@
-use Rattle.headline.proofs.Standing.{passed_was_placed}
-use Rattle.headline.proofs.laws.passed_was_placed.Goals as goal
-
-pub returns : goal.returns
-returns c = passed_was_placed c.legal_is_kept.ensures

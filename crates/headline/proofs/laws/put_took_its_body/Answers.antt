@@ -1,5 +1,0 @@
-use Rattle.headline.proofs.Bodies.{put_took_its_body}
-use Rattle.headline.proofs.laws.put_took_its_body.Goals as goal
-
-pub returns : goal.returns
-returns c = put_took_its_body c.legal_is_kept.ensures c.put_is_measured.ensures c.numbers_follow.ensures

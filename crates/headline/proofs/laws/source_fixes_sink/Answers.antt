@@ -1,5 +1,0 @@
-use Rattle.headline.proofs.Fixed.{source_fixes_sink}
-use Rattle.headline.proofs.laws.source_fixes_sink.Goals as goal
-
-pub returns : goal.returns
-returns c = source_fixes_sink c.runs_agree_before_trouble.ensures c.faultless_turns.ensures

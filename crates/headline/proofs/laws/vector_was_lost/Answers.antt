@@ -1,5 +1,0 @@
-use Rattle.headline.proofs.Displaced.{vector_was_lost}
-use Rattle.headline.proofs.laws.vector_was_lost.Goals as goal
-
-pub returns : goal.returns
-returns c = vector_was_lost

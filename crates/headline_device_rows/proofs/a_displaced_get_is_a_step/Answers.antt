@@ -1,5 +1,0 @@
-use Rattle.headline_device_rows.proofs.Gone.{displaced_get_is_a_step}
-use Rattle.headline_device_rows.proofs.a_displaced_get_is_a_step.Goals as goal
-
-pub returns : goal.returns
-returns c = displaced_get_is_a_step

@@ -1,5 +1,0 @@
-use Rattle.headline_device_rows.proofs.Given.{hit_reads_the_vector}
-use Rattle.headline_device_rows.proofs.a_hit_reads_the_vector.Goals as goal
-
-pub returns : goal.returns
-returns c = hit_reads_the_vector c.the_put_holds.ensures

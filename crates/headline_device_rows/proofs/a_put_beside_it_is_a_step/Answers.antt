@@ -1,5 +1,0 @@
-use Rattle.headline_device_rows.proofs.Displacing.{put_beside_it_is_a_step}
-use Rattle.headline_device_rows.proofs.a_put_beside_it_is_a_step.Goals as goal
-
-pub returns : goal.returns
-returns c = put_beside_it_is_a_step

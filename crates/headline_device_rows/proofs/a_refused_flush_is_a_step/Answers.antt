@@ -1,5 +1,0 @@
-use Rattle.headline_device_rows.proofs.Flushed.{refused_flush_is_a_step}
-use Rattle.headline_device_rows.proofs.a_refused_flush_is_a_step.Goals as goal
-
-pub returns : goal.returns
-returns c = refused_flush_is_a_step c.the_put_holds.ensures

@@ -1,5 +1,0 @@
-use Rattle.headline_device_rows.proofs.DisplacingTells.{has_account}
-use Rattle.headline_device_rows.proofs.the_displacing_script_has_an_account.Goals as goal
-
-pub returns : goal.returns
-returns c = has_account c.the_displacing_script_is_a_run.ensures c.the_displacing_script_is_answered.ensures

@@ -1,5 +1,0 @@
-use Rattle.headline_device_rows.proofs.PassedTells.{is_concluded}
-use Rattle.headline_device_rows.proofs.the_passed_script_is_concluded.Goals as goal
-
-pub returns : goal.returns
-returns c = is_concluded c.the_passed_script_is_a_run.ensures c.the_passed_script_is_answered.ensures

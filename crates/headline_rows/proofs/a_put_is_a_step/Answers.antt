@@ -1,5 +1,0 @@
-use Rattle.headline_rows.proofs.PutIn.{put_is_a_step}
-use Rattle.headline_rows.proofs.a_put_is_a_step.Goals as goal
-
-pub returns : goal.returns
-returns c = put_is_a_step

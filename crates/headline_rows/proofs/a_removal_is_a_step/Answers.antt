@@ -1,5 +1,0 @@
-use Rattle.headline_rows.proofs.Gotten.{removal_is_a_step}
-use Rattle.headline_rows.proofs.a_removal_is_a_step.Goals as goal
-
-pub returns : goal.returns
-returns c = removal_is_a_step

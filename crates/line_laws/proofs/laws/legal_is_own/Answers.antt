@@ -1,0 +1,17 @@
+use Rattle.line_laws.proofs.Standing.{legal_is_own}
+use Rattle.line_laws.proofs.laws.legal_is_own.Goals as goal
+
+pub returns : goal.returns
+returns c = legal_is_own (record {
+  kept = record {
+    numbers_follow = c.numbers_follow.ensures;
+    legal_is_sound = c.legal_is_sound.ensures;
+    steps_are_sound = c.steps_are_sound.ensures;
+    formats_keep = c.formats_keep.ensures;
+    steps_keep = c.steps_keep.ensures;
+  };
+  formats_tell = c.formats_tell.ensures;
+  steps_tell = c.steps_tell.ensures;
+  formats_own = c.formats_own.ensures;
+  steps_own = c.steps_own.ensures;
+})

@@ -1,5 +1,0 @@
-use Rattle.model_laws.proofs.KnownPuts.{few_are_dead}
-use Rattle.model_laws.proofs.laws.few_are_dead.Goals as goal
-
-pub returns : goal.returns
-returns c = few_are_dead

@@ -1,5 +1,0 @@
-use Rattle.model_laws.proofs.CountedForgetting.{forgetting_counts}
-use Rattle.model_laws.proofs.laws.forgetting_counts.Goals as goal
-
-pub returns : goal.returns
-returns c = forgetting_counts

@@ -1,5 +1,0 @@
-use Rattle.model_laws.proofs.Forgetting.{forgetting_leaves}
-use Rattle.model_laws.proofs.laws.forgetting_leaves.Goals as goal
-
-pub returns : goal.returns
-returns c = forgetting_leaves

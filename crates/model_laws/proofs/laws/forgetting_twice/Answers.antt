@@ -1,5 +1,0 @@
-use Rattle.model_laws.proofs.KnownPuts.{forgetting_twice}
-use Rattle.model_laws.proofs.laws.forgetting_twice.Goals as goal
-
-pub returns : goal.returns
-returns c = forgetting_twice

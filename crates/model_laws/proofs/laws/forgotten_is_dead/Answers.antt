@@ -1,5 +1,0 @@
-use Rattle.model_laws.proofs.Forgetting.{forgotten_is_dead}
-use Rattle.model_laws.proofs.laws.forgotten_is_dead.Goals as goal
-
-pub returns : goal.returns
-returns c = forgotten_is_dead

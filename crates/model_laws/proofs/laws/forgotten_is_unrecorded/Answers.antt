@@ -1,5 +1,0 @@
-use Rattle.model_laws.proofs.ForgetAnswers.{forgotten_is_unrecorded}
-use Rattle.model_laws.proofs.laws.forgotten_is_unrecorded.Goals as goal
-
-pub returns : goal.returns
-returns c = forgotten_is_unrecorded

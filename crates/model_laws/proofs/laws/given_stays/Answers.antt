@@ -1,5 +1,0 @@
-use Rattle.model_laws.proofs.ForgetAnswers.{given_stays}
-use Rattle.model_laws.proofs.laws.given_stays.Goals as goal
-
-pub returns : goal.returns
-returns c = given_stays

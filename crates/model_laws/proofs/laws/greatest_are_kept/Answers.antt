@@ -1,5 +1,0 @@
-use Rattle.model_laws.proofs.KnownPuts.{greatest_are_kept}
-use Rattle.model_laws.proofs.laws.greatest_are_kept.Goals as goal
-
-pub returns : goal.returns
-returns c = greatest_are_kept

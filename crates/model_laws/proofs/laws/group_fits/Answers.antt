@@ -1,5 +1,0 @@
-use Rattle.model_laws.proofs.Fits.{group_fits}
-use Rattle.model_laws.proofs.laws.group_fits.Goals as goal
-
-pub returns : goal.returns
-returns c = group_fits

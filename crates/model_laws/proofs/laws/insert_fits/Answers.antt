@@ -1,5 +1,0 @@
-use Rattle.model_laws.proofs.Fitting.{insert_fits}
-use Rattle.model_laws.proofs.laws.insert_fits.Goals as goal
-
-pub returns : goal.returns
-returns c = insert_fits

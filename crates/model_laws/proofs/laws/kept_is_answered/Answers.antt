@@ -1,5 +1,0 @@
-use Rattle.model_laws.proofs.ForgetAnswers.{kept_is_answered}
-use Rattle.model_laws.proofs.laws.kept_is_answered.Goals as goal
-
-pub returns : goal.returns
-returns c = kept_is_answered

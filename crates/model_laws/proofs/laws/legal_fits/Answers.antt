@@ -1,5 +1,0 @@
-use Rattle.model_laws.proofs.Fits.{legal_fits}
-use Rattle.model_laws.proofs.laws.legal_fits.Goals as goal
-
-pub returns : goal.returns
-returns c = legal_fits

@@ -1,5 +1,0 @@
-use Rattle.model_laws.proofs.ForgetAnswers.{reader_is_answered}
-use Rattle.model_laws.proofs.laws.reader_is_answered.Goals as goal
-
-pub returns : goal.returns
-returns c = reader_is_answered

@@ -1,5 +1,0 @@
-use Rattle.model_laws.proofs.Fitting.{slot_is_made}
-use Rattle.model_laws.proofs.laws.slot_is_made.Goals as goal
-
-pub returns : goal.returns
-returns c = slot_is_made

@@ -1,5 +1,0 @@
-use Rattle.model_laws.proofs.Made.{asked_is_synced}
-use Rattle.model_laws.proofs.sync_laws.asked_is_synced.Goals as goal
-
-pub returns : goal.returns
-returns c = asked_is_synced

@@ -1,5 +1,0 @@
-use Rattle.model_laws.proofs.AskSyncs.{due_is_ended}
-use Rattle.model_laws.proofs.sync_laws.due_is_ended.Goals as goal
-
-pub returns : goal.returns
-returns c = due_is_ended

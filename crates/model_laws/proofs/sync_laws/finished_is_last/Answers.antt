@@ -1,5 +1,0 @@
-use Rattle.model_laws.proofs.Syncs.{finished_is_last}
-use Rattle.model_laws.proofs.sync_laws.finished_is_last.Goals as goal
-
-pub returns : goal.returns
-returns c = finished_is_last

@@ -1,5 +1,0 @@
-use Rattle.model_laws.proofs.Syncs.{sync_is_held}
-use Rattle.model_laws.proofs.sync_laws.sync_is_held.Goals as goal
-
-pub returns : goal.returns
-returns c = sync_is_held

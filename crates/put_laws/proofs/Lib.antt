@@ -1,0 +1,2 @@
+mod Recording
+mod Bodies

@@ -1,5 +1,0 @@
-use Rattle.reader_laws.proofs.Standing.{own_is_kept_along}
-use Rattle.reader_laws.proofs.laws.own_is_kept_along.Goals as goal
-
-pub returns : goal.returns
-returns c = own_is_kept_along c.own_is_kept.ensures

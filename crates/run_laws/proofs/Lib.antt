@@ -1,0 +1,7 @@
+mod Damages
+mod Brought
+mod Endings
+mod Accounts
+mod Parting
+mod Fixed
+mod Doubted

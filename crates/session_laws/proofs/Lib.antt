@@ -1,0 +1,16 @@
+mod Asks
+mod Marks
+mod AskSyncs
+mod EndSyncs
+mod Made
+mod Serials
+mod MarkedEmpty
+mod Fitting
+mod Tenths
+mod Fits
+mod Payloads
+mod Syncs
+mod Forgetting
+mod ForgetAnswers
+mod CountedForgetting
+mod KnownPuts

@@ -1,0 +1,4 @@
+pub mod SyncLaws
+pub mod PayloadLaws
+pub mod ForgetLaws
+pub use Rattle.step_laws.specs.AskLaws
