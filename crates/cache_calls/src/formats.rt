@@ -17,6 +17,10 @@ pub trait Formats<D: Disk>: Calls {
             (D.state device)) }
         ensures back { IfErr result (λ refused. refused.1 ≡ device) };
 
+    /// The device, as it stands.
+    fn device(&self) -> &D
+        ensures { D.state result.now ≡ (Self.at self.now).device };
+
     /// Ends the session. What was not written out is gone.
     fn into_device(self) -> D
         ensures { D.state result ≡ (Self.at self).device };

@@ -12,7 +12,7 @@ use cache_model::{Cause, Rec};
 use std::alloc::AllocError;
 use tape_base::{Digest, Key, PieceId};
 
-/// Keeps the records of a session. No call but `reserve` takes memory.
+/// Tells of the records of a session. No call but `reserve` answers that memory is wanting.
 pub trait Chronicle {
     /// The values at its beginning, and the records since.
     ghost kept: { Self → Kept };

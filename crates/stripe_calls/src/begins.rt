@@ -44,6 +44,10 @@ impl<D: Disk, C: NewChronicle + Drop> Formats<D> for StripeCache<D, PackedDirect
         }
     }
 
+    fn device(&self) -> &D {
+        self.stripe.disk()
+    }
+
     fn into_device(self) -> D {
         let (device, _chronicle) = self.stripe.into_parts();
         device
