@@ -279,6 +279,12 @@ begins_sync [] = false
 begins_sync (rec.SyncBegun serial cursor clean in_parts ∷ recs) = true
 begins_sync (r ∷ recs) = begins_sync recs
 
+-- one of them begins one in parts
+abbrev pub begins_in_parts : List Rec → Bool
+begins_in_parts [] = false
+begins_in_parts (rec.SyncBegun serial cursor clean in_parts ∷ recs) = in_parts || begins_in_parts recs
+begins_in_parts (r ∷ recs) = begins_in_parts recs
+
 -- a sync goes on before these records, or one of them begins it
 abbrev pub has_sync : State → List Rec → Bool
 has_sync s added = is_some s.running || begins_sync added
@@ -340,14 +346,22 @@ AreOfBuffers p s added [] = Unit {0}
 AreOfBuffers p s added (Wrote at bytes ∷ older) = (p.area ≤ at → IsOfBuffer p s added older at bytes) × AreOfBuffers p s added older
 AreOfBuffers p s added (call ∷ older) = AreOfBuffers p s added older
 
+-- a sync of the device stands behind all writes to the content area
+pub record IsContentSynced (p : Permit) : Type 0 where
+  pub older : List Call
+  pub synced : AreUpTo p (Synced ∷ older)
+  pub all : content_writes p.area older ≡ content_writes p.area p.events
+
 -- each call that ended a sync or failed has its record, in order, and no other is there; the copies of the directory are
 -- written where there is a sync, and the content area with what is left of a buffer, once for each buffer that begins, and
--- once more at most where a fault ends the step
+-- once more at most where a fault ends the step; where a sync in parts begins, a sync of the device stands behind all that
+-- the step wrote to the content area, as the one does with which its gate is shut
 pub record AreSyncsTold (p : Permit) (s : State) (added : List Rec) (refused : Option Reason) : Type 0 where
   pub effects : syncs_told added ≡ effects_synced p.area p.past false p.events
   pub copies : writes_below p.area p.events ≡ true → has_sync s added ≡ true
   pub content : AreOfBuffers p s added p.events
   pub writes : content_writes p.area p.events ≤ buffers_begun added + faults_of_reason refused
+  pub shut : begins_in_parts added ≡ true → IsContentSynced p
 
 -- ---- pieces
 

@@ -7,9 +7,8 @@ use Rattle.write_cursor.specs.Plan.{is_sync_due}
 use Rattle.cache_model.specs.declared.record.Rec.{Rec}
 use Rattle.cache_model.specs.declared.record.Rec.TheVariants as rec
 use Rattle.cache_model.specs.State.{State, Mark, after_all, cursor_next, synced_cursor}
-use Rattle.device_log.specs.Calls.{Call, Synced}
 use Rattle.cache_model.specs.Permit.{Permit, Exhausted, Faulted, SyncRuns, NoSync, StillMoving, End, Stays, Done, Fails}
-use Rattle.cache_model.specs.Given.{AreUpTo, CountsRest, CountsSync, TakesPart, TakesRest, content_writes}
+use Rattle.cache_model.specs.Given.{CountsRest, CountsSync, TakesPart, TakesRest}
 use Rattle.cache_model.specs.Due.{due_pieces}
 use Rattle.cache_model.specs.Outcomes.{AreOutcomes, Outcome, flush_tail, front_of, stopped_front_of}
 use Rattle.cache_model.specs.Room.{limit, is_flush_exhausted}
@@ -110,23 +109,13 @@ pub record CanSync (p : Permit) (k : Syncing) (s : State) : Type 0 where
   pub may : MayTrySync p k s
   pub below : is_sync_exhausted k s ≡ false
 
--- a sync of the device stands behind all writes to the content area
-pub record IsContentSynced (p : Permit) : Type 0 where
-  pub older : List Call
-  pub synced : AreUpTo p (Synced ∷ older)
-  pub all : content_writes p.area older ≡ content_writes p.area p.events
-
--- the beginning of a sync in parts ends with such a sync, behind the gate that is shut
-abbrev pub IsShutWhere : Permit → Syncing → Type 0
-IsShutWhere p k = is_in_parts k ≡ true → IsContentSynced p
-
--- the device takes the buffer, the syncs behind it go through, and the next buffer begins
+-- the device takes the buffer, the syncs behind it go through, and the next buffer begins; that the device synced all content
+-- where one in parts begins is asked of the whole step, since a later call may write (`AreSyncsTold`)
 pub record MaySyncBehind (p : Permit) (k : Syncing) (s : State) (added : List Rec) : Type 0 where
   pub outcomes : List Outcome
   pub can : CanSync p k s
   pub filled : 0 < s.filled
   pub takes : TakesRest p s
-  pub shut : IsShutWhere p k
   pub are : AreOutcomes p s (budget_of s.geometry) (due_pieces s p.now) outcomes
   pub is : added ≡ first_records k s ++ (front_of (due_pieces s p.now) outcomes ++ (behind_records k (at_first k s) ++ flush_tail s (due_pieces s p.now) outcomes))
 
@@ -163,7 +152,6 @@ pub record MaySyncEmpty (p : Permit) (k : Syncing) (s : State) (added : List Rec
   pub can : CanSync p k s
   pub asked : is_asked k ≡ true
   pub empty : s.filled ≡ 0
-  pub shut : IsShutWhere p k
   pub is : added ≡ ended_records s ++ sync_records k s s.cursor
 
 -- the device stops it once it was begun

@@ -28,7 +28,7 @@ use Rattle.call_laws.proofs.Whole.{encloses_own}
 -- what a step gave or refused for a piece that was written out
 module _ (p : Permit) (s : State) (row : Row) (written : IsWritten s row) where
   of_given : (bytes : List ℕ) → IsGiven p s row bytes → WasAsked (block_at p s row.place) row.blocks p.events
-  of_given bytes h = gave bytes h.given
+  of_given bytes h = gave bytes h.whole h.given
 
   not_buffered : s.cursor ≤ row.place → WasAsked (block_at p s row.place) row.blocks p.events
   not_buffered high = absurd (no written high)
@@ -53,7 +53,7 @@ module _ (p : Permit) (s : State) (actor : ℕ) (key : Key) (request : List Fiel
   of_trouble other before why same (Given.Trouble.faulted count there h) =
       subst (λ (r : Row). WasAsked (block_at p s r.place) r.blocks p.events) same (failed count h.refused)
   of_trouble other before why same (Given.Trouble.damaged found h) =
-      subst (λ (r : Row). WasAsked (block_at p s r.place) r.blocks p.events) same (gave h.bytes h.given.given)
+      subst (λ (r : Row). WasAsked (block_at p s r.place) r.blocks p.events) same (gave h.bytes h.given.whole h.given.given)
 
   of_lookup : (before : List Rec) (answer : Rattle.cache_model.specs.declared.answer.ReadAnswer.ReadAnswer) → IsLookup p s key request before answer
       → WasAsked (block_at p s row.place) row.blocks p.events

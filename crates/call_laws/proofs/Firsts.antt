@@ -1,16 +1,19 @@
--- A step that wrote to the content area once at most wrote each buffer first.
-use Rattle.std.proofs.Common.{◌≡◌, ℕ, ◌+◌, ◌≤◌, arith, Bool, true, false, List, [], ◌∷◌, refl, ◌∙◌, ap, lit≤}
+-- A step whose writes stand in order: one that wrote to the content area once at most wrote each buffer first; and one whose
+-- last call is a sync of the device has all that it wrote behind that.
+use Rattle.std.proofs.Common.{◌≡◌, ℕ, ◌+◌, ◌≤◌, arith, Bool, true, false, List, [], ◌∷◌, refl, sym, ◌∙◌, ap, subst, lit≤}
 use Rattle.std.proofs.lemmas.Bool.{le-leb}
+use Rattle.std.proofs.lemmas.List.{append_cancel_left, append_cancel_right}
 use Rattle.std.specs.Prelude.{◌/◌, nat_le, if◌then◌else◌, length}
-use Rattle.device_log.specs.Calls.{Call, RefusedCall, ToRead, ToSync, ToWrite, Wrote}
+use Rattle.device_log.specs.Calls.{Call, RefusedCall, Synced, ToRead, ToSync, ToWrite, Wrote}
 use Rattle.tape_base.specs.Place.{slot_of}
 use Rattle.cache_model.specs.declared.record.Rec.{Rec}
 use Rattle.cache_model.specs.State.{State, after_all}
+use Rattle.cache_model.specs.Kept.{Kept, state_of}
 use Rattle.cache_model.specs.Permit.{Permit}
-use Rattle.cache_model.specs.Given.{block_at, content_writes, is_calm, last_written, stand_to, standing}
-use Rattle.call_laws.specs.Moments.{At}
+use Rattle.cache_model.specs.Given.{IsContentSynced, begins_in_parts, block_at, content_writes, is_calm, last_written, stand_to, standing}
+use Rattle.call_laws.specs.Moments.{At, permit_of}
 use Rattle.call_laws.specs.Happens.{AreWrittenFirst, Happens}
-use Rattle.call_laws.specs.Whole.{WritesFirst}
+use Rattle.call_laws.specs.Whole.{WritesFirst, WritesInOrder}
 use Rattle.call_laws.proofs.Accounts.{content_append, fewer}
 
 -- what the newest write left to stand, where it was to no buffer
@@ -60,7 +63,28 @@ first_once p s added once = record {
       none_stands p.area (block_at p t t.cursor) t.geometry.agg older none follows.calm;
 }
 
--- so it is of the step between two moments
-pub writes_once : {now : ℕ} {past : List Call} {a b : At}
-    → ((calls : List Call) (added : List Rec) → Happens a b calls added → content_writes a.setting.area calls ≤ 1) → WritesFirst now past a b
-writes_once {now} {past} {a} {b} once syncs calls added happens = first_once _ _ added (once calls added happens)
+pub synced_last : (p : Permit) (older : List Call) → p.events ≡ Synced ∷ older → IsContentSynced p
+synced_last p older is = record { older = older; synced = record { later = []; is = is }; all = sym (ap (content_writes p.area) is) }
+
+-- ---- the step between two moments
+
+-- what happened between them is one thing
+pub same_calls : {a b : At} {calls other : List Call} {added more : List Rec} → Happens a b calls added → Happens a b other more → other ≡ calls
+same_calls {a} {calls = calls} {other = other} h g = append_cancel_right other calls a.device.past (sym g.past ∙ h.past)
+
+pub same_added : {a b : At} {calls other : List Call} {added more : List Rec} → Happens a b calls added → Happens a b other more → more ≡ added
+same_added {a} {added = added} {more = more} h g = append_cancel_left a.kept.since more added (ap (λ (k : Kept). k.since) (sym g.adds ∙ h.adds))
+
+-- so the writes of the step stand in order where these do
+pub writes_so : {now : ℕ} {past : List Call} {a b : At} {calls : List Call} {added : List Rec} → Happens a b calls added
+    → (a.setting.syncs ≡ true → WritesInOrder (permit_of now a.setting past calls) (state_of a.kept) added) → WritesFirst now past a b
+writes_so {now} {past} {a} {added = added} h order syncs other more g =
+    subst (λ recs. WritesInOrder (permit_of now a.setting past other) (state_of a.kept) recs) (sym (same_added h g))
+    (subst (λ cs. WritesInOrder (permit_of now a.setting past cs) (state_of a.kept) added) (sym (same_calls h g)) (order syncs))
+
+-- one write to the content area at most, with a sync of the device behind it where a sync in parts begins
+pub writes_once : {now : ℕ} {past : List Call} {a b : At} {calls : List Call} {added : List Rec} → Happens a b calls added
+    → content_writes a.setting.area calls ≤ 1 → (begins_in_parts added ≡ true → IsContentSynced (permit_of now a.setting past calls))
+    → WritesFirst now past a b
+writes_once {a = a} {added = added} h once synced =
+    writes_so h (λ syncs. record { first = first_once _ (state_of a.kept) added once; shut = synced })

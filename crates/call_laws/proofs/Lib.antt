@@ -12,4 +12,5 @@ mod Asking
 mod Example
 mod SyncExample
 mod StepExample
+mod BeginExample
 mod Tries

@@ -2,10 +2,8 @@
 -- stands already, behind a call that failed. What the stripe kept is supposed here.
 use Rattle.std.proofs.Common.{◌≡◌, ℕ, ◌+◌, ◌*◌, ◌≤◌, arith, Bool, true, false, List, [], ◌∷◌, refl, sym, ◌∙◌, ap, subst, append-nil, inl, lit≤}
 use Rattle.std.specs.Prelude.{◌||◌, None, if◌then◌else◌, is_some, length, min, nat_le}
-use Rattle.std.proofs.lemmas.List.{append_cancel_right}
 use Rattle.device_log.specs.Calls.{Call, Wrote}
 use Rattle.tape_base.specs.Place.{reach_of, slot_of}
-use Rattle.cache_model.specs.declared.record.Rec.{Rec}
 use Rattle.cache_model.specs.declared.record.Rec.TheVariants as rec
 use Rattle.cache_model.specs.State.{place_now, synced_cursor, synced_end}
 use Rattle.cache_model.specs.Kept.{state_of}
@@ -19,7 +17,7 @@ use Rattle.call_laws.specs.Moments.{NothingKnown, At, Encloses, Facts, so_far}
 use Rattle.call_laws.specs.Progress.{AllDone, in_full}
 use Rattle.call_laws.specs.Happens.{Happens, TellsSyncs}
 use Rattle.call_laws.specs.Serves.{Acts, ServesFrom}
-use Rattle.call_laws.specs.Whole.{IsWholeStep}
+use Rattle.call_laws.specs.Whole.{IsWholeStep, WritesFirst}
 use Rattle.call_laws.proofs.Backed.{among_later}
 use Rattle.call_laws.proofs.Firsts.{writes_once}
 use Rattle.call_laws.proofs.Grown.{one_spends}
@@ -80,15 +78,17 @@ module _ (P : Documents) (now : ℕ) (a b : At) (part : List ℕ) (whole : lengt
     };
   }
 
-  part_once : (calls : List Call) (added : List Rec) → Happens a b calls added → content_writes a.setting.area calls ≤ 1
-  part_once calls added h =
-      let same : calls ≡ Wrote 326 part ∷ [] = append_cancel_right calls (Wrote 326 part ∷ []) a.device.past (sym h.past ∙ past) in
-      subst (λ cs. content_writes a.setting.area cs ≤ 1) (sym same) (subst (λ n. content_writes n (Wrote 326 part ∷ []) ≤ 1) (sym area) (lit≤ tt))
+  -- it writes to no buffer, and begins no sync
+  part_in_order : (before : List Call) → WritesFirst now before a b
+  part_in_order before = writes_once part_happens (subst (λ n. content_writes n (Wrote 326 part ∷ []) ≤ 1) (sym area) (lit≤ tt)) (λ begins. absurd (no begins))
+    where
+      no : false ≡ true → ⊥
+      no e = cc
 
   -- it is a step, whatever calls the session made before
   part_steps : (before : List Call) → IsWholeStep P now before a b (SyncStep false ∷ []) None NothingKnown
   part_steps before = serves_step None before in_full (λ on. subst HasCopies (sym area) (321, refl)) (subst (λ k. IsQuiet (state_of k)) (sym kept) quiet)
-      (writes_once part_once) tt part_serves
+      (part_in_order before) tt part_serves
 
 -- ---- a buffer behind a call that failed
 

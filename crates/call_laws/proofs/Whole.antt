@@ -12,9 +12,9 @@ use Rattle.cache_model.specs.Pair.{Documents}
 use Rattle.call_laws.specs.Moments.{At, Encloses, Facts, permit_of}
 use Rattle.call_laws.specs.Progress
 use Rattle.call_laws.specs.Progress.{EndsWith, MayWrite, Progress, Spends, UnlessWanting}
-use Rattle.call_laws.specs.Happens.{AreWrittenFirst, TellsSyncs}
+use Rattle.call_laws.specs.Happens.{TellsSyncs}
 use Rattle.call_laws.specs.Serves.{InStep, ServesFrom, WritesBuffers}
-use Rattle.call_laws.specs.Whole.{IsWholeStep, WritesFirst}
+use Rattle.call_laws.specs.Whole.{IsWholeStep, WritesFirst, WritesInOrder}
 use Rattle.call_laws.proofs.Accounts.{buffers_whole}
 use Rattle.call_laws.proofs.Joined.{state_behind}
 
@@ -46,13 +46,14 @@ writes_whole o why begun times (Progress.EndsWith.refused reason) h = h
 
 -- what calls of a whole step tell of syncs
 syncs_whole : (p : Permit) (s : State) (added : List Rec) (o : Progress) (why : Option Reason) → EndsWith o why → TellsSyncs p.area s p.events added
-    → AreWrittenFirst p s added → WritesBuffers o (record { step = p; earlier = []; calls = p.events; state = s; added = added })
+    → WritesInOrder p s added → WritesBuffers o (record { step = p; earlier = []; calls = p.events; state = s; added = added })
     → AreSyncsTold p s added why
-syncs_whole p s added o why ends tells firsts buffers = record {
+syncs_whole p s added o why ends tells order buffers = record {
   effects = sym (ap (λ calls. effects_synced p.area p.past false calls) (sym (append-nil p.events)) ∙ tells.effects p.past [] refl buffers.asked);
   copies = tells.copies;
-  content = buffers_whole p s added p.events (record { later = []; is = refl }) firsts buffers.content;
+  content = buffers_whole p s added p.events (record { later = []; is = refl }) order.first buffers.content;
   writes = writes_whole o why (buffers_begun added) (content_writes p.area p.events) ends buffers.times;
+  shut = order.shut;
 }
 
 pub serves_step : {P : Documents} {now : ℕ} {a b : At} {asked : List Intent} {o : Progress} {before known : Facts} (why : Option Reason) (past : List Call) → EndsWith o why

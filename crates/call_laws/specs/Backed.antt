@@ -1,5 +1,5 @@
 -- What a call cannot make up.
-use Rattle.std.specs.Prelude.{ℕ, ◌≡◌, ◌+◌, Bool, true, false, List, [], ◌∷◌, Some}
+use Rattle.std.specs.Prelude.{ℕ, ◌≡◌, ◌+◌, ◌*◌, Bool, true, false, List, [], ◌∷◌, length, Some}
 use Rattle.device_log.specs.Calls.{Asked, ToRead, Call, Read, Wrote, RefusedCall}
 use Rattle.tape_base.specs.declared.keys.Key.{Key}
 use Rattle.tape_base.specs.Place.{slot_of}
@@ -57,9 +57,9 @@ CallsArePlain =
     (a b : At) (calls : List Call) (added : List Rec) (call : Call)
     → a.setting.syncs ≡ false → Happens a b calls added → IsAmong call calls → is_plain call ≡ true
 
--- in one of these calls the device was asked for so many blocks from one on: it gave something from there on, or failed
+-- in one of these calls the device was asked for so many blocks from one on: it gave that many bytes, or failed
 pub data WasAsked (block blocks : ℕ) (calls : List Call) : Type 0 where
-  gave : (bytes : List ℕ) → IsAmong (Read block bytes) calls → WasAsked block blocks calls
+  gave : (bytes : List ℕ) → length bytes ≡ 512 * blocks → IsAmong (Read block bytes) calls → WasAsked block blocks calls
   failed : (count : ℕ) → IsAmong (RefusedCall (ToRead block blocks) count) calls → WasAsked block blocks calls
 
 -- a lookup whose key has a live vector that was written out asked the device for it in its own calls, also where it shows a

@@ -191,7 +191,7 @@ ToldServes known = (now : ℕ) (a b : At) (asked : List Intent) (o : Progress) �
 
 -- ---- steps
 
--- a call that leaves nothing of what is asked, and no vector that is not committed, and that writes each buffer once, is a step
+-- a call that leaves nothing of what is asked, and no vector that is not committed, and whose writes stand in order, is a step
 -- of its own, behind any steps with whose calls that is known which it starts from
 abbrev pub ServesStep : Documents → (before known : Facts) → Type 0
 ServesStep IsPlaced before known =

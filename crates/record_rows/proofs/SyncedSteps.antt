@@ -95,7 +95,6 @@ flushes image bytes whole = Legal.DoesFlush.syncs (Syncing.DoesSync.goes (record
   can = record { may = record { syncs = refl; quiet = refl; free = (λ parts. no_truth (sym parts)); some = (λ h. lit< tt) }; below = refl };
   filled = lit< tt;
   takes = Given.TakesRest.takes (record { older = []; at = 27; bytes = bytes; written = record { later = to_b image; is = refl }; rest = eight (takes_due image bytes) due 27 bytes whole refl refl refl });
-  shut = (λ parts. no_truth (sym parts));
   are = tt;
   is = refl;
 }))
@@ -111,6 +110,7 @@ a_flush_syncs_where_due image bytes size whole = record {
     copies = (λ h. refl);
     content = (below refl, (below refl, ((λ high. record { before = []; behind = synced_flush; is = refl; follows = nothing_before; first = refl; write = record { rest = eight (takes_due image bytes) due 27 bytes whole refl refl refl; fresh = lit≤ tt; reach = lit≤ tt } }), tt)));
     writes = lit≤ tt;
+    shut = (λ parts. no_truth (sym parts));
   });
 }
 
@@ -156,7 +156,6 @@ begins bytes whole = Syncing.DoesSync.goes (record {
   can = record { may = record { syncs = refl; quiet = refl; free = (λ parts. refl); some = (λ h. lit< tt) }; below = refl };
   filled = lit< tt;
   takes = Given.TakesRest.takes (record { older = []; at = 169; bytes = bytes; written = record { later = Synced ∷ []; is = refl }; rest = eight (takes_full bytes) full 169 bytes whole refl refl refl });
-  shut = (λ parts. record { older = Wrote 169 bytes ∷ []; synced = record { later = []; is = refl }; all = refl });
   are = tt;
   is = refl;
 })
@@ -172,6 +171,7 @@ a_sync_begins_in_parts bytes whole = record {
     copies = (λ h. refl);
     content = ((λ high. record { before = []; behind = begun; is = refl; follows = nothing_before; first = refl; write = record { rest = eight (takes_full bytes) full 169 bytes whole refl refl refl; fresh = lit≤ tt; reach = lit≤ tt } }), tt);
     writes = lit≤ tt;
+    shut = (λ parts. record { older = Wrote 169 bytes ∷ []; synced = record { later = []; is = refl }; all = refl });
   });
 }
 
@@ -191,7 +191,7 @@ a_part_is_written part size = record {
   quiet = refl;
   faults = refl;
   effects = (λ off. no_truth off);
-  synced = (λ on. record { effects = rw size refl; copies = (λ h. refl); content = (below refl, tt); writes = lit≤ tt });
+  synced = (λ on. record { effects = rw size refl; copies = (λ h. refl); content = (below refl, tt); writes = lit≤ tt; shut = (λ parts. no_truth (sym parts)) });
 }
 
 -- the last part ends it
@@ -210,7 +210,7 @@ a_last_part_ends_it part size = record {
   quiet = refl;
   faults = refl;
   effects = (λ off. no_truth off);
-  synced = (λ on. record { effects = rw size refl; copies = (λ h. refl); content = (below refl, (below refl, tt)); writes = lit≤ tt });
+  synced = (λ on. record { effects = rw size refl; copies = (λ h. refl); content = (below refl, (below refl, tt)); writes = lit≤ tt; shut = (λ parts. no_truth (sym parts)) });
 }
 
 -- ---- one that goes on still while the buffer ends out of reach: the flush ends it first, and syncs into the other copy
@@ -230,7 +230,6 @@ flushes_far first image bytes whole = Legal.DoesFlush.syncs (Syncing.DoesSync.go
   can = record { may = record { syncs = refl; quiet = refl; free = (λ parts. no_truth (sym parts)); some = (λ h. lit< tt) }; below = refl };
   filled = lit< tt;
   takes = Given.TakesRest.takes (record { older = ends_b first; at = 35; bytes = bytes; written = record { later = to_a image; is = refl }; rest = eight (takes_far first image bytes) far 35 bytes whole refl refl refl });
-  shut = (λ parts. no_truth (sym parts));
   are = tt;
   is = refl;
 }))
@@ -250,6 +249,7 @@ a_flush_ends_the_parts_first first image bytes before size whole = record {
       (below refl, (below refl, ((λ high. record { before = rec.SyncDone 2 ∷ []; behind = _; is = refl; follows = record { order = rw before refl; calm = refl; turn = lit≤ tt }; first = refl; write = record { rest = eight (takes_far first image bytes) _ 35 bytes whole refl refl refl; fresh = lit≤ tt; reach = lit≤ tt } }), (below refl, (below refl, tt))))),
     );
     writes = lit≤ tt;
+    shut = (λ parts. no_truth (sym parts));
   });
 }
 
@@ -280,7 +280,7 @@ a_clean_sync_is_a_step image size = record {
   quiet = refl;
   faults = refl;
   effects = (λ off. no_truth off);
-  synced = (λ on. record { effects = rw size refl; copies = (λ h. refl); content = (below refl, (below refl, tt)); writes = lit≤ tt });
+  synced = (λ on. record { effects = rw size refl; copies = (λ h. refl); content = (below refl, (below refl, tt)); writes = lit≤ tt; shut = (λ parts. no_truth (sym parts)) });
 }
 
 abbrev m1 : State
@@ -329,7 +329,7 @@ a_fragment_takes_the_mark_back image size = record {
   quiet = refl;
   faults = refl;
   effects = (λ off. no_truth off);
-  synced = (λ on. record { effects = rw size refl; copies = (λ h. refl); content = (below refl, (below refl, (below refl, tt))); writes = lit≤ tt });
+  synced = (λ on. record { effects = rw size refl; copies = (λ h. refl); content = (below refl, (below refl, (below refl, tt))); writes = lit≤ tt; shut = (λ parts. no_truth (sym parts)) });
 }
 
 -- ---- a session in which the device stops a sync: of the buffer the next one writes what is not durable
@@ -414,6 +414,7 @@ a_stopped_sync_is_a_step one block = record {
     copies = (λ h. no_truth (sym h));
     content = ((λ high. record { before = []; behind = stopped; is = refl; follows = nothing_before; first = refl; write = record { rest = takes_one (stopping one) one refl block; fresh = lit≤ tt; reach = lit≤ tt } }), tt);
     writes = lit≤ tt;
+    shut = (λ parts. no_truth (sym parts));
   });
 }
 
@@ -469,7 +470,6 @@ resumes one image two first second = Syncing.DoesSync.goes (record {
   can = record { may = record { syncs = refl; quiet = refl; free = (λ parts. no_truth (sym parts)); some = (λ h. lit< tt) }; below = refl };
   filled = lit< tt;
   takes = Given.TakesRest.takes (record { older = []; at = 20; bytes = two; written = record { later = to_b image; is = refl }; rest = takes_rest one image two first second });
-  shut = (λ parts. no_truth (sym parts));
   are = tt;
   is = refl;
 })
@@ -486,6 +486,7 @@ what_is_not_durable_is_written one image two first size second = record {
     copies = (λ h. refl);
     content = (below refl, (below refl, ((λ high. record { before = []; behind = synced_again; is = refl; follows = nothing_before; first = refl; write = record { rest = takes_rest one image two first second; fresh = omega arith; reach = lit≤ tt } }), tt)));
     writes = lit≤ tt;
+    shut = (λ parts. no_truth (sym parts));
   });
 }
 
@@ -514,7 +515,7 @@ puts_first = record {
   quiet = refl;
   faults = refl;
   effects = (λ off. no_truth off);
-  synced = (λ on. record { effects = refl; copies = (λ h. no_truth (sym h)); content = tt; writes = lit≤ tt });
+  synced = (λ on. record { effects = refl; copies = (λ h. no_truth (sym h)); content = tt; writes = lit≤ tt; shut = (λ parts. no_truth (sym parts)) });
 }
 
 places_second : (past : List Call) → Does (idle past) n3 (Fragment 1 2 body) second_cut Done
@@ -534,7 +535,7 @@ puts_second past = record {
   quiet = refl;
   faults = refl;
   effects = (λ off. no_truth off);
-  synced = (λ on. record { effects = refl; copies = (λ h. no_truth (sym h)); content = tt; writes = lit≤ tt });
+  synced = (λ on. record { effects = refl; copies = (λ h. no_truth (sym h)); content = tt; writes = lit≤ tt; shut = (λ parts. no_truth (sym parts)) });
 }
 
 abbrev setting : Setting

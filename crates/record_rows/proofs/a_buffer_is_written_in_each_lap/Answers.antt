@@ -49,7 +49,6 @@ returns c = λ written one body block again old whole size.
           can = record { may = record { syncs = refl; quiet = refl; free = (λ h. cc); some = (λ h. lit< tt) }; below = refl };
           filled = lit< tt;
           takes = Given.TakesRest.takes (record { older = []; at = 75; bytes = block; written = record { later = ends_lap again; is = refl }; rest = rest });
-          shut = (λ h. cc);
           are = tt;
           is = refl;
         })),
@@ -82,5 +81,6 @@ returns c = λ written one body block again old whole size.
           ),
         );
         writes = lit≤ tt;
+        shut = (λ h. cc);
       });
     }

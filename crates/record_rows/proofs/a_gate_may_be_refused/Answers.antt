@@ -32,5 +32,6 @@ returns c = λ body block left size whole. record {
     copies = (λ h. refl);
     content = ((λ high. absurd (omega (arith, high))), ((λ high. is_of_it _ block _ whole), tt));
     writes = lit≤ tt;
+    shut = (λ h. cc);
   };
 }

@@ -70,5 +70,6 @@ returns c = λ body block again left size whole written.
           ),
         );
         writes = lit≤ tt;
+        shut = (λ h. cc);
       };
     }

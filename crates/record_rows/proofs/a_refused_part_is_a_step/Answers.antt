@@ -11,5 +11,5 @@ returns c = record {
   quiet = refl;
   faults = refl;
   effects = λ off. cc;
-  synced = λ on. record { effects = refl; copies = (λ h. cc); content = tt; writes = omega arith };
+  synced = λ on. record { effects = refl; copies = (λ h. cc); content = tt; writes = omega arith; shut = (λ h. cc) };
 }

@@ -12,13 +12,13 @@ returns c = (
     quiet = refl;
     faults = refl;
     effects = λ off. cc;
-    synced = λ on. record { effects = refl; copies = (λ h. cc); content = tt; writes = lit≤ tt };
+    synced = λ on. record { effects = refl; copies = (λ h. cc); content = tt; writes = lit≤ tt; shut = (λ h. cc) };
   }),
   record {
     grows = more [] _ (Fails (SyncRuns 5), Syncing.DoesSync.runs 5 refl refl refl refl refl, refl) nothing;
     quiet = refl;
     faults = refl;
     effects = λ off. cc;
-    synced = λ on. record { effects = refl; copies = (λ h. cc); content = tt; writes = lit≤ tt };
+    synced = λ on. record { effects = refl; copies = (λ h. cc); content = tt; writes = lit≤ tt; shut = (λ h. cc) };
   },
 )

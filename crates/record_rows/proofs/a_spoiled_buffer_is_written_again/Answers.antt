@@ -59,7 +59,6 @@ returns c = λ first block left body whole.
           can = record { may = record { syncs = refl; quiet = refl; free = (λ h. cc); some = (λ h. lit< tt) }; below = refl };
           filled = lit< tt;
           takes = Given.TakesRest.takes (record { older = []; at = 27; bytes = block; written = record { later = []; is = refl }; rest = rest });
-          shut = (λ h. cc);
           are = tt;
           is = refl;
         })),
@@ -83,5 +82,6 @@ returns c = λ first block left body whole.
           tt,
         );
         writes = lit≤ tt;
+        shut = (λ h. cc);
       });
     }

@@ -15,7 +15,6 @@ returns c = λ block whole. record {
       can = record { may = record { syncs = refl; quiet = refl; free = (λ h. refl); some = (λ h. cc) }; below = refl };
       filled = lit< tt;
       takes = takes_it _ block whole (record { later = Synced ∷ []; is = refl });
-      shut = (λ h. record { older = Wrote 19 block ∷ []; synced = record { later = []; is = refl }; all = refl });
       are = tt;
       is = refl;
     }),
@@ -24,5 +23,5 @@ returns c = λ block whole. record {
   quiet = refl;
   faults = refl;
   effects = λ off. cc;
-  synced = λ on. record { effects = refl; copies = (λ h. cc); content = ((λ high. is_of_it _ block _ whole), tt); writes = lit≤ tt };
+  synced = λ on. record { effects = refl; copies = (λ h. cc); content = ((λ high. is_of_it _ block _ whole), tt); writes = lit≤ tt; shut = (λ h. record { older = Wrote 19 block ∷ []; synced = record { later = []; is = refl }; all = refl }) };
 }

@@ -15,7 +15,6 @@ returns c = λ body block size whole. record {
       can = record { may = record { syncs = refl; quiet = refl; free = (λ h. cc); some = (λ h. lit< tt) }; below = refl };
       filled = lit< tt;
       takes = takes_it _ block whole (record { later = calls_of_sync body; is = refl });
-      shut = (λ h. cc);
       are = tt;
       is = refl;
     }),
@@ -29,5 +28,6 @@ returns c = λ body block size whole. record {
     copies = (λ h. refl);
     content = ((λ high. absurd (omega (arith, high))), ((λ high. absurd (omega (arith, high))), ((λ high. is_of_it _ block _ whole), tt)));
     writes = lit≤ tt;
+    shut = (λ h. cc);
   };
 }

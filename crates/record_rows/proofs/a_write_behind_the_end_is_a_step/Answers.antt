@@ -46,7 +46,6 @@ returns c = λ body block size whole.
           can = record { may = record { syncs = refl; quiet = refl; free = (λ h. cc); some = (λ h. lit< tt) }; below = refl };
           filled = lit< tt;
           takes = Given.TakesRest.takes (record { older = ends_fifth body; at = 19; bytes = block; written = record { later = []; is = refl }; rest = rest });
-          shut = (λ h. cc);
           are = tt;
           is = refl;
         })),
@@ -70,5 +69,6 @@ returns c = λ body block size whole.
           ((λ high. absurd (omega (arith, high))), ((λ high. absurd (omega (arith, high))), tt)),
         );
         writes = lit≤ tt;
+        shut = (λ h. cc);
       });
     }

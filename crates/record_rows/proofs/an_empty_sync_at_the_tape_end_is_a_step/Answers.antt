@@ -12,7 +12,6 @@ returns c = λ body size. record {
       can = record { may = record { syncs = refl; quiet = refl; free = λ h. cc; some = λ h. cc }; below = refl };
       asked = refl;
       empty = refl;
-      shut = λ h. cc;
       is = refl;
     }),
     refl,
@@ -25,5 +24,6 @@ returns c = λ body size. record {
     copies = (λ h. refl);
     content = ((λ high. absurd (omega (arith, high))), ((λ high. absurd (omega (arith, high))), tt));
     writes = omega arith;
+    shut = (λ h. cc);
   };
 }

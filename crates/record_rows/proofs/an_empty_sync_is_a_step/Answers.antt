@@ -6,9 +6,9 @@ use Rattle.record_rows.proofs.an_empty_sync_is_a_step.Goals as goal
 
 pub returns : goal.returns
 returns c = λ body size. record {
-  grows = more _ _ (Done, Syncing.DoesSync.empty (record { can = record { may = record { syncs = refl; quiet = refl; free = λ h. cc; some = λ h. cc }; below = refl }; asked = refl; empty = refl; shut = λ h. cc; is = refl }), refl) nothing;
+  grows = more _ _ (Done, Syncing.DoesSync.empty (record { can = record { may = record { syncs = refl; quiet = refl; free = λ h. cc; some = λ h. cc }; below = refl }; asked = refl; empty = refl; is = refl }), refl) nothing;
   quiet = refl;
   faults = refl;
   effects = λ off. cc;
-  synced = λ on. record { effects = rw size refl; copies = (λ h. refl); content = ((λ high. absurd (omega (arith, high))), ((λ high. absurd (omega (arith, high))), tt)); writes = omega arith };
+  synced = λ on. record { effects = rw size refl; copies = (λ h. refl); content = ((λ high. absurd (omega (arith, high))), ((λ high. absurd (omega (arith, high))), tt)); writes = omega arith; shut = (λ h. cc) };
 }

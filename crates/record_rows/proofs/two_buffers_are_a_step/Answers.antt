@@ -69,7 +69,6 @@ flushes body first second whole = Legal.DoesFlush.syncs (Syncing.DoesSync.goes (
   can = record { may = record { syncs = refl; quiet = refl; free = (λ h. cc); some = (λ h. lit< tt) }; below = refl };
   filled = lit< tt;
   takes = takes_it _ first whole (record { later = open_gate body ++ (Wrote 20 second ∷ []); is = refl });
-  shut = (λ h. cc);
   are = tt;
   is = refl;
 }))
@@ -149,5 +148,6 @@ returns c = λ body first second size one two named. record {
       ),
     );
     writes = lit≤ tt;
+    shut = (λ h. cc);
   };
 }
