@@ -20,10 +20,10 @@ use Rattle.cache_model.specs.Given
 use Rattle.cache_model.specs.Legal
 use Rattle.cache_model.specs.Legal.{IsStep}
 use Rattle.cache_model.proofs.Steps.{First, first_of}
-use Rattle.script_lang.specs.declared.step.Step.{Step}
-use Rattle.script_lang.specs.declared.step.Step.TheVariants as step
-use Rattle.script_lang.specs.declared.answer.StepAnswer.{StepAnswer}
-use Rattle.script_lang.specs.declared.answer.StepAnswer.TheVariants as answer
+use Rattle.script_grammar.specs.declared.step.Step.{Step}
+use Rattle.script_grammar.specs.declared.step.Step.TheVariants as step
+use Rattle.script_grammar.specs.declared.answer.StepAnswer.{StepAnswer}
+use Rattle.script_grammar.specs.declared.answer.StepAnswer.TheVariants as answer
 use Rattle.script_run.specs.Run.{Holding, Run, held_by}
 use Rattle.script_run.specs.Asked
 use Rattle.script_run.specs.Turn.{Turn, lookup_in, told_in}

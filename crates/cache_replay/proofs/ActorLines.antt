@@ -18,8 +18,8 @@ use Rattle.cache_calls.specs.declared.calls.Calls.{Ghosts as CallsGhosts}
 use Rattle.cache_calls.specs.Adds.{IsAsItWas}
 use Rattle.cache_calls.specs.Keeping.{Goes, IsAtRest, KeepsUnharmed, state_at}
 use Rattle.cache_calls.proofs.Keeping.{goes_still}
-use Rattle.script_lang.specs.declared.step.Step.{Step}
-use Rattle.script_lang.specs.declared.answer.StepAnswer.{StepAnswer}
+use Rattle.script_grammar.specs.declared.step.Step.{Step}
+use Rattle.script_grammar.specs.declared.answer.StepAnswer.{StepAnswer}
 use Rattle.script_run.specs.Run.{Run, Stream, actor_of, held_by, with_value, Holding as Held}
 use Rattle.script_run.specs.Asked.{asked}
 use Rattle.script_run.specs.Turn.{Turn}

@@ -7,8 +7,8 @@ use Rattle.cache_model.specs.Permit.{ReadOn}
 use Rattle.cache_calls.specs.declared.calls.Calls.{Ghosts as CallsGhosts}
 use Rattle.cache_calls.specs.Actors.{IsReaderOf, ReaderSeen}
 use Rattle.cache_calls.specs.Keeping.{IsAtRest}
-use Rattle.script_lang.specs.declared.step.Step.TheVariants as step
-use Rattle.script_lang.specs.declared.answer.StepAnswer.{StepAnswer}
+use Rattle.script_grammar.specs.declared.step.Step.TheVariants as step
+use Rattle.script_grammar.specs.declared.answer.StepAnswer.{StepAnswer}
 use Rattle.script_run.specs.Run.{Run, HoldsReader, held_by}
 use Rattle.script_run.specs.Turn.{told_in}
 use Rattle.script_run.specs.Asked as asks

@@ -13,9 +13,9 @@ use Rattle.cache_calls.specs.declared.calls.Calls.{Ghosts as CallsGhosts}
 use Rattle.cache_calls.specs.Actors.{WriterSeen}
 use Rattle.cache_calls.specs.Keeping.{IsAtRest}
 use Rattle.cache_calls.specs.Standing.{IsToldClosed, StaysStanding}
-use Rattle.script_lang.specs.declared.answer.StepAnswer.{StepAnswer}
-use Rattle.script_lang.specs.declared.answer.StepAnswer.TheVariants as answer
-use Rattle.script_lang.specs.declared.step.Step.TheVariants as step
+use Rattle.script_grammar.specs.declared.answer.StepAnswer.{StepAnswer}
+use Rattle.script_grammar.specs.declared.answer.StepAnswer.TheVariants as answer
+use Rattle.script_grammar.specs.declared.step.Step.TheVariants as step
 use Rattle.script_run.specs.Run.{Run, HoldsReader, Stream, HoldsWriter, actor_of, held_by, no_stream, put_in, with_value, put_written_by}
 use Rattle.script_run.specs.Run.{Holding as Held}
 use Rattle.script_run.specs.Answers as says

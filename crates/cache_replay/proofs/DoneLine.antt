@@ -16,9 +16,9 @@ use Rattle.cache_calls.specs.Actors.{ReaderSeen}
 use Rattle.cache_calls.specs.Adds.{AddsAll, AddsOnly, IsOfReader}
 use Rattle.cache_calls.specs.Keeping.{IsAtRest, KeepsUnharmed}
 use Rattle.cache_calls.specs.Standing.{StaysStanding}
-use Rattle.script_lang.specs.declared.step.Step.TheVariants as step
-use Rattle.script_lang.specs.declared.answer.StepAnswer.{StepAnswer}
-use Rattle.script_lang.specs.declared.answer.StepAnswer.TheVariants as answer
+use Rattle.script_grammar.specs.declared.step.Step.TheVariants as step
+use Rattle.script_grammar.specs.declared.answer.StepAnswer.{StepAnswer}
+use Rattle.script_grammar.specs.declared.answer.StepAnswer.TheVariants as answer
 use Rattle.script_run.specs.Run.{Run, HoldsReader, held_by}
 use Rattle.script_run.specs.Asked as asks
 use Rattle.script_run.specs.Answers as says

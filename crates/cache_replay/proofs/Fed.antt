@@ -19,9 +19,9 @@ use Rattle.cache_calls.specs.declared.calls.Refusal.TheVariants as refusal
 use Rattle.cache_calls.specs.Actors.{WriterSeen}
 use Rattle.cache_calls.specs.Adds.{IsAsItWas}
 use Rattle.cache_calls.specs.Keeping.{plain_setting, state_at}
-use Rattle.script_lang.specs.declared.answer.Refused.TheVariants as refused
-use Rattle.script_lang.specs.declared.answer.StepAnswer.{StepAnswer}
-use Rattle.script_lang.specs.declared.answer.StepAnswer.TheVariants as answer
+use Rattle.script_grammar.specs.declared.answer.Refused.TheVariants as refused
+use Rattle.script_grammar.specs.declared.answer.StepAnswer.{StepAnswer}
+use Rattle.script_grammar.specs.declared.answer.StepAnswer.TheVariants as answer
 use Rattle.script_run.specs.Run.{Run, Stream, put_written_by, with_value}
 use Rattle.script_run.specs.Answers as says
 use Rattle.script_run.specs.Answers.{feed_said, said, took_of}

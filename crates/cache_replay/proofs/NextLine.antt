@@ -32,9 +32,9 @@ use Rattle.cache_calls.specs.Keeping.{IsAtRest, IsPlain, StaysUnharmed, plain_se
 use Rattle.cache_calls.specs.Standing.{GivesAsTold}
 use Rattle.cache_calls.specs.Readers.{HasRead, IsFragment, IsGivenAs, IsGivenInEachStep, IsToldTo, cause_records, listed_length, next_trouble, noted, read_adds}
 use Rattle.cache_calls.proofs.Keeping.{plain_has_steps}
-use Rattle.script_lang.specs.declared.step.Step.TheVariants as step
-use Rattle.script_lang.specs.declared.answer.StepAnswer.{StepAnswer}
-use Rattle.script_lang.specs.declared.answer.StepAnswer.TheVariants as answer
+use Rattle.script_grammar.specs.declared.step.Step.TheVariants as step
+use Rattle.script_grammar.specs.declared.answer.StepAnswer.{StepAnswer}
+use Rattle.script_grammar.specs.declared.answer.StepAnswer.TheVariants as answer
 use Rattle.script_run.specs.Run.{Run, Stream}
 use Rattle.script_run.specs.Turn.{Turn, later, told_in}
 use Rattle.script_run.specs.Asked as asks

@@ -9,9 +9,9 @@ use Rattle.cache_model.specs.State.{PutRow, State, put_of}
 use Rattle.cache_model.specs.Legal.{is_writing}
 use Rattle.cache_model.specs.Contents.{Contents}
 use Rattle.cache_calls.specs.declared.calls.Calls.{Ghosts as CallsGhosts}
-use Rattle.script_lang.specs.declared.step.Step.{Step}
-use Rattle.script_lang.specs.declared.step.Step.TheVariants as step
-use Rattle.script_lang.specs.declared.answer.StepAnswer.{StepAnswer}
+use Rattle.script_grammar.specs.declared.step.Step.{Step}
+use Rattle.script_grammar.specs.declared.step.Step.TheVariants as step
+use Rattle.script_grammar.specs.declared.answer.StepAnswer.{StepAnswer}
 use Rattle.script_run.specs.Run.{Run, Stream, actor_of, put_in}
 use Rattle.script_run.specs.Turn.{Turn}
 use Rattle.script_run.specs.Behind.{in_session, streams_behind, with_bytes}

@@ -24,9 +24,9 @@ use Rattle.cache_calls.specs.Adds.{AddsOnly, IsOfReader}
 use Rattle.cache_calls.specs.Keeping.{IsAtRest, KeepsUnharmed}
 use Rattle.cache_calls.specs.Readers.{HasLooked, IfReader, TellsReader, answer_in, length_in, open_adds}
 use Rattle.cache_calls.specs.Standing.{StaysStanding}
-use Rattle.script_lang.specs.declared.step.Step.TheVariants as step
-use Rattle.script_lang.specs.declared.answer.StepAnswer.{StepAnswer}
-use Rattle.script_lang.specs.declared.answer.StepAnswer.TheVariants as answer
+use Rattle.script_grammar.specs.declared.step.Step.TheVariants as step
+use Rattle.script_grammar.specs.declared.answer.StepAnswer.{StepAnswer}
+use Rattle.script_grammar.specs.declared.answer.StepAnswer.TheVariants as answer
 use Rattle.script_run.specs.Run.{Run, HoldsReader, HoldsWriter, held_by}
 use Rattle.script_run.specs.Run as running
 use Rattle.script_run.specs.Turn.{lookup_in}

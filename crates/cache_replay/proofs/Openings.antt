@@ -25,9 +25,9 @@ use Rattle.cache_calls.specs.Adds.{IsAsItWas}
 use Rattle.cache_calls.specs.Asked.{refused_at}
 use Rattle.cache_calls.specs.Keeping.{IsAtRest, plain_setting, state_at}
 use Rattle.cache_calls.specs.Writers.{HasBegun, OpensNone, opened_writer_record}
-use Rattle.script_lang.specs.declared.step.Step.TheVariants as step
-use Rattle.script_lang.specs.declared.answer.StepAnswer.{StepAnswer}
-use Rattle.script_lang.specs.declared.answer.StepAnswer.TheVariants as answer
+use Rattle.script_grammar.specs.declared.step.Step.TheVariants as step
+use Rattle.script_grammar.specs.declared.answer.StepAnswer.{StepAnswer}
+use Rattle.script_grammar.specs.declared.answer.StepAnswer.TheVariants as answer
 use Rattle.script_run.specs.Run.{Run, HoldsWriter, held_by, no_stream}
 use Rattle.script_run.specs.Run.{Holding as Held}
 use Rattle.script_run.specs.Answers as says

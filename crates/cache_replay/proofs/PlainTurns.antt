@@ -26,10 +26,10 @@ use Rattle.cache_calls.specs.Asked.{progress_at}
 use Rattle.cache_calls.specs.Keeping.{IsAtRest, KeepsUnharmed, state_at}
 use Rattle.cache_calls.specs.Plain.{FlushesAs, TellsFlushed}
 use Rattle.cache_calls.specs.Standing.{StaysStanding}
-use Rattle.script_lang.specs.declared.step.Step.{Step}
-use Rattle.script_lang.specs.declared.step.Step.TheVariants as step
-use Rattle.script_lang.specs.declared.answer.StepAnswer.{StepAnswer}
-use Rattle.script_lang.specs.declared.answer.StepAnswer.TheVariants as answer
+use Rattle.script_grammar.specs.declared.step.Step.{Step}
+use Rattle.script_grammar.specs.declared.step.Step.TheVariants as step
+use Rattle.script_grammar.specs.declared.answer.StepAnswer.{StepAnswer}
+use Rattle.script_grammar.specs.declared.answer.StepAnswer.TheVariants as answer
 use Rattle.script_run.specs.Run.{Run}
 use Rattle.script_run.specs.Answers.{remove_said}
 use Rattle.script_run.specs.Own.{AreOwn}

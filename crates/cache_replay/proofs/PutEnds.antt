@@ -24,8 +24,8 @@ use Rattle.cache_calls.specs.Actors.{WriterSeen}
 use Rattle.cache_calls.specs.Asked.{close_asks, ending_asks, progress_at, rows_at_close}
 use Rattle.cache_calls.specs.Keeping.{state_at}
 use Rattle.cache_calls.specs.Writers.{Closes}
-use Rattle.script_lang.specs.declared.answer.Refused.TheVariants as refused
-use Rattle.script_lang.specs.declared.answer.StepAnswer.TheVariants as answer
+use Rattle.script_grammar.specs.declared.answer.Refused.TheVariants as refused
+use Rattle.script_grammar.specs.declared.answer.StepAnswer.TheVariants as answer
 use Rattle.script_run.specs.Losses.{NoLossIsAFault}
 use Rattle.script_run.specs.Asked.{body_intents, close_intents, feed_intents, rest_behind, whole_fragments}
 use Rattle.cache_replay.specs.Feeding.{FeedsAsAsked, FeedsWhere, IsCutUp, feed_progress}

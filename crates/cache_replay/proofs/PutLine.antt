@@ -17,9 +17,9 @@ use Rattle.cache_calls.specs.declared.calls.Refusal.{Refusal}
 use Rattle.cache_calls.specs.declared.calls.Refusal.TheVariants as refusal
 use Rattle.cache_calls.specs.Keeping.{IsAtRest, KeepsUnharmed}
 use Rattle.cache_calls.specs.Standing.{StaysStanding}
-use Rattle.script_lang.specs.declared.answer.StepAnswer.{StepAnswer}
-use Rattle.script_lang.specs.declared.step.Step.{Step}
-use Rattle.script_lang.specs.declared.step.Step.TheVariants as step
+use Rattle.script_grammar.specs.declared.answer.StepAnswer.{StepAnswer}
+use Rattle.script_grammar.specs.declared.step.Step.{Step}
+use Rattle.script_grammar.specs.declared.step.Step.TheVariants as step
 use Rattle.script_run.specs.Asked.{put_intents}
 use Rattle.script_run.specs.Run.{Run}
 use Rattle.cache_replay.specs.declared.session.Part.{Part}

@@ -9,8 +9,8 @@ use Rattle.cache_model.specs.Contents.{AnyContents}
 use Rattle.cache_calls.specs.declared.calls.Calls.{Ghosts as CallsGhosts}
 use Rattle.cache_calls.specs.Actors.{IsOpenReader, IsReaderOf, ReaderSeen}
 use Rattle.cache_calls.specs.Standing.{StaysStanding}
-use Rattle.script_lang.specs.declared.step.Step.{Step}
-use Rattle.script_lang.specs.declared.answer.StepAnswer.{StepAnswer}
+use Rattle.script_grammar.specs.declared.step.Step.{Step}
+use Rattle.script_grammar.specs.declared.answer.StepAnswer.{StepAnswer}
 use Rattle.script_run.specs.Run.{Run, HoldsReader, HoldsWriter, Stream, actor_of, held_by, reader_by, reader_in, with_value, Holding as Held}
 use Rattle.script_run.specs.Turn.{Turn}
 use Rattle.script_run.specs.Behind.{holds_behind, in_session, still_open, streams_behind}

@@ -11,8 +11,8 @@ use Rattle.call_laws.proofs.Kept.{tells_or_not}
 use Rattle.cache_calls.specs.declared.calls.Calls.{Ghosts as CallsGhosts}
 use Rattle.cache_calls.specs.Keeping.{IsAtRest, state_at}
 use Rattle.cache_calls.specs.Standing.{StaysStanding}
-use Rattle.script_lang.specs.declared.step.Step.{Step}
-use Rattle.script_lang.specs.declared.answer.StepAnswer.{StepAnswer}
+use Rattle.script_grammar.specs.declared.step.Step.{Step}
+use Rattle.script_grammar.specs.declared.answer.StepAnswer.{StepAnswer}
 use Rattle.script_run.specs.Run.{Run}
 use Rattle.script_run.specs.Asked.{asked}
 use Rattle.script_run.specs.Behind.{Streams, streams_behind}

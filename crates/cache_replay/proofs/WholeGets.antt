@@ -38,7 +38,7 @@ use Rattle.script_run.specs.Asked.{get_intents}
 use Rattle.script_run.specs.Answers.{miss_said}
 use Rattle.script_run.specs.Own.{IsPlacedAs}
 use Rattle.script_run.proofs.OnlyReading.{reads_own}
-use Rattle.script_lang.specs.declared.answer.StepAnswer.TheVariants as answer
+use Rattle.script_grammar.specs.declared.answer.StepAnswer.TheVariants as answer
 use Rattle.cache_replay.specs.Getting.{ComesOfCache, GetIsAnswered, IsKnownTo, IsUnderway}
 use Rattle.cache_replay.proofs.Frames.{same_added}
 use Rattle.cache_replay.proofs.Free.{no_next_reader}

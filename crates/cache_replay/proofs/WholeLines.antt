@@ -18,8 +18,8 @@ use Rattle.cache_calls.specs.Adds.{AddsOnly, IsOfReader}
 use Rattle.cache_calls.specs.Keeping.{IsAtRest, StaysUnharmed, plain_setting, state_at}
 use Rattle.cache_calls.proofs.Keeping.{plain_has_steps}
 use Rattle.cache_calls.proofs.Others.{reads_leave_others}
-use Rattle.script_lang.specs.declared.answer.StepAnswer.{StepAnswer}
-use Rattle.script_lang.specs.declared.step.Step.TheVariants as step
+use Rattle.script_grammar.specs.declared.answer.StepAnswer.{StepAnswer}
+use Rattle.script_grammar.specs.declared.step.Step.TheVariants as step
 use Rattle.script_run.specs.Run.{Run}
 use Rattle.script_run.specs.Asked.{get_intents}
 use Rattle.script_run.specs.Own.{AreOwn}

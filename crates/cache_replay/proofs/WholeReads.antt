@@ -57,8 +57,8 @@ use Rattle.script_run.specs.Answers.{broken_said}
 use Rattle.script_run.specs.Own.{AreOwn, IsPlacedAs, piece_of}
 use Rattle.script_run.proofs.OnlyReading.{reads_own}
 use Rattle.script_run.proofs.Reading.{all_is_given, read_is_own}
-use Rattle.script_lang.specs.declared.answer.StepAnswer.{StepAnswer}
-use Rattle.script_lang.specs.declared.answer.StepAnswer.TheVariants as answer
+use Rattle.script_grammar.specs.declared.answer.StepAnswer.{StepAnswer}
+use Rattle.script_grammar.specs.declared.answer.StepAnswer.TheVariants as answer
 use Rattle.cache_replay.proofs.Frames.{same_added}
 use Rattle.cache_replay.proofs.NextLine.{later_none}
 use Rattle.line_calls.proofs.OwnContents.{given_is_own, tells_own}

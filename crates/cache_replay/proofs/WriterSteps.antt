@@ -17,8 +17,8 @@ use Rattle.call_laws.specs.Whole.{IsWholeStep}
 use Rattle.call_laws.proofs.Joined.{state_behind}
 use Rattle.cache_calls.specs.Actors.{IsWriterOf, WriterSeen}
 use Rattle.cache_calls.specs.Keeping.{plain_setting, state_at}
-use Rattle.script_lang.specs.declared.answer.StepAnswer.{StepAnswer}
-use Rattle.script_lang.specs.declared.answer.StepAnswer.TheVariants as answer
+use Rattle.script_grammar.specs.declared.answer.StepAnswer.{StepAnswer}
+use Rattle.script_grammar.specs.declared.answer.StepAnswer.TheVariants as answer
 use Rattle.script_run.specs.Answers as says
 use Rattle.script_run.specs.Answers.{session_said}
 use Rattle.script_run.specs.Asked as asks

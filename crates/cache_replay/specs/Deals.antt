@@ -5,8 +5,8 @@ use Rattle.logged_disk.specs.Device.{DeviceState as Device}
 use Rattle.device_bay.specs.Calls.{BayCall, names_of, out_of, returned_by}
 use Rattle.cache_model.specs.Legal.{format_records}
 use Rattle.cache_calls.specs.declared.calls.Calls.{Ghosts as CallsGhosts}
-use Rattle.script_lang.specs.declared.step.Step.{Step}
-use Rattle.script_lang.specs.declared.answer.StepAnswer.{StepAnswer}
+use Rattle.script_grammar.specs.declared.step.Step.{Step}
+use Rattle.script_grammar.specs.declared.answer.StepAnswer.{StepAnswer}
 use Rattle.script_run.specs.Behind.{with_format}
 use Rattle.script_run.specs.Ledger.{AreReached, Deals, KeepsOrder, ledger_behind}
 use Rattle.script_run.specs.Run.{Harm, Run, no_harm}

@@ -22,8 +22,8 @@ use Rattle.cache_calls.specs.declared.calls.Calls.{Ghosts as CallsGhosts}
 use Rattle.cache_calls.specs.Actors.{IsOpenReader, IsReaderOf, ReaderSeen}
 use Rattle.cache_calls.specs.Keeping.{StaysUnharmed, state_at}
 use Rattle.cache_calls.specs.Standing.{StaysStanding}
-use Rattle.script_lang.specs.declared.answer.StepAnswer.{StepAnswer}
-use Rattle.script_lang.specs.declared.answer.StepAnswer.TheVariants as answer
+use Rattle.script_grammar.specs.declared.answer.StepAnswer.{StepAnswer}
+use Rattle.script_grammar.specs.declared.answer.StepAnswer.TheVariants as answer
 use Rattle.script_run.specs.Run.{Run, Stream}
 use Rattle.script_run.specs.Asked.{get_intents}
 use Rattle.script_run.specs.Losses.{NoLossIsAFault}

@@ -5,8 +5,8 @@ use Rattle.cache_calls.specs.declared.calls.Calls.{Ghosts as CallsGhosts}
 use Rattle.cache_calls.specs.Keeping.{Goes, StaysUnharmed}
 use Rattle.cache_calls.specs.Standing.{StaysStanding}
 use Rattle.actor_table.specs.Table.{TableSeen}
-use Rattle.script_lang.specs.declared.step.Step.{Step}
-use Rattle.script_lang.specs.declared.answer.StepAnswer.{StepAnswer}
+use Rattle.script_grammar.specs.declared.step.Step.{Step}
+use Rattle.script_grammar.specs.declared.answer.StepAnswer.{StepAnswer}
 use Rattle.script_run.specs.Own.{AreOwn}
 use Rattle.script_run.specs.Run.{Run}
 use Rattle.cache_replay.specs.declared.session.ActorHolding.{ActorHolding}

@@ -8,8 +8,8 @@ use Rattle.cache_calls.specs.declared.calls.Calls.{Ghosts as CallsGhosts}
 use Rattle.cache_calls.specs.Actors.{IsReaderOf, WriterSeen}
 use Rattle.cache_calls.specs.Keeping.{IsUnharmed}
 use Rattle.actor_table.specs.Table.{TableSeen}
-use Rattle.script_lang.specs.declared.answer.StepAnswer.{StepAnswer}
-use Rattle.script_lang.specs.declared.step.Step.{Step}
+use Rattle.script_grammar.specs.declared.answer.StepAnswer.{StepAnswer}
+use Rattle.script_grammar.specs.declared.step.Step.{Step}
 use Rattle.script_run.specs.Run.{Harm, Run, Stream, HoldsWriter, HoldsReader, loosened, no_harm}
 use Rattle.script_run.specs.Turn.{Turn}
 use Rattle.script_run.specs.Answers.{step_answer}

@@ -10,7 +10,7 @@ use Rattle.cache_calls.specs.declared.calls.Calls.{Ghosts as CallsGhosts}
 use Rattle.cache_calls.specs.Actors.{IsOpenReader, IsWriterOf, ReaderSeen, WriterSeen}
 use Rattle.cache_calls.specs.Keeping.{IsAtRest, plain_setting, state_at}
 use Rattle.actor_table.specs.Table.{TableSeen, slot_of_actor}
-use Rattle.script_lang.specs.declared.answer.StepAnswer.{StepAnswer}
+use Rattle.script_grammar.specs.declared.answer.StepAnswer.{StepAnswer}
 use Rattle.script_run.specs.Losses.{NoLossIsAFault}
 use Rattle.cache_replay.specs.declared.session.ActorHolding.{ActorHolding}
 use Rattle.cache_replay.specs.declared.session.ActorHolding.TheVariants as holding

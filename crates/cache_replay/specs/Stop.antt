@@ -3,7 +3,7 @@ use Rattle.std.specs.Prelude.{ℕ, ◌≡◌, Bool, true, false, List, None, Res
 use Rattle.device_bay.specs.Calls.{BayCall, AttachRefusal, refusals_of}
 use Rattle.device_bay.specs.Bay.{Refuses}
 use Rattle.cache_calls.specs.declared.calls.Calls.{Ghosts as CallsGhosts}
-use Rattle.script_lang.specs.declared.step.Step.{Step}
+use Rattle.script_grammar.specs.declared.step.Step.{Step}
 use Rattle.run_promise.specs.Needs.{AttachesWith, NeedsSession}
 use Rattle.cache_replay.specs.declared.session.Session.{Session}
 use Rattle.cache_replay.specs.declared.stop.Stop.{Stop}

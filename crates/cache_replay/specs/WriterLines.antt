@@ -10,9 +10,9 @@ use Rattle.cache_calls.specs.Actors.{WriterSeen}
 use Rattle.cache_calls.specs.Adds.{AddsOnly, IsOfPut}
 use Rattle.cache_calls.specs.Keeping.{KeepsUnharmed, state_at}
 use Rattle.actor_table.specs.Table.{TableSeen, number_of_name}
-use Rattle.script_lang.specs.declared.step.Step.{Step}
-use Rattle.script_lang.specs.declared.step.Step.TheVariants as step
-use Rattle.script_lang.specs.declared.answer.StepAnswer.{StepAnswer}
+use Rattle.script_grammar.specs.declared.step.Step.{Step}
+use Rattle.script_grammar.specs.declared.step.Step.TheVariants as step
+use Rattle.script_grammar.specs.declared.answer.StepAnswer.{StepAnswer}
 use Rattle.script_run.specs.Run.{Run, HoldsWriter, held_by}
 use Rattle.script_run.specs.Behind.{holds_behind, streams_behind}
 use Rattle.script_run.specs.Losses.{NoLossIsAFault}

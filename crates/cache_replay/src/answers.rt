@@ -1,12 +1,12 @@
 // Refusals and causes, as lines tell them.
 ghost use Rattle.std.specs.Prelude.{◌≡◌};
-ghost use Rattle.script_lang.specs.declared.answer.StepAnswer.TheVariants as answer;
+ghost use Rattle.script_grammar.specs.declared.answer.StepAnswer.TheVariants as answer;
 ghost use Rattle.script_run.specs.Answers.{broken_said, miss_said};
 ghost use Rattle.cache_replay.specs.Replies.{closed_answer, refusal_answer, refused_answer};
 
 use cache_calls::{Receipt, Refusal};
 use cache_model::Cause;
-use script_lang::{Refused, StepAnswer};
+use script_grammar::{Refused, StepAnswer};
 
 /// What a line answers that was refused, with how many bytes were taken where that is told.
 pub(crate) fn refusal_answer(why: Refusal, took: Option<u64>) -> StepAnswer

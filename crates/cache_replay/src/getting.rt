@@ -6,7 +6,7 @@ ghost use Rattle.cache_calls.specs.Actors.{IsOpenReader};
 ghost use Rattle.cache_calls.specs.Adds.{AddsOnly, IsOfReader};
 ghost use Rattle.cache_calls.specs.Keeping.{KeepsUnharmed, state_at};
 ghost use Rattle.cache_calls.specs.Standing.{StaysStanding};
-ghost use Rattle.script_lang.specs.declared.step.Step.TheVariants as step;
+ghost use Rattle.script_grammar.specs.declared.step.Step.TheVariants as step;
 ghost use Rattle.cache_replay.specs.OneLine.{AnswersLine, AnswersPlainly};
 ghost use Rattle.cache_replay.specs.ReaderLines.{IsReadyToRead, LeavesReader};
 ghost use Rattle.cache_replay.specs.Session.{IsPart, IsSession, state_in_part};
@@ -18,7 +18,7 @@ use crate::stop::Stop;
 use alternate_vector::Fields;
 use cache_calls::{Calls, NextPiece, Opened};
 use cache_model::Cause;
-use script_lang::{ByteList, StepAnswer};
+use script_grammar::{ByteList, StepAnswer};
 use std::alloc::{AllocError, Global};
 use tape_base::{Actor, Key};
 

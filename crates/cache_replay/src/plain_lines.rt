@@ -1,6 +1,6 @@
 // Lines without an actor that are one call of a cache: removals and flushes.
 ghost use Rattle.std.specs.Prelude.{◌≡◌, None};
-ghost use Rattle.script_lang.specs.declared.step.Step.TheVariants as step;
+ghost use Rattle.script_grammar.specs.declared.step.Step.TheVariants as step;
 ghost use Rattle.cache_replay.specs.OneLine.{AnswersLine, AnswersPlainly};
 ghost use Rattle.cache_replay.specs.Session.{IsPart, IsSession};
 ghost use Rattle.cache_replay.specs.Replies.{flush_refused};
@@ -8,7 +8,7 @@ ghost use Rattle.cache_replay.specs.Replies.{flush_refused};
 use crate::session::{Part, Session};
 use crate::stop::Stop;
 use cache_calls::{Calls, Refusal, Removal};
-use script_lang::{Refused, StepAnswer};
+use script_grammar::{Refused, StepAnswer};
 use tape_base::Key;
 
 /// `remove OBJECT`

@@ -1,6 +1,6 @@
 // The line of a whole put.
 ghost use Rattle.std.specs.Prelude.{Some, None};
-ghost use Rattle.script_lang.specs.declared.step.Step.TheVariants as step;
+ghost use Rattle.script_grammar.specs.declared.step.Step.TheVariants as step;
 ghost use Rattle.cache_replay.specs.OneLine.{AnswersLine, AnswersPlainly};
 ghost use Rattle.cache_replay.specs.Session.{IsPart, IsSession, state_in_part};
 
@@ -10,7 +10,7 @@ use crate::session::{Part, Session};
 use crate::stop::Stop;
 use alternate_vector::Fields;
 use cache_calls::Calls;
-use script_lang::StepAnswer;
+use script_grammar::StepAnswer;
 use tape_base::Key;
 
 /// Puts a whole body, in a line.

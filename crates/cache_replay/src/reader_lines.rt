@@ -2,8 +2,8 @@
 ghost use Rattle.std.specs.Prelude.{ℕ, ◌≡◌, ◌==◌, ◌-◌, ◌^◌, ◌<◌, ◌≤◌, length, None, IfOk, IfErr, if◌then◌else◌, is_some, option_map};
 ghost use Rattle.cache_calls.specs.Actors.{IsOpenReader};
 ghost use Rattle.cache_calls.specs.Keeping.{plain_setting, state_at};
-ghost use Rattle.script_lang.specs.declared.step.Step.TheVariants as step;
-ghost use Rattle.script_lang.specs.declared.answer.StepAnswer.TheVariants as answer;
+ghost use Rattle.script_grammar.specs.declared.step.Step.TheVariants as step;
+ghost use Rattle.script_grammar.specs.declared.answer.StepAnswer.TheVariants as answer;
 ghost use Rattle.cache_replay.specs.declared.stop.Stop.TheVariants as stop;
 ghost use Rattle.cache_replay.specs.OneLine.{AnswersActor, AnswersLine};
 ghost use Rattle.cache_replay.specs.ReaderLines.{IsReadyToRead, IsWithin, LeavesReader, ReadsOnLine, as_held, left_without_reader, next_answer, opened_answer, reader_held, reader_opened};
@@ -15,7 +15,7 @@ use crate::stop::Stop;
 use actor_table::Actors;
 use alternate_vector::Fields;
 use cache_calls::{Calls, NextPiece, Opened};
-use script_lang::{ByteList, Refused, StepAnswer};
+use script_grammar::{ByteList, Refused, StepAnswer};
 use std::alloc::{AllocError, Global};
 use tape_base::{Actor, Key};
 

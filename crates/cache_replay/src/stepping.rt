@@ -1,8 +1,8 @@
 // The steps of a script, whatever they are.
 ghost use Rattle.std.specs.Prelude.{◌≡◌, ◌-◌, ◌^◌, ◌<◌, ◌≤◌, length};
 ghost use Rattle.device_bay.specs.Calls.{out_of};
-ghost use Rattle.script_lang.specs.declared.answer.StepAnswer.TheVariants as answer;
-ghost use Rattle.script_lang.specs.declared.step.Step.TheVariants as step;
+ghost use Rattle.script_grammar.specs.declared.answer.StepAnswer.TheVariants as answer;
+ghost use Rattle.script_grammar.specs.declared.step.Step.TheVariants as step;
 ghost use Rattle.script_run.specs.Run.{Run};
 ghost use Rattle.cache_replay.specs.Deals.{AnswersStep};
 ghost use Rattle.cache_replay.specs.OneLine.{AnswersLine};
@@ -20,7 +20,7 @@ use crate::stop::Stop;
 use crate::writer_lines::{abort_line, close_line, data_line, open_write_line};
 use cache_calls::{Calls, Formats};
 use device_bay::Bay;
-use script_lang::{Step, StepAnswer};
+use script_grammar::{Step, StepAnswer};
 
 /// Does a step, and says what came of it.
 pub fn step<B: Bay, S: Formats<B::Dev>>(

@@ -4,7 +4,7 @@ ghost use Rattle.cache_model.specs.Legal.{is_writing};
 ghost use Rattle.cache_model.specs.Contents.{AnyContents};
 ghost use Rattle.cache_calls.specs.Keeping.{plain_setting, state_at};
 ghost use Rattle.cache_calls.specs.Standing.{IsToldClosed, StaysStanding};
-ghost use Rattle.script_lang.specs.declared.step.Step.TheVariants as step;
+ghost use Rattle.script_grammar.specs.declared.step.Step.TheVariants as step;
 ghost use Rattle.script_run.specs.Answers.{busy, idle};
 ghost use Rattle.cache_replay.specs.OneLine.{AnswersActor, AnswersLine};
 ghost use Rattle.cache_replay.specs.Replies.{fed_answer};
@@ -20,7 +20,7 @@ use crate::stop::Stop;
 use actor_table::Actors;
 use alternate_vector::Fields;
 use cache_calls::{Calls, Refusal};
-use script_lang::{Refused, StepAnswer};
+use script_grammar::{Refused, StepAnswer};
 use tape_base::{Actor, Key};
 
 // What came of a line on a writer: its answer, where memory is not wanting, and the writer, where that

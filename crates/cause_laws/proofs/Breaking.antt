@@ -18,9 +18,9 @@ use Rattle.cache_model.specs.Legal
 use Rattle.cache_model.specs.Legal.{IsStep, answer_record}
 use Rattle.cache_model.proofs.Found.{no_truth, none_is, number_of}
 use Rattle.cache_model.proofs.Steps.{alone}
-use Rattle.script_lang.specs.declared.step.Step.TheVariants as step
-use Rattle.script_lang.specs.declared.answer.StepAnswer.{StepAnswer}
-use Rattle.script_lang.specs.declared.answer.StepAnswer.TheVariants as answer
+use Rattle.script_grammar.specs.declared.step.Step.TheVariants as step
+use Rattle.script_grammar.specs.declared.answer.StepAnswer.{StepAnswer}
+use Rattle.script_grammar.specs.declared.answer.StepAnswer.TheVariants as answer
 use Rattle.script_run.specs.Run.{Run, fresh, reader_by}
 use Rattle.script_run.specs.Asked
 use Rattle.script_run.specs.Turn.{Turn, told_in}

@@ -16,9 +16,9 @@ use Rattle.cache_model.specs.State.{State, ReaderRow, Row, state_after, table_of
 use Rattle.cache_model.specs.Permit.{Permit}
 use Rattle.cache_model.specs.Verdict.{cause_of_loss, next_piece}
 use Rattle.cache_model.proofs.Found.{no_truth, none_is}
-use Rattle.script_lang.specs.declared.step.Step.TheVariants as step
-use Rattle.script_lang.specs.declared.answer.StepAnswer.{StepAnswer}
-use Rattle.script_lang.specs.declared.answer.StepAnswer.TheVariants as answer
+use Rattle.script_grammar.specs.declared.step.Step.TheVariants as step
+use Rattle.script_grammar.specs.declared.answer.StepAnswer.{StepAnswer}
+use Rattle.script_grammar.specs.declared.answer.StepAnswer.TheVariants as answer
 use Rattle.script_run.specs.Run.{Run, fresh}
 use Rattle.script_run.specs.Turn.{Turn}
 use Rattle.script_run.specs.Takes.{IsRun, run_after}

@@ -27,9 +27,9 @@ use Rattle.cache_model.specs.Legal.{Advances, IsStep, MayGrow, answer_record, is
 use Rattle.cache_model.proofs.Found.{no_truth, none_is, same_some}
 use Rattle.step_laws.proofs.Answered.{given_is_own}
 use Rattle.cache_model.proofs.Steps.{First, all_append, first_of, none_left}
-use Rattle.script_lang.specs.declared.step.Step.TheVariants as step
-use Rattle.script_lang.specs.declared.answer.StepAnswer.{StepAnswer}
-use Rattle.script_lang.specs.declared.answer.StepAnswer.TheVariants as answer
+use Rattle.script_grammar.specs.declared.step.Step.TheVariants as step
+use Rattle.script_grammar.specs.declared.answer.StepAnswer.{StepAnswer}
+use Rattle.script_grammar.specs.declared.answer.StepAnswer.TheVariants as answer
 use Rattle.script_run.specs.Run.{Run, fresh}
 use Rattle.script_run.specs.Asked.{get_intents}
 use Rattle.script_run.specs.Turn.{Turn, is_told, later, lookup_in, told_in}

@@ -29,10 +29,10 @@ use Rattle.cache_model.proofs.Found.{no_truth, none_is}
 use Rattle.cache_model.proofs.Steps.{First, alone, first_of}
 use Rattle.step_laws.specs.VectorLaws.{IsUnanswered, VectorsAreCounted}
 use Rattle.model_laws.proofs.Counted.{told_count}
-use Rattle.script_lang.specs.declared.step.Step.{Step}
-use Rattle.script_lang.specs.declared.step.Step.TheVariants as step
-use Rattle.script_lang.specs.declared.answer.StepAnswer.{StepAnswer}
-use Rattle.script_lang.specs.declared.answer.StepAnswer.TheVariants as answer
+use Rattle.script_grammar.specs.declared.step.Step.{Step}
+use Rattle.script_grammar.specs.declared.step.Step.TheVariants as step
+use Rattle.script_grammar.specs.declared.answer.StepAnswer.{StepAnswer}
+use Rattle.script_grammar.specs.declared.answer.StepAnswer.TheVariants as answer
 use Rattle.script_run.specs.Run.{Holding, Run, fresh, held_by, reader_by}
 use Rattle.script_run.specs.Asked
 use Rattle.script_run.specs.Turn.{Turn, lookup_in, told_in}

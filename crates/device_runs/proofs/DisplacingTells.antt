@@ -6,7 +6,7 @@ use Rattle.hex.specs.Hex.{encode_with}
 use Rattle.device_log.specs.Streams.{refused_writes, taken_by}
 use Rattle.edge_io.specs.Lines.{AreLines, IsLine}
 use Rattle.edge_io.specs.Text.{text_read}
-use Rattle.script_lang.specs.Texts.{cause_line, displaced_text, formatted_line, hit_line, lost_text, number_line, put_line, refused_line, shown}
+use Rattle.script_grammar.specs.Texts.{cause_line, displaced_text, formatted_line, hit_line, lost_text, number_line, put_line, refused_line, shown}
 use Rattle.script_run.specs.Run.{Run, fresh}
 use Rattle.script_run.specs.Behind.{harms_of}
 use Rattle.script_run.specs.Takes.{run_after}

@@ -4,12 +4,12 @@ use Rattle.std.specs.Prelude.{codes, replicate, take}
 use Rattle.hex.specs.Hex.{decode_pairs}
 use Rattle.tape_base.specs.Geometry.{HasNumbers}
 use Rattle.tape_base.specs.Key.{key_of_bytes}
-use Rattle.script_lang.specs.declared.line.LineAnswer.TheVariants as line
-use Rattle.script_lang.specs.declared.step.Step.{Step}
-use Rattle.script_lang.specs.declared.step.Step.TheVariants as step
-use Rattle.script_lang.specs.Tokens.{actor_of_word, number_of_word, number_below, key_in, object_of, hex_body, repeated_body, body_of_word}
-use Rattle.script_lang.specs.Verbs.{verb_of}
-use Rattle.script_lang.specs.Grammar.{alternates_kept, data_of, format_of, format_of_numbers, get_of, only_actor, open_read_of, open_write_of, reading_of, step_of, take_actor, take_number}
+use Rattle.script_grammar.specs.declared.line.LineAnswer.TheVariants as line
+use Rattle.script_grammar.specs.declared.step.Step.{Step}
+use Rattle.script_grammar.specs.declared.step.Step.TheVariants as step
+use Rattle.script_grammar.specs.Tokens.{actor_of_word, number_of_word, number_below, key_in, object_of, hex_body, repeated_body, body_of_word}
+use Rattle.script_grammar.specs.Verbs.{verb_of}
+use Rattle.script_grammar.specs.Grammar.{alternates_kept, data_of, format_of, format_of_numbers, get_of, only_actor, open_read_of, open_write_of, reading_of, step_of, take_actor, take_number}
 use Rattle.script_run.specs.Run.{fresh}
 use Rattle.script_run.specs.Takes.{IsRun}
 use Rattle.worked_runs.specs.Script.{name_of_reader}

@@ -5,7 +5,7 @@ use Rattle.std.specs.Fmt.{digits}
 use Rattle.device_log.specs.Streams.{refused_writes, taken_by}
 use Rattle.edge_io.specs.Lines.{AreLines, IsLine}
 use Rattle.edge_io.specs.Text.{text_read}
-use Rattle.script_lang.specs.Texts.{cause_line, flushed_line, formatted_line, hit_line, number_line, passed_text, put_line}
+use Rattle.script_grammar.specs.Texts.{cause_line, flushed_line, formatted_line, hit_line, number_line, passed_text, put_line}
 use Rattle.script_run.specs.Run.{Run, fresh}
 use Rattle.script_run.specs.Behind.{harms_of}
 use Rattle.script_run.specs.Takes.{run_after}

@@ -4,12 +4,12 @@ use Rattle.std.specs.Prelude.{codes, take}
 use Rattle.tape_base.specs.declared.keys.Key.{Key}
 use Rattle.tape_base.proofs.NameLaws.{same_key-same}
 use Rattle.tape_base.specs.Geometry.{HasNumbers}
-use Rattle.script_lang.specs.declared.line.LineAnswer.TheVariants as line
-use Rattle.script_lang.specs.declared.step.Step.{Step}
-use Rattle.script_lang.specs.declared.step.Step.TheVariants as step
-use Rattle.script_lang.specs.Tokens.{actor_of_word, number_of_word, number_below, key_in, object_of, hex_body, body_of_word}
-use Rattle.script_lang.specs.Verbs.{verb_of}
-use Rattle.script_lang.specs.Grammar.{only_actor, open_read_of, take_actor, take_number, alternates_kept, format_of_numbers, format_of, put_line_of, get_of, step_of, reading_of}
+use Rattle.script_grammar.specs.declared.line.LineAnswer.TheVariants as line
+use Rattle.script_grammar.specs.declared.step.Step.{Step}
+use Rattle.script_grammar.specs.declared.step.Step.TheVariants as step
+use Rattle.script_grammar.specs.Tokens.{actor_of_word, number_of_word, number_below, key_in, object_of, hex_body, body_of_word}
+use Rattle.script_grammar.specs.Verbs.{verb_of}
+use Rattle.script_grammar.specs.Grammar.{only_actor, open_read_of, take_actor, take_number, alternates_kept, format_of_numbers, format_of, put_line_of, get_of, step_of, reading_of}
 use Rattle.hex.specs.Hex.{decode_pairs}
 use Rattle.script_run.specs.Run.{fresh}
 use Rattle.worked_runs.specs.Steps.{AHitIsAStep, AMissIsAStep, APieceIsAStep, APutIsAStep}

@@ -10,9 +10,9 @@ use Rattle.tape_base.specs.declared.keys.Key.{Key}
 use Rattle.device_log.specs.Streams.{refused_writes, taken_by}
 use Rattle.edge_io.specs.Lines.{AreLines, IsLine}
 use Rattle.edge_io.specs.Text.{text_read}
-use Rattle.script_lang.specs.declared.step.Step.{Step}
-use Rattle.script_lang.specs.declared.answer.StepAnswer.TheVariants as answer
-use Rattle.script_lang.specs.Texts.{answer_line, cause_line, fault_line, flushed_line, formatted_line, got_line, hit_line, number_line, piece_line, put_line, shown}
+use Rattle.script_grammar.specs.declared.step.Step.{Step}
+use Rattle.script_grammar.specs.declared.answer.StepAnswer.TheVariants as answer
+use Rattle.script_grammar.specs.Texts.{answer_line, cause_line, fault_line, flushed_line, formatted_line, got_line, hit_line, number_line, piece_line, put_line, shown}
 use Rattle.script_run.specs.Run.{Run, fresh}
 use Rattle.script_run.specs.Behind.{harms_of}
 use Rattle.script_run.specs.Takes.{run_after}

@@ -5,8 +5,8 @@ use Rattle.device_log.specs.Image.{blank}
 use Rattle.device_log.specs.Streams.{SourceRead, GaveBytes, CameToEnd, SinkWrite, TookBytes}
 use Rattle.edge_io.specs.Text.{spelled}
 use Rattle.logged_disk.specs.Device.{DeviceState as Device}
-use Rattle.script_lang.specs.declared.answer.StepAnswer.TheVariants as answer
-use Rattle.script_lang.specs.Texts.{answer_line}
+use Rattle.script_grammar.specs.declared.answer.StepAnswer.TheVariants as answer
+use Rattle.script_grammar.specs.Texts.{answer_line}
 use Rattle.run_promise.specs.declared.status.Status.TheVariants as status
 use Rattle.headline.specs.Account.{Account, IsConcluded, RunLogs}
 use Rattle.headline.specs.Endings.{IsAccountOf}

@@ -7,14 +7,14 @@ use Rattle.edge_io.specs.declared.reader.TheConstants.{MAX_LINE_BYTES, MAX_LINES
 use Rattle.edge_io.specs.Source.{IsEnded, LastReadFailed, NoReadFailed}
 use Rattle.edge_io.specs.Text.{spelled, text_read}
 use Rattle.edge_io.specs.Lines.{AreLines, IsLine, IsTooLong, IsTooMany, first_line}
-use Rattle.script_lang.specs.declared.line.BadLine.{BadLine}
-use Rattle.script_lang.specs.declared.line.LineAnswer.{LineAnswer}
-use Rattle.script_lang.specs.declared.line.LineAnswer.TheVariants as line
-use Rattle.script_lang.specs.declared.step.Step.{Step}
-use Rattle.script_lang.specs.declared.last.LastLine.{LastLine}
-use Rattle.script_lang.specs.declared.answer.StepAnswer.{StepAnswer}
-use Rattle.script_lang.specs.Texts.{last_line}
-use Rattle.script_lang.specs.Grammar.{reading_of}
+use Rattle.script_grammar.specs.declared.line.BadLine.{BadLine}
+use Rattle.script_grammar.specs.declared.line.LineAnswer.{LineAnswer}
+use Rattle.script_grammar.specs.declared.line.LineAnswer.TheVariants as line
+use Rattle.script_grammar.specs.declared.step.Step.{Step}
+use Rattle.script_grammar.specs.declared.last_line.LastLine.{LastLine}
+use Rattle.script_grammar.specs.declared.answer.StepAnswer.{StepAnswer}
+use Rattle.script_grammar.specs.Texts.{last_line}
+use Rattle.script_grammar.specs.Grammar.{reading_of}
 use Rattle.script_run.specs.Run.{fresh}
 use Rattle.script_run.specs.Takes.{run_after}
 use Rattle.run_promise.specs.Outline.{blank_outline}

@@ -1,8 +1,8 @@
 -- No false trouble: what lines answer of faults and of damage, and the device that each of them worked on.
 use Rattle.std.specs.Prelude.{◌≡◌, ℕ, ◌≤◌, false, List}
 use Rattle.logged_disk.specs.Device.{DeviceState as Device, TellsAll}
-use Rattle.script_lang.specs.declared.step.Step.{Step}
-use Rattle.script_lang.specs.declared.answer.StepAnswer.{StepAnswer}
+use Rattle.script_grammar.specs.declared.step.Step.{Step}
+use Rattle.script_grammar.specs.declared.answer.StepAnswer.{StepAnswer}
 use Rattle.script_laws.specs.Runs.{answers_damage, answers_fault}
 use Rattle.run_promise.specs.Outline.{count_in}
 use Rattle.headline.specs.Account.{Account, HistoryTells, IsDeviceBehind, RunAnswers, RunLogs}

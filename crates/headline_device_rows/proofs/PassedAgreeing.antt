@@ -9,8 +9,8 @@ use Rattle.hex.specs.Hex.{IsBytes}
 use Rattle.tape_base.proofs.Bytes.{IsBytes-append}
 use Rattle.device_log.specs.Faults.{IsEntry, IsLog, are_counted, faults_of}
 use Rattle.logged_disk.specs.Device.{DeviceState as Device, TellsAll, has_flip}
-use Rattle.script_lang.specs.declared.answer.StepAnswer.{StepAnswer}
-use Rattle.script_lang.specs.declared.step.Step.{Step}
+use Rattle.script_grammar.specs.declared.answer.StepAnswer.{StepAnswer}
+use Rattle.script_grammar.specs.declared.step.Step.{Step}
 use Rattle.script_run.specs.Run.{Run, fresh}
 use Rattle.script_run.specs.Turn.{Turn}
 use Rattle.script_run.specs.Answers.{step_answer}

@@ -3,7 +3,7 @@
 use Rattle.std.specs.Prelude.{[], take}
 use Rattle.tape_base.specs.declared.pieces.PieceId.{PieceId}
 use Rattle.cache_model.specs.declared.record.Rec.TheVariants as rec
-use Rattle.script_lang.specs.declared.step.Step.TheVariants as step
+use Rattle.script_grammar.specs.declared.step.Step.TheVariants as step
 use Rattle.script_run.specs.Run.{fresh}
 use Rattle.script_run.specs.Takes.{run_after}
 use Rattle.headline.specs.Account.{Account}

@@ -1,8 +1,8 @@
 -- What the laws of `headline` say of the troubled script, by each account that tells it: the refused flush, the damage and what
 -- it was the cause of. And what they say of every account of these logs.
 use Rattle.std.specs.Prelude.{◌≡◌, ◌≢◌, ◌≤◌, ℕ, false, List, [], ◌∷◌, take}
-use Rattle.script_lang.specs.declared.step.Step.{Step}
-use Rattle.script_lang.specs.declared.answer.StepAnswer.{StepAnswer}
+use Rattle.script_grammar.specs.declared.step.Step.{Step}
+use Rattle.script_grammar.specs.declared.answer.StepAnswer.{StepAnswer}
 use Rattle.script_laws.specs.Runs.{answers_damage, answers_fault}
 use Rattle.run_promise.specs.Outline.{count_in}
 use Rattle.headline.specs.Account.{Account, HistoryTells, RunAnswers, sessions_begun}

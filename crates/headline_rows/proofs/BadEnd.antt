@@ -6,14 +6,14 @@ use Rattle.edge_io.specs.Laws.{SpelledAreLines}
 use Rattle.edge_io.specs.Lines.{AreLines, IsLine, lines_of}
 use Rattle.edge_io.specs.Source.{NoReadFailed}
 use Rattle.edge_io.specs.Text.{spelled, text_read}
-use Rattle.script_lang.specs.declared.last.LastLine.TheVariants as last
-use Rattle.script_lang.specs.declared.line.BadKind.TheVariants as kind
-use Rattle.script_lang.specs.declared.line.BadLine.{BadLine}
-use Rattle.script_lang.specs.declared.line.LineAnswer.TheVariants as line
-use Rattle.script_lang.specs.Grammar.{reading_of, step_of}
-use Rattle.script_lang.specs.Texts.{bad_script_line, last_line}
-use Rattle.script_lang.specs.Verbs.{verb_of}
-use Rattle.script_lang.specs.Words.{bad}
+use Rattle.script_grammar.specs.declared.last_line.LastLine.TheVariants as last
+use Rattle.script_grammar.specs.declared.line.BadKind.TheVariants as kind
+use Rattle.script_grammar.specs.declared.line.BadLine.{BadLine}
+use Rattle.script_grammar.specs.declared.line.LineAnswer.TheVariants as line
+use Rattle.script_grammar.specs.Grammar.{reading_of, step_of}
+use Rattle.script_grammar.specs.Texts.{bad_script_line, last_line}
+use Rattle.script_grammar.specs.Verbs.{verb_of}
+use Rattle.script_grammar.specs.Words.{bad}
 use Rattle.run_promise.specs.Lines.{texts_of}
 use Rattle.run_promise.specs.Story.{IsBadLine, SinkTook, Taken}
 use Rattle.run_promise.specs.declared.status.Status.TheVariants as status

@@ -8,15 +8,15 @@ use Rattle.tape_base.specs.Geometry.{HasNumbers}
 use Rattle.device_log.specs.Streams.{refused_writes, taken_by}
 use Rattle.edge_io.specs.Text.{text_read}
 use Rattle.cache_model.specs.declared.cause.Cause.TheVariants as cause
-use Rattle.script_lang.specs.declared.line.LineAnswer.TheVariants as line
-use Rattle.script_lang.specs.declared.step.Step.{Step}
-use Rattle.script_lang.specs.declared.step.Step.TheVariants as step
-use Rattle.script_lang.specs.declared.answer.StepAnswer.{StepAnswer}
-use Rattle.script_lang.specs.declared.answer.StepAnswer.TheVariants as answer
-use Rattle.script_lang.specs.Tokens.{number_of_word, number_below, key_in, object_of, hex_body, body_of_word}
-use Rattle.script_lang.specs.Verbs.{verb_of}
-use Rattle.script_lang.specs.Grammar.{take_number, alternates_kept, format_of_numbers, format_of, put_line_of, step_of, reading_of}
-use Rattle.script_lang.specs.Texts.{cause_line, displaced_text, formatted_line, put_line}
+use Rattle.script_grammar.specs.declared.line.LineAnswer.TheVariants as line
+use Rattle.script_grammar.specs.declared.step.Step.{Step}
+use Rattle.script_grammar.specs.declared.step.Step.TheVariants as step
+use Rattle.script_grammar.specs.declared.answer.StepAnswer.{StepAnswer}
+use Rattle.script_grammar.specs.declared.answer.StepAnswer.TheVariants as answer
+use Rattle.script_grammar.specs.Tokens.{number_of_word, number_below, key_in, object_of, hex_body, body_of_word}
+use Rattle.script_grammar.specs.Verbs.{verb_of}
+use Rattle.script_grammar.specs.Grammar.{take_number, alternates_kept, format_of_numbers, format_of, put_line_of, step_of, reading_of}
+use Rattle.script_grammar.specs.Texts.{cause_line, displaced_text, formatted_line, put_line}
 use Rattle.script_run.specs.Run.{Run, fresh}
 use Rattle.script_run.specs.Behind.{harms_of}
 use Rattle.script_run.specs.Takes.{run_after}

@@ -5,7 +5,7 @@ use Rattle.edge_io.specs.Laws.{SpelledAreLines}
 use Rattle.edge_io.specs.Lines.{AreLines, IsLine, first_line, lines_of}
 use Rattle.edge_io.specs.Text.{spelled}
 use Rattle.edge_io.proofs.LineLemmas.{first_within}
-use Rattle.script_lang.specs.Grammar.{reading_of}
+use Rattle.script_grammar.specs.Grammar.{reading_of}
 use Rattle.headline.specs.Account.{begun_in, sessions_begun}
 use Rattle.headline.specs.Endings.{AreTakeable, IsFine, MayBeTaken}
 

@@ -6,12 +6,12 @@ use Rattle.device_log.specs.Streams.{taken_by}
 use Rattle.edge_io.specs.Laws.{SpelledAreLines}
 use Rattle.edge_io.specs.Text.{spelled}
 use Rattle.logged_disk.specs.Device.{DeviceState as Device, TellsAll, has_flip}
-use Rattle.script_lang.specs.declared.line.LineAnswer.TheVariants as line
-use Rattle.script_lang.specs.declared.step.Step.{Step}
-use Rattle.script_lang.specs.declared.step.Step.TheVariants as step
-use Rattle.script_lang.specs.declared.answer.StepAnswer.{StepAnswer}
-use Rattle.script_lang.specs.declared.answer.StepAnswer.TheVariants as answer
-use Rattle.script_lang.specs.Grammar.{reading_of}
+use Rattle.script_grammar.specs.declared.line.LineAnswer.TheVariants as line
+use Rattle.script_grammar.specs.declared.step.Step.{Step}
+use Rattle.script_grammar.specs.declared.step.Step.TheVariants as step
+use Rattle.script_grammar.specs.declared.answer.StepAnswer.{StepAnswer}
+use Rattle.script_grammar.specs.declared.answer.StepAnswer.TheVariants as answer
+use Rattle.script_grammar.specs.Grammar.{reading_of}
 use Rattle.script_run.specs.Run.{fresh}
 use Rattle.script_run.specs.Takes.{IsRun}
 use Rattle.cache_model.specs.declared.cause.Cause.TheVariants as cause

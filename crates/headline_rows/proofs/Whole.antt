@@ -16,8 +16,8 @@ use Rattle.cache_model.specs.Permit.{IsAmong}
 use Rattle.model_laws.specs.Agreeing.{IsUntroubled, is_trouble}
 use Rattle.model_laws.specs.Purging.{is_device_trouble}
 use Rattle.model_laws.proofs.Among.{among_behind}
-use Rattle.script_lang.specs.Grammar.{reading_of}
-use Rattle.script_lang.specs.declared.step.Step.{Step}
+use Rattle.script_grammar.specs.Grammar.{reading_of}
+use Rattle.script_grammar.specs.declared.step.Step.{Step}
 use Rattle.script_run.specs.Run.{Run, fresh}
 use Rattle.script_run.specs.Turn.{Turn}
 use Rattle.script_run.specs.Behind.{after_line}

@@ -5,8 +5,8 @@ use Rattle.device_log.specs.Streams.{SourceRead, refused_writes, taken_by}
 use Rattle.edge_io.specs.Source.{NoReadFailed}
 use Rattle.edge_io.specs.Text.{spelled, text_read}
 use Rattle.cache_model.specs.declared.cause.Cause.TheVariants as cause
-use Rattle.script_lang.specs.declared.answer.StepAnswer.TheVariants as answer
-use Rattle.script_lang.specs.declared.step.Step.TheVariants as step
+use Rattle.script_grammar.specs.declared.answer.StepAnswer.TheVariants as answer
+use Rattle.script_grammar.specs.declared.step.Step.TheVariants as step
 use Rattle.script_run.specs.Run.{fresh}
 use Rattle.script_run.specs.Takes.{run_after}
 use Rattle.run_promise.specs.declared.status.Status.{Status}

@@ -20,8 +20,8 @@ use Rattle.call_laws.proofs.Joined.{state_behind}
 use Rattle.call_laws.proofs.Kept.{shows_untold, untold_later}
 use Rattle.call_laws.proofs.Whole.{serves_step}
 use Rattle.cache_calls.specs.Keeping.{plain_setting, state_at}
-use Rattle.script_lang.specs.declared.answer.StepAnswer.{StepAnswer}
-use Rattle.script_lang.specs.declared.step.Step.{Step}
+use Rattle.script_grammar.specs.declared.answer.StepAnswer.{StepAnswer}
+use Rattle.script_grammar.specs.declared.step.Step.{Step}
 use Rattle.script_run.specs.Run.{Run, Stream}
 use Rattle.script_run.specs.Turn.{Turn}
 use Rattle.script_run.specs.Answers.{session_said}

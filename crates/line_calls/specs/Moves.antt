@@ -4,8 +4,8 @@ use Rattle.logged_disk.specs.Device.{TellsAll}
 use Rattle.cache_model.specs.State.{after_all}
 use Rattle.call_laws.specs.Moments.{At}
 use Rattle.cache_calls.specs.Keeping.{state_at}
-use Rattle.script_lang.specs.declared.step.Step.{Step}
-use Rattle.script_lang.specs.declared.answer.StepAnswer.{StepAnswer}
+use Rattle.script_grammar.specs.declared.step.Step.{Step}
+use Rattle.script_grammar.specs.declared.answer.StepAnswer.{StepAnswer}
 use Rattle.script_run.specs.Run.{Run}
 use Rattle.script_run.specs.Turn.{Turn}
 use Rattle.script_run.specs.Answers.{session_said}

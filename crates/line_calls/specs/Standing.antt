@@ -4,8 +4,8 @@ use Rattle.tape_base.specs.Piece.{is_vector}
 use Rattle.cache_model.specs.State.{PutRow, State, fragment_piece, put_of}
 use Rattle.cache_model.specs.Contents.{Content, Contents, TellsVectors, spelled_content}
 use Rattle.cache_calls.specs.Actors.{WriterSeen}
-use Rattle.script_lang.specs.declared.step.Step.{Step}
-use Rattle.script_lang.specs.declared.step.Step.TheVariants as step
+use Rattle.script_grammar.specs.declared.step.Step.{Step}
+use Rattle.script_grammar.specs.declared.step.Step.TheVariants as step
 use Rattle.script_run.specs.Own.{piece_of}
 use Rattle.script_run.specs.Run.{Stream}
 

@@ -12,10 +12,10 @@ use Rattle.cache_model.specs.Legal
 use Rattle.cache_model.specs.Legal.{IsQuiet, IsStep}
 use Rattle.step_laws.specs.StepLaws.{IsNumbered, NumbersFollow, OneGroup, ReaderIsClosed}
 use Rattle.cache_model.proofs.Found.{no_truth, none_is}
-use Rattle.script_lang.specs.declared.step.Step.{Step}
-use Rattle.script_lang.specs.declared.step.Step.TheVariants as step
-use Rattle.script_lang.specs.declared.line.LineAnswer.{LineAnswer}
-use Rattle.script_lang.specs.declared.line.LineAnswer.TheVariants as line
+use Rattle.script_grammar.specs.declared.step.Step.{Step}
+use Rattle.script_grammar.specs.declared.step.Step.TheVariants as step
+use Rattle.script_grammar.specs.declared.line.LineAnswer.{LineAnswer}
+use Rattle.script_grammar.specs.declared.line.LineAnswer.TheVariants as line
 use Rattle.script_run.specs.Run.{Run, Stream, held_by, put_written_by, reader_by}
 use Rattle.script_run.specs.Asked.{asked, asks_if_has}
 use Rattle.script_run.specs.Turn.{Turn, told_in}

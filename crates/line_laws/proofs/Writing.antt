@@ -11,8 +11,8 @@ use Rattle.cache_model.specs.Legal.{IsStep, is_writing}
 use Rattle.step_laws.specs.StepLaws.{IsNumbered, NumbersFollow}
 use Rattle.cache_model.proofs.Found.{none_is, number_of}
 use Rattle.actor_table.specs.Table.{number_of_name as number_in}
-use Rattle.script_lang.specs.declared.step.Step.{Step}
-use Rattle.script_lang.specs.declared.step.Step.TheVariants as step
+use Rattle.script_grammar.specs.declared.step.Step.{Step}
+use Rattle.script_grammar.specs.declared.step.Step.TheVariants as step
 use Rattle.script_run.specs.Run.{Holding, HoldsReader, Run, Stream, HoldsWriter, held_by, put_in, put_written_by, reader_by, with_value}
 use Rattle.script_run.specs.Asked.{asked}
 use Rattle.script_run.specs.Turn.{Turn}

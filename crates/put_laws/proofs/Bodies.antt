@@ -17,14 +17,14 @@ use Rattle.cache_model.specs.Legal.{IsStep, MayGrow}
 use Rattle.cache_model.proofs.Found.{no_truth, none_is, number_of, same_some}
 use Rattle.cache_model.proofs.Steps.{First, first_of}
 use Rattle.step_laws.specs.StepLaws.{IsNumbered, NumbersFollow}
-use Rattle.script_lang.specs.declared.line.LineAnswer.{LineAnswer}
-use Rattle.script_lang.specs.declared.line.LineAnswer.TheVariants as line
-use Rattle.script_lang.specs.declared.step.Step.{Step}
-use Rattle.script_lang.specs.declared.step.Step.TheVariants as step
-use Rattle.script_lang.specs.declared.answer.Refused.TheVariants as refused
-use Rattle.script_lang.specs.declared.answer.StepAnswer.{StepAnswer}
-use Rattle.script_lang.specs.declared.answer.StepAnswer.TheVariants as answer
-use Rattle.script_lang.specs.Grammar.{reading_of}
+use Rattle.script_grammar.specs.declared.line.LineAnswer.{LineAnswer}
+use Rattle.script_grammar.specs.declared.line.LineAnswer.TheVariants as line
+use Rattle.script_grammar.specs.declared.step.Step.{Step}
+use Rattle.script_grammar.specs.declared.step.Step.TheVariants as step
+use Rattle.script_grammar.specs.declared.answer.Refused.TheVariants as refused
+use Rattle.script_grammar.specs.declared.answer.StepAnswer.{StepAnswer}
+use Rattle.script_grammar.specs.declared.answer.StepAnswer.TheVariants as answer
+use Rattle.script_grammar.specs.Grammar.{reading_of}
 use Rattle.script_run.specs.Run.{Holding, Run, Stream, fresh, held_by, put_written_by, with_value}
 use Rattle.script_run.specs.Turn.{Turn}
 use Rattle.script_run.specs.Asked.{asked, body_intents, put_intents}

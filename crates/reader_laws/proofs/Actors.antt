@@ -14,11 +14,11 @@ use Rattle.cache_model.specs.State.{State, ReaderRow, AllAlong, after_all, reade
 use Rattle.cache_model.specs.Permit.{Intent, Commit}
 use Rattle.cache_model.proofs.Found.{no_truth, none_is}
 use Rattle.step_laws.specs.StepLaws.{IsNumbered}
-use Rattle.script_lang.specs.declared.line.LineAnswer.{LineAnswer}
-use Rattle.script_lang.specs.declared.line.LineAnswer.TheVariants as line
-use Rattle.script_lang.specs.declared.step.Step.{Step}
-use Rattle.script_lang.specs.declared.step.Step.TheVariants as step
-use Rattle.script_lang.specs.Grammar.{reading_of}
+use Rattle.script_grammar.specs.declared.line.LineAnswer.{LineAnswer}
+use Rattle.script_grammar.specs.declared.line.LineAnswer.TheVariants as line
+use Rattle.script_grammar.specs.declared.step.Step.{Step}
+use Rattle.script_grammar.specs.declared.step.Step.TheVariants as step
+use Rattle.script_grammar.specs.Grammar.{reading_of}
 use Rattle.script_run.specs.Run.{Holding, HoldsReader, Run, HoldsWriter, actor_of, fresh, held_by, reader_by, reader_in, with_value}
 use Rattle.script_run.specs.Asked.{asked}
 use Rattle.script_run.specs.Turn.{Turn}

@@ -29,8 +29,8 @@ use Rattle.cache_model.specs.Room.{MayDisplace, displaced_record}
 use Rattle.cache_model.proofs.Steps.{all_append, all_as}
 use Rattle.step_laws.specs.StepLaws.{IsOfGiven}
 use Rattle.step_laws.proofs.Unsynced.{clean_on, drain_on, never, step_on, sync_on, unmark_on}
-use Rattle.script_lang.specs.declared.step.Step.{Step}
-use Rattle.script_lang.specs.declared.step.Step.TheVariants as step
+use Rattle.script_grammar.specs.declared.step.Step.{Step}
+use Rattle.script_grammar.specs.declared.step.Step.TheVariants as step
 use Rattle.script_run.specs.Run.{Run, Stream, fresh, held_by, put_written_by, reader_by}
 use Rattle.script_run.specs.Turn.{Turn}
 use Rattle.script_run.specs.Asked.{asked, asks_if_has}

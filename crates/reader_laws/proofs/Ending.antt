@@ -16,8 +16,8 @@ use Rattle.cache_model.specs.Legal
 use Rattle.cache_model.specs.Legal.{IsQuiet, IsStep, answer_record}
 use Rattle.step_laws.proofs.Answered.{end_is_whole, followed_is_closed}
 use Rattle.cache_model.proofs.Found.{none_is, number_of, same_some}
-use Rattle.script_lang.specs.declared.answer.StepAnswer.TheVariants as answer
-use Rattle.script_lang.specs.declared.step.Step.TheVariants as step
+use Rattle.script_grammar.specs.declared.answer.StepAnswer.TheVariants as answer
+use Rattle.script_grammar.specs.declared.step.Step.TheVariants as step
 use Rattle.script_run.specs.Run.{Run, Stream, reader_by}
 use Rattle.script_run.specs.Asked.{asks_if_has}
 use Rattle.script_run.specs.Turn.{Turn, told_in}

@@ -23,10 +23,10 @@ use Rattle.step_laws.specs.StepLaws.{OneGroup}
 use Rattle.cache_model.proofs.Found.{none_is, same_some}
 use Rattle.cache_model.proofs.Steps.{First, all_append, first_of, none_left}
 use Rattle.actor_table.specs.Table.{number_of_name as number_in}
-use Rattle.script_lang.specs.declared.answer.StepAnswer.TheVariants as answer
-use Rattle.script_lang.specs.declared.line.LineAnswer.TheVariants as line
-use Rattle.script_lang.specs.declared.step.Step.{Step}
-use Rattle.script_lang.specs.declared.step.Step.TheVariants as step
+use Rattle.script_grammar.specs.declared.answer.StepAnswer.TheVariants as answer
+use Rattle.script_grammar.specs.declared.line.LineAnswer.TheVariants as line
+use Rattle.script_grammar.specs.declared.step.Step.{Step}
+use Rattle.script_grammar.specs.declared.step.Step.TheVariants as step
 use Rattle.script_run.specs.Run.{Run, Stream, fresh, held_by}
 use Rattle.script_run.specs.Asked.{get_intents}
 use Rattle.script_run.specs.Turn.{Turn, is_told, later, lookup_in, told_in}

@@ -13,10 +13,10 @@ use Rattle.cache_model.specs.Legal
 use Rattle.cache_model.specs.Legal.{Advances, Does, IsStep, MayGrow, nothing, more}
 use Rattle.cache_model.proofs.Found.{cuts_found, none_is, number_of, same_some}
 use Rattle.cache_model.proofs.Steps.{after_all-append, alone, none_left}
-use Rattle.script_lang.specs.declared.answer.StepAnswer.TheVariants as answer
-use Rattle.script_lang.specs.declared.line.LineAnswer.TheVariants as line
-use Rattle.script_lang.specs.declared.step.Step.{Step}
-use Rattle.script_lang.specs.declared.step.Step.TheVariants as step
+use Rattle.script_grammar.specs.declared.answer.StepAnswer.TheVariants as answer
+use Rattle.script_grammar.specs.declared.line.LineAnswer.TheVariants as line
+use Rattle.script_grammar.specs.declared.step.Step.{Step}
+use Rattle.script_grammar.specs.declared.step.Step.TheVariants as step
 use Rattle.script_run.specs.Run.{Run, fresh, gathered_of, put_written_by}
 use Rattle.script_run.specs.Asked
 use Rattle.script_run.specs.Asked.{body_intents, close_intents, closing, feed_intents, put_intents, rest_behind, rest_intents, whole_fragments}

@@ -18,10 +18,10 @@ use Rattle.cache_model.specs.Legal
 use Rattle.cache_model.specs.Legal.{IsStep}
 use Rattle.cache_model.proofs.Found.{none_is, same_some}
 use Rattle.step_laws.specs.StepLaws.{OneGroup}
-use Rattle.script_lang.specs.declared.line.LineAnswer.TheVariants as line
-use Rattle.script_lang.specs.declared.step.Step.{Step}
-use Rattle.script_lang.specs.declared.step.Step.TheVariants as step
-use Rattle.script_lang.specs.Grammar.{reading_of}
+use Rattle.script_grammar.specs.declared.line.LineAnswer.TheVariants as line
+use Rattle.script_grammar.specs.declared.step.Step.{Step}
+use Rattle.script_grammar.specs.declared.step.Step.TheVariants as step
+use Rattle.script_grammar.specs.Grammar.{reading_of}
 use Rattle.script_run.specs.Run.{Holding, Run, fresh, reader_by}
 use Rattle.script_run.specs.Asked
 use Rattle.script_run.specs.Turn.{Turn, lookup_in}

@@ -19,7 +19,7 @@ use Rattle.step_laws.specs.StepLaws.{NothingAsked, OneGroup}
 use Rattle.cache_model.proofs.Found.{none_is, number_of, same_some}
 use Rattle.cache_model.proofs.Steps.{after_all-append}
 use Rattle.actor_table.specs.Table.{number_of_name as number_in}
-use Rattle.script_lang.specs.declared.step.Step.TheVariants as step
+use Rattle.script_grammar.specs.declared.step.Step.TheVariants as step
 use Rattle.script_run.specs.Run.{Holding, Run, Stream, held_by}
 use Rattle.script_run.specs.Asked.{asks_if_free}
 use Rattle.script_run.specs.Turn.{Turn}

@@ -1,6 +1,7 @@
 // Texts of answers that no script over sound devices in memory shows.
 use cache_model::Cause;
-use script_lang::{Refused, StepAnswer, answer_text};
+use script_grammar::{Refused, StepAnswer};
+use script_lang::answer_text;
 use std::test::Fail;
 
 fn refused(why: Refused) -> StepAnswer {

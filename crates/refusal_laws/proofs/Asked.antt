@@ -6,8 +6,8 @@ use Rattle.cache_model.specs.State.{State, most_fragments}
 use Rattle.cache_model.specs.Verdict.{cuts_of}
 use Rattle.cache_model.specs.Permit.{Intent, Commit, Finish, Fragment, GiveUp, Look, Overflow, ReadAll, ReadOn, Weigh}
 use Rattle.cache_model.proofs.Found.{no_truth}
-use Rattle.script_lang.specs.declared.step.Step.{Step}
-use Rattle.script_lang.specs.declared.step.Step.TheVariants as step
+use Rattle.script_grammar.specs.declared.step.Step.{Step}
+use Rattle.script_grammar.specs.declared.step.Step.TheVariants as step
 use Rattle.script_run.specs.Run.{Holding, Run, gathered_of, held_by, put_written_by, reader_by}
 use Rattle.script_run.specs.Asked.{asked, asks_if_free, asks_if_has, body_intents, close_intents, closing, cut_intents, feed_intents, feeding, rest_behind, rest_intents, whole_fragments}
 use Rattle.refusal_laws.specs.Steps.{read_no_piece, reads_apart, reads_piece}

@@ -6,12 +6,12 @@ use Rattle.device_log.specs.Faults.{next_count}
 use Rattle.edge_io.specs.Source.{LastReadFailed, NoReadFailed}
 use Rattle.edge_io.specs.Text.{text_read}
 use Rattle.edge_io.specs.Lines.{IsTooLong, IsTooMany}
-use Rattle.script_lang.specs.declared.line.LineAnswer.{LineAnswer}
-use Rattle.script_lang.specs.declared.line.LineAnswer.TheVariants as line
-use Rattle.script_lang.specs.declared.answer.StepAnswer.{StepAnswer}
-use Rattle.script_lang.specs.declared.last.LastLine.{LastLine}
-use Rattle.script_lang.specs.declared.last.LastLine.TheVariants as last
-use Rattle.script_lang.specs.Grammar.{reading_of}
+use Rattle.script_grammar.specs.declared.line.LineAnswer.{LineAnswer}
+use Rattle.script_grammar.specs.declared.line.LineAnswer.TheVariants as line
+use Rattle.script_grammar.specs.declared.answer.StepAnswer.{StepAnswer}
+use Rattle.script_grammar.specs.declared.last_line.LastLine.{LastLine}
+use Rattle.script_grammar.specs.declared.last_line.LastLine.TheVariants as last
+use Rattle.script_grammar.specs.Grammar.{reading_of}
 use Rattle.script_run.specs.Run.{Harm, Run}
 use Rattle.run_promise.specs.Outline.{Outline, all_told, blank_outline, told_of}
 use Rattle.run_promise.specs.Lines.{AreAnswered, IsReadAs, outline_of, outline_read}

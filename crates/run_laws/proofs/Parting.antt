@@ -16,8 +16,8 @@ use Rattle.cache_model.specs.Permit.{IsAmong}
 use Rattle.cache_model.proofs.Found.{no_truth}
 use Rattle.cache_model.proofs.Steps.{all_parts}
 use Rattle.model_laws.specs.Purging.{is_device_trouble}
-use Rattle.script_lang.specs.declared.answer.StepAnswer.{StepAnswer}
-use Rattle.script_lang.specs.Grammar.{reading_of}
+use Rattle.script_grammar.specs.declared.answer.StepAnswer.{StepAnswer}
+use Rattle.script_grammar.specs.Grammar.{reading_of}
 use Rattle.script_run.specs.Run.{Harm, Run, fresh}
 use Rattle.script_run.specs.Turn.{Turn}
 use Rattle.script_run.specs.Behind.{after_line, harms_of}

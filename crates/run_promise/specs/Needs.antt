@@ -1,8 +1,8 @@
 -- Which lines need a session, and which device a format asks for.
 use Rattle.std.specs.Prelude.{ℕ, ◌≡◌, List, None, ⊤}
 use Rattle.tape_base.specs.Limits.{first_refusal}
-use Rattle.script_lang.specs.declared.step.Step.{Step}
-use Rattle.script_lang.specs.declared.step.Step.TheVariants as step
+use Rattle.script_grammar.specs.declared.step.Step.{Step}
+use Rattle.script_grammar.specs.declared.step.Step.TheVariants as step
 
 -- a line that works on a session
 abbrev pub NeedsSession : Step → Type 0

@@ -5,9 +5,9 @@ use Rattle.device_log.specs.Streams.{SourceRead, SinkWrite}
 use Rattle.edge_io.specs.Source.{LastReadFailed, NoReadFailed}
 use Rattle.logged_disk.specs.Device.{DeviceState as Device, TellsAll}
 use Rattle.device_bay.specs.Calls.{AttachRefusal}
-use Rattle.script_lang.specs.declared.last.LastLine.{LastLine}
-use Rattle.script_lang.specs.declared.last.LastLine.TheVariants as last
-use Rattle.script_lang.specs.Texts.{last_line}
+use Rattle.script_grammar.specs.declared.last_line.LastLine.{LastLine}
+use Rattle.script_grammar.specs.declared.last_line.LastLine.TheVariants as last
+use Rattle.script_grammar.specs.Texts.{last_line}
 use Rattle.script_run.specs.Ledger.{Ledger, Deals}
 use Rattle.run_promise.specs.declared.status.Status.{Status}
 use Rattle.run_promise.specs.declared.status.Status.TheVariants as status

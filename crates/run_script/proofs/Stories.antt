@@ -5,11 +5,11 @@ use Rattle.edge_io.specs.Lines.{AreLines, GivesLine, IsLine}
 use Rattle.edge_io.specs.Text.{spelled, text_after}
 use Rattle.edge_io.proofs.Texts.{spelled_more, text_behind, text_more}
 use Rattle.logged_disk.specs.Device.{DeviceState as Device}
-use Rattle.script_lang.specs.declared.line.LineAnswer.TheVariants as line
-use Rattle.script_lang.specs.declared.step.Step.{Step}
-use Rattle.script_lang.specs.declared.answer.StepAnswer.{StepAnswer}
-use Rattle.script_lang.specs.Grammar.{reading_of}
-use Rattle.script_lang.specs.Texts.{answer_line}
+use Rattle.script_grammar.specs.declared.line.LineAnswer.TheVariants as line
+use Rattle.script_grammar.specs.declared.step.Step.{Step}
+use Rattle.script_grammar.specs.declared.answer.StepAnswer.{StepAnswer}
+use Rattle.script_grammar.specs.Grammar.{reading_of}
+use Rattle.script_grammar.specs.Texts.{answer_line}
 use Rattle.script_run.specs.Run.{Harm, Run, fresh}
 use Rattle.script_run.specs.Turn.{Turn, no_turn}
 use Rattle.script_run.specs.Behind.{after_line, after_step}

@@ -1,9 +1,9 @@
 -- What the last line makes of a run that ended early.
 use Rattle.std.proofs.Common.{◌≡◌, ℕ, List, [], false, refl, sym, subst, inl, inr, ◌⊎◌}
 use Rattle.device_log.specs.Streams.{SourceRead, SinkWrite}
-use Rattle.script_lang.specs.declared.last.LastLine.{LastLine}
-use Rattle.script_lang.specs.declared.last.LastLine.TheVariants as last
-use Rattle.script_lang.specs.Texts.{last_line}
+use Rattle.script_grammar.specs.declared.last_line.LastLine.{LastLine}
+use Rattle.script_grammar.specs.declared.last_line.LastLine.TheVariants as last
+use Rattle.script_grammar.specs.Texts.{last_line}
 use Rattle.script_run.specs.Ledger.{Ledger}
 use Rattle.run_promise.specs.declared.status.Status.{Status}
 use Rattle.run_promise.specs.declared.status.Status.TheVariants as status

@@ -4,11 +4,11 @@ use Rattle.std.specs.Prelude.{codes}
 use Rattle.device_log.specs.Streams.{SourceRead, SinkWrite, GaveBytes, RefusedRead, refused_reads}
 use Rattle.edge_io.specs.Text.{text_read}
 use Rattle.edge_io.specs.Source.{LastReadFailed}
-use Rattle.script_lang.specs.declared.line.BadLine.{BadLine}
-use Rattle.script_lang.specs.declared.last.LastLine.{LastLine}
-use Rattle.script_lang.specs.declared.last.LastLine.TheVariants as last
-use Rattle.script_lang.specs.declared.step.Step.{Step}
-use Rattle.script_lang.specs.declared.step.Step.TheVariants as step
+use Rattle.script_grammar.specs.declared.line.BadLine.{BadLine}
+use Rattle.script_grammar.specs.declared.last_line.LastLine.{LastLine}
+use Rattle.script_grammar.specs.declared.last_line.LastLine.TheVariants as last
+use Rattle.script_grammar.specs.declared.step.Step.{Step}
+use Rattle.script_grammar.specs.declared.step.Step.TheVariants as step
 use Rattle.script_run.specs.Run.{Run}
 use Rattle.script_run.specs.Turn.{Turn}
 use Rattle.script_run.specs.Takes.{StepShows}
@@ -17,8 +17,8 @@ use Rattle.script_run.specs.Ledger.{Ledger}
 use Rattle.run_promise.specs.declared.status.Status.{Status}
 use Rattle.run_promise.specs.declared.status.Status.TheVariants as status
 use Rattle.run_promise.specs.Needs.{AttachesAs}
-use Rattle.script_lang.specs.declared.line.LineAnswer.TheVariants as line
-use Rattle.script_lang.specs.Grammar.{reading_of}
+use Rattle.script_grammar.specs.declared.line.LineAnswer.TheVariants as line
+use Rattle.script_grammar.specs.Grammar.{reading_of}
 use Rattle.run_promise.specs.Story.{Because, Refusals, GaveBack, HoldsNoLine, IsBadLine, Taken, DevicesTold}
 use Rattle.run_promise.specs.Top.{EndsEarly, status_of}
 

@@ -2,7 +2,7 @@
 use Rattle.std.specs.Prelude.{ℕ, Bool, true, false, List, ⊤}
 use Rattle.device_log.specs.Streams.{SourceRead, SinkWrite}
 use Rattle.edge_io.specs.Source.{LastReadFailed, NoReadFailed}
-use Rattle.script_lang.specs.declared.last.LastLine.TheVariants as last
+use Rattle.script_grammar.specs.declared.last_line.LastLine.TheVariants as last
 use Rattle.run_script.specs.declared.run.Ending.{Ending}
 use Rattle.run_script.specs.declared.run.Ending.TheVariants.{Done, Stopped, WriteFault, OutOfMemory}
 use Rattle.run_promise.specs.Story.{StoryUpTo, DevicesTold, Because, IsReadThrough, Refusals, SendsAll, CutsLast, WantsMemory}

@@ -3,7 +3,7 @@ use Rattle.std.specs.Prelude.{◌≡◌, ℕ, List, Option, Some, None, Ok, Err}
 use Rattle.device_log.specs.Streams.{SourceRead}
 use Rattle.edge_io.specs.declared.reader.LineReader.{LineReader}
 use Rattle.edge_io.specs.LineReader.{GivesNextLine}
-use Rattle.script_lang.specs.Grammar.{reading_of}
+use Rattle.script_grammar.specs.Grammar.{reading_of}
 use Rattle.run_script.specs.declared.lines.Reading.{Reading}
 use Rattle.run_script.specs.declared.lines.Reading.TheVariants.{Line, End, Fault, Memory}
 

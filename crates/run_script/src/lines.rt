@@ -2,7 +2,8 @@
 ghost use Rattle.run_script.specs.Lines.{ReadsNextLine};
 
 use edge_io::{LineFault, LineReader, Source};
-use script_lang::{LineAnswer, read_line};
+use script_grammar::LineAnswer;
+use script_lang::read_line;
 use std::alloc::Global;
 
 /// What the next line of a script is.

@@ -5,7 +5,7 @@ ghost use Rattle.edge_io.specs.Source.{Draws, NoReadFailed};
 ghost use Rattle.edge_io.specs.Sink.{Grows};
 ghost use Rattle.edge_io.specs.LineReader.{held, lines_given, source_of};
 ghost use Rattle.device_bay.specs.Calls.{out_of, refusals_of};
-ghost use Rattle.script_lang.specs.Texts.{answer_line};
+ghost use Rattle.script_grammar.specs.Texts.{answer_line};
 ghost use Rattle.script_run.specs.Run.{fresh};
 ghost use Rattle.run_promise.specs.Outline.{blank_outline};
 ghost use Rattle.cache_replay.specs.Session.{IsSession, devices_of, names_in, return_in};
@@ -21,7 +21,8 @@ use cache_calls::Formats;
 use cache_replay::{Session, Stop, step};
 use device_bay::Bay;
 use edge_io::{LineFault, LineReader, MAX_LINES, Sink, Source};
-use script_lang::{LastLine, LineAnswer, Step, StepAnswer, answer_text};
+use script_grammar::{LastLine, LineAnswer, Step, StepAnswer};
+use script_lang::answer_text;
 use std::alloc::Global;
 
 /// How a run of lines ends.

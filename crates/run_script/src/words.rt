@@ -3,7 +3,7 @@ ghost use Rattle.std.specs.Prelude.{◌≡◌, ◌↔◌, ◌⊎◌, false, [], 
 ghost use Rattle.edge_io.specs.Source.{Draws};
 ghost use Rattle.edge_io.specs.Sink.{Grows};
 ghost use Rattle.device_bay.specs.Calls.{IsBayLog, gifts_of, out_of, refusals_of, returned_by};
-ghost use Rattle.script_lang.specs.Texts.{last_line};
+ghost use Rattle.script_grammar.specs.Texts.{last_line};
 ghost use Rattle.script_run.specs.Ledger.{InOrder, ledger_of};
 ghost use Rattle.cache_replay.specs.Stop.{RefusesNone};
 ghost use Rattle.run_promise.specs.Story.{refusals_around};
@@ -16,7 +16,8 @@ use cache_replay::{Session, begin, close};
 use device_bay::Bay;
 use edge_io::{LineBuffer, LineReader, Sink, Source};
 use run_promise::Status;
-use script_lang::{LastLine, last_line_text, usage_text};
+use script_grammar::LastLine;
+use script_lang::{last_line_text, usage_text};
 use std::alloc::Global;
 
 fn is_replay(words: &[String]) -> bool

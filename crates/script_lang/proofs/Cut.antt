@@ -5,7 +5,7 @@ use Rattle.std.proofs.lemmas.Bool.{cases_lt}
 use Rattle.std.proofs.lemmas.List.Splits.{slice_split_none, slice_split_first}
 use Rattle.std.proofs.lemmas.List.Sums.{fails_before_first}
 use Rattle.std.proofs.lemmas.Grind.{common_steps}
-use Rattle.script_lang.specs.Words.{is_space, words_from}
+use Rattle.script_grammar.specs.Words.{is_space, words_from}
 use Rattle.script_lang.specs.Taken.{first_word, behind_word, words_left}
 
 -- what stands before the first space is the first word, and the words behind it are the others

@@ -5,7 +5,7 @@ use Rattle.std.proofs.lemmas.Bool.{and_parts}
 use Rattle.std.proofs.lemmas.Bool.Decides.{nat_tests}
 use Rattle.std.proofs.lemmas.List.Splits.{slice_split_none, slice_split_at}
 use Rattle.std.proofs.lemmas.List.Sums.{AllPass-from_list_all, list_all-from_AllPass}
-use Rattle.script_lang.specs.Words.{is_space, is_word, is_word_byte, located, words_from}
+use Rattle.script_grammar.specs.Words.{is_space, is_word, is_word_byte, located, words_from}
 
 abbrev pub IsWord : List ℕ → Type 0
 IsWord w = is_word w ≡ true

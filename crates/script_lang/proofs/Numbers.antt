@@ -12,7 +12,7 @@ use Rattle.std.proofs.lemmas.Grind.{common_steps}
 use Rattle.std.specs.Str.{IsUtf8}
 use Rattle.std.proofs.lemmas.Str.{IsUtf8-from_ascii}
 use Rattle.std.proofs.lemmas.Fmt.{IsAscii-from_digits}
-use Rattle.script_lang.specs.Tokens.{is_digit, value_after, value_of, number_of_digits, is_number_word, number_of_word, number_below}
+use Rattle.script_grammar.specs.Tokens.{is_digit, value_after, value_of, number_of_digits, is_number_word, number_of_word, number_below}
 
 own : IsNumeralModel (λ digits. list_all is_digit digits ≡ true) (value_after 0)
 own = numerals_by_fold _ (search rules) value_after (search rules)

@@ -11,16 +11,16 @@ use Rattle.hex.specs.Hex.{encode_lower, encode_with, lower_digits}
 use Rattle.sha2.specs.Sha256.{sha256}
 use Rattle.cache_model.specs.declared.cause.Cause.{Cause}
 use Rattle.cache_model.specs.declared.cause.Cause.TheVariants as cause
-use Rattle.script_lang.specs.declared.line.BadKind.{BadKind}
-use Rattle.script_lang.specs.declared.line.BadKind.TheVariants as kind
-use Rattle.script_lang.specs.declared.answer.Refused.{Refused}
-use Rattle.script_lang.specs.declared.answer.Refused.TheVariants as refused
-use Rattle.script_lang.specs.declared.answer.StepAnswer.{StepAnswer}
-use Rattle.script_lang.specs.declared.answer.StepAnswer.TheVariants as answer
-use Rattle.script_lang.specs.declared.last.LastLine.{LastLine}
-use Rattle.script_lang.specs.declared.last.LastLine.TheVariants as last
+use Rattle.script_grammar.specs.declared.line.BadKind.{BadKind}
+use Rattle.script_grammar.specs.declared.line.BadKind.TheVariants as kind
+use Rattle.script_grammar.specs.declared.answer.Refused.{Refused}
+use Rattle.script_grammar.specs.declared.answer.Refused.TheVariants as refused
+use Rattle.script_grammar.specs.declared.answer.StepAnswer.{StepAnswer}
+use Rattle.script_grammar.specs.declared.answer.StepAnswer.TheVariants as answer
+use Rattle.script_grammar.specs.declared.last_line.LastLine.{LastLine}
+use Rattle.script_grammar.specs.declared.last_line.LastLine.TheVariants as last
 use Rattle.script_lang.specs.Lines.{AnswersAreLines, LastLinesAreLines, is_line}
-use Rattle.script_lang.specs.Texts.{answer_line, bad_script_line, bay_fault_line, cause_line, cause_text, damaged_text, displaced_text, done_line, fault_line, flushed_line, formatted_line, got_line, hit_line, kind_word, last_line, lost_text, newline, no_cache_line, number_line, numbered, open_text, passed_text, piece_line, put_line, read_fault_line, refusal_text, refused_line, shown, synced_text, too_long_line, too_many_line, took_text, unsaved_text, usage_line, why_line}
+use Rattle.script_grammar.specs.Texts.{answer_line, bad_script_line, bay_fault_line, cause_line, cause_text, damaged_text, displaced_text, done_line, fault_line, flushed_line, formatted_line, got_line, hit_line, kind_word, last_line, lost_text, newline, no_cache_line, number_line, numbered, open_text, passed_text, piece_line, put_line, read_fault_line, refusal_text, refused_line, shown, synced_text, too_long_line, too_many_line, took_text, unsaved_text, usage_line, why_line}
 
 abbrev is_plain_byte : ℕ → Bool
 is_plain_byte byte = not (byte == 10)

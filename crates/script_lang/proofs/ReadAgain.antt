@@ -8,16 +8,16 @@ use Rattle.std.proofs.lemmas.Bool.Decides.{nat_tests}
 use Rattle.hex.specs.Hex.{IsBytes}
 use Rattle.tape_base.specs.declared.keys.Key.{Key}
 use Rattle.alternate_vector.specs.Field.{Field}
-use Rattle.script_lang.specs.declared.fields.FieldKinds.TheVariants.{Request}
-use Rattle.script_lang.specs.declared.line.LineAnswer.TheVariants as answer
-use Rattle.script_lang.specs.declared.step.Step.{Step}
-use Rattle.script_lang.specs.declared.step.Step.TheVariants as step
-use Rattle.script_lang.specs.declared.verbs.Verb.{Verb}
-use Rattle.script_lang.specs.declared.verbs.Verb.TheVariants as verb
-use Rattle.script_lang.specs.Words.{WordAt, is_word_byte, located}
-use Rattle.script_lang.specs.Tokens.{is_digit, is_actor_byte, actor_of_word}
-use Rattle.script_lang.specs.Verbs.{same_word, verb_of}
-use Rattle.script_lang.specs.Grammar.{take_number, alternates_kept, format_of_numbers, format_of, put_line_of, get_of, take_actor, open_write_of, data_of, open_read_of, only_actor, by_actor, remove_of, now_of, step_by, step_of, is_passed_over, reading_of}
+use Rattle.script_grammar.specs.declared.sides.FieldKinds.TheVariants.{Request}
+use Rattle.script_grammar.specs.declared.line.LineAnswer.TheVariants as answer
+use Rattle.script_grammar.specs.declared.step.Step.{Step}
+use Rattle.script_grammar.specs.declared.step.Step.TheVariants as step
+use Rattle.script_grammar.specs.declared.verb.Verb.{Verb}
+use Rattle.script_grammar.specs.declared.verb.Verb.TheVariants as verb
+use Rattle.script_grammar.specs.Words.{WordAt, is_word_byte, located}
+use Rattle.script_grammar.specs.Tokens.{is_digit, is_actor_byte, actor_of_word}
+use Rattle.script_grammar.specs.Verbs.{same_word, verb_of}
+use Rattle.script_grammar.specs.Grammar.{take_number, alternates_kept, format_of_numbers, format_of, put_line_of, get_of, take_actor, open_write_of, data_of, open_read_of, only_actor, by_actor, remove_of, now_of, step_by, step_of, is_passed_over, reading_of}
 use Rattle.script_lang.specs.Spelled.{FitsFormat, HoldsFields, IsActor, IsKey, SpelledIsRead, alternates_words, body_word, key_word, request_words, response_words, spelled_step, step_words}
 use Rattle.script_lang.proofs.Joined.{IsWord, all_wider, words_joined}
 use Rattle.script_lang.proofs.Numbers.{number_below-decimal, all_digits-decimal}

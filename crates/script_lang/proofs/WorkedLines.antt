@@ -7,18 +7,18 @@ use Rattle.http_header.specs.Token.{is_token_byte}
 use Rattle.percent_encoding.specs.Percent.{percent_decode}
 use Rattle.tape_base.specs.Key.{key_of_url}
 use Rattle.alternate_vector.specs.Field.{Field}
-use Rattle.script_lang.specs.declared.line.BadKind.TheVariants as kind
-use Rattle.script_lang.specs.declared.line.LineAnswer.TheVariants as answer
-use Rattle.script_lang.specs.declared.step.Step.TheVariants as step
+use Rattle.script_grammar.specs.declared.line.BadKind.TheVariants as kind
+use Rattle.script_grammar.specs.declared.line.LineAnswer.TheVariants as answer
+use Rattle.script_grammar.specs.declared.step.Step.TheVariants as step
 use Rattle.cache_model.specs.declared.cause.Cause.TheVariants as cause
-use Rattle.script_lang.specs.declared.answer.Refused.TheVariants as refused
-use Rattle.script_lang.specs.declared.answer.StepAnswer.TheVariants as said
-use Rattle.script_lang.specs.Words.{bad}
-use Rattle.script_lang.specs.Tokens.{number_of_word, number_below, key_in, object_of, hex_body, repeated_body, body_of_word, actor_of_word}
-use Rattle.script_lang.specs.Fields.{with_word}
-use Rattle.script_lang.specs.Verbs.{verb_of}
-use Rattle.script_lang.specs.Grammar.{take_number, alternates_kept, usual_of, format_of, put_line_of, get_of, take_actor, open_write_of, data_of, remove_of, now_of, step_of, reading_of}
-use Rattle.script_lang.specs.Texts.{answer_line, cause_line, fault_line, lost_text, number_line, numbered, open_text, passed_text, piece_line, refused_line, shown}
+use Rattle.script_grammar.specs.declared.answer.Refused.TheVariants as refused
+use Rattle.script_grammar.specs.declared.answer.StepAnswer.TheVariants as said
+use Rattle.script_grammar.specs.Words.{bad}
+use Rattle.script_grammar.specs.Tokens.{number_of_word, number_below, key_in, object_of, hex_body, repeated_body, body_of_word, actor_of_word}
+use Rattle.script_grammar.specs.Fields.{with_word}
+use Rattle.script_grammar.specs.Verbs.{verb_of}
+use Rattle.script_grammar.specs.Grammar.{take_number, alternates_kept, usual_of, format_of, put_line_of, get_of, take_actor, open_write_of, data_of, remove_of, now_of, step_of, reading_of}
+use Rattle.script_grammar.specs.Texts.{answer_line, cause_line, fault_line, lost_text, number_line, numbered, open_text, passed_text, piece_line, refused_line, shown}
 
 abbrev field : List ℕ → List ℕ → Field
 field name value = record { name = name; value = value }

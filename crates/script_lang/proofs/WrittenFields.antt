@@ -13,11 +13,11 @@ use Rattle.hex.specs.Hex.{IsBytes, is_hex_digit}
 use Rattle.percent_encoding.specs.Percent.{percent_decode, percent_encode_byte}
 use Rattle.percent_encoding.proofs.PercentLemmas.{percent_decode-nil, percent_decode_not_percent, percent_decode-percent_encode_byte}
 use Rattle.alternate_vector.specs.Field.{Field, IsKept, IsRising, is_above, field_refusal, made_field, with_field}
-use Rattle.script_lang.specs.declared.fields.FieldKinds.{FieldKinds}
-use Rattle.script_lang.specs.declared.fields.FieldKinds.TheVariants.{Both}
-use Rattle.script_lang.specs.declared.fields.Sides.{Sides}
-use Rattle.script_lang.specs.Words.{is_word_byte, located}
-use Rattle.script_lang.specs.Fields.{is_escaped, unescaped, is_colon, parted, with_word, fields_after, no_fields}
+use Rattle.script_grammar.specs.declared.sides.FieldKinds.{FieldKinds}
+use Rattle.script_grammar.specs.declared.sides.FieldKinds.TheVariants.{Both}
+use Rattle.script_grammar.specs.declared.sides.Sides.{Sides}
+use Rattle.script_grammar.specs.Words.{is_word_byte, located}
+use Rattle.script_grammar.specs.Fields.{is_escaped, unescaped, is_colon, parted, with_word, fields_after, no_fields}
 use Rattle.script_lang.specs.Spelled.{HasBytes, HoldsFields, field_word, request_words, response_words, written_byte, written_value}
 use Rattle.script_lang.proofs.Joined.{IsWord, all_wider}
 use Rattle.cache_model.proofs.Steps.{all_append}

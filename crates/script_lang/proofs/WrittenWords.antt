@@ -10,8 +10,8 @@ use Rattle.hex.specs.Hex.{encode_lower, encode_with, lower_digits, IsBytes}
 use Rattle.hex.proofs.HexLemmas.{decode_sized-encode_lower, length-encode_with}
 use Rattle.tape_base.specs.declared.keys.Key.{Key}
 use Rattle.tape_base.specs.Key.{key_bytes}
-use Rattle.script_lang.specs.Words.{is_word_byte}
-use Rattle.script_lang.specs.Tokens.{is_digit, is_lower_hex, is_key_word, key_in, object_of, is_star, is_dash, hex_body, body_of_word}
+use Rattle.script_grammar.specs.Words.{is_word_byte}
+use Rattle.script_grammar.specs.Tokens.{is_digit, is_lower_hex, is_key_word, key_in, object_of, is_star, is_dash, hex_body, body_of_word}
 use Rattle.script_lang.specs.Spelled.{IsKey, key_word, body_word}
 use Rattle.script_lang.proofs.Joined.{IsWord, all_wider}
 use Rattle.script_lang.proofs.Numbers.{all_digits-decimal}

@@ -1,10 +1,4 @@
-pub mod Words
 pub mod Taken
-pub mod Tokens
-pub mod Fields
 pub mod Refusal
-pub mod Verbs
-pub mod Grammar
-pub mod Texts
 pub mod Spelled
 pub mod Lines

@@ -1,8 +1,8 @@
 -- Each answer is one line, and so is the last line of a run that ends early.
 use Rattle.std.specs.Prelude.{ℕ, ◌≡◌, ◌==◌, Bool, true, false, not, ◌&&◌, List, [], ◌∷◌}
-use Rattle.script_lang.specs.declared.answer.StepAnswer.{StepAnswer}
-use Rattle.script_lang.specs.declared.last.LastLine.{LastLine}
-use Rattle.script_lang.specs.Texts.{answer_line, last_line}
+use Rattle.script_grammar.specs.declared.answer.StepAnswer.{StepAnswer}
+use Rattle.script_grammar.specs.declared.last_line.LastLine.{LastLine}
+use Rattle.script_grammar.specs.Texts.{answer_line, last_line}
 
 -- a newline at the end and nowhere else
 abbrev pub is_line : List ℕ → Bool

@@ -1,6 +1,6 @@
 -- What a call that may want memory reads, against what stands there.
 use Rattle.std.specs.Prelude.{◌≡◌, ⊤, Result, Ok, Err, MatchResult}
-use Rattle.script_lang.specs.declared.line.BadLine.{BadLine}
+use Rattle.script_grammar.specs.declared.line.BadLine.{BadLine}
 use Rattle.script_lang.specs.declared.tokens.Refusal.{Refusal}
 use Rattle.script_lang.specs.declared.tokens.Refusal.TheVariants.{Bad, Memory}
 

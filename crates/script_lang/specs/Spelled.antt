@@ -7,12 +7,12 @@ use Rattle.percent_encoding.specs.Percent.{percent_encode_byte}
 use Rattle.tape_base.specs.declared.keys.Key.{Key}
 use Rattle.tape_base.specs.Key.{key_bytes, key_of_bytes}
 use Rattle.alternate_vector.specs.Field.{Field, AreFields}
-use Rattle.script_lang.specs.declared.line.LineAnswer.TheVariants as answer
-use Rattle.script_lang.specs.declared.step.Step.{Step}
-use Rattle.script_lang.specs.declared.step.Step.TheVariants as step
-use Rattle.script_lang.specs.Words.{is_word, is_word_byte}
-use Rattle.script_lang.specs.Tokens.{is_actor}
-use Rattle.script_lang.specs.Grammar.{reading_of}
+use Rattle.script_grammar.specs.declared.line.LineAnswer.TheVariants as answer
+use Rattle.script_grammar.specs.declared.step.Step.{Step}
+use Rattle.script_grammar.specs.declared.step.Step.TheVariants as step
+use Rattle.script_grammar.specs.Words.{is_word, is_word_byte}
+use Rattle.script_grammar.specs.Tokens.{is_actor}
+use Rattle.script_grammar.specs.Grammar.{reading_of}
 
 -- ---- how words are written
 

@@ -1,11 +1,11 @@
 -- What a call has taken from a line, and what is left of it.
 use Rattle.std.specs.Prelude.{ℕ, ◌+◌, ◌-◌, ◌≡◌, List, [], length, take, drop, position, Option, Some, None, option_map, Result, Ok, Err, MatchResult}
 use Rattle.std.specs.Option.{option_copied}
-use Rattle.script_lang.specs.declared.line.BadLine.{BadLine}
+use Rattle.script_grammar.specs.declared.line.BadLine.{BadLine}
 use Rattle.script_lang.specs.declared.left.Word.{Word}
 use Rattle.script_lang.specs.declared.left.Words.{Words}
-use Rattle.script_lang.specs.Words.{WordAt, is_space, take_word, words_from}
-use Rattle.script_lang.specs.Grammar.{take_number}
+use Rattle.script_grammar.specs.Words.{WordAt, is_space, take_word, words_from}
+use Rattle.script_grammar.specs.Grammar.{take_number}
 
 -- a word as a list of bytes
 abbrev pub seen_word : Word → WordAt

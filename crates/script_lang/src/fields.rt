@@ -1,31 +1,17 @@
 // The fields at the end of a line: `>name:value` of a request, `<name:value` of a response.
 ghost use Rattle.std.specs.Prelude.{◌≡◌, ◌<◌, length, position, true, IfSome, IfOk, option_map, ◌&&◌};
 ghost use Rattle.hex.specs.Hex.{is_hex_digit};
-ghost use Rattle.script_lang.specs.Words.{bad, is_word};
-ghost use Rattle.script_lang.specs.Fields.{begins_with_digits, is_escaped, unescaped, is_colon, parted, with_line, with_word, takes_response, with_field_of, fields_after, no_fields};
+ghost use Rattle.script_grammar.specs.Words.{bad, is_word};
+ghost use Rattle.script_grammar.specs.Fields.{begins_with_digits, is_escaped, unescaped, is_colon, parted, with_line, with_word, takes_response, with_field_of, fields_after, no_fields};
 ghost use Rattle.script_lang.specs.Taken.{seen_word, words_in};
 ghost use Rattle.script_lang.specs.Refusal.{AddsValue, ReadsValue};
 
 use crate::left::{Word, Words};
 use crate::tokens::Refusal;
-use crate::{BadKind, BadLine};
 use alternate_vector::{FieldFault, Fields};
 use percent_encoding::percent_decode;
+use script_grammar::{BadKind, BadLine, FieldKinds, Sides};
 use std::alloc::{AllocError, Global};
-
-/// Which fields a line takes.
-#[derive(Clone, Copy, Debug, PartialEq, Eq)]
-pub(crate) enum FieldKinds {
-    Request,
-    Both,
-}
-
-/// The fields of a line.
-#[derive(Debug, Drop)]
-pub(crate) struct Sides {
-    pub request: Fields,
-    pub response: Fields,
-}
 
 fn bad_field(word: Word) -> Refusal
     ensures { result ≡ Refusal.Bad (bad word.entry.column BadKind.Field) }
@@ -102,7 +88,7 @@ fn add_line(word: Word, fields: &mut Fields, name: &[u8], value: &[u8]) -> Resul
 }
 
 /// Adds the field that stands behind the first byte of a word.
-#[tactic(auto, unfolding(crate::specs::Fields::with_word))]
+#[tactic(auto, unfolding(script_grammar::specs::Fields::with_word))]
 fn add_word(alloc: Global, word: Word, fields: &mut Fields) -> Result<(), Refusal>
     requires { 0 < length word.bytes.now }
     ensures { AddsValue (with_word fields.old (seen_word word.entry)) result fields.new }

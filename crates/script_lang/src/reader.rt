@@ -1,17 +1,17 @@
 // Reads one line of a script.
 ghost use Rattle.std.specs.Prelude.{◌≡◌, IfOk};
-ghost use Rattle.script_lang.specs.Grammar.{step_of, is_passed_over, reading_of};
+ghost use Rattle.script_grammar.specs.Grammar.{step_of, is_passed_over, reading_of};
 ghost use Rattle.script_lang.specs.Refusal.{ReadsValue};
 
 use crate::left::Words;
 use crate::steps::step_by;
 use crate::tokens::Refusal;
 use crate::verbs::verb_of;
-use crate::{BadKind, BadLine, LineAnswer, Step};
+use script_grammar::{BadKind, BadLine, LineAnswer, Step};
 use std::alloc::{AllocError, Global};
 
 /// The step that a line asks for.
-#[tactic(auto, unfolding(crate::specs::Grammar::step_of))]
+#[tactic(auto, unfolding(script_grammar::specs::Grammar::step_of))]
 fn step(alloc: Global, line: &[u8]) -> Result<Step, Refusal>
     ensures { ReadsValue (step_of line.now) result }
 {
@@ -33,7 +33,7 @@ fn is_passed_over(line: &[u8]) -> bool
 }
 
 /// Reads one line of a script, without its newline.
-#[tactic(auto, unfolding(crate::specs::Grammar::reading_of))]
+#[tactic(auto, unfolding(script_grammar::specs::Grammar::reading_of))]
 pub fn read_line(alloc: Global, bytes: &[u8]) -> Result<LineAnswer, AllocError>
     ensures { IfOk result (λ answer. answer ≡ reading_of bytes.now) }
 {

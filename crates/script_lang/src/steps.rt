@@ -1,14 +1,14 @@
 // The step of each verb, from the words behind it.
 ghost use Rattle.std.specs.Prelude.{◌≡◌, ◌^◌};
-ghost use Rattle.script_lang.specs.Grammar.{take_number, alternates_kept, usual_of, format_of_numbers, geometry_of, format_of, put_line_of, get_of, take_actor, open_write_of, data_of, open_read_of, only_actor, remove_of, flush_of, now_of, step_by};
+ghost use Rattle.script_grammar.specs.Grammar.{take_number, alternates_kept, usual_of, format_of_numbers, geometry_of, format_of, put_line_of, get_of, take_actor, open_write_of, data_of, open_read_of, only_actor, remove_of, flush_of, now_of, step_by};
 ghost use Rattle.script_lang.specs.Taken.{seen_word, words_in, TakesNumber};
 ghost use Rattle.script_lang.specs.Refusal.{ReadsValue, TakesValue};
 
-use crate::fields::{FieldKinds, fields};
+use crate::fields::fields;
 use crate::left::{Word, Words};
 use crate::tokens::{Refusal, actor, body, long_number, object, short_number};
-use crate::verbs::{Verb, is_word};
-use crate::{BadLine, ByteList, Step};
+use crate::verbs::is_word;
+use script_grammar::{BadLine, ByteList, FieldKinds, Step, Verb};
 use std::alloc::Global;
 use tape_base::Geometry;
 
@@ -16,7 +16,7 @@ use tape_base::Geometry;
 const ALTERNATES: u32 = 5;
 
 /// The next word, as a number below 2^32.
-#[tactic(auto, unfolding(crate::specs::Grammar::take_number))]
+#[tactic(auto, unfolding(script_grammar::specs::Grammar::take_number))]
 fn take_short(words: &mut Words) -> Result<u32, BadLine>
     ensures taken { TakesNumber (2 ^ 32) words.old.end (words_in words.old) result (words_in words.new) }
     ensures end { words.new.end ≡ words.old.end }
@@ -26,7 +26,7 @@ fn take_short(words: &mut Words) -> Result<u32, BadLine>
 }
 
 /// The next word, as a number below 2^64.
-#[tactic(auto, unfolding(crate::specs::Grammar::take_number))]
+#[tactic(auto, unfolding(script_grammar::specs::Grammar::take_number))]
 fn take_long(words: &mut Words) -> Result<u64, BadLine>
     ensures taken { TakesNumber (2 ^ 64) words.old.end (words_in words.old) result (words_in words.new) }
     ensures end { words.new.end ≡ words.old.end }
@@ -36,7 +36,7 @@ fn take_long(words: &mut Words) -> Result<u64, BadLine>
 }
 
 /// The number of alternates, if a word is left, and the end of the line.
-#[tactic(auto, unfolding(crate::specs::Grammar::alternates_kept))]
+#[tactic(auto, unfolding(script_grammar::specs::Grammar::alternates_kept))]
 fn alternates(words: &mut Words) -> Result<u32, BadLine>
     ensures { result ≡ alternates_kept words.old.end (words_in words.old) }
 {
@@ -49,7 +49,7 @@ fn alternates(words: &mut Words) -> Result<u32, BadLine>
 }
 
 /// What stands behind `default`, and the numbers of the usual geometry.
-#[tactic(auto, unfolding(crate::specs::Grammar::usual_of))]
+#[tactic(auto, unfolding(script_grammar::specs::Grammar::usual_of))]
 fn usual(name: ByteList, words: &mut Words) -> Result<Step, Refusal>
     ensures { ReadsValue (usual_of words.old.end name (words_in words.old)) result }
 {
@@ -69,7 +69,7 @@ fn usual(name: ByteList, words: &mut Words) -> Result<Step, Refusal>
 }
 
 /// The numbers of a geometry behind the first one.
-#[tactic(auto, unfolding(crate::specs::Grammar::format_of_numbers))]
+#[tactic(auto, unfolding(script_grammar::specs::Grammar::format_of_numbers))]
 fn numbers(name: ByteList, segments: u32, words: &mut Words) -> Result<Step, Refusal>
     ensures { ReadsValue
         (format_of_numbers words.old.end name segments (words_in words.old)) result }
@@ -107,7 +107,7 @@ fn geometry(name: ByteList, word: Word, words: &mut Words) -> Result<Step, Refus
 }
 
 /// `format NAME S B N A R F G [M]` or `format NAME default G [M]`
-#[tactic(auto, unfolding(crate::specs::Grammar::format_of))]
+#[tactic(auto, unfolding(script_grammar::specs::Grammar::format_of))]
 fn format_line(alloc: Global, words: &mut Words) -> Result<Step, Refusal>
     ensures { ReadsValue (format_of words.old.end (words_in words.old)) result }
 {
@@ -118,7 +118,7 @@ fn format_line(alloc: Global, words: &mut Words) -> Result<Step, Refusal>
 }
 
 /// `put OBJECT BODY FIELD*`
-#[tactic(auto, unfolding(crate::specs::Grammar::put_line_of))]
+#[tactic(auto, unfolding(script_grammar::specs::Grammar::put_line_of))]
 fn put_line(alloc: Global, words: &mut Words) -> Result<Step, Refusal>
     ensures { ReadsValue (put_line_of words.old.end (words_in words.old)) result }
 {
@@ -134,7 +134,7 @@ fn put_line(alloc: Global, words: &mut Words) -> Result<Step, Refusal>
 }
 
 /// `get OBJECT FIELD*`
-#[tactic(auto, unfolding(crate::specs::Grammar::get_of))]
+#[tactic(auto, unfolding(script_grammar::specs::Grammar::get_of))]
 fn get_line(alloc: Global, words: &mut Words) -> Result<Step, Refusal>
     ensures { ReadsValue (get_of words.old.end (words_in words.old)) result }
 {
@@ -147,7 +147,7 @@ fn get_line(alloc: Global, words: &mut Words) -> Result<Step, Refusal>
 }
 
 /// The next word, as the name of an actor.
-#[tactic(auto, unfolding(crate::specs::Grammar::take_actor))]
+#[tactic(auto, unfolding(script_grammar::specs::Grammar::take_actor))]
 fn take_actor(alloc: Global, words: &mut Words) -> Result<ByteList, Refusal>
     ensures taken { TakesValue (take_actor words.old.end (words_in words.old)) result (words_in words.new) }
     ensures end { words.new.end ≡ words.old.end }
@@ -157,7 +157,7 @@ fn take_actor(alloc: Global, words: &mut Words) -> Result<ByteList, Refusal>
 }
 
 /// `open-write ACTOR OBJECT PIN FIELD*`
-#[tactic(auto, unfolding(crate::specs::Grammar::open_write_of))]
+#[tactic(auto, unfolding(script_grammar::specs::Grammar::open_write_of))]
 fn open_write_line(alloc: Global, words: &mut Words) -> Result<Step, Refusal>
     ensures { ReadsValue (open_write_of words.old.end (words_in words.old)) result }
 {
@@ -175,7 +175,7 @@ fn open_write_line(alloc: Global, words: &mut Words) -> Result<Step, Refusal>
 }
 
 /// `data ACTOR BODY`
-#[tactic(auto, unfolding(crate::specs::Grammar::data_of))]
+#[tactic(auto, unfolding(script_grammar::specs::Grammar::data_of))]
 fn data_line(alloc: Global, words: &mut Words) -> Result<Step, Refusal>
     ensures { ReadsValue (data_of words.old.end (words_in words.old)) result }
 {
@@ -186,7 +186,7 @@ fn data_line(alloc: Global, words: &mut Words) -> Result<Step, Refusal>
 }
 
 /// `open-read ACTOR OBJECT FIELD*`
-#[tactic(auto, unfolding(crate::specs::Grammar::open_read_of))]
+#[tactic(auto, unfolding(script_grammar::specs::Grammar::open_read_of))]
 fn open_read_line(alloc: Global, words: &mut Words) -> Result<Step, Refusal>
     ensures { ReadsValue (open_read_of words.old.end (words_in words.old)) result }
 {
@@ -201,7 +201,7 @@ fn open_read_line(alloc: Global, words: &mut Words) -> Result<Step, Refusal>
 }
 
 /// An actor and no more.
-#[tactic(auto, unfolding(crate::specs::Grammar::only_actor))]
+#[tactic(auto, unfolding(script_grammar::specs::Grammar::only_actor))]
 fn only_actor(alloc: Global, words: &mut Words) -> Result<ByteList, Refusal>
     ensures { ReadsValue (only_actor words.old.end (words_in words.old)) result }
 {
@@ -211,7 +211,7 @@ fn only_actor(alloc: Global, words: &mut Words) -> Result<ByteList, Refusal>
 }
 
 /// `remove OBJECT`
-#[tactic(auto, unfolding(crate::specs::Grammar::remove_of))]
+#[tactic(auto, unfolding(script_grammar::specs::Grammar::remove_of))]
 fn remove_line(words: &mut Words) -> Result<Step, Refusal>
     ensures { ReadsValue (remove_of words.old.end (words_in words.old)) result }
 {
@@ -229,7 +229,7 @@ fn flush_line(words: &Words) -> Result<Step, Refusal>
 }
 
 /// `now MOMENT`
-#[tactic(auto, unfolding(crate::specs::Grammar::now_of))]
+#[tactic(auto, unfolding(script_grammar::specs::Grammar::now_of))]
 fn now_line(words: &mut Words) -> Result<Step, Refusal>
     ensures { ReadsValue (now_of words.old.end (words_in words.old)) result }
 {

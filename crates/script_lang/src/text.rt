@@ -1,16 +1,16 @@
 // The text of each answer: one line, ended by a newline.
 ghost use Rattle.std.specs.Prelude.{◌≡◌, ◌++◌, IfOk, OnOk, OnErr, string_bytes};
-ghost use Rattle.script_lang.specs.Texts.{shown, numbered, passed_text, displaced_text, damaged_text, cause_text, lost_text, open_text, refusal_text, took_text, synced_text, number_line, formatted_line, put_line, got_line, hit_line, piece_line, flushed_line, refused_line, fault_line, cause_line, why_line, done_line, answer_line};
+ghost use Rattle.script_grammar.specs.Texts.{shown, numbered, passed_text, displaced_text, damaged_text, cause_text, lost_text, open_text, refusal_text, took_text, synced_text, number_line, formatted_line, put_line, got_line, hit_line, piece_line, flushed_line, refused_line, fault_line, cause_line, why_line, done_line, answer_line};
 
-use crate::{Refused, StepAnswer};
 use cache_model::Cause;
 use hex::encode;
+use script_grammar::{Refused, StepAnswer};
 use sha2::{Digest as _, Sha256};
 use std::alloc::{AllocError, Global};
 use tape_base::Digest;
 
 /// Bytes as an answer shows them.
-#[tactic(auto, unfolding(crate::specs::Texts::shown))]
+#[tactic(auto, unfolding(script_grammar::specs::Texts::shown))]
 fn shown(alloc: Global, bytes: &[u8]) -> Result<String, AllocError>
     ensures { IfOk result (λ text. string_bytes text ≡ shown bytes.now) }
 {
@@ -25,14 +25,14 @@ fn shown(alloc: Global, bytes: &[u8]) -> Result<String, AllocError>
 }
 
 /// A word and a number.
-#[tactic(auto, unfolding(crate::specs::Texts::numbered))]
+#[tactic(auto, unfolding(script_grammar::specs::Texts::numbered))]
 fn numbered(alloc: Global, word: &str, n: u64) -> Result<String, AllocError>
     ensures { IfOk result (λ text. string_bytes text ≡ numbered word.now n) }
 {
     format!(in alloc; "{word} {n}")
 }
 
-#[tactic(auto, unfolding(crate::specs::Texts::passed_text))]
+#[tactic(auto, unfolding(script_grammar::specs::Texts::passed_text))]
 fn passed(alloc: Global, place: u64, floor: u64, unsaved: bool) -> Result<String, AllocError>
     ensures { IfOk result (λ text. string_bytes text ≡ passed_text place floor unsaved) }
 {
@@ -40,14 +40,14 @@ fn passed(alloc: Global, place: u64, floor: u64, unsaved: bool) -> Result<String
     format!(in alloc; "passed {place} {floor}{unsaved}")
 }
 
-#[tactic(auto, unfolding(crate::specs::Texts::displaced_text))]
+#[tactic(auto, unfolding(script_grammar::specs::Texts::displaced_text))]
 fn displaced(alloc: Global, segment: u32, live: u64) -> Result<String, AllocError>
     ensures { IfOk result (λ text. string_bytes text ≡ displaced_text segment live) }
 {
     format!(in alloc; "displaced {segment} {live}")
 }
 
-#[tactic(auto, unfolding(crate::specs::Texts::damaged_text))]
+#[tactic(auto, unfolding(script_grammar::specs::Texts::damaged_text))]
 fn damaged(alloc: Global, place: u64, kept: Digest, found: Digest) -> Result<String, AllocError>
     ensures { IfOk result (λ text. string_bytes text ≡ damaged_text place kept found) }
 {
@@ -77,7 +77,7 @@ fn cause(alloc: Global, why: Cause) -> Result<String, AllocError>
     }
 }
 
-#[tactic(auto, unfolding(crate::specs::Texts::lost_text))]
+#[tactic(auto, unfolding(script_grammar::specs::Texts::lost_text))]
 fn lost(alloc: Global, index: u32, why: Cause) -> Result<String, AllocError>
     ensures { IfOk result (λ text. string_bytes text ≡ lost_text index why) }
 {
@@ -86,7 +86,7 @@ fn lost(alloc: Global, index: u32, why: Cause) -> Result<String, AllocError>
 }
 
 /// How many writers and readers are open.
-#[tactic(auto, unfolding(crate::specs::Texts::open_text))]
+#[tactic(auto, unfolding(script_grammar::specs::Texts::open_text))]
 fn still_open(alloc: Global, writers: u32, readers: u32) -> Result<String, AllocError>
     ensures { IfOk result (λ text. string_bytes text ≡ open_text writers readers) }
 {
@@ -134,28 +134,28 @@ fn synced(alloc: Global, serial: Option<u64>) -> Result<String, AllocError>
 }
 
 /// The line of a word and a number.
-#[tactic(auto, unfolding(crate::specs::Texts::number_line))]
+#[tactic(auto, unfolding(script_grammar::specs::Texts::number_line))]
 fn number(alloc: Global, word: &str, n: u64) -> Result<String, AllocError>
     ensures { IfOk result (λ text. string_bytes text ≡ number_line word.now n) }
 {
     format!(in alloc; "{word} {n}\n")
 }
 
-#[tactic(auto, unfolding(crate::specs::Texts::formatted_line))]
+#[tactic(auto, unfolding(script_grammar::specs::Texts::formatted_line))]
 fn formatted(alloc: Global, serial: u64, cursor: u64, floor: u64) -> Result<String, AllocError>
     ensures { IfOk result (λ text. string_bytes text ≡ formatted_line serial cursor floor) }
 {
     format!(in alloc; "formatted serial {serial} cursor {cursor} floor {floor}\n")
 }
 
-#[tactic(auto, unfolding(crate::specs::Texts::put_line))]
+#[tactic(auto, unfolding(script_grammar::specs::Texts::put_line))]
 fn put(alloc: Global, put: u64, length: u64, fragments: u32) -> Result<String, AllocError>
     ensures { IfOk result (λ text. string_bytes text ≡ put_line put length fragments) }
 {
     format!(in alloc; "put {put} length {length} fragments {fragments}\n")
 }
 
-#[tactic(auto, unfolding(crate::specs::Texts::got_line))]
+#[tactic(auto, unfolding(script_grammar::specs::Texts::got_line))]
 fn got(alloc: Global, put: u64, length: u64, bytes: &[u8]) -> Result<String, AllocError>
     ensures { IfOk result (λ text. string_bytes text ≡ got_line put length bytes.now) }
 {
@@ -163,14 +163,14 @@ fn got(alloc: Global, put: u64, length: u64, bytes: &[u8]) -> Result<String, All
     format!(in alloc; "got {put} length {length} {body}\n")
 }
 
-#[tactic(auto, unfolding(crate::specs::Texts::hit_line))]
+#[tactic(auto, unfolding(script_grammar::specs::Texts::hit_line))]
 fn hit(alloc: Global, put: u64, length: u64) -> Result<String, AllocError>
     ensures { IfOk result (λ text. string_bytes text ≡ hit_line put length) }
 {
     format!(in alloc; "hit {put} length {length}\n")
 }
 
-#[tactic(auto, unfolding(crate::specs::Texts::piece_line))]
+#[tactic(auto, unfolding(script_grammar::specs::Texts::piece_line))]
 fn piece(alloc: Global, index: u32, length: u32, bytes: &[u8]) -> Result<String, AllocError>
     ensures { IfOk result (λ text. string_bytes text ≡ piece_line index length bytes.now) }
 {
@@ -178,7 +178,7 @@ fn piece(alloc: Global, index: u32, length: u32, bytes: &[u8]) -> Result<String,
     format!(in alloc; "piece {index} {length} {body}\n")
 }
 
-#[tactic(auto, unfolding(crate::specs::Texts::flushed_line))]
+#[tactic(auto, unfolding(script_grammar::specs::Texts::flushed_line))]
 fn flushed(
     alloc: Global,
     blocks: u32,
@@ -192,7 +192,7 @@ fn flushed(
     format!(in alloc; "flushed {blocks} cursor {cursor} floor {floor}{synced}\n")
 }
 
-#[tactic(auto, unfolding(crate::specs::Texts::refused_line))]
+#[tactic(auto, unfolding(script_grammar::specs::Texts::refused_line))]
 fn refused(alloc: Global, why: Refused, count: Option<u64>) -> Result<String, AllocError>
     ensures { IfOk result (λ text. string_bytes text ≡ refused_line why count) }
 {
@@ -201,7 +201,7 @@ fn refused(alloc: Global, why: Refused, count: Option<u64>) -> Result<String, Al
     format!(in alloc; "refused {why}{took}\n")
 }
 
-#[tactic(auto, unfolding(crate::specs::Texts::fault_line))]
+#[tactic(auto, unfolding(script_grammar::specs::Texts::fault_line))]
 fn fault(alloc: Global, count: u64, taken: Option<u64>) -> Result<String, AllocError>
     ensures { IfOk result (λ text. string_bytes text ≡ fault_line count taken) }
 {
@@ -210,7 +210,7 @@ fn fault(alloc: Global, count: u64, taken: Option<u64>) -> Result<String, AllocE
 }
 
 /// The line of a word and a cause.
-#[tactic(auto, unfolding(crate::specs::Texts::cause_line))]
+#[tactic(auto, unfolding(script_grammar::specs::Texts::cause_line))]
 fn told(alloc: Global, word: &str, why: Cause) -> Result<String, AllocError>
     ensures { IfOk result (λ text. string_bytes text ≡ cause_line word.now why) }
 {
@@ -228,7 +228,7 @@ fn why(alloc: Global, word: &str, why: Cause) -> Result<String, AllocError>
     }
 }
 
-#[tactic(auto, unfolding(crate::specs::Texts::done_line))]
+#[tactic(auto, unfolding(script_grammar::specs::Texts::done_line))]
 fn done(alloc: Global) -> Result<String, AllocError>
     ensures { IfOk result (λ text. string_bytes text ≡ done_line) }
 {

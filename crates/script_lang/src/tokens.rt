@@ -1,14 +1,14 @@
 // What single words spell: numbers, objects, bodies and actors.
 ghost use Rattle.std.specs.Prelude.{◌≡◌, ◌/◌, ◌+◌, ◌<◌, ◌≤◌, ◌^◌, ◌==◌, slice_index, true, length, position, nat_le, ◌&&◌, false, Some, IfSome, IfNone};
 ghost use Rattle.std.specs.List.{list_all};
-ghost use Rattle.script_lang.specs.Tokens.{is_digit, is_number_word, number_of_digits, number_of_word, number_below, is_lower_hex, is_key_word, key_in, object_of, is_star, is_dash, hex_body, repeated_body, body_of_word, is_actor_byte, is_actor, actor_of_word};
+ghost use Rattle.script_grammar.specs.Tokens.{is_digit, is_number_word, number_of_digits, number_of_word, number_below, is_lower_hex, is_key_word, key_in, object_of, is_star, is_dash, hex_body, repeated_body, body_of_word, is_actor_byte, is_actor, actor_of_word};
 ghost use Rattle.script_lang.specs.Taken.{seen_word};
-ghost use Rattle.script_lang.specs.Words.{bad};
+ghost use Rattle.script_grammar.specs.Words.{bad};
 ghost use Rattle.script_lang.specs.Refusal.{ReadsValue};
 
 use crate::left::Word;
-use crate::{BadKind, BadLine, ByteList};
 use hex::decode_to_slice;
+use script_grammar::{BadKind, BadLine, ByteList};
 use std::alloc::{AllocError, Global};
 use std::str;
 use tape_base::Key;
@@ -79,7 +79,7 @@ fn parse(digits: &str) -> Option<u64>
 }
 
 /// The number that these bytes spell: decimal digits, without a zero before others.
-#[tactic(auto, unfolding(crate::specs::Tokens::number_of_word))]
+#[tactic(auto, unfolding(script_grammar::specs::Tokens::number_of_word))]
 pub(crate) fn number_in(bytes: &[u8]) -> Option<u64>
     ensures { result ≡ number_of_word bytes.now }
 {
@@ -92,7 +92,7 @@ pub(crate) fn number_in(bytes: &[u8]) -> Option<u64>
     }
 }
 
-#[tactic(auto, unfolding(crate::specs::Tokens::number_below))]
+#[tactic(auto, unfolding(script_grammar::specs::Tokens::number_below))]
 pub(crate) fn long_number(word: Word) -> Result<u64, BadLine>
     ensures { result ≡ number_below (2 ^ 64) (seen_word word.entry) }
 {
@@ -105,7 +105,7 @@ pub(crate) fn long_number(word: Word) -> Result<u64, BadLine>
     }
 }
 
-#[tactic(auto, unfolding(crate::specs::Tokens::number_below))]
+#[tactic(auto, unfolding(script_grammar::specs::Tokens::number_below))]
 pub(crate) fn short_number(word: Word) -> Result<u32, BadLine>
     ensures { result ≡ number_below (2 ^ 32) (seen_word word.entry) }
 {
@@ -132,7 +132,7 @@ fn is_key_word(bytes: &[u8]) -> bool
 }
 
 /// The key that the bytes spell.
-#[tactic(auto, unfolding(crate::specs::Tokens::key_in))]
+#[tactic(auto, unfolding(script_grammar::specs::Tokens::key_in))]
 fn key_in(bytes: &[u8]) -> Option<Key>
     ensures { result ≡ key_in bytes.now }
 {
@@ -147,7 +147,7 @@ fn key_in(bytes: &[u8]) -> Option<Key>
 }
 
 /// The key of the object that a word names.
-#[tactic(auto, unfolding(crate::specs::Tokens::object_of))]
+#[tactic(auto, unfolding(script_grammar::specs::Tokens::object_of))]
 pub(crate) fn object(word: Word) -> Result<Key, BadLine>
     ensures { result ≡ object_of (seen_word word.entry) }
 {
@@ -171,7 +171,7 @@ fn bad_body(word: Word) -> Refusal
 }
 
 /// The bytes that pairs of hex digits spell.
-#[tactic(auto, unfolding(crate::specs::Tokens::hex_body))]
+#[tactic(auto, unfolding(script_grammar::specs::Tokens::hex_body))]
 fn hex_body(alloc: Global, word: Word) -> Result<ByteList, Refusal>
     ensures { ReadsValue (hex_body (seen_word word.entry)) result }
 {
@@ -195,7 +195,7 @@ fn repeats(bytes: &[u8]) -> Option<u64>
 }
 
 /// The bytes of a count, a star and the hex digits of a byte.
-#[tactic(auto, unfolding(crate::specs::Tokens::repeated_body))]
+#[tactic(auto, unfolding(script_grammar::specs::Tokens::repeated_body))]
 fn repeated_body(alloc: Global, word: Word, star: usize) -> Result<ByteList, Refusal>
     requires { star < length word.bytes.now }
     ensures { ReadsValue (repeated_body (seen_word word.entry) star) result }
@@ -224,7 +224,7 @@ fn is_dash(bytes: &[u8]) -> bool
 }
 
 /// The bytes of the body that a word spells.
-#[tactic(auto, unfolding(crate::specs::Tokens::body_of_word))]
+#[tactic(auto, unfolding(script_grammar::specs::Tokens::body_of_word))]
 pub(crate) fn body(alloc: Global, word: Word) -> Result<ByteList, Refusal>
     ensures { ReadsValue (body_of_word (seen_word word.entry)) result }
 {
@@ -256,7 +256,7 @@ fn is_actor(bytes: &[u8]) -> bool
 }
 
 /// The actor that a word names.
-#[tactic(auto, unfolding(crate::specs::Tokens::actor_of_word))]
+#[tactic(auto, unfolding(script_grammar::specs::Tokens::actor_of_word))]
 pub(crate) fn actor(alloc: Global, word: Word) -> Result<ByteList, Refusal>
     ensures { ReadsValue (actor_of_word (seen_word word.entry)) result }
 {

@@ -1,23 +1,8 @@
 // The first word of a line, which says what kind of step it is.
 ghost use Rattle.std.specs.Prelude.{◌≡◌};
-ghost use Rattle.script_lang.specs.Verbs.{same_word, verb_of};
+ghost use Rattle.script_grammar.specs.Verbs.{same_word, verb_of};
 
-#[derive(Clone, Copy, Debug, PartialEq, Eq)]
-pub(crate) enum Verb {
-    Format,
-    Put,
-    Get,
-    OpenWrite,
-    Data,
-    Close,
-    Abort,
-    OpenRead,
-    Next,
-    Done,
-    Remove,
-    Flush,
-    Now,
-}
+use script_grammar::Verb;
 
 pub(crate) fn is_word(word: &[u8], name: &[u8]) -> bool
     ensures { result ≡ same_word word.now name.now }
@@ -26,7 +11,7 @@ pub(crate) fn is_word(word: &[u8], name: &[u8]) -> bool
 }
 
 /// The verb that a word is.
-#[tactic(auto, unfolding(crate::specs::Verbs::verb_of))]
+#[tactic(auto, unfolding(script_grammar::specs::Verbs::verb_of))]
 pub(crate) fn verb_of(word: &[u8]) -> Option<Verb>
     ensures { result ≡ verb_of word.now }
 {

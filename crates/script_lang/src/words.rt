@@ -2,11 +2,11 @@
 ghost use Rattle.std.specs.Prelude.{◌≡◌, ◌+◌, ◌<◌, length, position, IfSome, IfOk, IfErr, IsTrue, false, if◌then◌else◌};
 ghost use Rattle.std.specs.List.{list_all};
 ghost use Rattle.std.specs.Option.{ForSome, option_copied};
-ghost use Rattle.script_lang.specs.Words.{is_space, is_word_byte, is_word, bad, take_end, has_more, words_from};
+ghost use Rattle.script_grammar.specs.Words.{is_space, is_word_byte, is_word, bad, take_end, has_more, words_from};
 ghost use Rattle.script_lang.specs.Taken.{first_word, behind_word, seen_word, TakesWord, words_in};
 
 use crate::left::{Word, Words};
-use crate::{BadKind, BadLine};
+use script_grammar::{BadKind, BadLine};
 
 /// Where the first space stands.
 fn space_at(bytes: &[u8]) -> Option<usize>

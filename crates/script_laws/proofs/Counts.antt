@@ -6,11 +6,11 @@ use Rattle.tape_base.specs.Limits.{first_refusal}
 use Rattle.cache_model.specs.State.{State, after_all, nothing_yet}
 use Rattle.step_laws.specs.VectorLaws.{VectorsAreCounted}
 use Rattle.model_laws.proofs.Counted.{counted_format, counted_step}
-use Rattle.script_lang.specs.declared.step.Step.{Step}
-use Rattle.script_lang.specs.declared.step.Step.TheVariants as step
-use Rattle.script_lang.specs.declared.line.LineAnswer.{LineAnswer}
-use Rattle.script_lang.specs.declared.line.LineAnswer.TheVariants as line
-use Rattle.script_lang.specs.Grammar.{reading_of}
+use Rattle.script_grammar.specs.declared.step.Step.{Step}
+use Rattle.script_grammar.specs.declared.step.Step.TheVariants as step
+use Rattle.script_grammar.specs.declared.line.LineAnswer.{LineAnswer}
+use Rattle.script_grammar.specs.declared.line.LineAnswer.TheVariants as line
+use Rattle.script_grammar.specs.Grammar.{reading_of}
 use Rattle.script_run.specs.Asked.{asked}
 use Rattle.script_run.specs.Behind.{after_format, after_line, after_reading, behind}
 use Rattle.script_run.specs.Run.{Run, fresh}

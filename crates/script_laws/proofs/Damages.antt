@@ -13,7 +13,7 @@ use Rattle.cache_model.specs.Permit.{Intent, IsAmong, Permit, Reason}
 use Rattle.cache_model.specs.Legal.{IsStep}
 use Rattle.cache_model.proofs.Found.{no_truth, none_is}
 use Rattle.cache_model.specs.Damage.{tells_damage, has_damage, is_damage}
-use Rattle.script_lang.specs.declared.step.Step.{Step}
+use Rattle.script_grammar.specs.declared.step.Step.{Step}
 use Rattle.script_run.specs.Run.{Run}
 use Rattle.script_run.specs.Turn.{Turn}
 use Rattle.script_run.specs.Answers.{session_said}

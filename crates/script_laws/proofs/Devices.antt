@@ -16,11 +16,11 @@ use Rattle.cache_model.specs.Permit.{Reason, Lost}
 use Rattle.model_laws.specs.Agreeing.{without_copy_digest, without_digests}
 use Rattle.model_laws.proofs.Digests.{cause_too, miss_too}
 use Rattle.model_laws.proofs.DigestSteps.{digests_twice}
-use Rattle.script_lang.specs.declared.step.Step.{Step}
-use Rattle.script_lang.specs.declared.step.Step.TheVariants as step
-use Rattle.script_lang.specs.declared.answer.Refused.TheVariants as refused
-use Rattle.script_lang.specs.declared.answer.StepAnswer.{StepAnswer}
-use Rattle.script_lang.specs.declared.answer.StepAnswer.TheVariants as answer
+use Rattle.script_grammar.specs.declared.step.Step.{Step}
+use Rattle.script_grammar.specs.declared.step.Step.TheVariants as step
+use Rattle.script_grammar.specs.declared.answer.Refused.TheVariants as refused
+use Rattle.script_grammar.specs.declared.answer.StepAnswer.{StepAnswer}
+use Rattle.script_grammar.specs.declared.answer.StepAnswer.TheVariants as answer
 use Rattle.script_run.specs.Run.{Harm, Run, held_by, put_written_by, reader_by}
 use Rattle.script_run.specs.Turn.{Turn, is_told, later, lookup_in, no_turn, told_in}
 use Rattle.script_run.specs.Asked.{asked}

@@ -10,8 +10,8 @@ use Rattle.cache_model.specs.State.{State, after_all}
 use Rattle.cache_model.specs.Permit.{Faulted, Intent, IsAmong, Permit, Reason}
 use Rattle.cache_model.specs.Legal.{IsStep}
 use Rattle.cache_model.proofs.Found.{no_truth, none_is}
-use Rattle.script_lang.specs.declared.step.Step.{Step}
-use Rattle.script_lang.specs.declared.answer.StepAnswer.TheVariants as answer
+use Rattle.script_grammar.specs.declared.step.Step.{Step}
+use Rattle.script_grammar.specs.declared.answer.StepAnswer.TheVariants as answer
 use Rattle.script_run.specs.Run.{Run}
 use Rattle.script_run.specs.Turn.{Turn}
 use Rattle.script_run.specs.Asked.{asked}

@@ -13,11 +13,11 @@ use Rattle.cache_model.specs.Permit.{IsAmong, Reason, ManyWriters, Exhausted, Ma
 use Rattle.cache_model.specs.Verdict.{cause_of_piece}
 use Rattle.cache_model.specs.Legal.{IsStep}
 use Rattle.cache_model.proofs.Found.{none_is}
-use Rattle.script_lang.specs.declared.step.Step.{Step}
-use Rattle.script_lang.specs.declared.step.Step.TheVariants as step
-use Rattle.script_lang.specs.declared.answer.Refused.TheVariants as refusing
-use Rattle.script_lang.specs.declared.answer.StepAnswer.{StepAnswer}
-use Rattle.script_lang.specs.declared.answer.StepAnswer.TheVariants as answer
+use Rattle.script_grammar.specs.declared.step.Step.{Step}
+use Rattle.script_grammar.specs.declared.step.Step.TheVariants as step
+use Rattle.script_grammar.specs.declared.answer.Refused.TheVariants as refusing
+use Rattle.script_grammar.specs.declared.answer.StepAnswer.{StepAnswer}
+use Rattle.script_grammar.specs.declared.answer.StepAnswer.TheVariants as answer
 use Rattle.script_run.specs.Run.{Run, Holding, held_by, reader_by, put_written_by}
 use Rattle.script_run.specs.Turn.{Turn, is_told, later, lookup_in, told_in}
 use Rattle.script_run.specs.Asked.{asked}

@@ -9,11 +9,11 @@ use Rattle.cache_model.specs.Permit.{IsSetBy}
 use Rattle.cache_model.specs.Legal
 use Rattle.cache_model.specs.Legal.{Course, IsStep, calls_of_courses, format_records}
 use Rattle.cache_model.proofs.Steps.{after_all-append}
-use Rattle.script_lang.specs.declared.step.Step.{Step}
-use Rattle.script_lang.specs.declared.step.Step.TheVariants as step
-use Rattle.script_lang.specs.declared.line.LineAnswer.{LineAnswer}
-use Rattle.script_lang.specs.declared.line.LineAnswer.TheVariants as line
-use Rattle.script_lang.specs.Grammar.{reading_of}
+use Rattle.script_grammar.specs.declared.step.Step.{Step}
+use Rattle.script_grammar.specs.declared.step.Step.TheVariants as step
+use Rattle.script_grammar.specs.declared.line.LineAnswer.{LineAnswer}
+use Rattle.script_grammar.specs.declared.line.LineAnswer.TheVariants as line
+use Rattle.script_grammar.specs.Grammar.{reading_of}
 use Rattle.script_run.specs.Asked.{asked}
 use Rattle.script_run.specs.Behind.{after_format, after_line, after_reading, behind}
 use Rattle.script_run.specs.Run.{Run, fresh}

@@ -6,7 +6,7 @@ use Rattle.cache_model.specs.State.{State, after_all}
 use Rattle.cache_model.specs.Permit.{Intent, Permit, Reason}
 use Rattle.cache_model.specs.Legal.{IsStep}
 use Rattle.cache_model.specs.Damage.{has_damage, is_damage}
-use Rattle.script_lang.specs.declared.step.Step.{Step}
+use Rattle.script_grammar.specs.declared.step.Step.{Step}
 use Rattle.script_run.specs.Run.{Run}
 use Rattle.script_run.specs.Turn.{Turn}
 use Rattle.script_run.specs.Answers.{session_said}

@@ -2,11 +2,11 @@
 use Rattle.std.specs.Prelude.{ℕ, ◌≡◌, ⊤, Bool, true, false, List, [], ◌∷◌, All, option_map, unwrap_or}
 use Rattle.cache_model.specs.declared.cause.Cause.{Cause}
 use Rattle.cache_model.specs.Damage.{is_damage}
-use Rattle.script_lang.specs.declared.line.LineAnswer.{LineAnswer}
-use Rattle.script_lang.specs.declared.line.LineAnswer.TheVariants as line
-use Rattle.script_lang.specs.declared.answer.StepAnswer.{StepAnswer}
-use Rattle.script_lang.specs.declared.answer.StepAnswer.TheVariants as answer
-use Rattle.script_lang.specs.Grammar.{reading_of}
+use Rattle.script_grammar.specs.declared.line.LineAnswer.{LineAnswer}
+use Rattle.script_grammar.specs.declared.line.LineAnswer.TheVariants as line
+use Rattle.script_grammar.specs.declared.answer.StepAnswer.{StepAnswer}
+use Rattle.script_grammar.specs.declared.answer.StepAnswer.TheVariants as answer
+use Rattle.script_grammar.specs.Grammar.{reading_of}
 use Rattle.script_run.specs.Run.{Harm, Run, fresh}
 use Rattle.script_run.specs.Turn.{Turn}
 use Rattle.script_run.specs.Answers.{step_answer}

@@ -18,8 +18,8 @@ use Rattle.cache_model.specs.Vectors.{AreTold}
 use Rattle.cache_model.proofs.Steps.{alone}
 use Rattle.cache_model.proofs.Found.{cuts_found, no_truth, number_of, same_some}
 use Rattle.step_laws.proofs.ToldFlush.{go_on}
-use Rattle.script_lang.specs.declared.step.Step.{Step}
-use Rattle.script_lang.specs.declared.step.Step.TheVariants as step
+use Rattle.script_grammar.specs.declared.step.Step.{Step}
+use Rattle.script_grammar.specs.declared.step.Step.TheVariants as step
 use Rattle.script_run.specs.Run.{Run, Holding, Stream, gathered_of, held_by, no_stream, reader_by, with_value, put_written_by}
 use Rattle.script_run.specs.Asked.{asked, asks_if_free, asks_if_has, body_intents, closing, feed_intents, feeding, put_intents}
 use Rattle.script_run.specs.Turn.{Turn}

@@ -6,11 +6,11 @@ use Rattle.cache_model.specs.declared.record.Rec.{Rec}
 use Rattle.cache_model.specs.State.{State, after_all, nothing_yet, reader_of}
 use Rattle.cache_model.specs.Permit.{Reason, Exhausted, Faulted}
 use Rattle.cache_model.specs.Legal.{is_writing}
-use Rattle.script_lang.specs.declared.step.Step.{Step}
-use Rattle.script_lang.specs.declared.step.Step.TheVariants as step
-use Rattle.script_lang.specs.declared.line.LineAnswer.{LineAnswer}
-use Rattle.script_lang.specs.declared.line.LineAnswer.TheVariants as line
-use Rattle.script_lang.specs.Grammar.{reading_of}
+use Rattle.script_grammar.specs.declared.step.Step.{Step}
+use Rattle.script_grammar.specs.declared.step.Step.TheVariants as step
+use Rattle.script_grammar.specs.declared.line.LineAnswer.{LineAnswer}
+use Rattle.script_grammar.specs.declared.line.LineAnswer.TheVariants as line
+use Rattle.script_grammar.specs.Grammar.{reading_of}
 use Rattle.device_log.specs.Calls.{Call}
 use Rattle.actor_table.specs.Table.{number_of_name, with_actor}
 use Rattle.cache_model.specs.Damage.{has_damage}

@@ -19,7 +19,7 @@ use Rattle.cache_model.specs.Legal.{Does, IsQuiet, IsStep, IsUnlike, format_reco
 use Rattle.tape_base.specs.Digest.{digest_of}
 use Rattle.cache_model.specs.Pair.{IsCopyPair, IsPairOf, ShowsPair}
 use Rattle.cache_model.specs.Vectors.{AreTold}
-use Rattle.script_lang.specs.declared.step.Step.{Step}
+use Rattle.script_grammar.specs.declared.step.Step.{Step}
 use Rattle.script_run.specs.Run.{Run, Stream}
 use Rattle.script_run.specs.Asked.{asked}
 use Rattle.script_run.specs.Turn.{Turn, lookup_in}

@@ -2,8 +2,8 @@
 use Rattle.std.specs.Prelude.{ℕ, ◌≡◌, ◌==◌, Bool, true, false, if◌then◌else◌, List, [], drop, Option, Some, None, option_and_then}
 use Rattle.device_log.specs.Calls.{Call}
 use Rattle.actor_table.specs.Table.{number_of_name}
-use Rattle.script_lang.specs.declared.step.Step.{Step}
-use Rattle.script_lang.specs.declared.step.Step.TheVariants as step
+use Rattle.script_grammar.specs.declared.step.Step.{Step}
+use Rattle.script_grammar.specs.declared.step.Step.TheVariants as step
 use Rattle.fragment_table.specs.Table.{total_length}
 use Rattle.cache_model.specs.State.{State}
 use Rattle.cache_model.specs.Verdict.{cuts_of}

@@ -11,12 +11,12 @@ use Rattle.cache_model.specs.declared.record.Rec.TheVariants as rec
 use Rattle.cache_model.specs.State.{State, ReaderRow, reader_of}
 use Rattle.cache_model.specs.Legal.{IsStep, format_records}
 use Rattle.cache_model.specs.Pair.{ShowsPair}
-use Rattle.script_lang.specs.declared.step.Step.{Step}
-use Rattle.script_lang.specs.declared.step.Step.TheVariants as step
-use Rattle.script_lang.specs.declared.line.LineAnswer.{LineAnswer}
-use Rattle.script_lang.specs.declared.line.LineAnswer.TheVariants as line
-use Rattle.script_lang.specs.Grammar.{reading_of}
-use Rattle.script_lang.specs.Texts.{answer_line}
+use Rattle.script_grammar.specs.declared.step.Step.{Step}
+use Rattle.script_grammar.specs.declared.step.Step.TheVariants as step
+use Rattle.script_grammar.specs.declared.line.LineAnswer.{LineAnswer}
+use Rattle.script_grammar.specs.declared.line.LineAnswer.TheVariants as line
+use Rattle.script_grammar.specs.Grammar.{reading_of}
+use Rattle.script_grammar.specs.Texts.{answer_line}
 use Rattle.script_run.specs.Run.{Run, Stream, put_written_by, reader_by, with_value}
 use Rattle.script_run.specs.Asked.{asked}
 use Rattle.script_run.specs.Turn.{Turn, lookup_in, no_turn, told_in}

@@ -2,11 +2,11 @@
 use Rattle.std.proofs.Common.{◌≡◌, ◌∙◌, ℕ, zero, suc, ◌+◌, ◌<◌, List, [], ◌∷◌, refl, sym, ap, subst}
 use Rattle.std.specs.Prelude.{take, if◌then◌else◌, false, Option, Some, ⊤}
 use Rattle.std.specs.List.{AllByRecursion}
-use Rattle.script_lang.specs.declared.line.LineAnswer.{LineAnswer}
-use Rattle.script_lang.specs.declared.line.LineAnswer.TheVariants as line
-use Rattle.script_lang.specs.declared.answer.StepAnswer.{StepAnswer}
-use Rattle.script_lang.specs.declared.step.Step.{Step}
-use Rattle.script_lang.specs.Grammar.{reading_of}
+use Rattle.script_grammar.specs.declared.line.LineAnswer.{LineAnswer}
+use Rattle.script_grammar.specs.declared.line.LineAnswer.TheVariants as line
+use Rattle.script_grammar.specs.declared.answer.StepAnswer.{StepAnswer}
+use Rattle.script_grammar.specs.declared.step.Step.{Step}
+use Rattle.script_grammar.specs.Grammar.{reading_of}
 use Rattle.script_run.specs.Run.{Run}
 use Rattle.script_run.specs.Turn.{Turn}
 use Rattle.script_run.specs.Behind.{after_reading, after_step}

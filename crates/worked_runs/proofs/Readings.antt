@@ -2,11 +2,11 @@
 use Rattle.std.proofs.Common.{◌≡◌, [], refl}
 use Rattle.std.specs.Prelude.{codes}
 use Rattle.hex.specs.Hex.{decode_pairs}
-use Rattle.script_lang.specs.declared.line.LineAnswer.TheVariants as line
-use Rattle.script_lang.specs.declared.step.Step.TheVariants as step
-use Rattle.script_lang.specs.Tokens.{actor_of_word, number_of_word, number_below, key_in, object_of, hex_body, body_of_word}
-use Rattle.script_lang.specs.Verbs.{verb_of}
-use Rattle.script_lang.specs.Grammar.{only_actor, open_read_of, take_actor, take_number, alternates_kept, format_of_numbers, format_of, put_line_of, get_of, remove_of, step_of, reading_of}
+use Rattle.script_grammar.specs.declared.line.LineAnswer.TheVariants as line
+use Rattle.script_grammar.specs.declared.step.Step.TheVariants as step
+use Rattle.script_grammar.specs.Tokens.{actor_of_word, number_of_word, number_below, key_in, object_of, hex_body, body_of_word}
+use Rattle.script_grammar.specs.Verbs.{verb_of}
+use Rattle.script_grammar.specs.Grammar.{only_actor, open_read_of, take_actor, take_number, alternates_kept, format_of_numbers, format_of, put_line_of, get_of, remove_of, step_of, reading_of}
 use Rattle.worked_runs.specs.Script.{body_of_a, key_of_a, line_to_format, line_to_get, line_to_open, line_to_put, line_to_read_on, line_to_remove, name_of_reader}
 
 pub format_is_read : reading_of line_to_format ≡ line.Step (step.Format (codes "mem:a") 1 64 64 8 16 4 7 5)

@@ -4,8 +4,8 @@ use Rattle.std.specs.Prelude.{codes}
 use Rattle.tape_base.specs.declared.keys.Key.{Key}
 use Rattle.tape_base.proofs.NameLaws.{same_key-same}
 use Rattle.tape_base.specs.Geometry.{HasNumbers}
-use Rattle.script_lang.specs.declared.step.Step.{Step}
-use Rattle.script_lang.specs.declared.step.Step.TheVariants as step
+use Rattle.script_grammar.specs.declared.step.Step.{Step}
+use Rattle.script_grammar.specs.declared.step.Step.TheVariants as step
 use Rattle.script_run.specs.Run.{fresh}
 use Rattle.worked_runs.specs.Script.{body_of_a, key_of_a, name_of_reader, script_geometry, script_lines, turns_with}
 use Rattle.worked_runs.specs.History.{script_answers}

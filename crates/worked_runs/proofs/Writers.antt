@@ -3,8 +3,8 @@ use Rattle.std.proofs.Common.{◌≡◌, List, [], ◌∷◌, refl}
 use Rattle.std.specs.Prelude.{codes}
 use Rattle.tape_base.specs.declared.keys.Key.{Key}
 use Rattle.tape_base.proofs.NameLaws.{same_key-same}
-use Rattle.script_lang.specs.declared.step.Step.{Step}
-use Rattle.script_lang.specs.declared.step.Step.TheVariants as step
+use Rattle.script_grammar.specs.declared.step.Step.{Step}
+use Rattle.script_grammar.specs.declared.step.Step.TheVariants as step
 use Rattle.script_run.specs.Run.{fresh}
 use Rattle.worked_runs.specs.Script.{key_of_a, name_of_reader, script_geometry}
 use Rattle.worked_runs.specs.Writers.{fed_body, name_of_writer, other_request, varied_body, varied_request, varied_response, writers_answers, writers_lines, writers_turns_with}

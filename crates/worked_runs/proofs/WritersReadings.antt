@@ -3,12 +3,12 @@ use Rattle.std.proofs.Common.{◌≡◌, [], refl}
 use Rattle.hex.specs.Hex.{decode_pairs}
 use Rattle.http_header.specs.Token.{is_token_byte}
 use Rattle.percent_encoding.specs.Percent.{percent_decode}
-use Rattle.script_lang.specs.declared.line.LineAnswer.TheVariants as line
-use Rattle.script_lang.specs.declared.step.Step.TheVariants as step
-use Rattle.script_lang.specs.Fields.{with_word}
-use Rattle.script_lang.specs.Tokens.{actor_of_word, number_of_word, number_below, key_in, object_of, hex_body, body_of_word}
-use Rattle.script_lang.specs.Verbs.{verb_of}
-use Rattle.script_lang.specs.Grammar.{data_of, get_of, only_actor, open_write_of, put_line_of, take_actor, take_number, step_of, reading_of}
+use Rattle.script_grammar.specs.declared.line.LineAnswer.TheVariants as line
+use Rattle.script_grammar.specs.declared.step.Step.TheVariants as step
+use Rattle.script_grammar.specs.Fields.{with_word}
+use Rattle.script_grammar.specs.Tokens.{actor_of_word, number_of_word, number_below, key_in, object_of, hex_body, body_of_word}
+use Rattle.script_grammar.specs.Verbs.{verb_of}
+use Rattle.script_grammar.specs.Grammar.{data_of, get_of, only_actor, open_write_of, put_line_of, take_actor, take_number, step_of, reading_of}
 use Rattle.worked_runs.specs.Script.{key_of_a}
 use Rattle.worked_runs.specs.Writers.{fed_body, line_to_feed, line_to_get_other, line_to_give_up, line_to_put_varied, line_to_write, name_of_writer, other_request, varied_body, varied_request, varied_response}
 

@@ -6,9 +6,9 @@ use Rattle.hex.specs.Hex.{encode_with}
 use Rattle.tape_base.specs.declared.keys.Key.{Key}
 use Rattle.device_log.specs.Streams.{refused_writes, taken_by}
 use Rattle.edge_io.specs.Text.{text_read}
-use Rattle.script_lang.specs.declared.answer.StepAnswer.{StepAnswer}
-use Rattle.script_lang.specs.declared.answer.StepAnswer.TheVariants as answer
-use Rattle.script_lang.specs.Texts.{cause_line, formatted_line, number_line, numbered, piece_line, put_line, shown}
+use Rattle.script_grammar.specs.declared.answer.StepAnswer.{StepAnswer}
+use Rattle.script_grammar.specs.declared.answer.StepAnswer.TheVariants as answer
+use Rattle.script_grammar.specs.Texts.{cause_line, formatted_line, number_line, numbered, piece_line, put_line, shown}
 use Rattle.cache_model.specs.declared.cause.Cause.TheVariants as cause
 use Rattle.script_run.specs.Run.{Run, fresh}
 use Rattle.script_run.specs.Behind.{harms_of}

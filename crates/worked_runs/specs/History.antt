@@ -1,8 +1,8 @@
 -- The script as a whole: its lines have a legal history, and what they answer.
 use Rattle.std.specs.Prelude.{◌≡◌, ℕ, List, [], ◌∷◌, ◌++◌, codes, take, Option, Some}
 use Rattle.cache_model.specs.declared.cause.Cause.TheVariants as cause
-use Rattle.script_lang.specs.declared.answer.StepAnswer.{StepAnswer}
-use Rattle.script_lang.specs.declared.answer.StepAnswer.TheVariants as answer
+use Rattle.script_grammar.specs.declared.answer.StepAnswer.{StepAnswer}
+use Rattle.script_grammar.specs.declared.answer.StepAnswer.TheVariants as answer
 use Rattle.script_run.specs.Run.{fresh}
 use Rattle.script_run.specs.Takes.{IsRun, output_of}
 use Rattle.run_promise.specs.Lines.{answers_of}

@@ -1,7 +1,7 @@
 use Rattle.std.proofs.Common.{◌≡◌, ◌∙◌, ap, sym, refl}
 use Rattle.std.specs.Fmt.{digits}
 use Rattle.hex.specs.Hex.{encode_with}
-use Rattle.script_lang.specs.Texts.{cause_line, formatted_line, got_line, hit_line, number_line, piece_line, put_line, shown}
+use Rattle.script_grammar.specs.Texts.{cause_line, formatted_line, got_line, hit_line, number_line, piece_line, put_line, shown}
 use Rattle.script_run.specs.Run.{fresh}
 use Rattle.run_promise.specs.Lines.{texts_of}
 use Rattle.worked_runs.specs.History.{script_answers, script_output}

@@ -2,7 +2,7 @@ use Rattle.std.proofs.Common.{rules, ◌≤◌, sym, ◌∙◌, subst}
 use Rattle.cache_replay.specs.Getting.{given_in, got_answer}
 use Rattle.line_calls.specs.Moves.{MovesOrShows}
 use Rattle.run_promise.specs.Outline.{count_in}
-use Rattle.script_lang.specs.declared.step.Step.TheVariants as step
+use Rattle.script_grammar.specs.declared.step.Step.TheVariants as step
 use Rattle.cache_replay.proofs.Frames.{reader_leaves}
 use Rattle.cache_replay.proofs.ReadsOn.{losses_read}
 use Rattle.cache_replay.proofs.WholeLines.{line_gets, line_stays, page_refilled}

@@ -1,5 +1,5 @@
 use Rattle.std.specs.Prelude.{Some, None}
-use Rattle.script_lang.specs.declared.step.Step.TheVariants as step
+use Rattle.script_grammar.specs.declared.step.Step.TheVariants as step
 use Rattle.cache_replay.specs.Session.{state_in_part}
 use Rattle.cache_replay.proofs.OnPart.{active}
 use Rattle.cache_replay.proofs.OnSession.{get_without, plain_line}

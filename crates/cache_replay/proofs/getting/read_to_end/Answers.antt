@@ -1,5 +1,5 @@
 use Rattle.std.proofs.Common.{rules, refl, sym, ◌∙◌, ap, subst, arith}
-use Rattle.script_lang.specs.declared.answer.StepAnswer.TheVariants as answer
+use Rattle.script_grammar.specs.declared.answer.StepAnswer.TheVariants as answer
 use Rattle.cache_replay.specs.Getting.{IsUnderway}
 use Rattle.cache_replay.proofs.Counts.{broken_tells}
 use Rattle.cache_replay.proofs.ReadsOn.{leaves_more, leaves_still, losses_read, still_ready}

@@ -1,5 +1,5 @@
 use Rattle.std.specs.Prelude.{None}
-use Rattle.script_lang.specs.declared.step.Step.TheVariants as step
+use Rattle.script_grammar.specs.declared.step.Step.TheVariants as step
 use Rattle.cache_replay.specs.Session.{state_in_part}
 use Rattle.cache_replay.proofs.OnSession.{remove_without, plain_line}
 use Rattle.cache_replay.proofs.plain_lines.remove_line.Goals as goal

@@ -1,6 +1,6 @@
 use Rattle.std.proofs.Common.{◌∙◌, refl, sym, ap}
 use Rattle.std.specs.Prelude.{None, Some}
-use Rattle.script_lang.specs.declared.step.Step.TheVariants as step
+use Rattle.script_grammar.specs.declared.step.Step.TheVariants as step
 use Rattle.cache_replay.specs.Session.{ReaderHeld, slots_of}
 use Rattle.cache_replay.specs.ReaderLines.{reader_held}
 use Rattle.cache_replay.proofs.ActorLines.{changed_again, changed_to_same, seen_same, seen_set, wanting_line}

@@ -1,6 +1,6 @@
 use Rattle.std.proofs.Common.{◌∙◌, refl, sym, ap}
 use Rattle.std.specs.Prelude.{is_some}
-use Rattle.script_lang.specs.declared.step.Step.TheVariants as step
+use Rattle.script_grammar.specs.declared.step.Step.TheVariants as step
 use Rattle.cache_replay.specs.Session.{slots_of}
 use Rattle.cache_replay.specs.ReaderLines.{as_held}
 use Rattle.cache_replay.proofs.ActorLines.{changed_from, seen_same, wanting_line}

@@ -1,4 +1,4 @@
-use Rattle.script_lang.specs.declared.step.Step.TheVariants as step
+use Rattle.script_grammar.specs.declared.step.Step.TheVariants as step
 use Rattle.cache_replay.proofs.OnPart.{actor_line}
 use Rattle.cache_replay.proofs.writer_lines.abort_line.Goals as goal
 

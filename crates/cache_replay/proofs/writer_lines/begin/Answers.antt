@@ -1,5 +1,5 @@
 use Rattle.std.proofs.Common.{None, Some, sym, subst}
-use Rattle.script_lang.specs.declared.answer.StepAnswer.TheVariants as answer
+use Rattle.script_grammar.specs.declared.answer.StepAnswer.TheVariants as answer
 use Rattle.cache_replay.specs.WriterLines.{OpenDoes, OpensLine}
 use Rattle.cache_replay.proofs.Openings.{not_opened, opens}
 use Rattle.cache_replay.proofs.writer_lines.begin.Goals as goal

@@ -1,5 +1,5 @@
 use Rattle.std.proofs.Common.{◌∙◌, ◌++◌, ◌≡◌, List, ℕ, [], ap, subst}
-use Rattle.script_lang.specs.Texts.{answer_line}
+use Rattle.script_grammar.specs.Texts.{answer_line}
 use Rattle.run_promise.specs.Story.{SendsFront, SinkTook}
 use Rattle.run_script.proofs.Halts.{note_grows, sends_piece, took_piece}
 use Rattle.run_script.proofs.run.write_answer.Goals as goal

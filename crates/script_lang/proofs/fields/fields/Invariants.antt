@@ -1,5 +1,5 @@
 use Rattle.std.proofs.Common.{◌≡◌, length}
-use Rattle.script_lang.specs.Fields.{fields_after, no_fields}
+use Rattle.script_grammar.specs.Fields.{fields_after, no_fields}
 use Rattle.script_lang.specs.Taken.{words_in}
 use Rattle.script_lang.proofs.fields.fields.Given as goal
 

@@ -1,8 +1,8 @@
 -- The first word of a line, which says what kind of step it is.
 use Rattle.std.specs.Prelude.{ℕ, Bool, nat_eq, if◌then◌else◌, List, codes, Option, Some, None}
 use lib.Pointwise.{pointwise}
-use Rattle.script_lang.specs.declared.verbs.Verb.{Verb}
-use Rattle.script_lang.specs.declared.verbs.Verb.TheVariants as verb
+use Rattle.script_grammar.specs.declared.verb.Verb.{Verb}
+use Rattle.script_grammar.specs.declared.verb.Verb.TheVariants as verb
 
 -- byte by byte and to the same length: case counts
 abbrev pub same_word : List ℕ → List ℕ → Bool

@@ -6,14 +6,14 @@ use Rattle.hex.specs.Hex.{encode_lower}
 use Rattle.tape_base.specs.declared.digests.Digest.{Digest}
 use Rattle.cache_model.specs.declared.cause.Cause.{Cause}
 use Rattle.cache_model.specs.declared.cause.Cause.TheVariants as cause
-use Rattle.script_lang.specs.declared.line.BadKind.{BadKind}
-use Rattle.script_lang.specs.declared.line.BadKind.TheVariants as kind
-use Rattle.script_lang.specs.declared.answer.Refused.{Refused}
-use Rattle.script_lang.specs.declared.answer.Refused.TheVariants as refused
-use Rattle.script_lang.specs.declared.answer.StepAnswer.{StepAnswer}
-use Rattle.script_lang.specs.declared.answer.StepAnswer.TheVariants as answer
-use Rattle.script_lang.specs.declared.last.LastLine.{LastLine}
-use Rattle.script_lang.specs.declared.last.LastLine.TheVariants as last
+use Rattle.script_grammar.specs.declared.line.BadKind.{BadKind}
+use Rattle.script_grammar.specs.declared.line.BadKind.TheVariants as kind
+use Rattle.script_grammar.specs.declared.answer.Refused.{Refused}
+use Rattle.script_grammar.specs.declared.answer.Refused.TheVariants as refused
+use Rattle.script_grammar.specs.declared.answer.StepAnswer.{StepAnswer}
+use Rattle.script_grammar.specs.declared.answer.StepAnswer.TheVariants as answer
+use Rattle.script_grammar.specs.declared.last_line.LastLine.{LastLine}
+use Rattle.script_grammar.specs.declared.last_line.LastLine.TheVariants as last
 
 -- a line's newline
 abbrev pub newline : List ℕ

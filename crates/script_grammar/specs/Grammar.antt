@@ -1,18 +1,18 @@
 -- Which line is which step, and where the first word that does not fit stands.
 use Rattle.std.specs.Prelude.{ℕ, ◌+◌, ◌^◌, ◌==◌, Bool, ◌||◌, if◌then◌else◌, List, [], ◌∷◌, length, codes, slice_index, Option, Some, None, Result, Ok, Err}
-use Rattle.script_lang.specs.declared.line.BadKind.TheVariants as kind
-use Rattle.script_lang.specs.declared.line.BadLine.{BadLine}
-use Rattle.script_lang.specs.declared.line.LineAnswer.{LineAnswer}
-use Rattle.script_lang.specs.declared.line.LineAnswer.TheVariants as answer
-use Rattle.script_lang.specs.declared.fields.FieldKinds.TheVariants.{Request, Both}
-use Rattle.script_lang.specs.declared.step.Step.{Step}
-use Rattle.script_lang.specs.declared.step.Step.TheVariants as step
-use Rattle.script_lang.specs.declared.verbs.Verb.{Verb}
-use Rattle.script_lang.specs.declared.verbs.Verb.TheVariants as verb
-use Rattle.script_lang.specs.Words.{WordAt, bad, take_word, take_end, words_from, ◌>>=◌}
-use Rattle.script_lang.specs.Tokens.{number_below, object_of, body_of_word, actor_of_word}
-use Rattle.script_lang.specs.Fields.{fields_after, no_fields}
-use Rattle.script_lang.specs.Verbs.{same_word, verb_of}
+use Rattle.script_grammar.specs.declared.line.BadKind.TheVariants as kind
+use Rattle.script_grammar.specs.declared.line.BadLine.{BadLine}
+use Rattle.script_grammar.specs.declared.line.LineAnswer.{LineAnswer}
+use Rattle.script_grammar.specs.declared.line.LineAnswer.TheVariants as answer
+use Rattle.script_grammar.specs.declared.sides.FieldKinds.TheVariants.{Request, Both}
+use Rattle.script_grammar.specs.declared.step.Step.{Step}
+use Rattle.script_grammar.specs.declared.step.Step.TheVariants as step
+use Rattle.script_grammar.specs.declared.verb.Verb.{Verb}
+use Rattle.script_grammar.specs.declared.verb.Verb.TheVariants as verb
+use Rattle.script_grammar.specs.Words.{WordAt, bad, take_word, take_end, words_from, ◌>>=◌}
+use Rattle.script_grammar.specs.Tokens.{number_below, object_of, body_of_word, actor_of_word}
+use Rattle.script_grammar.specs.Fields.{fields_after, no_fields}
+use Rattle.script_grammar.specs.Verbs.{same_word, verb_of}
 
 -- the next word as a number below a limit, and what is left
 unfoldable pub take_number : ℕ → ℕ → List WordAt → Result (ℕ × List WordAt) BadLine

@@ -1,9 +1,9 @@
 -- The words of a line: parted by one space each, and tested one by one from the left.
 use Rattle.std.specs.Prelude.{ℕ, ◌+◌, ◌==◌, nat_le, Bool, true, false, not, ◌&&◌, if◌then◌else◌, List, [], ◌∷◌, length, Result, Ok, Err}
 use Rattle.std.specs.List.{list_all, slice_split}
-use Rattle.script_lang.specs.declared.line.BadKind.{BadKind}
-use Rattle.script_lang.specs.declared.line.BadKind.TheVariants.{Word, Count}
-use Rattle.script_lang.specs.declared.line.BadLine.{BadLine}
+use Rattle.script_grammar.specs.declared.line.BadKind.{BadKind}
+use Rattle.script_grammar.specs.declared.line.BadKind.TheVariants.{Word, Count}
+use Rattle.script_grammar.specs.declared.line.BadLine.{BadLine}
 
 -- what stands between two spaces, and the column of its first byte, from 1
 pub record WordAt : Type 0 where

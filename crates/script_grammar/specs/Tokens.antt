@@ -6,9 +6,9 @@ use Rattle.hex.specs.Hex.{decode_sized}
 use Rattle.hex.specs.declared.error.FromHexError.{FromHexError}
 use Rattle.tape_base.specs.declared.keys.Key.{Key}
 use Rattle.tape_base.specs.Key.{key_of_bytes, key_of_url}
-use Rattle.script_lang.specs.declared.line.BadKind.TheVariants as kind
-use Rattle.script_lang.specs.declared.line.BadLine.{BadLine}
-use Rattle.script_lang.specs.Words.{WordAt, bad}
+use Rattle.script_grammar.specs.declared.line.BadKind.TheVariants as kind
+use Rattle.script_grammar.specs.declared.line.BadLine.{BadLine}
+use Rattle.script_grammar.specs.Words.{WordAt, bad}
 
 -- ---- numbers
 

@@ -3,12 +3,12 @@ use Rattle.std.specs.Prelude.{ℕ, ◌+◌, ◌==◌, Bool, true, false, not, �
 use Rattle.hex.specs.Hex.{is_hex_digit}
 use Rattle.percent_encoding.specs.Percent.{percent_decode}
 use Rattle.alternate_vector.specs.Field.{Field, field_refusal, made_field, with_field}
-use Rattle.script_lang.specs.declared.line.BadKind.TheVariants as kind
-use Rattle.script_lang.specs.declared.line.BadLine.{BadLine}
-use Rattle.script_lang.specs.declared.fields.FieldKinds.{FieldKinds}
-use Rattle.script_lang.specs.declared.fields.FieldKinds.TheVariants.{Request, Both}
-use Rattle.script_lang.specs.declared.fields.Sides.{Sides}
-use Rattle.script_lang.specs.Words.{WordAt, bad, is_word, ◌>>=◌}
+use Rattle.script_grammar.specs.declared.line.BadKind.TheVariants as kind
+use Rattle.script_grammar.specs.declared.line.BadLine.{BadLine}
+use Rattle.script_grammar.specs.declared.sides.FieldKinds.{FieldKinds}
+use Rattle.script_grammar.specs.declared.sides.FieldKinds.TheVariants.{Request, Both}
+use Rattle.script_grammar.specs.declared.sides.Sides.{Sides}
+use Rattle.script_grammar.specs.Words.{WordAt, bad, is_word, ◌>>=◌}
 
 -- ---- values
 
