@@ -5,6 +5,6 @@ mod acting;
 mod refusal;
 mod stripe;
 
+pub use piece_answers::{Flushed, Found, Placed, Stop};
 pub use refusal::Refusal;
 pub use stripe::Stripe;
-pub use piece_answers::{Flushed, Found, Placed, Stop};
