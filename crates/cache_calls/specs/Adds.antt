@@ -6,6 +6,7 @@ use Rattle.cache_model.specs.declared.record.Rec.{Rec}
 use Rattle.cache_model.specs.declared.record.Rec.TheVariants as rec
 use Rattle.cache_model.specs.Damage.{TellNoDamage}
 use Rattle.cache_model.specs.Kept.{with_records}
+use Rattle.cache_model.specs.Permit.{IsAmong}
 use Rattle.call_laws.specs.Moments.{At}
 
 -- no record was added
@@ -28,6 +29,12 @@ pub record AddsSoundly (IsOwn : Rec → Type 0) (old new : At) : Type 0 where
   pub adds : AddsAll added old new
   pub own : AllByRecursion IsOwn added
   pub undamaged : TellsAll new.device → TellNoDamage added
+
+-- among those that were is the fault of a refused call, with this count
+pub record AddsFault (count : ℕ) (old new : At) : Type 0 where
+  pub added : List Rec
+  pub adds : AddsAll added old new
+  pub among : IsAmong (rec.Fault count) added
 
 -- a record of a flush: it speaks of pieces and of the device alone
 abbrev pub IsOfFlush : Rec → Type 0

@@ -23,7 +23,7 @@ use Rattle.cache_calls.specs.declared.calls.Receipt.{Receipt}
 use Rattle.cache_calls.specs.declared.calls.Refusal.{Refusal}
 use Rattle.cache_calls.specs.declared.calls.Refusal.TheVariants as refusal
 use Rattle.cache_calls.specs.Actors.{IsWriterOf, WriterSeen}
-use Rattle.cache_calls.specs.Adds.{AddsAll, AddsOnly, IsAsItWas, IsOfFlush}
+use Rattle.cache_calls.specs.Adds.{AddsAll, AddsFault, AddsOnly, IsAsItWas, IsOfFlush}
 use Rattle.cache_calls.specs.Keeping.{state_at}
 use Rattle.cache_calls.specs.Asked.{fills_fragment, gathered_with, next_payload, rows_at_close, taken_of}
 
@@ -129,6 +129,12 @@ pub record CutsAs (old new : At) (w : WriterSeen) (payload : List ℕ) : Type 0 
 pub record StopsAs (old new : At) : Type 0 where
   pub flush : AddsOnly IsOfFlush old new
   pub live : LiveBefore (state_at old) (state_at new)
+
+-- the device refused a call of that flush: its count is told, which is recorded
+pub record StopsByFault (count : ℕ) (old new : At) : Type 0 where
+  pub count_is : count ≡ new.device.faults
+  pub told : AddsFault count old new
+  pub stops : StopsAs old new
 
 -- so many bytes were taken: up to the next cut
 pub record TakesBytes (old new : At) (w : WriterSeen) (bytes : List ℕ) (n : ℕ) : Type 0 where
