@@ -151,8 +151,8 @@ Writes old new w bytes (Err refusal.Sealed) = (is_writing (state_at old) w.put �
 Writes old new w bytes (Err refusal.TooManyFragments) =
     IsTaking (state_at old) w × (0 < length bytes) × (length w.cuts ≡ most_fragments) × AddsAll (rec.Aborted w.put w.key ∷ []) old new
 Writes old new w bytes (Err (refusal.DeviceFault count)) =
-    IsCutting (state_at old) w bytes × (count ≡ new.device.faults)
-    × (has_room (state_at old) (length (next_payload (state_at old) w bytes)) ≡ false) × StopsAs old new
+    IsCutting (state_at old) w bytes × (has_room (state_at old) (length (next_payload (state_at old) w bytes)) ≡ false)
+    × StopsByFault count old new
 Writes old new w bytes (Err (refusal.Exhausted number)) =
     IsCutting (state_at old) w bytes × ReachesLimit (state_at new) (state_at old).geometry.fragment number × StopsAs old new
 Writes old new w bytes (Err (refusal.Memory e)) = IsTaking (state_at old) w × IsAsItWas old new
