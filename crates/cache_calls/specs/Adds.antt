@@ -1,5 +1,5 @@
 -- Which records a call may add.
-use Rattle.std.specs.Prelude.{ℕ, ◌≡◌, List}
+use Rattle.std.specs.Prelude.{ℕ, ◌≡◌, ◌≤◌, List}
 use Rattle.std.specs.List.{AllByRecursion}
 use Rattle.logged_disk.specs.Device.{TellsAll}
 use Rattle.cache_model.specs.declared.record.Rec.{Rec}
@@ -30,8 +30,9 @@ pub record AddsSoundly (IsOwn : Rec → Type 0) (old new : At) : Type 0 where
   pub own : AllByRecursion IsOwn added
   pub undamaged : TellsAll new.device → TellNoDamage added
 
--- among those that were is the fault of a refused call, with this count
+-- among those that were is the fault of a refused call, with this count, to which the device has come
 pub record AddsFault (count : ℕ) (old new : At) : Type 0 where
+  pub reached : count ≤ new.device.faults
   pub added : List Rec
   pub adds : AddsAll added old new
   pub among : IsAmong (rec.Fault count) added

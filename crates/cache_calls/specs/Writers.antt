@@ -130,7 +130,7 @@ pub record StopsAs (old new : At) : Type 0 where
   pub flush : AddsOnly IsOfFlush old new
   pub live : LiveBefore (state_at old) (state_at new)
 
--- the device refused a call of that flush: its count is told, which is recorded
+-- the device refused a call of that flush, which is recorded: its count then is told
 pub record StopsByFault (count : ℕ) (old new : At) : Type 0 where
   pub count_is : count ≡ new.device.faults
   pub told : AddsFault count old new
@@ -202,7 +202,7 @@ abbrev pub ClosesOpen : (old new : At) → WriterSeen → Result Receipt Refusal
 ClosesOpen old new w (Ok receipt) = TellsComplete w receipt
 ClosesOpen old new w (Err (refusal.VectorTooLarge bytes)) = (bytes ≡ size_at_close w) × (budget_of (state_at old).geometry < blocks_of bytes)
 ClosesOpen old new w (Err (refusal.Lost index why)) = why ≡ cause_of_piece (state_at new) (fragment_piece w.key w.put index)
-ClosesOpen old new w (Err (refusal.DeviceFault count)) = count ≤ new.device.faults
+ClosesOpen old new w (Err (refusal.DeviceFault count)) = AddsFault count old new
 ClosesOpen old new w (Err (refusal.Exhausted number)) = limit ≤ number
 ClosesOpen old new w (Err (refusal.Memory e)) = Unit {0}
 ClosesOpen old new w (Err _) = ⊥

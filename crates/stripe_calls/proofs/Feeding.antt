@@ -202,6 +202,7 @@ module _ (packed : Bool) (k l : Kept) (d e : Device) (w : Writer) where
           record {
             count_is = h.does.shape.why_is.0;
             told = record {
+              reached = let is : count ≡ e.faults = h.does.shape.why_is.0 in omega (arith, is);
               added = h.added;
               adds = h.adds;
               among = cut_recorded count refl

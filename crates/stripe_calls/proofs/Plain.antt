@@ -1,5 +1,5 @@
 -- An object is removed, and the buffer is written out.
-use Rattle.std.proofs.Common.{◌≡◌, ℕ, Bool, ◌≤◌, true, List, [], ◌∷◌, refl, sym, ◌∙◌, subst, Result, Ok, Err}
+use Rattle.std.proofs.Common.{◌≡◌, ℕ, Bool, ◌≤◌, true, List, [], ◌∷◌, refl, sym, ◌∙◌, subst, arith, Result, Ok, Err}
 use Rattle.std.specs.Prelude.{IfErr, IfOk, OnErr, OnOk}
 use Rattle.std.specs.declared.alloc.AllocError.{AllocError}
 use Rattle.tape_base.specs.declared.keys.Key.{Key}
@@ -90,6 +90,7 @@ module _ (packed : Bool) (k l : Kept) (d e : Device) (now : ℕ) where
   answers (Err (refusal.DeviceFault count)) h tells room stops still = record {
     count_is = stops;
     told = record {
+      reached = omega (arith, stops);
       added = h.added;
       adds = h.adds;
       among = flush_recorded count refl refl (h.does (alone packed now d.past e.past) refl (covers_alone packed now d.past e.past));

@@ -1,23 +1,37 @@
 -- What the device refuses is recorded, also where nothing is known of what vectors list.
-use Rattle.std.proofs.Common.{◌≡◌, ℕ, Bool, false, List, [], ◌∷◌, ◌++◌, refl, sym, ◌∙◌, ap, subst, inl, inr}
-use Rattle.std.specs.Prelude.{Some, None}
+use Rattle.std.proofs.Common.{◌≡◌, ℕ, ◌+◌, Bool, false, List, [], ◌∷◌, ◌++◌, length, refl, sym, ◌∙◌, ap, subst, inl, inr, Result, Ok, Err}
+use Rattle.std.specs.Prelude.{IfErr, Some, None}
+use Rattle.tape_base.specs.declared.pieces.PieceId.{PieceId}
 use Rattle.device_log.specs.Calls.{Call}
+use Rattle.logged_disk.specs.Device.{DeviceState as Device}
 use Rattle.cache_model.specs.declared.record.Rec.{Rec}
 use Rattle.cache_model.specs.declared.record.Rec.TheVariants as rec
 use Rattle.cache_model.specs.State.{State}
+use Rattle.cache_model.specs.Kept.{Kept}
 use Rattle.cache_model.specs.Due.{due_pieces}
 use Rattle.cache_model.specs.Outcomes.{stopped_front_of}
-use Rattle.cache_model.specs.Permit.{Done, End, Fails, Faulted, Fragment, Intent, IsAmong, Permit, Stays, Work, work_after}
-use Rattle.cache_model.specs.Legal.{Advances, Does, DoesFlush, DoesFragment, MakesRoom, MayGrow, MayStop, more, nothing}
+use Rattle.cache_model.specs.Permit.{Done, End, Fails, Faulted, Fragment, Intent, IsAmong, Permit, Stays, Weigh, Work, work_after}
+use Rattle.cache_model.specs.Legal.{Advances, Does, DoesFlush, DoesFragment, DoesWeigh, MakesRoom, MayGrow, MayStop, more, nothing}
 use Rattle.cache_model.specs.Syncing.{Unmarks}
 use Rattle.cache_model.proofs.Found.{no_truth, none_is}
+use Rattle.piece_answers.specs.declared.answer.Placed.{Placed}
 use Rattle.piece_answers.specs.Covers.{Covers, SpendsFirst, calls_since}
+use Rattle.piece_answers.specs.Place.{PlacesVector, RoomsAsAsked}
 use Rattle.piece_answers.proofs.Covering.{never_syncs, own_covers}
 use Rattle.piece_answers.proofs.Groups.{never_unmarks}
+use Rattle.stripe_core.specs.declared.refusal.Refusal.{Refusal}
+use Rattle.stripe_core.specs.declared.refusal.Refusal.TheVariants as refusal
+use Rattle.stripe_core.specs.Stripe.{AnswersOrWants}
+use Rattle.stripe_write.specs.declared.writer.Writer.{Writer}
+use Rattle.stripe_write.specs.Closing.{SpendsAll, WeighsAsAsked, asked_of_rest}
+use Rattle.stripe_write.specs.Faults.{RefusalHasRecord}
+use Rattle.stripe_write.specs.Others.{AddsOfPut}
+use Rattle.stripe_write.specs.Resting.{RestsAsAsked}
+use Rattle.stripe_write.proofs.Spending.{then_more}
 
 -- ---- the step of one call
 
--- the one that it makes alone, at a moment, of a directory that displaces or that does not
+-- the one that the call alone makes, at a moment, of a directory that displaces or that does not
 abbrev pub alone : (packed : Bool) (now : ℕ) (before after : List Call) → Permit
 alone packed now before after =
     record { packed = packed; syncs = false; now = now; area = 0; past = []; events = calls_since before after }
@@ -119,3 +133,71 @@ pub cut_recorded : {p : Permit} {s : State} {put index : ℕ} {payload : List �
     → SpendsFirst p s (Fragment put index payload) added (Fails (Faulted count)) → IsAmong (rec.Fault count) added
 cut_recorded {p} {s} {put} {index} {payload} {added} count off h =
     grown_recorded p (Fragment put index payload) count (λ t recs n d. fragment_recorded n off refl d) refl refl (h [] None)
+
+-- ---- a close that the device refuses
+
+-- the rest
+rest_group : {p : Permit} {s : State} (w : Writer) (items : List ℕ) {added : List Rec} (count : ℕ) → p.syncs ≡ false
+    → SpendsAll p s (asked_of_rest w items) added (Fails (Faulted count)) → IsAmong (rec.Fault count) added
+rest_group w [] count off h = none_is (sym (none_left refl (h [] None)))
+rest_group {p} w (byte ∷ bytes) count off h =
+    grown_recorded p (Fragment w.put (length w.table.rows + 1) (byte ∷ bytes)) count (λ t recs n d. fragment_recorded n off refl d) refl refl (h [] None)
+
+pub rest_recorded : (packed : Bool) (now : ℕ) (old new : Kept) (before : List Call) (after : Device) (w : Writer) (why : Refusal)
+    → AnswersOrWants {X = Unit {0}} (Err why) (RestsAsAsked packed now old new before after w) ⊥ → RefusalHasRecord old new why
+rest_recorded packed now old new before after w (refusal.DeviceFault count) h = record {
+  added = h.added;
+  adds = h.adds;
+  among = rest_group w w.gathered.items count refl
+      (h.does (alone packed now before after.past) refl refl (covers_alone packed now before after.past));
+}
+rest_recorded packed now old new before after w _ h = tt
+
+-- the room for the vector
+pub room_refused : (now : ℕ) (old new : Kept) (before : List Call) (after : Device) (bytes : ℕ) (why : Refusal)
+    → AnswersOrWants {X = Unit {0}} (Err why) (RoomsAsAsked now old new before after bytes) ⊥ → RefusalHasRecord old new why
+room_refused now old new before after bytes (refusal.DeviceFault count) h = record {
+  added = h.added;
+  adds = h.adds;
+  among = room_recorded count refl refl (h.does (alone false now before after.past) refl (covers_alone false now before after.past));
+}
+room_refused now old new before after bytes _ h = tt
+
+-- the vector, for which the device is not asked
+pub vector_recorded : (packed : Bool) (old new : Kept) (before after : List Call) (id : PieceId) (pin start : ℕ) (payload : List ℕ) (wanting : Type 0)
+    (why : Refusal) → AnswersOrWants {X = Placed} (Err why) (PlacesVector packed old new before after id pin start payload) wanting
+    → RefusalHasRecord old new why
+vector_recorded packed old new before after id pin start payload wanting (refusal.DeviceFault count) h = absurd h.places.at
+vector_recorded packed old new before after id pin start payload wanting _ h = tt
+
+-- the weighing
+weigh_group : {p : Permit} {s : State} {put rest : ℕ} {added : List Rec} {e : End} (count : ℕ) → e ≡ Fails (Faulted count)
+    → DoesWeigh p s put rest added e → IsAmong (rec.Fault count) added
+weigh_group count end (DoesWeigh.weighs w writing read fits none) = cc
+weigh_group count end (DoesWeigh.too_large w writing read large is) = cc
+weigh_group count end (DoesWeigh.damaged w row found writing live d is) = cc
+weigh_group {added = added} count end (DoesWeigh.faulted w row other writing live written counts is) =
+    subst (λ n. IsAmong (rec.Fault n) added) (same_count other count end) (subst (IsAmong (rec.Fault other)) (sym is) (inl refl))
+
+pub weigh_recorded : {old new : Kept} {before after : Device} {w : Writer} (why : Refusal)
+    → WeighsAsAsked before after old new w (Err why) → RefusalHasRecord old new why
+weigh_recorded {old} {new} {before} {after} {w} (refusal.DeviceFault count) h =
+    let p = alone false 0 before.past after.past in
+    let weighs = h.does p (covers_alone false 0 before.past after.past) in
+    record {
+      added = weighs.added;
+      adds = weighs.adds;
+      among = grown_recorded p (Weigh w.put (length w.gathered.items)) count (λ t recs n d. weigh_group n refl d) refl refl (weighs.does [] None);
+    }
+weigh_recorded _ h = tt
+
+-- behind more records
+pub recorded_behind : {X : Type 0} {put : ℕ} (old mid new : Kept) (result : Result X Refusal) → AddsOfPut put old mid
+    → IfErr result (RefusalHasRecord mid new) → IfErr result (RefusalHasRecord old new)
+recorded_behind old mid new (Err (refusal.DeviceFault count)) first h = record {
+  added = first.added ++ h.added;
+  adds = then_more old mid new first.added h.added first.adds h.adds;
+  among = among_last (rec.Fault count) first.added h.added h.among;
+}
+recorded_behind old mid new (Ok x) first h = tt
+recorded_behind old mid new (Err _) first h = tt
