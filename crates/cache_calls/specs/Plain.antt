@@ -15,7 +15,7 @@ use Rattle.cache_calls.specs.declared.calls.Removal.{Removal}
 use Rattle.cache_calls.specs.declared.calls.Removal.TheVariants as removal
 use Rattle.cache_calls.specs.Adds.{AddsAll, IsAsItWas}
 use Rattle.cache_calls.specs.Keeping.{IsIdle, state_at}
-use Rattle.cache_calls.specs.Writers.{LiveBefore}
+use Rattle.cache_calls.specs.Writers.{LiveBefore, StopsByFault}
 
 -- ---- a removal
 
@@ -35,11 +35,10 @@ pub record TellsFlushed (s t : State) (flushed : Flushed) : Type 0 where
   pub floor : flushed.floor ≡ floor_now t
   pub room : t.filled ≤ budget_of t.geometry
 
--- it is done; or the device refused a call, with that count, or its copies would end there at most; or memory was wanting, and
--- nothing was done
+-- it is done; or the device refused a call; or its copies would end there at most; or memory was wanting, and nothing was done
 abbrev pub FlushesAs : (old new : At) → Result Flushed Refusal → Type 0
 FlushesAs old new (Ok flushed) = TellsFlushed (state_at old) (state_at new) flushed × LiveBefore (state_at old) (state_at new)
-FlushesAs old new (Err (refusal.DeviceFault count)) = (count ≡ new.device.faults) × LiveBefore (state_at old) (state_at new)
+FlushesAs old new (Err (refusal.DeviceFault count)) = StopsByFault count old new
 FlushesAs old new (Err (refusal.Exhausted number)) =
     (number ≡ copies_end (state_at old)) × (limit ≤ number) × LiveBefore (state_at old) (state_at new)
 FlushesAs old new (Err (refusal.Memory e)) = IsAsItWas old new × IsIdle old new

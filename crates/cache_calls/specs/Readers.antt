@@ -1,5 +1,5 @@
 -- What readers are answered, and what then stands in the records.
-use Rattle.std.specs.Prelude.{ℕ, ◌≡◌, ◌+◌, ◌≤◌, ◌⊎◌, List, [], ◌∷◌, ◌++◌, Option, Some, None, Result, Ok, Err, IfOk, option_map, unwrap_or}
+use Rattle.std.specs.Prelude.{ℕ, ◌≡◌, ◌+◌, ◌⊎◌, List, [], ◌∷◌, ◌++◌, Option, Some, None, Result, Ok, Err, IfOk, option_map, unwrap_or}
 use Rattle.std.specs.declared.alloc.AllocError.{AllocError}
 use Rattle.tape_base.specs.declared.actors.Actor.{Actor}
 use Rattle.tape_base.specs.declared.digests.Digest.{Digest}
@@ -26,7 +26,7 @@ use Rattle.cache_calls.specs.declared.calls.NextPiece.TheVariants as piece
 use Rattle.cache_calls.specs.declared.calls.Opened.{Opened}
 use Rattle.cache_calls.specs.declared.calls.Opened.TheVariants as opened
 use Rattle.cache_calls.specs.Actors.{IsOpenReader, IsReaderOf, ReaderSeen, as_row}
-use Rattle.cache_calls.specs.Adds.{AddsAll, IsAsItWas}
+use Rattle.cache_calls.specs.Adds.{AddsAll, AddsFault, IsAsItWas}
 use Rattle.cache_calls.specs.Keeping.{AreSeen, state_at}
 
 -- ---- troubles
@@ -37,10 +37,10 @@ cause_records row (cause.DeviceFault count) = rec.Fault count ∷ []
 cause_records row (cause.Damaged place kept found) = rec.Damaged row.id row.place kept found ∷ []
 cause_records row _ = []
 
--- a cause tells no count of faults to which the device has not come
-abbrev pub IsCountedCause : ℕ → Cause → Type 0
-IsCountedCause faults (cause.DeviceFault count) = count ≤ faults
-IsCountedCause faults _ = Unit {0}
+-- a fault that is told as a cause was recorded, with its count
+abbrev pub IsCountedCause : (old new : At) → Cause → Type 0
+IsCountedCause old new (cause.DeviceFault count) = AddsFault count old new
+IsCountedCause old new _ = Unit {0}
 
 -- ---- a reader opens
 
@@ -79,10 +79,11 @@ TellsReader seen number (opened.Follow reader put) =
     ((seen reader).reader ≡ number) × (put ≡ (seen reader).put) × ((seen reader).table ≡ None)
 TellsReader seen number (opened.Miss why) = Unit {0}
 
--- the cause of a miss is that of the records, or tells no count to which the device has not come
-abbrev pub IsCountedMiss : ℕ → State → Key → ReadAnswer → Type 0
-IsCountedMiss faults s key (read.Miss why) = (why ≡ cause_of_miss s key) ⊎ IsCountedCause faults why
-IsCountedMiss faults s key _ = Unit {0}
+-- the cause of a miss is that of the records before, or is no fault but one that was recorded now
+abbrev pub IsCountedMiss : (old new : At) → Key → ReadAnswer → Type 0
+IsCountedMiss old new key (read.Miss why) =
+    (why ≡ cause_of_miss (state_at old) key) ⊎ IsCountedCause old new why
+IsCountedMiss old new key _ = Unit {0}
 
 -- what came of a lookup: its records, and a reader that is open
 pub record HasLooked {R : Type 0} (seen : R → ReaderSeen) (old new : At) (who : Actor) (key : Key) (request : List Field)
@@ -90,7 +91,7 @@ pub record HasLooked {R : Type 0} (seen : R → ReaderSeen) (old new : At) (who 
   pub adds : AddsAll (open_adds (state_at old) who key request (answer_in answer)) old new
   pub tells : TellsReader seen (state_at old).next_reader answer
   pub reader : IfReader (λ r. IsOpenReader (state_at new) (seen r)) answer
-  pub counted : IsCountedMiss new.device.faults (state_at old) key (answer_in answer)
+  pub counted : IsCountedMiss old new key (answer_in answer)
   pub read : AreSeen old new
 
 -- or memory was wanting, and nothing is recorded
@@ -150,16 +151,17 @@ abbrev pub IsGivenInEachStep : (old new : At) → ReaderSeen → NextPiece → L
 IsGivenInEachStep old new r answer into = (now : ℕ) (p : Permit) (earlier calls : List Call) → new.device.past ≡ calls ++ old.device.past
     → Encloses now old.setting p earlier calls → IsGivenAs p (state_at old) r answer into
 
--- the cause for which it breaks is that of the records, or tells no count to which the device has not come
-abbrev pub IsCountedBreak : ℕ → State → ReaderSeen → NextPiece → Type 0
-IsCountedBreak faults s r (piece.Broken why) = (why ≡ cause_of_piece s (next_piece (as_row r))) ⊎ IsCountedCause faults why
-IsCountedBreak faults s r _ = Unit {0}
+-- the cause for which it breaks is that of the records before, or is no fault but one that was recorded now
+abbrev pub IsCountedBreak : (old new : At) → ReaderSeen → NextPiece → Type 0
+IsCountedBreak old new r (piece.Broken why) =
+    (why ≡ cause_of_piece (state_at old) (next_piece (as_row r))) ⊎ IsCountedCause old new why
+IsCountedBreak old new r _ = Unit {0}
 
 -- what came of it: the records, and what it is given
 pub record HasRead (old new : At) (r : ReaderSeen) (answer : NextPiece) (into : List ℕ) : Type 0 where
   pub adds : AddsAll (read_adds (state_at old) r answer) old new
   pub given : IsGivenInEachStep old new r answer into
-  pub counted : IsCountedBreak new.device.faults (state_at old) r answer
+  pub counted : IsCountedBreak old new r answer
   pub read : AreSeen old new
 
 -- or memory was wanting, and nothing is recorded

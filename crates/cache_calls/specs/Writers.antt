@@ -23,7 +23,7 @@ use Rattle.cache_calls.specs.declared.calls.Receipt.{Receipt}
 use Rattle.cache_calls.specs.declared.calls.Refusal.{Refusal}
 use Rattle.cache_calls.specs.declared.calls.Refusal.TheVariants as refusal
 use Rattle.cache_calls.specs.Actors.{IsWriterOf, WriterSeen}
-use Rattle.cache_calls.specs.Adds.{AddsAll, AddsOnly, IsAsItWas, IsOfFlush}
+use Rattle.cache_calls.specs.Adds.{AddsAll, AddsFault, AddsOnly, IsAsItWas, IsOfFlush}
 use Rattle.cache_calls.specs.Keeping.{state_at}
 use Rattle.cache_calls.specs.Asked.{fills_fragment, gathered_with, next_payload, rows_at_close, taken_of}
 
@@ -130,6 +130,12 @@ pub record StopsAs (old new : At) : Type 0 where
   pub flush : AddsOnly IsOfFlush old new
   pub live : LiveBefore (state_at old) (state_at new)
 
+-- the device refused a call of that flush, which is recorded: its count then is told
+pub record StopsByFault (count : ℕ) (old new : At) : Type 0 where
+  pub count_is : count ≡ new.device.faults
+  pub told : AddsFault count old new
+  pub stops : StopsAs old new
+
 -- so many bytes were taken: up to the next cut
 pub record TakesBytes (old new : At) (w : WriterSeen) (bytes : List ℕ) (n : ℕ) : Type 0 where
   pub taking : IsTaking (state_at old) w
@@ -145,8 +151,8 @@ Writes old new w bytes (Err refusal.Sealed) = (is_writing (state_at old) w.put �
 Writes old new w bytes (Err refusal.TooManyFragments) =
     IsTaking (state_at old) w × (0 < length bytes) × (length w.cuts ≡ most_fragments) × AddsAll (rec.Aborted w.put w.key ∷ []) old new
 Writes old new w bytes (Err (refusal.DeviceFault count)) =
-    IsCutting (state_at old) w bytes × (count ≡ new.device.faults)
-    × (has_room (state_at old) (length (next_payload (state_at old) w bytes)) ≡ false) × StopsAs old new
+    IsCutting (state_at old) w bytes × (has_room (state_at old) (length (next_payload (state_at old) w bytes)) ≡ false)
+    × StopsByFault count old new
 Writes old new w bytes (Err (refusal.Exhausted number)) =
     IsCutting (state_at old) w bytes × ReachesLimit (state_at new) (state_at old).geometry.fragment number × StopsAs old new
 Writes old new w bytes (Err (refusal.Memory e)) = IsTaking (state_at old) w × IsAsItWas old new
@@ -196,7 +202,7 @@ abbrev pub ClosesOpen : (old new : At) → WriterSeen → Result Receipt Refusal
 ClosesOpen old new w (Ok receipt) = TellsComplete w receipt
 ClosesOpen old new w (Err (refusal.VectorTooLarge bytes)) = (bytes ≡ size_at_close w) × (budget_of (state_at old).geometry < blocks_of bytes)
 ClosesOpen old new w (Err (refusal.Lost index why)) = why ≡ cause_of_piece (state_at new) (fragment_piece w.key w.put index)
-ClosesOpen old new w (Err (refusal.DeviceFault count)) = count ≤ new.device.faults
+ClosesOpen old new w (Err (refusal.DeviceFault count)) = AddsFault count old new
 ClosesOpen old new w (Err (refusal.Exhausted number)) = limit ≤ number
 ClosesOpen old new w (Err (refusal.Memory e)) = Unit {0}
 ClosesOpen old new w (Err _) = ⊥

@@ -235,7 +235,7 @@ pub closed_counts : (a b : At) (w : WriterSeen) (result : Result Receipt Refusal
 closed_counts a b w (Ok receipt) none how = omega arith
 closed_counts a b w (Err (refusal.VectorTooLarge size)) none how = omega arith
 closed_counts a b w (Err (refusal.Lost index why)) none how = at_most (count_of_cause why) b.device.faults (ap count_of_cause how ∙ loss_counts (state_at b) _ none)
-closed_counts a b w (Err (refusal.DeviceFault count)) none how = how
+closed_counts a b w (Err (refusal.DeviceFault count)) none how = how.reached
 closed_counts a b w (Err (refusal.Exhausted number)) none how = omega arith
 closed_counts a b w (Err (refusal.Memory e)) none how = tt
 closed_counts a b w (Err refusal.NoSuchWriter) none how = absurd how

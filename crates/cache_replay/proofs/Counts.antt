@@ -10,11 +10,13 @@ use Rattle.cache_model.specs.declared.cause.Cause.{Cause}
 use Rattle.cache_model.specs.declared.cause.Cause.TheVariants as cause
 use Rattle.cache_model.specs.State.{Complete, LastVector, Row, State, TakenOut, last_abort, last_vector, live_row_of, row_of, vector_piece}
 use Rattle.cache_model.specs.Verdict.{cause_of_beginning, cause_of_last, cause_of_miss, cause_of_piece, cause_without_vector, next_piece, no_match, no_record, passed}
+use Rattle.call_laws.specs.Moments.{At}
 use Rattle.cache_calls.specs.declared.calls.NextPiece.{NextPiece}
 use Rattle.cache_calls.specs.declared.calls.NextPiece.TheVariants as piece
 use Rattle.cache_calls.specs.declared.calls.Opened.{Opened}
 use Rattle.cache_calls.specs.declared.calls.Opened.TheVariants as opened
 use Rattle.cache_calls.specs.Actors.{ReaderSeen, as_row}
+use Rattle.cache_calls.specs.Keeping.{state_at}
 use Rattle.cache_calls.specs.Readers.{IsCountedBreak, IsCountedCause, IsCountedMiss, answer_in}
 use Rattle.script_run.specs.Answers.{broken_said, miss_said}
 use Rattle.script_run.specs.Losses.{NoLossIsAFault, is_fault}
@@ -80,15 +82,15 @@ miss_counts s key none = missed_counts s key (last_vector s key) none
 pub at_most : (n k : ℕ) → n ≡ 0 → n ≤ k
 at_most n k e = omega (arith, e)
 
-cause_counts : (faults : ℕ) (why : Cause) → IsCountedCause faults why → count_of_cause why ≤ faults
-cause_counts faults (cause.DeviceFault count) h = h
-cause_counts faults _ h = omega arith
+cause_counts : (old new : At) (why : Cause) → IsCountedCause old new why → count_of_cause why ≤ new.device.faults
+cause_counts old new (cause.DeviceFault count) h = h.reached
+cause_counts old new _ h = omega arith
 
 -- a cause that stands, or that is counted
-either_counts : (faults : ℕ) (why other : Cause) → count_of_cause other ≡ 0 → (why ≡ other) ⊎ IsCountedCause faults why
-    → count_of_cause why ≤ faults
-either_counts faults why other none (inl is) = at_most (count_of_cause why) faults (ap count_of_cause is ∙ none)
-either_counts faults why other none (inr counted) = cause_counts faults why counted
+either_counts : (old new : At) (why other : Cause) → count_of_cause other ≡ 0 → (why ≡ other) ⊎ IsCountedCause old new why
+    → count_of_cause why ≤ new.device.faults
+either_counts old new why other none (inl is) = at_most (count_of_cause why) new.device.faults (ap count_of_cause is ∙ none)
+either_counts old new why other none (inr counted) = cause_counts old new why counted
 
 -- ---- answers
 
@@ -107,19 +109,22 @@ pub broken_tells : (why : Cause) (n : ℕ) → count_of_cause why ≤ n → coun
 broken_tells why n h = subst (λ k. k ≤ n) (sym (broken_said_counts why)) h
 
 -- a lookup
-pub missed_tells : {R : Type 0} (s : State) (key : Key) (faults : ℕ) (given : Opened R) → NoLossIsAFault s → IsCountedMiss faults s key (answer_in given)
-    → count_in (opened_answer given) ≤ faults
-missed_tells s key faults (opened.Hit reader put length) none h = omega arith
-missed_tells s key faults (opened.Follow reader put) none h = omega arith
-missed_tells s key faults (opened.Miss why) none h = miss_tells why faults (either_counts faults why (cause_of_miss s key) (miss_counts s key none) h)
+pub missed_tells : {R : Type 0} (old new : At) (key : Key) (given : Opened R) → NoLossIsAFault (state_at old) → IsCountedMiss old new key (answer_in given)
+    → count_in (opened_answer given) ≤ new.device.faults
+missed_tells old new key (opened.Hit reader put length) none h = omega arith
+missed_tells old new key (opened.Follow reader put) none h = omega arith
+missed_tells old new key (opened.Miss why) none h =
+    miss_tells why new.device.faults (either_counts old new why (cause_of_miss (state_at old) key) (miss_counts (state_at old) key none) h)
 
 -- a reader that reads on
-pub piece_counts : (s : State) (r : ReaderSeen) (faults : ℕ) (given : NextPiece) → NoLossIsAFault s → IsCountedBreak faults s r given → count_in_piece given ≤ faults
-piece_counts s r faults (piece.Piece index size) none h = omega arith
-piece_counts s r faults (piece.End size) none h = omega arith
-piece_counts s r faults (piece.NotYet cut) none h = omega arith
-piece_counts s r faults (piece.Broken why) none h =
-    either_counts faults why (cause_of_piece s (next_piece (as_row r))) (loss_counts s (next_piece (as_row r)) none) h
+pub piece_counts : (old new : At) (r : ReaderSeen) (given : NextPiece) → NoLossIsAFault (state_at old) → IsCountedBreak old new r given
+    → count_in_piece given ≤ new.device.faults
+piece_counts old new r (piece.Piece index size) none h = omega arith
+piece_counts old new r (piece.End size) none h = omega arith
+piece_counts old new r (piece.NotYet cut) none h = omega arith
+piece_counts old new r (piece.Broken why) none h =
+    let id = next_piece (as_row r) in
+    either_counts old new why (cause_of_piece (state_at old) id) (loss_counts (state_at old) id none) h
 
 pub piece_tells : (given : NextPiece) (into : List ℕ) (n : ℕ) → count_in_piece given ≤ n → count_in (next_answer given into) ≤ n
 piece_tells (piece.Piece index size) into n h = h

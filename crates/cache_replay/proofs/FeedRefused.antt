@@ -89,7 +89,7 @@ module _ (now : ℕ) (old new : At) (w : WriterSeen) (bytes : List ℕ) (own : I
   as_it_was why stays same = same_puts s t w.put why stays writing (ap (λ k. (state_of k).puts) same)
 
   leaves : (why : Refusal) → Writes old new w bytes (Err why) → LeavesPut s t w.put why
-  leaves (refusal.DeviceFault count) gives = flushed (refusal.DeviceFault count) (λ x. x) gives.3.flush
+  leaves (refusal.DeviceFault count) gives = flushed (refusal.DeviceFault count) (λ x. x) gives.2.stops.flush
   leaves (refusal.Exhausted number) gives = flushed (refusal.Exhausted number) (λ x. x) gives.2.flush
   leaves refusal.TooManyFragments gives =
       subst (λ x. LeavesPut s x w.put refusal.TooManyFragments) (sym (state_behind old.kept new.kept (rec.Aborted w.put w.key ∷ []) gives.3)) (aborted s w writing)
@@ -147,7 +147,7 @@ module _ (now : ℕ) (old new : At) (w : WriterSeen) (bytes : List ℕ) (own : I
 
   -- the count that is told is the device's
   counted : (why : Refusal) → Writes old new w bytes (Err why) → count_of_refusal why ≤ new.device.faults
-  counted (refusal.DeviceFault count) gives = let is : count ≡ new.device.faults = gives.1 in omega (arith, is)
+  counted (refusal.DeviceFault count) gives = let is : count ≡ new.device.faults = gives.2.count_is in omega (arith, is)
   counted (refusal.Lost index cause) gives = absurd gives
   counted _ gives = omega arith
 

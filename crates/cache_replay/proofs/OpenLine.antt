@@ -180,7 +180,7 @@ module _ {S W R : Type 0} {c : CallsGhosts S W R} where
       goes = keeps.goes_on;
       ends = λ run moment plays. ends run plays;
       unharmed = λ run plays. keeps.unharmed;
-      counts = missed_tells (state_in_part old) key (at_in new).device.faults given active.part_is.losses looked.counted;
+      counts = missed_tells (at_in old) (at_in new) key given active.part_is.losses looked.counted;
       stop = tt;
       names = names_within before.names after.names name names;
     })

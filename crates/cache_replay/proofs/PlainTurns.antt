@@ -161,7 +161,7 @@ module _ {S W R : Type 0} {c : CallsGhosts S W R} (now : ℕ) (old new : Part S 
 
   flush_counts : (result : Result Flushed Refusal) → FlushesAs (at_in old) (at_in new) result → IfOk (flush_answer result) (AnswerTellsCount (Some new))
   flush_counts (Ok flushed) gives = omega arith
-  flush_counts (Err (refusal.DeviceFault count)) gives = let is : count ≡ (at_in new).device.faults = gives.0 in omega (arith, is)
+  flush_counts (Err (refusal.DeviceFault count)) gives = let is : count ≡ (at_in new).device.faults = gives.count_is in omega (arith, is)
   flush_counts (Err (refusal.Exhausted number)) gives = omega arith
   flush_counts (Err _) gives = tt
 

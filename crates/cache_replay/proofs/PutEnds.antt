@@ -157,7 +157,7 @@ err_when P (Err why) from h = λ n. h (from n)
 pub close_counts : (old new : At) (w : WriterSeen) (result : Result Receipt Refusal) → is_writing (state_at old) w.put ≡ true → Closes old new w result
     → IfErr result (λ why. NoLossIsAFault (state_at new) → count_of_refusal why ≤ new.device.faults)
 close_counts old new w (Ok receipt) writing gives = tt
-close_counts old new w (Err (refusal.DeviceFault count)) writing gives = λ none. gives.1
+close_counts old new w (Err (refusal.DeviceFault count)) writing gives = λ none. gives.1.reached
 close_counts old new w (Err (refusal.Lost index why)) writing gives = λ none. at_most (count_of_cause why) new.device.faults (ap count_of_cause gives.1 ∙ loss_counts (state_at new) _ none)
 close_counts old new w (Err _) writing gives = λ none. omega arith
 

@@ -26,6 +26,7 @@ use Rattle.stripe_write.specs.declared.writer.Writer.{Writer}
 use Rattle.stripe_write.specs.Closes as closes
 use Rattle.stripe_write.specs.Closes.{ClosesAsAsked, ClosesWhere}
 use Rattle.stripe_write.specs.Closing as closing
+use Rattle.stripe_write.specs.Faults.{RefusalHasRecord}
 use Rattle.stripe_write.specs.Numbers as numbers
 use Rattle.stripe_write.specs.Writers as writers
 use Rattle.stripe_core.proofs.Between.{accounted_none}
@@ -184,15 +185,16 @@ module _ (packed : Bool) (k l : Kept) (d e : Device) (w : Writer) where
       }
 
   pub close_gives : (result : Result Receipt Refusal) → is_writing (state_of k) w.put ≡ true → ClosesWhere (state_of k) (state_of l) w result
-      → IfErr result (IsCounted e.faults) → Closes (at_by packed k d) (at_by packed l e) (written_as w) (answer_as receipt_as result)
-  close_gives (Ok given) writing is counts = (is.0, complete given is.1)
-  close_gives (Err (refusal.VectorTooLarge bytes)) writing is counts = (is.0, (is.1 ∙ size_is, is.2))
-  close_gives (Err (refusal.Lost index why)) writing is counts = (is.0, is.1)
-  close_gives (Err (refusal.DeviceFault count)) writing is counts = (is, counts)
-  close_gives (Err (refusal.Exhausted number)) writing is counts = (is.0, is.1)
-  close_gives (Err (refusal.Memory error)) writing is counts = (is, tt)
-  close_gives (Err refusal.NoSuchWriter) writing is counts = let clash : true ≡ false = sym writing ∙ is in cc
-  close_gives (Err _) writing is counts = absurd is
+      → IfErr result (IsCounted e.faults) → IfErr result (RefusalHasRecord k l) → Closes (at_by packed k d) (at_by packed l e) (written_as w) (answer_as receipt_as result)
+  close_gives (Ok given) writing is counts recorded = (is.0, complete given is.1)
+  close_gives (Err (refusal.VectorTooLarge bytes)) writing is counts recorded = (is.0, (is.1 ∙ size_is, is.2))
+  close_gives (Err (refusal.Lost index why)) writing is counts recorded = (is.0, is.1)
+  close_gives (Err (refusal.DeviceFault count)) writing is counts recorded =
+      (is, record { reached = counts; added = recorded.added; adds = recorded.adds; among = recorded.among })
+  close_gives (Err (refusal.Exhausted number)) writing is counts recorded = (is.0, is.1)
+  close_gives (Err (refusal.Memory error)) writing is counts recorded = (is, tt)
+  close_gives (Err refusal.NoSuchWriter) writing is counts recorded = let clash : true ≡ false = sym writing ∙ is in cc
+  close_gives (Err _) writing is counts recorded = absurd is
 
 -- ---- the writer
 

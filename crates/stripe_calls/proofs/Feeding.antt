@@ -30,6 +30,7 @@ use Rattle.stripe_write.specs.Writers as writers
 use Rattle.stripe_write.specs.Writes as writes
 use Rattle.stripe_write.specs.Writes.{CutsNextAsAsked, IsTakingInStripe, SameWriter, WritesAsAsked, WritesWhere, cuts_fragment, gathered_behind, next_id, payload_cut_next, next_start, completes_fragment, taken_up_to_cut}
 use Rattle.stripe_write.proofs.Cutting.{next_no_vector}
+use Rattle.stripe_write.proofs.Faulted.{alone, covers_alone, cut_recorded}
 use Rattle.stripe_write.proofs.Spending.{nothing_more}
 use Rattle.cache_calls.specs.Adds.{AddsSoundly, IsOfPut}
 use Rattle.cache_calls.specs.Asked.{cuts_next, fed_asks, progress_at, write_asks}
@@ -195,8 +196,21 @@ module _ (packed : Bool) (k l : Kept) (d e : Device) (w : Writer) where
         record
         { taking = is.0; count = is.1; few = is.2; cuts = taken n h.added h.adds (completes_fragment (state_of k).geometry w n) h.does }
     write_gives (Err (refusal.DeviceFault count)) is number h =
-        let payload = payload_cut_next (state_of k) w bytes in
-        (cutting is, h.does.shape.why_is.0, h.does.shape.why_is.1, stops payload h.added (stop.DeviceFault count) h.adds h.does.shape)
+        let payload = payload_cut_next (state_of k) w bytes in (
+          cutting is,
+          h.does.shape.why_is.1,
+          record {
+            count_is = h.does.shape.why_is.0;
+            told = record {
+              reached = let is : count ≡ e.faults = h.does.shape.why_is.0 in omega (arith, is);
+              added = h.added;
+              adds = h.adds;
+              among = cut_recorded count refl
+                  (h.does.does (alone packed now d.past e.past) refl refl (covers_alone packed now d.past e.past));
+            };
+            stops = stops payload h.added (stop.DeviceFault count) h.adds h.does.shape;
+          },
+        )
     write_gives (Err (refusal.Exhausted n)) is number h =
         let payload = payload_cut_next (state_of k) w bytes in
         (cutting is, number, stops payload h.added (stop.Exhausted n) h.adds h.does.shape)

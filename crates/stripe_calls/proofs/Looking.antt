@@ -1,6 +1,6 @@
 -- A reader opens, and is closed.
 use Rattle.std.proofs.Common.{◌≡◌, ℕ, Bool, List, [], ◌∷◌, ◌++◌, refl, sym, ◌∙◌, ap, Result, Ok, Err, inl, inr}
-use Rattle.std.specs.Prelude.{IfErr, IfOk, OnErr, OnOk, Option, Some, None, option_map}
+use Rattle.std.specs.Prelude.{IfErr, IfOk, IsSome, OnErr, OnOk, Option, Some, None, option_map}
 use Rattle.std.specs.declared.alloc.AllocError.{AllocError}
 use Rattle.tape_base.specs.declared.actors.Actor.{Actor}
 use Rattle.tape_base.specs.declared.keys.Key.{Key}
@@ -9,11 +9,12 @@ use Rattle.fragment_table.specs.Table.{Table, total_length}
 use Rattle.alternate_vector.specs.Field.{Field}
 use Rattle.cache_model.specs.declared.answer.ReadAnswer.{ReadAnswer}
 use Rattle.cache_model.specs.declared.answer.ReadAnswer.TheVariants as read
+use Rattle.cache_model.specs.declared.cause.Cause.TheVariants as cause
 use Rattle.cache_model.specs.declared.record.Rec.{Rec}
 use Rattle.cache_model.specs.declared.record.Rec.TheVariants as rec
 use Rattle.cache_model.specs.State.{Row, State}
 use Rattle.cache_model.specs.Kept.{Kept, state_of, with_records}
-use Rattle.cache_model.specs.Permit.{Done, Intent, Look, StopReading}
+use Rattle.cache_model.specs.Permit.{Done, Intent, IsAmong, Look, StopReading}
 use Rattle.cache_model.specs.Verdict.{live_vector_of}
 use Rattle.call_laws.specs.Untold.{Untold}
 use Rattle.call_laws.specs.Moments.{IsToldAt}
@@ -29,6 +30,7 @@ use Rattle.stripe_read.specs.Lookups.{IfOpened, Opens, TellsOpened, answer_of_op
 use Rattle.stripe_read.specs.Readers as readers
 use Rattle.cache_model.specs.Vectors.{IsVectorAs}
 use Rattle.cache_calls.specs.Actors.{IsOpenReader, IsReaderOf}
+use Rattle.cache_calls.specs.Adds.{AddsAll}
 use Rattle.cache_calls.specs.Asked.{unless_wanting}
 use Rattle.cache_calls.specs.Readers as seam
 use Rattle.cache_calls.specs.Readers.{ClosesReader, HasItsTable, IsCountedMiss, OpensReader, TellsReader, open_adds, vector_trouble}
@@ -73,11 +75,24 @@ tells_as number (opened.Hit reader put size) h = (h.0, h.1, sym (length_same rea
 tells_as number (opened.Follow reader put) h = h
 tells_as number (opened.Miss why) h = tt
 
-counted_as : (faults : ℕ) (s : State) (key : Key) (given : Opened) → lookups.MissIsCounted faults s key (answer_of_opened given)
-    → IsCountedMiss faults s key (seam.answer_in (opened_in_calls given))
-counted_as faults s key (opened.Hit reader put size) h = tt
-counted_as faults s key (opened.Follow reader put) h = tt
-counted_as faults s key (opened.Miss why) h = elim h [ inl is ↦ inl is | inr counted ↦ inr (counted_cause faults why counted) ]
+-- the fault that kept a live vector from being read is recorded
+vector_among : (o : Option Row) (rest : List Rec) (count : ℕ) → IsSome o
+    → IsAmong (rec.Fault count) (vector_trouble o (read.Miss (cause.DeviceFault count)) ++ rest)
+vector_among None rest count live = cc
+vector_among (Some row) rest count live = inl refl
+
+counted_as : (packed : Bool) (k l : Kept) (d e : Device) (who : Actor) (key : Key) (request : List Field) (given : Opened)
+    → lookups.MissIsCounted e.faults (state_of k) key (answer_of_opened given)
+    → AddsAll (open_adds (state_of k) who key request (seam.answer_in (opened_in_calls given))) (at_by packed k d) (at_by packed l e)
+    → IsCountedMiss (at_by packed k d) (at_by packed l e) key (seam.answer_in (opened_in_calls given))
+counted_as packed k l d e who key request (opened.Hit reader put size) h adds = tt
+counted_as packed k l d e who key request (opened.Follow reader put) h adds = tt
+counted_as packed k l d e who key request (opened.Miss why) h adds =
+    let o : Option Row = live_vector_of (state_of k) key in
+    elim h [
+      | inl is ↦ inl is
+      | inr counted ↦ inr (counted_cause (at_by packed k d) (at_by packed l e) o why (λ c. open_adds (state_of k) who key request (read.Miss c)) counted adds (λ count. vector_among o _ count))
+    ]
 
 -- ---- a reader opens
 
@@ -109,13 +124,15 @@ module _ (packed : Bool) (k l : Kept) (d e : Device) (who : Actor) (key : Key) (
   pub look_gives : (result : Result Opened AllocError) → Added result → Found result → IfOk result (IfOpened (readers.IsOpenStripeReader (state_of l)))
       → IfOk result (TellsOpened (state_of k).next_reader) → OnErr result (l ≡ k)
       → OpensReader reading_as (at_by packed k d) (at_by packed l e) who key request (given_as opened_in_calls result)
-  look_gives (Ok given) adds h reader tells same = record {
-    adds = adds ∙ ap (with_records k) (adds_same (state_of k) who key request given);
-    tells = tells_as (state_of k).next_reader given tells;
-    reader = if_reader (readers.IsOpenStripeReader (state_of l)) (λ r. IsOpenReader (state_of l) (reading_as r)) (reader_as (state_of l)) given reader;
-    counted = counted_as e.faults (state_of k) key given h.counted;
-    read = are_seen packed k l d e h.seen;
-  }
+  look_gives (Ok given) adds h reader tells same =
+      let added = adds ∙ ap (with_records k) (adds_same (state_of k) who key request given) in
+      record {
+        adds = added;
+        tells = tells_as (state_of k).next_reader given tells;
+        reader = if_reader (readers.IsOpenStripeReader (state_of l)) (λ r. IsOpenReader (state_of l) (reading_as r)) (reader_as (state_of l)) given reader;
+        counted = counted_as packed k l d e who key request given h.counted added;
+        read = are_seen packed k l d e h.seen;
+      }
   look_gives (Err error) adds h reader tells same = same
 
 -- ---- a reader is closed

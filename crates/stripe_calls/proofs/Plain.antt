@@ -1,5 +1,5 @@
 -- An object is removed, and the buffer is written out.
-use Rattle.std.proofs.Common.{◌≡◌, ℕ, Bool, ◌≤◌, true, List, [], ◌∷◌, sym, ◌∙◌, subst, Result, Ok, Err}
+use Rattle.std.proofs.Common.{◌≡◌, ℕ, Bool, ◌≤◌, true, List, [], ◌∷◌, refl, sym, ◌∙◌, subst, arith, Result, Ok, Err}
 use Rattle.std.specs.Prelude.{IfErr, IfOk, OnErr, OnOk}
 use Rattle.std.specs.declared.alloc.AllocError.{AllocError}
 use Rattle.tape_base.specs.declared.keys.Key.{Key}
@@ -25,6 +25,7 @@ use Rattle.stripe_core.specs.Stripe.{AnswersOrWants, Wanting}
 use Rattle.stripe_write.specs.declared.removal.Removal.{Removal}
 use Rattle.stripe_write.specs.declared.removal.Removal.TheVariants as removal
 use Rattle.stripe_write.specs.Removals.{RemovesAsIsAsked, RemovesWhere, removal_adds}
+use Rattle.stripe_write.proofs.Faulted.{alone, covers_alone, flush_recorded}
 use Rattle.stripe_write.proofs.Flushed.{flush_leaves}
 use Rattle.stripe_write.proofs.Spending.{nothing_more}
 use Rattle.cache_calls.specs.Adds.{AddsSoundly, IsOfFlush}
@@ -86,7 +87,19 @@ module _ (packed : Bool) (k l : Kept) (d e : Device) (now : ℕ) where
       → FlushesAs (at_by packed k d) (at_by packed l e) (answer_as flushed_as result)
   answers (Ok flushed) h tells room stops still =
       (record { blocks = tells.blocks; cursor = tells.cursor; floor = tells.floor; room = room }, live_before (state_of k) (state_of l) h.live)
-  answers (Err (refusal.DeviceFault count)) h tells room stops still = (stops, live_before (state_of k) (state_of l) h.live)
+  answers (Err (refusal.DeviceFault count)) h tells room stops still = record {
+    count_is = stops;
+    told = record {
+      reached = omega (arith, stops);
+      added = h.added;
+      adds = h.adds;
+      among = flush_recorded count refl refl (h.does (alone packed now d.past e.past) refl (covers_alone packed now d.past e.past));
+    };
+    stops = record {
+      flush = record { added = h.added; adds = h.adds; own = flush_records h.added h.kinds };
+      live = live_before (state_of k) (state_of l) h.live;
+    };
+  }
   answers (Err (refusal.Exhausted number)) h tells room stops still = (stops.0, stops.1, live_before (state_of k) (state_of l) h.live)
   answers (Err (refusal.Memory error)) h tells room stops still = (h, is_idle still)
   answers (Err _) h tells room stops still = absurd h

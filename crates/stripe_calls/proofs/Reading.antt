@@ -1,15 +1,18 @@
 -- A reader reads on.
 use Rattle.std.proofs.Common.{◌≡◌, ℕ, Bool, List, [], ◌∷◌, ◌++◌, refl, sym, ◌∙◌, ap, Result, Ok, Err, inl, inr, ◌⊎◌}
-use Rattle.std.specs.Prelude.{IfOk, OnErr, Option, Some, None, option_map}
+use Rattle.std.specs.Prelude.{IfOk, IsSome, OnErr, Option, Some, None, option_map}
 use Rattle.std.specs.declared.alloc.AllocError.{AllocError}
 use Rattle.fragment_table.specs.Table.{Table}
 use Rattle.logged_disk.specs.Device.{DeviceState as Device, TellsAll}
 use Rattle.cyclone.specs.Cyclone.{Seen}
+use Rattle.cache_model.specs.declared.answer.NextAnswer.TheVariants as next
+use Rattle.cache_model.specs.declared.cause.Cause.TheVariants as cause
 use Rattle.cache_model.specs.declared.record.Rec.{Rec}
+use Rattle.cache_model.specs.declared.record.Rec.TheVariants as rec
 use Rattle.cache_model.specs.State.{Row, State}
 use Rattle.cache_model.specs.Kept.{Kept, state_of, with_records}
 use Rattle.cache_model.specs.Legal.{answer_record, live_next}
-use Rattle.cache_model.specs.Permit.{Done, Intent, Permit, ReadOn}
+use Rattle.cache_model.specs.Permit.{Done, Intent, IsAmong, Permit, ReadOn}
 use Rattle.cache_model.specs.Vectors.{IsVectorAs}
 use Rattle.call_laws.specs.Untold.{Untold}
 use Rattle.cache_model.specs.Contents.{Contents}
@@ -26,6 +29,7 @@ use Rattle.stripe_read.specs.declared.reading.NextPiece.TheVariants as piece
 use Rattle.stripe_read.specs.Nexts as nexts
 use Rattle.stripe_read.specs.Nexts.{ReadsOn}
 use Rattle.stripe_read.specs.Readers as readers
+use Rattle.cache_calls.specs.Adds.{AddsAll}
 use Rattle.cache_calls.specs.Asked.{unless_wanting}
 use Rattle.cache_calls.specs.Keeping.{StaysUnharmed}
 use Rattle.cache_calls.specs.Readers.{IsCountedBreak, IsFragment, IsGivenAs, IsGivenInEachStep, IsOtherNext, IsToldTo, ReaderGoesOn, ReadsNext, next_behind, next_trouble, noted, read_adds}
@@ -78,12 +82,24 @@ given_so p s r (piece.End size) into h = tt
 given_so p s r (piece.NotYet cut) into h = tt
 given_so p s r (piece.Broken why) into h = tt
 
-counted_as : (faults : ℕ) (s : State) (r : Reader) (given : NextPiece) → nexts.BreakIsCounted faults s r given
-    → IsCountedBreak faults s (reading_as r) (piece_as given)
-counted_as faults s r (piece.Piece index size) h = tt
-counted_as faults s r (piece.End size) h = tt
-counted_as faults s r (piece.NotYet cut) h = tt
-counted_as faults s r (piece.Broken why) h = elim h [ inl is ↦ inl is | inr counted ↦ inr (counted_cause faults why counted) ]
+-- the fault that kept a live fragment from being read is recorded
+next_among : (o : Option Row) (rest : List Rec) (count : ℕ) → IsSome o
+    → IsAmong (rec.Fault count) (next_trouble o (piece_as (piece.Broken (cause.DeviceFault count))) ++ rest)
+next_among None rest count live = cc
+next_among (Some row) rest count live = inl refl
+
+counted_as : (packed : Bool) (k l : Kept) (d e : Device) (r : Reader) (given : NextPiece) → nexts.BreakIsCounted e.faults (state_of k) r given
+    → AddsAll (read_adds (state_of k) (reading_as r) (piece_as given)) (at_by packed k d) (at_by packed l e)
+    → IsCountedBreak (at_by packed k d) (at_by packed l e) (reading_as r) (piece_as given)
+counted_as packed k l d e r (piece.Piece index size) h adds = tt
+counted_as packed k l d e r (piece.End size) h adds = tt
+counted_as packed k l d e r (piece.NotYet cut) h adds = tt
+counted_as packed k l d e r (piece.Broken why) h adds =
+    let o : Option Row = live_next (state_of k) (readers.row_of_reader r) in
+    elim h [
+      | inl is ↦ inl is
+      | inr counted ↦ inr (counted_cause (at_by packed k d) (at_by packed l e) o why (λ c. read_adds (state_of k) (reading_as r) (piece_as (piece.Broken c))) counted adds (λ count. next_among o (answer_record r.reader (next.Broke (cause.DeviceFault count)) ∷ []) count))
+    ]
 
 -- the payload that is told of the fragment
 exact_as : (contents : Contents) (o : Option Row) (given : NextPiece) (into : List ℕ) → nexts.GivesToldPayload contents o given into
@@ -131,12 +147,14 @@ module _ (packed : Bool) (k l : Kept) (old new : Seen) (r : Reader) where
 
   pub next_gives : (into : List ℕ) (result : Result NextPiece AllocError) → Added result → Read result into → OnErr result (l ≡ k)
       → ReadsNext (at_by packed k d) (at_by packed l e) (reading_as r) (given_as piece_as result) into
-  next_gives into (Ok given) adds h same = record {
-    adds = adds ∙ ap (with_records k) (adds_same (state_of k) r given);
-    given = is_given given into h;
-    counted = counted_as e.faults (state_of k) r given h.counted;
-    read = are_seen packed k l d e h.seen;
-  }
+  next_gives into (Ok given) adds h same =
+      let added = adds ∙ ap (with_records k) (adds_same (state_of k) r given) in
+      record {
+        adds = added;
+        given = is_given given into h;
+        counted = counted_as packed k l d e r given h.counted added;
+        read = are_seen packed k l d e h.seen;
+      }
   next_gives into (Err error) adds h same = same
 
   pub next_exact : (into : List ℕ) (result : Result NextPiece AllocError) → Read result into → TellsAll e → (contents : Contents)

@@ -1,6 +1,6 @@
 -- The words of a stripe, as those of a cache.
 use Rattle.std.proofs.Common.{◌≡◌, ℕ, Bool, List, refl, sym, ◌∙◌, inl, inr}
-use Rattle.std.specs.Prelude.{Option, Some, None, is_some, option_map}
+use Rattle.std.specs.Prelude.{IsSome, Option, Some, None, is_some, option_map}
 use Rattle.std.specs.List.{AllByRecursion}
 use Rattle.device_log.specs.Calls.{Call, Read}
 use Rattle.fragment_table.specs.Table.{Table}
@@ -11,9 +11,9 @@ use Rattle.cache_model.specs.declared.record.Rec.{Rec}
 use Rattle.cache_model.specs.declared.record.Rec.TheVariants as rec
 use Rattle.cache_model.specs.State.{Row, State}
 use Rattle.cache_model.specs.Kept.{Kept, state_of}
+use Rattle.cache_model.specs.Permit.{IsAmong}
 use Rattle.cache_model.proofs.Steps.{all_as}
 use Rattle.stripe_core.specs.Between.{IsBetween}
-use Rattle.stripe_core.specs.Counts as counts
 use Rattle.piece_answers.specs.Covers as covers
 use Rattle.piece_answers.specs.Find as find
 use Rattle.piece_answers.specs.Flush as flush
@@ -25,8 +25,10 @@ use Rattle.stripe_write.specs.Writers as writers
 use Rattle.stripe_read.specs.declared.reader.Reader.{Reader}
 use Rattle.stripe_read.specs.Others as others
 use Rattle.stripe_read.specs.Readers as readers
+use Rattle.stripe_read.specs.Troubles.{TroubleIsCounted}
+use Rattle.call_laws.specs.Moments.{At}
 use Rattle.cache_calls.specs.Actors.{IsAllCut, IsAtHand, IsOpenReader, IsReaderOf, IsWriterOf}
-use Rattle.cache_calls.specs.Adds.{AddsOnly, IsOfFlush, IsOfPut, IsOfReader}
+use Rattle.cache_calls.specs.Adds.{AddsAll, AddsOnly, IsOfFlush, IsOfPut, IsOfReader}
 use Rattle.cache_calls.specs.Keeping.{AreSeen, IsIdle, IsSeenOn, IsUnharmed, StaysUnharmed}
 use Rattle.cache_calls.specs.Readers.{IsCountedCause, cause_records}
 use Rattle.cache_calls.specs.Writers.{LiveBefore}
@@ -166,6 +168,14 @@ pub cause_same : (row : Row) (why : Cause) → cause_records row why ≡ find.re
 cause_same row (cause.DeviceFault count) = refl
 cause_same row _ = refl
 
-pub counted_cause : (faults : ℕ) (why : Cause) → counts.CauseIsCounted faults why → IsCountedCause faults why
-counted_cause faults (cause.DeviceFault count) h = h
-counted_cause faults _ h = tt
+-- a fault with a live piece is told, where these records were added, and it stands among them
+pub counted_cause : (old new : At) (o : Option Row) (why : Cause) (added : Cause → List Rec) → TroubleIsCounted new.device.faults o why
+    → AddsAll (added why) old new → ((count : ℕ) → IsSome o → IsAmong (rec.Fault count) (added (cause.DeviceFault count)))
+    → IsCountedCause old new why
+counted_cause old new o (cause.DeviceFault count) added counted adds among = record {
+  reached = counted.0;
+  added = added (cause.DeviceFault count);
+  adds = adds;
+  among = among count counted.1;
+}
+counted_cause old new o _ added counted adds among = tt

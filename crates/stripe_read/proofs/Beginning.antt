@@ -22,7 +22,6 @@ use Rattle.call_laws.specs.Untold.{Untold}
 use Rattle.call_laws.proofs.Kept.{untold_later}
 use Rattle.piece_answers.specs.Covers.{Covers}
 use Rattle.held_pieces.specs.Still.{IsStill}
-use Rattle.stripe_core.proofs.Counting.{cause_later}
 use Rattle.stripe_vectors.proofs.Seeing.{seen_before, still_seen}
 use Rattle.stripe_read.specs.declared.opening.Looked.{Looked}
 use Rattle.stripe_read.specs.declared.opening.Looked.TheVariants as looked
@@ -31,6 +30,7 @@ use Rattle.stripe_read.specs.Readers.{IsOpenStripeReader, IsStripeReaderOf}
 use Rattle.stripe_read.specs.Lookups.{IfOpened, IsFound, LooksUp, MissIsCounted, Opens, TellsOpened, answer_of_looked, answer_of_opened, lookup_adds, lookup_trouble, opened_as, opening_adds}
 use Rattle.stripe_read.proofs.Looking.{hit_adds, key_pair_wider, nothing_recorded}
 use Rattle.stripe_read.proofs.Staying.{LeavesReaders, cause_leaves, state_behind, two_calls}
+use Rattle.stripe_read.proofs.Counted.{trouble_later}
 
 -- ---- records
 
@@ -103,7 +103,7 @@ table_behind k k1 key request (looked.Miss why) is table = tt
 
 miss_later : (before after : ℕ) (s : State) (key : Key) (answer : ReadAnswer) → before ≤ after → MissIsCounted before s key answer → MissIsCounted after s key answer
 miss_later before after s key (read.Miss why) h (inl is) = inl is
-miss_later before after s key (read.Miss why) h (inr counted) = inr (cause_later before after why h counted)
+miss_later before after s key (read.Miss why) h (inr counted) = inr (trouble_later before after (live_vector_of s key) why h counted)
 miss_later before after s key _ h counted = tt
 
 tells_as : (number : ℕ) (key : Key) (found : Looked) → TellsOpened number (opened_as number key found)

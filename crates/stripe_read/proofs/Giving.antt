@@ -22,7 +22,6 @@ use Rattle.cache_model.specs.Contents.{Contents}
 use Rattle.piece_answers.specs.declared.answer.Found.{Found}
 use Rattle.piece_answers.specs.declared.answer.Found.TheVariants as found
 use Rattle.stripe_core.specs.Acts.{NotesAsAsked}
-use Rattle.stripe_core.specs.Counts.{CauseIsCounted}
 use Rattle.piece_answers.specs.Covers.{AllReadIsSeen, Covers}
 use Rattle.piece_answers.proofs.Covering.{own_covers, own_permit}
 use Rattle.piece_answers.specs.Find.{HasPayload, find_adds, found_records, records_of_trouble}
@@ -38,6 +37,8 @@ use Rattle.stripe_vectors.proofs.Finding.{found_same}
 use Rattle.stripe_vectors.proofs.Seeing.{seen_before, seen_none}
 use Rattle.stripe_read.proofs.Comparing.{is_read, unlike_row}
 use Rattle.stripe_read.proofs.Staying.{is_gave, two_calls}
+use Rattle.stripe_read.proofs.Counted.{of_live}
+use Rattle.stripe_read.specs.Troubles.{TroubleIsCounted}
 
 -- ---- verdicts
 
@@ -174,23 +175,26 @@ module _ (k k1 k2 : Kept) (r : Reader) (id : PieceId) (cut : ℕ) (digest : Dige
 
 -- why a fragment is missing is no count to which the device has not come
 fetched_counted : (p : Permit) (s : State) (faults : ℕ) (id : PieceId) (o : Option Row) (entry : TableRow) (why : Cause) (into : List ℕ) → (after_all s (found_records o (found.Missing why))).fault ≤ faults
-    → IsFetched p s id o entry (found.Missing why) into → (why ≡ cause_of_piece s id) ⊎ CauseIsCounted faults why
+    → IsFetched p s id o entry (found.Missing why) into → (why ≡ cause_of_piece s id) ⊎ TroubleIsCounted faults o why
 fetched_counted p s faults id None entry why into reached h = inl cc
-fetched_counted p s faults id (Some row) entry why into reached h = inr (cause_counted s row why faults reached)
+fetched_counted p s faults id (Some row) entry why into reached h = inr (of_live faults (Some row) why (cause_counted s row why faults reached) refl)
 
 -- how the put stands is no count of the device
-writing_counted : (faults : ℕ) (w : PutRow) (writing : Writing) (why : Cause) → next.Broke why ≡ verdict_of_writing w writing → CauseIsCounted faults why
-writing_counted faults w Open why h = cc
-writing_counted faults w Closed why h = cc
-writing_counted faults w GivenUp why h = let is : cause.Aborted w.put ≡ why = cc in subst (CauseIsCounted faults) is tt
+writing_counted : (faults : ℕ) (o : Option Row) (w : PutRow) (writing : Writing) (why : Cause) → next.Broke why ≡ verdict_of_writing w writing
+    → TroubleIsCounted faults o why
+writing_counted faults o w Open why h = cc
+writing_counted faults o w Closed why h = cc
+writing_counted faults o w GivenUp why h = let is : cause.Aborted w.put ≡ why = cc in subst (TroubleIsCounted faults o) is tt
 
-followed_counted : (faults : ℕ) (o : Option PutRow) (why : Cause) → next.Broke why ≡ verdict_of_followed o → CauseIsCounted faults why
-followed_counted faults None why h = cc
-followed_counted faults (Some w) why h = writing_counted faults w w.writing why h
+followed_counted : (faults : ℕ) (o : Option Row) (row : Option PutRow) (why : Cause) → next.Broke why ≡ verdict_of_followed row
+    → TroubleIsCounted faults o why
+followed_counted faults o None why h = cc
+followed_counted faults o (Some w) why h = writing_counted faults o w w.writing why h
 
-end_counted : (faults : ℕ) (s : State) (r : ReaderRow) (t : Option (List TableRow)) (why : Cause) → next.Broke why ≡ verdict_at_end s r t → CauseIsCounted faults why
-end_counted faults s r None why h = followed_counted faults (put_of s r.put) why h
-end_counted faults s r (Some table) why h = cc
+end_counted : (faults : ℕ) (o : Option Row) (s : State) (r : ReaderRow) (t : Option (List TableRow)) (why : Cause) → next.Broke why ≡ verdict_at_end s r t
+    → TroubleIsCounted faults o why
+end_counted faults o s r None why h = followed_counted faults o (put_of s r.put) why h
+end_counted faults o s r (Some table) why h = cc
 
 -- its payload is not the one that is listed
 other_by : (s : State) (r : Reader) (cut : ℕ) (digest : Digest) (has : HasNext s r cut digest) (o : Option Row) → live_row_of s (next_piece (row_of_reader r)) ≡ o → IsOtherPiece s (next_piece (row_of_reader r)) digest → NextIsOther s r
@@ -253,10 +257,12 @@ module _ (s : State) (old new newer : Seen) (r : Reader) (id : PieceId) (cut : �
         let own : Permit = own_permit 0 old.device.past newer.device.past in
         let there : (after_all s (find_adds s id (found.Missing why))).fault ≤ newer.device.faults =
         subst (λ (x : Device). (after_all s (find_adds s id (found.Missing why))).fault ≤ x.faults) (sym newer_is) reached in
-        fetched_counted own s newer.device.faults (next_piece (row_of_reader r)) (live_row_of s (next_piece (row_of_reader r)))
+        let missing : Cause → Option Row → Type 0 = λ c o. (c ≡ cause_of_piece s (next_piece (row_of_reader r))) ⊎ TroubleIsCounted newer.device.faults o c in
+        subst (missing why) (sym (next_live s (row_of_reader r) has.row has.found))
+        (fetched_counted own s newer.device.faults (next_piece (row_of_reader r)) (live_row_of s (next_piece (row_of_reader r)))
         has.row why into
         (subst (λ i. (after_all s (find_adds s i (found.Missing why))).fault ≤ newer.device.faults) id_is there)
-        (fetched (found.Missing why) f own (own_covers 0 old.device.past newer.device.past));
+        (fetched (found.Missing why) f own (own_covers 0 old.device.past newer.device.past)));
   }
 
 -- ---- behind the last fragment
@@ -302,7 +308,8 @@ module _ (s : State) (r : Reader) (answer : NextPiece) (none : next_row s (row_o
   stop_counted faults (piece.Piece index size) h = tt
   stop_counted faults (piece.End n) h = tt
   stop_counted faults (piece.NotYet cut) h = tt
-  stop_counted faults (piece.Broken why) h = inr (end_counted faults s (row_of_reader r) (rows_hit r) why h)
+  stop_counted faults (piece.Broken why) h =
+      inr (end_counted faults (live_next s (row_of_reader r)) s (row_of_reader r) (rows_hit r) why h)
 
   pub stop_reads : NotesAsAsked r.reader (answer_noted 0 answer) → (old new : Seen) (into : List ℕ)
       → new.device.past ≡ old.device.past → IsQuiet s

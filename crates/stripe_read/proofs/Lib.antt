@@ -8,3 +8,4 @@ mod Choosing
 mod Harmless
 mod Nexts
 pub mod Owning
+mod Counted

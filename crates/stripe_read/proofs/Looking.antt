@@ -1,6 +1,6 @@
 -- What a lookup finds.
 use Rattle.std.proofs.Common.{◌≡◌, ℕ, ◌<◌, ◌≤◌, List, [], refl, sym, ◌∙◌, ap, subst, inl, inr, ◌⊎◌, Bool, true, false}
-use Rattle.std.specs.Prelude.{Option, Some, None, if◌then◌else◌, option_and_then, option_map, unwrap_or}
+use Rattle.std.specs.Prelude.{Option, Some, None, if◌then◌else◌, option_and_then, option_map, unwrap_or, IsSome}
 use Rattle.std.proofs.lemmas.List.{append-nil}
 use Rattle.tape_base.specs.declared.keys.Key.{Key}
 use Rattle.tape_base.specs.declared.pieces.PieceId.{PieceId}
@@ -32,6 +32,8 @@ use Rattle.stripe_read.specs.declared.opening.Looked.{Looked}
 use Rattle.stripe_read.specs.declared.opening.Looked.TheVariants as looked
 use Rattle.stripe_read.specs.Lookups.{HasTable, IsChosen, IsFound, LooksUp, MissIsCounted, answer_of_looked, lookup_adds, lookup_trouble, otherwise}
 use Rattle.stripe_read.proofs.Comparing.{either}
+use Rattle.stripe_read.proofs.Counted.{of_live}
+use Rattle.piece_answers.proofs.Covering.{own_covers, own_permit}
 
 -- ---- the writer to follow, or the cause
 
@@ -232,11 +234,17 @@ module _ (s : State) (old new : Device) (key : Key) (request : List Field) where
     table = tt;
   })
 
+  troubled_live : (p : Permit) (why : Cause) (o : Option Row) → IsVectorFound p s o (vector.Trouble why) → IsSome o
+  troubled_live p why None h = absurd h
+  troubled_live p why (Some row) h = refl
+
   pub trouble_looks : (why : Cause) → CauseIsCounted new.faults why → FindsVector s old new key (vector.Trouble why) → LooksUp s old new key request (looked.Miss why)
   trouble_looks why counts f = record {
     seen = f.seen;
     answers = λ p covers each. trouble_in p why (live_vector_of s key) refl (f.answers p covers);
-    counted = inr counts;
+    counted =
+        inr (of_live new.faults (live_vector_of s key) why counts
+        (troubled_live (own_permit 0 old.past new.past) why (live_vector_of s key) (f.answers (own_permit 0 old.past new.past) (own_covers 0 old.past new.past))));
   }
 
   -- it was read, and nothing in it answers

@@ -1,4 +1,5 @@
 pub mod Readers
+pub mod Troubles
 pub mod Lookups
 pub mod Fetches
 pub mod Nexts

@@ -28,7 +28,6 @@ use Rattle.held_pieces.specs.Still.{IsStill, IsUnwritten}
 use Rattle.stripe_core.specs.declared.stripe.Stripe.{Stripe}
 use Rattle.stripe_core.specs.Acts.{IsFollowable}
 use Rattle.stripe_core.specs.Between.{Continues, Rests}
-use Rattle.stripe_core.specs.Counts.{CauseIsCounted}
 use Rattle.stripe_core.specs.Stripe.{kept_in, seen_in, state_in, units_in}
 use Rattle.stripe_read.specs.declared.reader.Reader.{Reader}
 use Rattle.stripe_read.specs.declared.opening.Chosen.{Chosen}
@@ -37,6 +36,7 @@ use Rattle.stripe_read.specs.declared.opening.Looked.TheVariants as looked
 use Rattle.stripe_read.specs.declared.opening.Opened.{Opened}
 use Rattle.stripe_read.specs.declared.opening.Opened.TheVariants as opened
 use Rattle.stripe_read.specs.Readers.{IsOpenStripeReader, IsStripeReaderOf, rows_hit}
+use Rattle.stripe_read.specs.Troubles.{TroubleIsCounted}
 
 -- ---- what answers
 
@@ -79,9 +79,9 @@ pub record IsFound (p : Permit) (s : State) (key : Key) (request : List Field) (
   pub right : IsLookup p s key request (lookup_adds s key (answer_of_looked found)) (answer_of_looked found)
   pub table : HasTable s key request found
 
--- the cause of a miss is that of the records, or tells no count to which the device has not come
+-- the cause of a miss is that of the records, or the trouble with the key's live vector
 abbrev pub MissIsCounted : ℕ → State → Key → ReadAnswer → Type 0
-MissIsCounted faults s key (read.Miss why) = (why ≡ cause_of_miss s key) ⊎ CauseIsCounted faults why
+MissIsCounted faults s key (read.Miss why) = (why ≡ cause_of_miss s key) ⊎ TroubleIsCounted faults (live_vector_of s key) why
 MissIsCounted faults s key _ = Unit {0}
 
 -- what was read is what is seen, and what came of it in any step that covers the call; or two documents of

@@ -18,7 +18,6 @@ use Rattle.cache_model.specs.Permit.{Done, Permit, ReadOn}
 use Rattle.cache_model.specs.Legal.{Does, IsAsListed, IsUnlike, answer_record, live_next}
 use Rattle.cache_model.specs.Contents.{Contents}
 use Rattle.piece_answers.specs.Covers.{AllReadIsSeen, Covers}
-use Rattle.stripe_core.specs.Counts.{CauseIsCounted}
 use Rattle.cache_model.specs.Given.{IsDocumentOf}
 use Rattle.piece_answers.specs.Find.{records_of_trouble}
 use Rattle.piece_answers.specs.Standing.{AreStanding}
@@ -30,6 +29,7 @@ use Rattle.stripe_read.specs.declared.reader.Reader.{Reader}
 use Rattle.stripe_read.specs.declared.reading.NextPiece.{NextPiece}
 use Rattle.stripe_read.specs.declared.reading.NextPiece.TheVariants as piece
 use Rattle.stripe_read.specs.Readers.{IsOpenStripeReader, IsStripeReaderOf, row_of_reader}
+use Rattle.stripe_read.specs.Troubles.{TroubleIsCounted}
 
 -- the row of the fragment that it takes next has this length and this digest
 pub record HasNext (s : State) (r : Reader) (length : ℕ) (digest : Digest) : Type 0 where
@@ -82,9 +82,10 @@ GivesFragment p s r (piece.End length) into = Unit {0}
 GivesFragment p s r (piece.NotYet cut) into = Unit {0}
 GivesFragment p s r (piece.Broken why) into = Unit {0}
 
--- the cause for which it breaks is that of the records, or tells no count to which the device has not come
+-- the cause for which it breaks is that of the records, or the trouble with the live fragment, or how its put ended
 abbrev pub BreakIsCounted : ℕ → State → Reader → NextPiece → Type 0
-BreakIsCounted faults s r (piece.Broken why) = (why ≡ cause_of_piece s (next_piece (row_of_reader r))) ⊎ CauseIsCounted faults why
+BreakIsCounted faults s r (piece.Broken why) =
+    (why ≡ cause_of_piece s (next_piece (row_of_reader r))) ⊎ TroubleIsCounted faults (live_next s (row_of_reader r)) why
 BreakIsCounted faults s r _ = Unit {0}
 
 -- the payload that is given is the one that is told of the fragment

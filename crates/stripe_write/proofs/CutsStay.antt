@@ -21,14 +21,14 @@ use Rattle.cache_model.proofs.ByNumber.{find-changed}
 use Rattle.cache_model.proofs.SoundFlush.{front_aside, stopped_aside}
 use Rattle.cache_model.proofs.Steps.{all_append}
 use Rattle.cache_model.proofs.Syncing.{unmark_aside}
-use Rattle.piece_answers.specs.Covers.{Covers, calls_since}
-use Rattle.piece_answers.proofs.Covering.{never_syncs, own_covers}
+use Rattle.piece_answers.proofs.Covering.{never_syncs}
 use Rattle.stripe_write.specs.declared.finishing.Receipt.{Receipt}
 use Rattle.stripe_core.specs.declared.refusal.Refusal.{Refusal}
 use Rattle.stripe_write.specs.declared.weighing.Vectors.{Vectors}
 use Rattle.stripe_write.specs.declared.writer.Writer.{Writer}
 use Rattle.stripe_write.specs.Closing.{IsReadFor}
 use Rattle.stripe_write.specs.Finishing.{Finishes, FinishesAsRead}
+use Rattle.stripe_write.proofs.Faulted.{alone, covers_alone}
 use Rattle.stripe_write.proofs.Spending.{state_behind}
 
 -- ---- records that cut nothing
@@ -170,20 +170,12 @@ grown_cut {p} {s} {w} off all (more {rest = rest} added between one others) =
 
 -- ---- a put that is finished
 
--- the step that the call alone makes, at a moment, of a directory that displaces or that does not
-abbrev own_step : (packed : Bool) (now : ℕ) (before after : List Call) → Permit
-own_step packed now before after =
-    record { packed = packed; syncs = false; now = now; area = 0; past = []; events = calls_since before after }
-
-covered : (packed : Bool) (now : ℕ) (before after : List Call) → Covers (own_step packed now before after) before after
-covered packed now before after = record { unsynced = refl; content = refl; knows = (own_covers now before after).knows }
-
 -- where the key's vector is the one that was read
 pub finished_cuts : {packed : Bool} (now : ℕ) (old new : Kept) (before after : List Call) (w : Writer) (v : Vectors)
     (result : Result Receipt Refusal) → FinishesAsRead packed now before after old new w v result → (state_of old).displaced ≡ [] → IsReadFor (state_of old) w v → (put : ℕ)
     → cuts_of (state_of new) put ≡ cuts_of (state_of old) put
 finished_cuts {packed} now old new before after w v result ends none read put =
-    let p : Permit = own_step packed now before after in
-    let f : Finishes p old new w result = ends.does p refl refl (covered packed now before after) none read in
+    let p : Permit = alone packed now before after in
+    let f : Finishes p old new w result = ends.does p refl refl (covers_alone packed now before after) none read in
     ap (λ (t : State). cuts_of t put) (state_behind old new f.added f.adds)
     ∙ all_cuts (state_of old) f.added put (grown_cut refl (tt, (tt, tt)) (f.does [] None))

@@ -20,3 +20,4 @@ mod WeighingReads
 mod WeighingFits
 pub mod LastSteps
 pub mod Owning
+pub mod Faulted

@@ -31,6 +31,7 @@ use Rattle.cache_model.specs.Pair.{IsKeyPair}
 use Rattle.stripe_write.specs.declared.finishing.Receipt.{Receipt}
 use Rattle.stripe_write.specs.declared.weighing.Vectors.{Vectors}
 use Rattle.stripe_write.specs.declared.writer.Writer.{Writer}
+use Rattle.stripe_write.specs.Faults.{RefusalHasRecord}
 use Rattle.stripe_write.specs.Others.{AddsOfPut}
 use Rattle.stripe_write.specs.Writers.{IsStripeWriterOf}
 use Rattle.stripe_write.specs.Closing.{IsReadFor, SpendsAll, asked_of_closing, asked_of_rest, closing_rows, closing_size}
@@ -173,6 +174,7 @@ module _ {D R C : Type 0} {d : DiskGhosts D} {r : DirectoryGhosts R} {c : Chroni
     pub counts : IfErr result (IsCounted (seen_in new).device.faults)
     pub wanting : Wanting result (kept_in new ≡ kept_in old)
     pub own : AddsOfPut was.put (kept_in old) (kept_in new)
+    pub recorded : IfErr result (RefusalHasRecord (kept_in old) (kept_in new))
 
   -- what is left of it once the vector is weighed: the writer takes no more bytes
   pub record EndsWriterInStripe (packed : Bool) (now : ℕ) (old new : Stripe D R C d r c) (was later : Writer) (v : Vectors)
@@ -185,6 +187,7 @@ module _ {D R C : Type 0} {d : DiskGhosts D} {r : DirectoryGhosts R} {c : Chroni
     pub rested : IsRested was later
     pub counts : IfErr result (IsCounted (seen_in new).device.faults)
     pub own : AddsOfPut was.put (kept_in old) (kept_in new)
+    pub recorded : IfErr result (RefusalHasRecord (kept_in old) (kept_in new))
 
   -- what making memory for it comes to: records, device and writer are as they were
   pub record MakesMemoryToClose (old new : Stripe D R C d r c) (was later : Writer) (result : Result (Unit {0}) AllocError) : Type 0 where

@@ -30,6 +30,7 @@ use Rattle.stripe_vectors.specs.declared.spelling.Spelled.{Spelled}
 use Rattle.stripe_write.specs.declared.finishing.Receipt.{Receipt}
 use Rattle.stripe_write.specs.declared.weighing.Vectors.{Vectors}
 use Rattle.stripe_write.specs.declared.writer.Writer.{Writer}
+use Rattle.stripe_write.specs.Faults.{RefusalHasRecord}
 use Rattle.stripe_write.specs.Others.{AddsOfPut}
 use Rattle.stripe_write.specs.Writers.{HasOpenWriter, IsStripeWriterOf}
 use Rattle.stripe_write.specs.Closing.{AreSpelled, IsReadFor, SpendsAll}
@@ -139,6 +140,7 @@ module _ {D R C : Type 0} {d : DiskGhosts D} {r : DirectoryGhosts R} {c : Chroni
     pub counts : IfErr result (IsCounted (seen_in new).device.faults)
     pub writer : IsStripeWriterOf (state_in new) w
     pub own : AddsOfPut w.put (kept_in old) (kept_in new)
+    pub recorded : IfErr result (RefusalHasRecord (kept_in old) (kept_in new))
 
   -- what making room for the vector comes to; memory is not wanting
   pub record MakesRoomForVector (now : ℕ) (old new : Stripe D R C d r c) (w : Writer) (v : Vectors)

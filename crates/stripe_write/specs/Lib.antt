@@ -3,6 +3,7 @@ pub mod Others
 pub mod Writes
 pub mod Closing
 pub mod Numbers
+pub mod Faults
 pub mod Weighing
 pub mod Resting
 pub mod Finishing

@@ -46,7 +46,7 @@ returns-in-Miss-clause-gets g c = record {
       (g.met.S.Calls.at_rest _ c.open_read.ensures.keeps.goes_on.holds_then).quiet
       (rw c.in-Miss.is at c.in_ok-reader.ensures.gives).adds (rw c.in-Miss.is at c.in_ok-reader.ensures.serves);
   unharmed = sound_kept g.S.Calls _ _ _ _ c.open_read.ensures.keeps.unharmed;
-  counts = λ none. missed_tells {R = ℕ} (state_at (g.S.Calls.at c.args.cache.now)) c.args.key (g.S.Calls.at c.open_read.new.self).device.faults (opened.Miss c.in-Miss.why)
+  counts = λ none. missed_tells {R = ℕ} (g.S.Calls.at c.args.cache.now) (g.S.Calls.at c.open_read.new.self) c.args.key (opened.Miss c.in-Miss.why)
       none (rw c.in-Miss.is at c.in_ok-reader.ensures.gives).counted;
 }
 

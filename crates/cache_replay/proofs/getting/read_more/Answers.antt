@@ -1,6 +1,5 @@
 use Rattle.std.proofs.Common.{rules, ◌≡◌, ◌++◌, refl, sym, subst, take, arith}
 use Rattle.cache_calls.specs.declared.calls.NextPiece.TheVariants as piece
-use Rattle.cache_calls.specs.Keeping.{state_at}
 use Rattle.cache_replay.specs.Getting.{IsUnderway}
 use Rattle.cache_replay.proofs.Counts.{piece_counts}
 use Rattle.cache_replay.proofs.OtherNext.{next_stays}
@@ -91,6 +90,6 @@ returns-in-Broken-clause-reads g c = record {
   nearer = tt;
   unharmed = next_stays _ _ c.requires.hit.reader.first c.read_next.ensures.unharmed;
   counts = λ none.
-      piece_counts (state_at (g.S.Calls.at c.args.cache.now)) (g.S.Calls.reading c.args.reader.now) (g.S.Calls.at c.read_next.new.self).device.faults
+      piece_counts (g.S.Calls.at c.args.cache.now) (g.S.Calls.at c.read_next.new.self) (g.S.Calls.reading c.args.reader.now)
       (piece.Broken c.in-Broken.why) none (rw c.in-Broken.is at c.in_ok-index.ensures.gives).counted;
 }

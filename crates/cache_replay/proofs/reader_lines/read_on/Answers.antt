@@ -1,5 +1,4 @@
 use Rattle.std.proofs.Common.{sym, subst, ap, ◌≤◌}
-use Rattle.cache_calls.specs.Keeping.{state_at}
 use Rattle.run_promise.specs.Outline.{count_in}
 use Rattle.cache_replay.specs.ReaderLines.{NextEnds}
 use Rattle.cache_replay.proofs.Counts.{piece_counts, piece_tells}
@@ -47,5 +46,5 @@ returns-clause-reads g c =
           c.requires.reader.first c.in_ok-piece.ensures.serves c.in_ok-piece.ensures.gives c.in_ok-piece.ensures.exact after.keeps run name by stands);
       unharmed = next_stays _ r c.requires.reader.first c.read_next.ensures.unharmed;
       counts = λ none. subst (λ said. count_in said ≤ b.device.faults) (sym c.in_ok-piece_said.ensures)
-          (piece_tells c.in_ok-piece.piece c.read_next.new.into _ (piece_counts (state_at a) r b.device.faults c.in_ok-piece.piece none c.in_ok-piece.ensures.gives.counted));
+          (piece_tells c.in_ok-piece.piece c.read_next.new.into _ (piece_counts a b r c.in_ok-piece.piece none c.in_ok-piece.ensures.gives.counted));
     }

@@ -2,7 +2,7 @@ use Rattle.std.proofs.Common.{◌≡◌, ◌∙◌, [], ◌∷◌, ap, arith, fa
 use Rattle.cache_model.specs.declared.record.Rec.TheVariants as rec
 use Rattle.cache_model.specs.Kept.{with_records}
 use Rattle.stripe_core.specs.Stripe.{kept_in, state_in}
-use Rattle.stripe_read.specs.Lookups.{answer_of_looked, opened_as}
+use Rattle.stripe_read.specs.Lookups.{opened_as}
 use Rattle.stripe_read.proofs.opening.begin.Goals as goal
 
 pub returns-in_err-reader : goal.returns-in_err-reader

@@ -1,6 +1,6 @@
 use Rattle.std.proofs.Common.{◌∙◌}
 use Rattle.std.proofs.lemmas.Result.{err_from_is_err_and}
-use Rattle.stripe_core.specs.Stripe.{kept_in, seen_in, state_in}
+use Rattle.stripe_core.specs.Stripe.{kept_in, seen_in}
 use Rattle.stripe_read.proofs.Beginning.{adds_then, never_fails, opens_then, quiet_then, reader_then, tells_then}
 use Rattle.stripe_vectors.proofs.Wanting.{holds_anyway, nothing_answered}
 use Rattle.stripe_core.proofs.Continuing.{continues_further, continues_still, continues_then}

@@ -4,6 +4,7 @@ use Rattle.stripe_write.specs.declared.writer.Writer.{Writer}
 use Rattle.stripe_write.specs.Writers.{IsStripeWriterOf}
 use Rattle.stripe_write.specs.Closes.{SealsInStripeWhere}
 use Rattle.stripe_write.specs.Closing.{AreSpelled}
+use Rattle.stripe_write.proofs.Faulted.{recorded_behind, weigh_recorded}
 use Rattle.stripe_write.proofs.Owning.{then_owns}
 use Rattle.stripe_write.proofs.LastSteps.{ended_leaves, ended_seals, ended_wants, ended_where, refused_closes, refused_leaves, refused_own, refused_seals, refused_where, weighed_closes}
 use Rattle.stripe_write.proofs.WeighingReads.{still_writing}
@@ -58,6 +59,7 @@ returns-in-Ok g c =
       counts = c.end.ensures.counts;
       wanting = ended_wants t w c.end.result _ c.end.ensures.ends;
       own = then_owns w.put old mid new c.weigh.ensures.own c.end.ensures.own;
+      recorded = recorded_behind old mid new c.end.result c.weigh.ensures.own c.end.ensures.recorded;
     }
 
 abbrev used : Writer → Bool → Writer
@@ -87,4 +89,5 @@ returns-in-Err g c =
       counts = c.in-Err.ensures.counts;
       wanting = c.in-Err.ensures.wanting;
       own = c.weigh.ensures.own;
+      recorded = weigh_recorded why c.in-Err.ensures.does;
     }

@@ -1,4 +1,5 @@
 use Rattle.std.proofs.Common.{◌<◌, ◌∙◌, sym, ap, subst, refl, inl, []}
+use Rattle.std.specs.Prelude.{IfErr}
 use Rattle.cache_model.specs.Kept.{Kept, state_of}
 use Rattle.cache_model.specs.Legal.{is_writing}
 use Rattle.logged_disk.proofs.GoingOn.{stays_put}
@@ -6,6 +7,7 @@ use Rattle.stripe_core.specs.declared.refusal.Refusal.TheVariants as refusal
 use Rattle.stripe_core.specs.Stripe.{kept_in, room_for, seen_in, state_in}
 use Rattle.stripe_core.proofs.Stills.{still_shows}
 use Rattle.stripe_write.specs.Writers.{IsStripeWriterOf}
+use Rattle.stripe_write.specs.Faults.{RefusalHasRecord}
 use Rattle.stripe_write.specs.Others.{AddsOfPut}
 use Rattle.stripe_write.proofs.Owning.{owns_none}
 use Rattle.stripe_write.proofs.Gathering.{same_writer}
@@ -55,6 +57,7 @@ returns-then-not-is_open g c =
       counts = tt;
       wanting = tt;
       own = owns_none c.args.writer.now.put kept kept refl;
+      recorded = tt;
     }
 
 pub returns-in-Err : goal.returns-in-Err
@@ -77,6 +80,7 @@ returns-in-Err g c =
       counts = tt;
       wanting = records;
       own = owns_none w.put (kept_in c.args.stripe.now) (kept_in c.make_memory.new.stripe) records;
+      recorded = tt;
     }
 
 pub returns-in-Ok : goal.returns-in-Ok
@@ -110,4 +114,5 @@ returns-in-Ok g c =
       wanting = wanting_map c.close_open.result _ _ (λ same. same ∙ records) c.close_open.ensures.wanting;
       own =
           subst (λ k. AddsOfPut w.put k new) records (subst (λ n. AddsOfPut n mid new) same.put c.close_open.ensures.own);
+      recorded = subst (λ k. IfErr c.close_open.result (RefusalHasRecord k new)) records c.close_open.ensures.recorded;
     }

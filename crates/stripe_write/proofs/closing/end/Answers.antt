@@ -4,6 +4,7 @@ use Rattle.stripe_write.specs.declared.writer.Writer.{Writer}
 use Rattle.stripe_write.specs.Others.{AddsOfPut}
 use Rattle.stripe_write.proofs.Keeping.{keeps_rest}
 use Rattle.stripe_write.specs.Resting.{RestsAsAsked}
+use Rattle.stripe_write.proofs.Faulted.{recorded_behind, rest_recorded}
 use Rattle.stripe_write.proofs.Flushed.{stop_in}
 use Rattle.stripe_write.proofs.LastCut.{rest_own}
 use Rattle.stripe_write.proofs.Owning.{then_owns}
@@ -102,6 +103,9 @@ returns-in-Ok g c =
       own =
           then_owns w.put old mid new (rest_own c.args.now old mid _ _ sealed _ c.in-Ok.ensures.does)
           (subst (λ n. AddsOfPut n mid new) rest.put c.finish.ensures.own);
+      recorded =
+          recorded_behind old mid new c.finish.result (rest_own c.args.now old mid _ _ sealed _ c.in-Ok.ensures.does)
+          c.finish.ensures.recorded;
     }
 
 pub returns-in-Err : goal.returns-in-Err
@@ -127,4 +131,5 @@ returns-in-Err g c =
       rested = inl (record { put = same.put; gathered = same.gathered; rows = same.rows });
       counts = c.in-Err.ensures.counts;
       own = rest_own c.args.now old new _ _ sealed _ stopped.1;
+      recorded = rest_recorded g.R.Directory.purges c.args.now old new _ after sealed why c.in-Err.ensures.does;
     }

@@ -8,6 +8,7 @@ use Rattle.piece_answers.specs.Place.{PlacesVector}
 use Rattle.piece_answers.specs.declared.answer.Placed.{Placed}
 use Rattle.stripe_write.specs.declared.writer.Writer.{Writer}
 use Rattle.stripe_write.proofs.Counted.{vector_counted}
+use Rattle.stripe_write.proofs.Faulted.{vector_recorded}
 use Rattle.stripe_write.proofs.Pushed.{pushed_by}
 use Rattle.stripe_write.proofs.Spending.{state_behind}
 use Rattle.logged_disk.specs.Device.{DeviceState as Device}
@@ -95,6 +96,7 @@ returns-in-Ok g c =
       own =
           then_owns w.put old mid new (owns_vector w.put old mid w.key pin payload c.in-Ok.field-0 c.in-Ok.ensures.does.places)
           (owns w.put mid new _ c.commit.ensures.adds (refl, tt));
+      recorded = tt;
     }
 
 pub returns-in-Err : goal.returns-in-Err
@@ -129,4 +131,6 @@ returns-in-Err g c =
           c.in-Err.ensures.does;
       writer = refused_writer g.R.Directory.purges old new _ _ w pin payload why c.in-Err.ensures.does at.writer;
       own = owns_none w.put old new none;
+      recorded =
+          vector_recorded g.R.Directory.purges old new _ _ (vector_piece w.key w.put) pin 0 payload _ why c.in-Err.ensures.does;
     }

@@ -2,6 +2,7 @@ use Rattle.std.proofs.Common.{Err, refl, sym, subst}
 use Rattle.stripe_core.specs.declared.refusal.Refusal.{Refusal}
 use Rattle.stripe_core.specs.Counts.{IsCounted}
 use Rattle.stripe_core.specs.Stripe.{kept_in, seen_in, state_in}
+use Rattle.stripe_write.specs.Faults.{RefusalHasRecord}
 use Rattle.stripe_write.specs.Finishing.{FinishesWhere, IsFirstLost}
 use Rattle.stripe_write.proofs.Owning.{owns}
 use Rattle.stripe_write.proofs.Completing.{is_closing}
@@ -27,4 +28,5 @@ returns-in-Some g c =
       counts = subst (IsCounted (seen_in c.lose.new.stripe).device.faults) (sym c.lose.ensures.lost) tt;
       writer = c.lose.ensures.writer;
       own = owns w.put (kept_in c.args.stripe.now) (kept_in c.lose.new.stripe) _ c.lose.ensures.adds (refl, tt);
+      recorded = subst (RefusalHasRecord (kept_in c.args.stripe.now) (kept_in c.lose.new.stripe)) (sym c.lose.ensures.lost) tt;
     }

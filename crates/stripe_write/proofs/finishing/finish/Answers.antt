@@ -7,6 +7,7 @@ use Rattle.stripe_write.specs.Closing.{AreSpelled}
 use Rattle.stripe_write.specs.Finishing.{bytes_now}
 use Rattle.stripe_write.proofs.Owning.{owns_room, then_owns}
 use Rattle.stripe_write.proofs.Completing.{is_closing}
+use Rattle.stripe_write.proofs.Faulted.{recorded_behind, room_refused}
 use Rattle.stripe_write.proofs.Flushed.{stop_in}
 use Rattle.stripe_write.proofs.Gathering.{left_writer, puts_left, room_leaves}
 use Rattle.stripe_write.proofs.Roomed.{behind_room, no_room_ends, no_room_where, room_is_made, room_keeps}
@@ -79,6 +80,9 @@ returns-in-Ok g c =
       writer = c.end.ensures.writer;
       own =
           then_owns w.put old mid new (owns_room w.put c.args.now old mid _ _ _ _ c.in-Ok.ensures.does) c.end.ensures.own;
+      recorded =
+          recorded_behind old mid new c.end.result (owns_room w.put c.args.now old mid _ _ _ _ c.in-Ok.ensures.does)
+          c.end.ensures.recorded;
     }
 
 pub returns-in-Err : goal.returns-in-Err
@@ -103,4 +107,5 @@ returns-in-Err g c =
       counts = c.in-Err.ensures.counts;
       writer = left_writer s t w leaves at.writer;
       own = owns_room w.put c.args.now old new _ _ _ _ stopped.1;
+      recorded = room_refused c.args.now old new _ after (bytes_now s w c.args.vectors) c.in-Err.why c.in-Err.ensures.does;
     }

@@ -41,7 +41,8 @@ pub returns-clause-gives : goal.returns-clause-gives
 returns-clause-gives g c = rw c.closed.ensures
     (close_gives g.R.Directory.purges (kept_in c.args.self.now.stripe) (kept_in c.close_write.new.stripe)
     (seen_in c.args.self.now.stripe).device (seen_in c.close_write.new.stripe).device
-    c.args.writer.now c.close_write.result (sym c.is_open.ensures ∙ c.if-not-is_open.false) c.close_write.ensures.closes c.close_write.ensures.counts)
+    c.args.writer.now c.close_write.result (sym c.is_open.ensures ∙ c.if-not-is_open.false) c.close_write.ensures.closes c.close_write.ensures.counts
+    c.close_write.ensures.recorded)
 
 pub returns-clause-stands : goal.returns-clause-stands
 returns-clause-stands g c = λ contents told stands.
