@@ -17,17 +17,17 @@ use Rattle.cache_model.specs.Contents.{Contents}
 use Rattle.call_laws.specs.Moments.{At, IsToldAt}
 use Rattle.call_laws.specs.Progress.{AllDone, Leaves, Progress, Spends, Stops}
 use Rattle.call_laws.specs.Serves.{ServesFrom}
-use Rattle.stripe_core.specs.declared.refusal.Refusal.{Refusal}
-use Rattle.stripe_core.specs.declared.refusal.Refusal.TheVariants as refusal
-use Rattle.stripe_core.specs.Counts.{IsCounted}
+use Rattle.stripe_answers.specs.declared.refusal.Refusal.{Refusal}
+use Rattle.stripe_answers.specs.declared.refusal.Refusal.TheVariants as refusal
+use Rattle.stripe_answers.specs.Counts.{IsCounted}
 use Rattle.piece_answers.specs.Faults.{IsAccounted}
 use Rattle.stripe_write.specs.declared.finishing.Receipt.{Receipt}
 use Rattle.stripe_write.specs.declared.writer.Writer.{Writer}
 use Rattle.stripe_write.specs.Closes as closes
 use Rattle.stripe_write.specs.Closes.{ClosesAsAsked, ClosesWhere}
 use Rattle.stripe_write.specs.Closing as closing
-use Rattle.stripe_write.specs.Faults.{RefusalHasRecord}
-use Rattle.stripe_write.specs.Numbers as numbers
+use Rattle.stripe_answers.specs.Faults.{RefusalHasRecord}
+use Rattle.stripe_answers.specs.Numbers as numbers
 use Rattle.stripe_write.specs.Writers as writers
 use Rattle.stripe_core.proofs.Between.{accounted_none}
 use Rattle.stripe_write.proofs.Ended.{open_put}

@@ -17,15 +17,15 @@ use Rattle.call_laws.specs.Serves.{ServesTold}
 use Rattle.call_laws.proofs.Grown.{one_spends}
 use Rattle.call_laws.proofs.Joined.{state_behind}
 use Rattle.piece_answers.specs.declared.answer.Placed.{Placed}
-use Rattle.stripe_core.specs.declared.refusal.Refusal.{Refusal}
-use Rattle.stripe_core.specs.declared.refusal.Refusal.TheVariants as refusal
+use Rattle.stripe_answers.specs.declared.refusal.Refusal.{Refusal}
+use Rattle.stripe_answers.specs.declared.refusal.Refusal.TheVariants as refusal
 use Rattle.piece_answers.specs.declared.answer.Stop.{Stop}
 use Rattle.piece_answers.specs.declared.answer.Stop.TheVariants as stop
 use Rattle.piece_answers.specs.Covers.{SpendsFirst}
 use Rattle.piece_answers.specs.Faults.{IsAccounted}
 use Rattle.piece_answers.specs.Place.{IsCutAs, IsStoppedAs, cut_records, place_end}
 use Rattle.stripe_write.specs.declared.writer.Writer.{Writer}
-use Rattle.stripe_write.specs.Numbers as numbers
+use Rattle.stripe_answers.specs.Numbers as numbers
 use Rattle.stripe_write.specs.Writers as writers
 use Rattle.stripe_write.specs.Writes as writes
 use Rattle.stripe_write.specs.Writes.{CutsNextAsAsked, IsTakingInStripe, SameWriter, WritesAsAsked, WritesWhere, cuts_fragment, gathered_behind, next_id, payload_cut_next, next_start, completes_fragment, taken_up_to_cut}

@@ -14,9 +14,9 @@ use Rattle.cache_model.specs.Legal.{Does, DoesWrite}
 use Rattle.cache_model.specs.Room.{limit}
 use Rattle.call_laws.specs.Moments.{IsToldAt, permit_of}
 use Rattle.call_laws.specs.Serves.{ServesTold}
-use Rattle.stripe_core.specs.declared.refusal.Refusal.{Refusal}
-use Rattle.stripe_core.specs.declared.refusal.Refusal.TheVariants as refusal
-use Rattle.stripe_core.specs.Acts.{OpensAsAsked, write_opened_record}
+use Rattle.stripe_answers.specs.declared.refusal.Refusal.{Refusal}
+use Rattle.stripe_answers.specs.declared.refusal.Refusal.TheVariants as refusal
+use Rattle.stripe_answers.specs.Acts.{OpensAsAsked, write_opened_record}
 use Rattle.piece_answers.specs.Faults.{IsAccounted}
 use Rattle.stripe_write.specs.declared.writer.Writer.{Writer}
 use Rattle.stripe_write.specs.Writers as writers

@@ -18,7 +18,7 @@ use Rattle.piece_answers.specs.Covers as covers
 use Rattle.piece_answers.specs.Find as find
 use Rattle.piece_answers.specs.Flush as flush
 use Rattle.held_pieces.specs.Still.{IsStill}
-use Rattle.stripe_core.specs.Unharmed as unharmed
+use Rattle.stripe_answers.specs.Unharmed as unharmed
 use Rattle.stripe_write.specs.declared.writer.Writer.{Writer}
 use Rattle.stripe_write.specs.Others as puts
 use Rattle.stripe_write.specs.Writers as writers

@@ -1,8 +1,8 @@
 -- What a stripe answers, as a cache answers it.
 use Rattle.std.specs.Prelude.{Result, Ok, Err}
 use Rattle.piece_answers.specs.declared.answer.Flushed.{Flushed}
-use Rattle.stripe_core.specs.declared.refusal.Refusal.{Refusal}
-use Rattle.stripe_core.specs.declared.refusal.Refusal.TheVariants as own
+use Rattle.stripe_answers.specs.declared.refusal.Refusal.{Refusal}
+use Rattle.stripe_answers.specs.declared.refusal.Refusal.TheVariants as own
 use Rattle.stripe_write.specs.declared.finishing.Receipt.{Receipt}
 use Rattle.stripe_write.specs.declared.removal.Removal.{Removal}
 use Rattle.stripe_write.specs.declared.removal.Removal.TheVariants as own_removal

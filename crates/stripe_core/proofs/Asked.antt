@@ -4,9 +4,10 @@ use Rattle.device_log.specs.Calls.{Call}
 use Rattle.cache_model.specs.Kept.{Kept}
 use Rattle.piece_answers.specs.declared.answer.Stop.{Stop}
 use Rattle.piece_answers.specs.declared.answer.Stop.TheVariants as stop
-use Rattle.stripe_core.specs.declared.refusal.Refusal.{Refusal}
-use Rattle.stripe_core.specs.declared.refusal.Refusal.TheVariants as refusal
-use Rattle.stripe_core.specs.Stripe.{AnswersOrWants, HasMemory, Wanting, refusal_of}
+use Rattle.stripe_answers.specs.declared.refusal.Refusal.{Refusal}
+use Rattle.stripe_answers.specs.declared.refusal.Refusal.TheVariants as refusal
+use Rattle.stripe_answers.specs.Refusals.{refusal_of}
+use Rattle.stripe_core.specs.Stripe.{AnswersOrWants, HasMemory, Wanting}
 
 -- a unit that is taken leaves the records, and asks no device
 pub behind_unit : (P : Kept → List Call → Type 0) (taken old : Kept) (before first : List Call) → taken ≡ old → before ≡ first → P taken before → P old first

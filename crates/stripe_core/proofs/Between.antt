@@ -14,7 +14,7 @@ use Rattle.cache_model.specs.Legal.{answer_record}
 use Rattle.cache_model.specs.Kept.{Kept, state_of, with_records}
 use Rattle.cache_model.proofs.Steps.{after_all-append}
 use Rattle.cache_model.specs.Damage.{TellNoDamage, tells_damage, has_damage}
-use Rattle.stripe_core.specs.Unharmed.{StripeIsUnharmed}
+use Rattle.stripe_answers.specs.Unharmed.{StripeIsUnharmed}
 use Rattle.piece_answers.specs.Faults.{IsAccounted, HasEffects}
 use Rattle.piece_answers.specs.Covers.{calls_since}
 use Rattle.stripe_core.specs.Between.{IsBetween}

@@ -17,7 +17,7 @@ use Rattle.cyclone.specs.Cyclone.{Seen}
 use Rattle.piece_answers.specs.Ahead.{IsMadeFor}
 use Rattle.held_pieces.specs.Held.{IsHeld}
 use Rattle.piece_answers.specs.Standing.{AreStanding}
-use Rattle.piece_names.specs.Named.{IsNamed}
+use Rattle.stripe_answers.specs.Named.{IsNamed}
 use Rattle.stripe_core.specs.Stripe.{IsSpared, IsStripe, kept_in, seen_in, state_in}
 use Rattle.stripe_core.proofs.Between.{accounted_none, accounted_then, between-trans, between_same}
 

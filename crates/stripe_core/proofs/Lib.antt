@@ -1,4 +1,3 @@
-pub mod Counting
 mod Rowed
 mod Sparing
 mod Doings

@@ -7,8 +7,8 @@ use Rattle.cache_model.specs.State.{State}
 use Rattle.cache_model.specs.Kept.{Kept, state_of}
 use Rattle.cache_model.specs.Room.{has_room}
 use Rattle.piece_answers.specs.declared.answer.Flushed.{Flushed}
-use Rattle.stripe_core.specs.declared.refusal.Refusal.{Refusal}
-use Rattle.stripe_core.specs.declared.refusal.Refusal.TheVariants as refusal
+use Rattle.stripe_answers.specs.declared.refusal.Refusal.{Refusal}
+use Rattle.stripe_answers.specs.declared.refusal.Refusal.TheVariants as refusal
 use Rattle.piece_answers.specs.declared.answer.Stop.TheVariants as stop
 use Rattle.piece_answers.specs.Flush.{FlushesAsAsked, StopsWith}
 use Rattle.piece_answers.specs.Place.{RoomsAsAsked}

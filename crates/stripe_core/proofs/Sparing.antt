@@ -30,8 +30,8 @@ use Rattle.piece_answers.specs.declared.ahead.Ahead.{Ahead}
 use Rattle.piece_answers.specs.declared.answer.Found.{Found}
 use Rattle.piece_answers.specs.declared.answer.Found.TheVariants as found
 use Rattle.piece_answers.specs.declared.answer.Placed.{Placed}
-use Rattle.stripe_core.specs.declared.refusal.Refusal.{Refusal}
-use Rattle.stripe_core.specs.declared.refusal.Refusal.TheVariants as refusal
+use Rattle.stripe_answers.specs.declared.refusal.Refusal.{Refusal}
+use Rattle.stripe_answers.specs.declared.refusal.Refusal.TheVariants as refusal
 use Rattle.piece_answers.specs.declared.answer.Stop.{Stop}
 use Rattle.piece_answers.specs.declared.answer.Stop.TheVariants as stop
 use Rattle.piece_answers.specs.Ahead.{IsMadeFor}
@@ -41,7 +41,8 @@ use Rattle.piece_answers.specs.Find.{find_adds, found_records, records_of_troubl
 use Rattle.piece_answers.specs.Flush.{AreOfFlush, IsRecordOfFlush}
 use Rattle.piece_answers.specs.Place.{AreOfPlace, IsFragmentOf, PlaceAdds}
 use Rattle.stripe_pieces.specs.Units.{entries_of_unit, records_of_unit}
-use Rattle.stripe_core.specs.Stripe.{AnswersOrWants, IsSpared, refusal_of}
+use Rattle.stripe_answers.specs.Refusals.{refusal_of}
+use Rattle.stripe_core.specs.Stripe.{AnswersOrWants, IsSpared}
 use Rattle.piece_answers.proofs.RecordsAdded.{state_of-with_records}
 use Rattle.piece_answers.proofs.Displacing.{pushed_kinds}
 use Rattle.piece_answers.proofs.Groups.{cut_first, no_vector, none_cut}

@@ -11,7 +11,7 @@ use Rattle.stripe_core.specs.declared.stripe.Stripe.{Stripe}
 use Rattle.piece_answers.specs.Faults.{IsAccounted}
 use Rattle.stripe_core.specs.Stripe.{IsStripe, kept_in, seen_in, state_in}
 use Rattle.piece_answers.specs.Standing.{AreStanding}
-use Rattle.stripe_core.specs.Unharmed.{StripeIsUnharmed}
+use Rattle.stripe_answers.specs.Unharmed.{StripeIsUnharmed}
 
 -- what a call keeps: the device goes on, what it took and refused is told, and where it tells its content no more pieces are told as
 -- damaged

@@ -31,9 +31,9 @@ use Rattle.held_pieces.specs.Whereabouts.{live_place_of}
 use Rattle.piece_answers.specs.Place.{CutsAsAsked, PlacesAsAsked, PlacesVector, RoomsAsAsked}
 use Rattle.piece_answers.specs.Standing.{IsToldPlaced}
 use Rattle.held_pieces.specs.Still.{IsStill, IsUnwritten}
-use Rattle.stripe_core.specs.declared.refusal.Refusal.{Refusal}
+use Rattle.stripe_answers.specs.declared.refusal.Refusal.{Refusal}
 use Rattle.stripe_core.specs.declared.stripe.Stripe.{Stripe}
-use Rattle.stripe_core.specs.Acts.{LooksAsAsked, MarksAsAsked, OpensAsAsked, write_opened_record}
+use Rattle.stripe_answers.specs.Acts.{LooksAsAsked, MarksAsAsked, OpensAsAsked, write_opened_record}
 use Rattle.stripe_core.specs.Between.{Continues, ContinuesWith, StandIn, StayStanding}
 use Rattle.stripe_core.specs.Stripe.{alloc_in, AnswersOrWants, flushes_in, HasMemory, IsSpared, IsStripe, kept_in, room_for, RowIsMade, seen_in, state_in, units_in, Wanting}
 

@@ -1,7 +1,4 @@
-pub mod Counts
 pub mod Stripe
-pub mod Acts
-pub mod Unharmed
 pub mod Between
 pub mod Calls
 pub use Rattle.stripe_pieces.specs.Pieces

@@ -11,8 +11,8 @@ use Rattle.cache_model.specs.Kept.{Kept, count_of}
 use Rattle.cache_chronicle.specs.declared.chronicle.Chronicle.{Ghosts as ChronicleGhosts}
 use Rattle.open_directory.specs.Directory.{room_for_fragments}
 use Rattle.stripe_actors.specs.Actors.{AreActors, reader_room_of, ActorsSeen as Actors}
-use Rattle.stripe_core.specs.declared.refusal.Refusal.{Refusal}
-use Rattle.stripe_core.specs.declared.refusal.Refusal.TheVariants as refusal
+use Rattle.stripe_answers.specs.declared.refusal.Refusal.{Refusal}
+use Rattle.stripe_answers.specs.declared.refusal.Refusal.TheVariants as refusal
 use Rattle.piece_answers.specs.declared.answer.Stop.{Stop}
 use Rattle.piece_answers.specs.declared.answer.Stop.TheVariants as stop
 use Rattle.stripe_core.specs.declared.stripe.Stripe.{Stripe}
@@ -20,7 +20,7 @@ use Rattle.std.specs.declared.alloc.Global.{Global}
 use Rattle.cache_model.specs.Contents.{contents_of_vectors}
 use Rattle.piece_answers.specs.Ahead.{IsMadeFor}
 use Rattle.piece_answers.specs.Standing.{AreStanding}
-use Rattle.piece_names.specs.Named.{IsNamed}
+use Rattle.stripe_answers.specs.Named.{IsNamed}
 use Rattle.stripe_pieces.specs.Units.{entries_of_unit, records_of_unit}
 use Rattle.stripe_pieces.specs.Pieces.{ArePieces, kept_now, seen_now, state_now}
 
@@ -113,8 +113,3 @@ Unstopped (Ok x) holds = Unit {0}
 Unstopped (Err (refusal.DeviceFault count)) holds = Unit {0}
 Unstopped (Err (refusal.Exhausted number)) holds = Unit {0}
 Unstopped (Err _) holds = holds
-
--- the refusal of a call that the tape stopped
-abbrev pub refusal_of : Stop → Refusal
-refusal_of (stop.DeviceFault count) = refusal.DeviceFault count
-refusal_of (stop.Exhausted number) = refusal.Exhausted number

@@ -6,10 +6,9 @@ ghost use Rattle.cache_model.specs.Verdict.{live_vector_of};
 ghost use Rattle.cache_model.specs.State.{State};
 ghost use Rattle.stripe_actors.specs.Actors.{AreActors, reader_room_of};
 ghost use Rattle.stripe_actors.specs.Calls.{HasPutNumber, KeepUpWith, StayInStep};
-ghost use Rattle.stripe_core.specs.Acts.{AnswersLookup, CommitsAsAsked, EndsReadAsAsked, GivesUpAsAsked, IsCommitting, IsFollowable, IsGivable, IsGivingUp, IsRefusedPut, NotesAsAsked, RefusesAsAsked, RemovesAsAsked, committed_record};
+ghost use Rattle.stripe_answers.specs.Acts.{AnswersLookup, CommitsAsAsked, EndsReadAsAsked, GivesUpAsAsked, IsCommitting, IsFollowable, IsGivable, IsGivingUp, IsRefusedPut, NotesAsAsked, RefusesAsAsked, RemovesAsAsked, committed_record};
 
 use crate::Stripe;
-use crate::refusal::Refusal;
 use alternate_vector::{Fields, Vector};
 use cache_chronicle::Chronicle;
 use cache_model::{NextAnswer, ReadAnswer};
@@ -17,6 +16,7 @@ use dir_table::Directory;
 use logged_disk::Disk;
 use std::alloc::AllocError;
 use stripe_actors::{Actors, OpenPutRefusal};
+use stripe_answers::Refusal;
 use stripe_pieces::{records, records_of};
 use tape_base::{Actor, Digest, Key, LIMIT, MAX_WRITERS, PieceId};
 

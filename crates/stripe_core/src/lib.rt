@@ -2,9 +2,8 @@
 #![tactic(auto, using(logged_disk::proofs::GoingOn::stays_as, crate::proofs::Between::between_same))]
 
 mod acting;
-mod refusal;
 mod stripe;
 
 pub use piece_answers::{Flushed, Found, Placed, Stop};
-pub use refusal::Refusal;
 pub use stripe::Stripe;
+pub use stripe_answers::Refusal;

@@ -22,7 +22,7 @@ use Rattle.call_laws.specs.Untold.{Untold}
 use Rattle.call_laws.proofs.Kept.{untold_later}
 use Rattle.piece_answers.specs.Covers.{Covers}
 use Rattle.held_pieces.specs.Still.{IsStill}
-use Rattle.stripe_vectors.proofs.Seeing.{seen_before, still_seen}
+use Rattle.stripe_answers.proofs.Seeing.{seen_before, still_seen}
 use Rattle.stripe_read.specs.declared.opening.Looked.{Looked}
 use Rattle.stripe_read.specs.declared.opening.Looked.TheVariants as looked
 use Rattle.stripe_read.specs.declared.opening.Opened.{Opened}

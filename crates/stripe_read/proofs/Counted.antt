@@ -4,7 +4,7 @@ use Rattle.std.specs.Prelude.{Option, IsSome}
 use Rattle.cache_model.specs.declared.cause.Cause.{Cause}
 use Rattle.cache_model.specs.declared.cause.Cause.TheVariants as cause
 use Rattle.cache_model.specs.State.{Row}
-use Rattle.stripe_core.specs.Counts.{CauseIsCounted}
+use Rattle.stripe_answers.specs.Counts.{CauseIsCounted}
 use Rattle.stripe_read.specs.Troubles.{TroubleIsCounted}
 
 pub of_live : (faults : ℕ) (o : Option Row) (why : Cause) → CauseIsCounted faults why → IsSome o → TroubleIsCounted faults o why

@@ -21,7 +21,7 @@ use Rattle.cache_model.proofs.Found.{end_gives_none, no_truth}
 use Rattle.cache_model.specs.Contents.{Contents}
 use Rattle.piece_answers.specs.declared.answer.Found.{Found}
 use Rattle.piece_answers.specs.declared.answer.Found.TheVariants as found
-use Rattle.stripe_core.specs.Acts.{NotesAsAsked}
+use Rattle.stripe_answers.specs.Acts.{NotesAsAsked}
 use Rattle.piece_answers.specs.Covers.{AllReadIsSeen, Covers}
 use Rattle.piece_answers.proofs.Covering.{own_covers, own_permit}
 use Rattle.piece_answers.specs.Find.{HasPayload, find_adds, found_records, records_of_trouble}
@@ -34,7 +34,7 @@ use Rattle.stripe_read.specs.Fetches.{Fetches, IsFetched, IsOtherPiece}
 use Rattle.stripe_read.specs.Nexts.{BreakIsCounted, GivesFragment, GivesToldPayload, HasNext, IsBehindPiece, IsNextPayload, NextIsOther, ReadsOn, answer_noted, index_behind, next_listed_length, piece_trouble, reading_adds}
 use Rattle.stripe_vectors.proofs.Counting.{cause_counted}
 use Rattle.stripe_vectors.proofs.Finding.{found_same}
-use Rattle.stripe_vectors.proofs.Seeing.{seen_before, seen_none}
+use Rattle.stripe_answers.proofs.Seeing.{seen_before, seen_none}
 use Rattle.stripe_read.proofs.Comparing.{is_read, unlike_row}
 use Rattle.stripe_read.proofs.Staying.{is_gave, two_calls}
 use Rattle.stripe_read.proofs.Counted.{of_live}

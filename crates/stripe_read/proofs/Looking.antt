@@ -21,7 +21,7 @@ use Rattle.cache_model.specs.Pair.{Documents, IsKeyPair}
 use Rattle.cache_model.specs.Vectors.{AreVectors, IsVectorAs}
 use Rattle.call_laws.specs.Untold.{Untold}
 use Rattle.call_laws.proofs.Kept.{tells_or_not}
-use Rattle.stripe_core.specs.Counts.{CauseIsCounted}
+use Rattle.stripe_answers.specs.Counts.{CauseIsCounted}
 use Rattle.stripe_actors.specs.Actors.{ActorsSeen, AreActors}
 use Rattle.stripe_actors.specs.ActorLaws.{number_in}
 use Rattle.stripe_actors.proofs.Telling.{followed_same}

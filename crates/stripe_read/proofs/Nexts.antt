@@ -19,7 +19,7 @@ use Rattle.stripe_read.specs.Readers.{HasOpenReader, IsOpenStripeReader, IsStrip
 use Rattle.stripe_read.specs.Nexts.{NextIsOther, ReadsNextInStripe, reading_adds}
 use Rattle.stripe_read.proofs.Giving.{given_prepared}
 use Rattle.stripe_read.proofs.Harmless.{behind_unharmed}
-use Rattle.stripe_vectors.proofs.Wanting.{holds_anyway, nothing_answered}
+use Rattle.stripe_answers.proofs.Wanting.{holds_anyway, nothing_answered}
 
 module _ {D R C : Type 0} {d : DiskGhosts D} {r : DirectoryGhosts R} {c : ChronicleGhosts C} where
   -- the reader is open where no record was added

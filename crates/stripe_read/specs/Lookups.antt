@@ -26,7 +26,7 @@ use Rattle.piece_answers.specs.Covers.{AllReadIsSeen, Covers}
 use Rattle.piece_answers.specs.Find.{records_of_trouble}
 use Rattle.held_pieces.specs.Still.{IsStill, IsUnwritten}
 use Rattle.stripe_core.specs.declared.stripe.Stripe.{Stripe}
-use Rattle.stripe_core.specs.Acts.{IsFollowable}
+use Rattle.stripe_answers.specs.Acts.{IsFollowable}
 use Rattle.stripe_core.specs.Between.{Continues, Rests}
 use Rattle.stripe_core.specs.Stripe.{kept_in, seen_in, state_in, units_in}
 use Rattle.stripe_read.specs.declared.reader.Reader.{Reader}

@@ -1,7 +1,7 @@
 // Readers open.
 ghost use Rattle.std.specs.Prelude.{◌≡◌, ◌≤◌, Some, None, IfOk};
 ghost use Rattle.cache_model.specs.State.{last_match};
-ghost use Rattle.stripe_core.specs.Acts.{IsFollowable};
+ghost use Rattle.stripe_answers.specs.Acts.{IsFollowable};
 ghost use Rattle.stripe_core.specs.Stripe.{IsStripe, state_in, units_in};
 ghost use Rattle.stripe_core.specs.Between.{IsResting};
 ghost use Rattle.stripe_read.specs.Lookups.{BeginsReading, IsChosen, LooksUpKey, OpensReaderInStripe, answer_of_looked, opened_as, otherwise};

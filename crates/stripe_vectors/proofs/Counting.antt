@@ -9,7 +9,7 @@ use Rattle.cache_model.specs.State.{Row, State, after_all}
 use Rattle.cache_model.specs.Kept.{Kept, state_of, with_records}
 use Rattle.cache_model.specs.Verdict.{live_vector_of}
 use Rattle.cache_model.proofs.Steps.{after_all-append}
-use Rattle.stripe_core.specs.Counts.{CauseIsCounted}
+use Rattle.stripe_answers.specs.Counts.{CauseIsCounted}
 use Rattle.piece_answers.specs.Find.{records_of_trouble}
 use Rattle.piece_answers.proofs.Covering.{own_covers, own_permit}
 use Rattle.stripe_vectors.specs.declared.reading.KeyVector.TheVariants as answer

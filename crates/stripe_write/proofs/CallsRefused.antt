@@ -10,17 +10,17 @@ use Rattle.alternate_vector.specs.Field.{Field}
 use Rattle.cache_model.specs.Kept.{state_of}
 use Rattle.cache_model.specs.State.{State, most_fragments}
 use Rattle.held_pieces.specs.Still.{IsStill}
-use Rattle.stripe_core.specs.declared.refusal.Refusal.{Refusal}
-use Rattle.stripe_core.specs.declared.refusal.Refusal.TheVariants as refusal
+use Rattle.stripe_answers.specs.declared.refusal.Refusal.{Refusal}
+use Rattle.stripe_answers.specs.declared.refusal.Refusal.TheVariants as refusal
 use Rattle.stripe_core.specs.declared.stripe.Stripe.{Stripe}
-use Rattle.stripe_core.specs.Acts.{OpensAsAsked}
+use Rattle.stripe_answers.specs.Acts.{OpensAsAsked}
 use Rattle.stripe_core.specs.Between.{Continues, Rests}
 use Rattle.stripe_core.specs.Stripe.{kept_in, seen_in, state_in}
 use Rattle.stripe_core.proofs.Continuing.{continues_still, rests_with}
 use Rattle.stripe_core.proofs.Stills.{unstopped}
-use Rattle.stripe_vectors.proofs.Wanting.{holds_anyway}
+use Rattle.stripe_answers.proofs.Wanting.{holds_anyway}
 use Rattle.stripe_write.specs.declared.writer.Writer.{Writer}
-use Rattle.stripe_write.specs.Numbers.{StopsExhausted}
+use Rattle.stripe_answers.specs.Numbers.{StopsExhausted}
 use Rattle.stripe_write.specs.Writers.{HasOpenWriter, IsStripeWriterOf}
 use Rattle.stripe_write.specs.Writes.{GathersAsAsked, IsOverflow, IsTakingInStripe, IsToldWrittenInStripe, OpensInStripe, OverflowsInStripe, SameWriter, WritesInStripe, WritesWhere}
 use Rattle.stripe_write.proofs.Gathering.{same_as, same_writer, writes_none, writes_over}

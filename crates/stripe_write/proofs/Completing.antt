@@ -27,11 +27,11 @@ use Rattle.cache_model.proofs.Found.{cuts_found}
 use Rattle.cache_model.proofs.Lists.{row_in-placed}
 use Rattle.cache_model.proofs.Steps.{after_all-append}
 use Rattle.piece_answers.specs.declared.answer.Placed.{Placed}
-use Rattle.stripe_core.specs.declared.refusal.Refusal.{Refusal}
-use Rattle.stripe_core.specs.declared.refusal.Refusal.TheVariants as refusal
+use Rattle.stripe_answers.specs.declared.refusal.Refusal.{Refusal}
+use Rattle.stripe_answers.specs.declared.refusal.Refusal.TheVariants as refusal
 use Rattle.piece_answers.specs.declared.answer.Stop.{Stop}
 use Rattle.piece_answers.specs.declared.answer.Stop.TheVariants as stop
-use Rattle.stripe_core.specs.Acts.{CommitsAsAsked, committed_record}
+use Rattle.stripe_answers.specs.Acts.{CommitsAsAsked, committed_record}
 use Rattle.stripe_core.specs.Stripe.{AnswersOrWants, HasMemory}
 use Rattle.piece_answers.specs.Covers.{Covers}
 use Rattle.piece_answers.specs.Place.{AreOfPlace, IsExhaustedAt, IsVectorFor, IsVectorOf, PlacesAt, PlacesIn, PlacesVector}

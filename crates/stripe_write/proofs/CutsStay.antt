@@ -23,7 +23,7 @@ use Rattle.cache_model.proofs.Steps.{all_append}
 use Rattle.cache_model.proofs.Syncing.{unmark_aside}
 use Rattle.piece_answers.proofs.Covering.{never_syncs}
 use Rattle.stripe_write.specs.declared.finishing.Receipt.{Receipt}
-use Rattle.stripe_core.specs.declared.refusal.Refusal.{Refusal}
+use Rattle.stripe_answers.specs.declared.refusal.Refusal.{Refusal}
 use Rattle.stripe_write.specs.declared.weighing.Vectors.{Vectors}
 use Rattle.stripe_write.specs.declared.writer.Writer.{Writer}
 use Rattle.stripe_write.specs.Closing.{IsReadFor}

@@ -23,8 +23,8 @@ use Rattle.cache_model.specs.Room.{placed_record}
 use Rattle.cache_model.proofs.Steps.{after_all-append, all_append}
 use Rattle.cache_model.proofs.ByNumber.{find-changed}
 use Rattle.piece_answers.specs.declared.answer.Placed.{Placed}
-use Rattle.stripe_core.specs.declared.refusal.Refusal.{Refusal}
-use Rattle.stripe_core.specs.declared.refusal.Refusal.TheVariants as refusal
+use Rattle.stripe_answers.specs.declared.refusal.Refusal.{Refusal}
+use Rattle.stripe_answers.specs.declared.refusal.Refusal.TheVariants as refusal
 use Rattle.piece_answers.specs.Place.{AreOfPlace, CutsAsAsked, IsCutAs, IsExhaustedAt, IsFragmentOf, PlacesAsAsked, PlacesVector}
 use Rattle.cache_model.specs.Displacing.{AreOfDisplacement}
 use Rattle.stripe_core.specs.Stripe.{AnswersOrWants}
@@ -36,7 +36,7 @@ use Rattle.stripe_write.proofs.Pushed.{pushed_by, pushed_is_own}
 use Rattle.stripe_write.proofs.Spending.{state_behind}
 use Rattle.stripe_write.specs.Writers.{IsAllCutInStripe, IsAtHandInStripe, IsStripeWriterOf}
 use Rattle.stripe_write.specs.Writes.{IsReady, next_id, next_start}
-use Rattle.stripe_write.specs.Numbers.{StopsExhausted}
+use Rattle.stripe_answers.specs.Numbers.{StopsExhausted}
 use Rattle.stripe_write.specs.Others.{IsRecordOfPut}
 
 -- ---- it is the next fragment of its put

@@ -11,7 +11,7 @@ use Rattle.cache_model.specs.Verdict.{is_open, live_vector_of}
 use Rattle.cache_model.specs.Permit.{Done, Fails, GiveUp, ManyFragments, Overflow, Permit, Remove}
 use Rattle.cache_model.specs.Legal.{Does, DoesGiveUp, DoesOverflow, DoesRemove, IsQuiet, is_writing}
 use Rattle.cache_model.proofs.ByNumber.{find-changed}
-use Rattle.stripe_core.specs.Acts.{IsGivingUp, write_opened_record}
+use Rattle.stripe_answers.specs.Acts.{IsGivingUp, write_opened_record}
 use Rattle.stripe_write.specs.declared.writer.Writer.{Writer}
 use Rattle.stripe_write.specs.Writers.{IsAtHandInStripe, IsStripeWriterOf}
 

@@ -14,8 +14,8 @@ use Rattle.cache_model.specs.Permit.{Commit, Done, End, Exhausted, Fails, Faulte
 use Rattle.cache_model.specs.Legal.{MayGrow, is_writing, vector_length}
 use Rattle.cache_model.specs.Vectors.{AreTold, IsVectorAs}
 use Rattle.cache_model.proofs.Steps.{grows_on}
-use Rattle.stripe_core.specs.declared.refusal.Refusal.{Refusal}
-use Rattle.stripe_core.specs.declared.refusal.Refusal.TheVariants as refusal
+use Rattle.stripe_answers.specs.declared.refusal.Refusal.{Refusal}
+use Rattle.stripe_answers.specs.declared.refusal.Refusal.TheVariants as refusal
 use Rattle.piece_answers.specs.declared.answer.Stop.{Stop}
 use Rattle.piece_answers.specs.declared.answer.Stop.TheVariants as stop
 use Rattle.piece_answers.specs.Covers.{Covers, SpendsFirst}
@@ -36,10 +36,10 @@ use Rattle.stripe_write.specs.Closing.{IsReadFor, SpendsAll, Weighs, WeighsAsAsk
 use Rattle.stripe_write.specs.Resting.{RestsAsAsked}
 use Rattle.stripe_write.specs.Finishing.{FinishesAsRead, FinishesWhere, finish_end, finish_intents}
 use Rattle.stripe_write.specs.Closes.{ClosesAsAsked, ClosesInStripe, ClosesWhere, EndsAsAsked, EndsWhere, IsCompleteInStripe, IsRested, SealsInStripeWhere, Spent, UntouchedWhere, bytes_placed_next, close_end, end_intents, is_sealed_by}
-use Rattle.stripe_write.specs.Numbers.{StopsExhausted}
+use Rattle.stripe_answers.specs.Numbers.{StopsExhausted}
 use Rattle.stripe_write.proofs.Ended.{open_put}
 use Rattle.stripe_write.proofs.Keeping.{KeepsVectors, keeps_rest, read_kept}
-use Rattle.stripe_write.proofs.KeyPairs.{key_later}
+use Rattle.stripe_answers.proofs.KeyPairs.{key_later}
 use Rattle.stripe_write.proofs.LastCut.{rest_puts}
 use Rattle.stripe_write.proofs.Reaching.{finished_stops, rest_stops}
 use Rattle.stripe_write.proofs.Sealing.{IsSealed, SameAtClose, alike_same, cut_same, sealed_same, sealed_writer, then_same}

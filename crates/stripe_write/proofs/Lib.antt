@@ -12,7 +12,6 @@ pub mod Completing
 mod Sealing
 mod Keeping
 mod CutsStay
-mod KeyPairs
 mod ToldPieces
 mod ToldClosed
 mod Roomed

@@ -16,8 +16,8 @@ use Rattle.cache_model.specs.Verdict.{live_vector_of}
 use Rattle.cache_model.proofs.Steps.{all_append}
 use Rattle.cache_model.proofs.ByNumber.{find-changed}
 use Rattle.piece_answers.specs.declared.answer.Placed.{Placed}
-use Rattle.stripe_core.specs.declared.refusal.Refusal.{Refusal}
-use Rattle.stripe_core.specs.declared.refusal.Refusal.TheVariants as refusal
+use Rattle.stripe_answers.specs.declared.refusal.Refusal.{Refusal}
+use Rattle.stripe_answers.specs.declared.refusal.Refusal.TheVariants as refusal
 use Rattle.piece_answers.specs.declared.answer.Stop.{Stop}
 use Rattle.piece_answers.specs.Find.{records_of_trouble}
 use Rattle.piece_answers.specs.Place.{PlacesIn, RoomsAsAsked}

@@ -9,8 +9,8 @@ use Rattle.cache_model.specs.State.{State, place_now}
 use Rattle.cache_model.specs.Verdict.{cuts_of}
 use Rattle.cache_model.specs.Legal.{vector_length}
 use Rattle.cache_model.specs.Room.{copies_end, has_room}
-use Rattle.stripe_core.specs.declared.refusal.Refusal.{Refusal}
-use Rattle.stripe_core.specs.declared.refusal.Refusal.TheVariants as refusal
+use Rattle.stripe_answers.specs.declared.refusal.Refusal.{Refusal}
+use Rattle.stripe_answers.specs.declared.refusal.Refusal.TheVariants as refusal
 use Rattle.piece_answers.specs.declared.answer.Stop.TheVariants as stop
 use Rattle.piece_answers.specs.Flush.{StopsWith}
 use Rattle.piece_answers.specs.Place.{IsExhaustedAt, PlacesAt, exhausted_number}
@@ -19,7 +19,7 @@ use Rattle.stripe_write.specs.declared.writer.Writer.{Writer}
 use Rattle.stripe_write.specs.Closing.{closing_rows, row_of_rest}
 use Rattle.stripe_write.specs.Closes.{bytes_placed_next}
 use Rattle.stripe_write.specs.Finishing.{VectorStops}
-use Rattle.stripe_write.specs.Numbers.{StopsExhausted}
+use Rattle.stripe_answers.specs.Numbers.{StopsExhausted}
 
 -- ---- a piece with room, and one without
 

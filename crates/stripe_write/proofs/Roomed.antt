@@ -19,8 +19,8 @@ use Rattle.cache_model.specs.Legal.{Does, DoesFinish, IsCut, MakesRoom, vector_l
 use Rattle.cache_model.specs.Room.{has_room}
 use Rattle.cache_model.proofs.SoundFlush.{flush_is_sound}
 use Rattle.cache_model.proofs.Steps.{grows_on}
-use Rattle.stripe_core.specs.declared.refusal.Refusal.{Refusal}
-use Rattle.stripe_core.specs.declared.refusal.Refusal.TheVariants as refusal
+use Rattle.stripe_answers.specs.declared.refusal.Refusal.{Refusal}
+use Rattle.stripe_answers.specs.declared.refusal.Refusal.TheVariants as refusal
 use Rattle.piece_answers.specs.declared.answer.Stop.{Stop}
 use Rattle.piece_answers.specs.declared.answer.Stop.TheVariants as stop
 use Rattle.piece_answers.specs.Flush.{EachWasLive, StopsWith}

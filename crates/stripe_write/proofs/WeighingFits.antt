@@ -27,13 +27,13 @@ use Rattle.cache_model.specs.Vectors.{AreVectors, IsVectorAs}
 use Rattle.cache_model.proofs.Steps.{grows_by, grows_on}
 use Rattle.call_laws.specs.Untold.{Untold}
 use Rattle.call_laws.proofs.Kept.{tells_or_not}
-use Rattle.stripe_core.specs.declared.refusal.Refusal.{Refusal}
-use Rattle.stripe_core.specs.declared.refusal.Refusal.TheVariants as refusal
+use Rattle.stripe_answers.specs.declared.refusal.Refusal.{Refusal}
+use Rattle.stripe_answers.specs.declared.refusal.Refusal.TheVariants as refusal
 use Rattle.piece_answers.specs.Covers.{AllReadIsSeen, Covers, SpendsFirst}
 use Rattle.held_pieces.specs.Still.{IsUnwritten}
 use Rattle.stripe_core.specs.declared.stripe.Stripe.{Stripe}
 use Rattle.stripe_core.specs.Between.{Continues}
-use Rattle.stripe_core.specs.Counts.{IsCounted}
+use Rattle.stripe_answers.specs.Counts.{IsCounted}
 use Rattle.stripe_core.specs.Stripe.{Wanting, kept_in, seen_in}
 use Rattle.stripe_core.proofs.Continuing.{continues_still}
 use Rattle.piece_answers.proofs.Covering.{own_covers, own_permit}
@@ -48,7 +48,7 @@ use Rattle.stripe_write.specs.Closing.{AreSpelled, IsReadFor, WeighsAsAsked, Wei
 use Rattle.stripe_write.specs.Weighing.{FitsWhere, IsSpelledWith, fault_in, fit_adds, list_in}
 use Rattle.stripe_write.specs.Writers.{HasOpenWriter, IsAtHandInStripe, IsStripeWriterOf}
 use Rattle.stripe_write.proofs.Ended.{open_put, own_number}
-use Rattle.stripe_write.proofs.KeyPairs.{key_wider}
+use Rattle.stripe_answers.proofs.KeyPairs.{key_wider}
 use Rattle.stripe_write.proofs.Owning.{owns_none}
 use Rattle.stripe_write.proofs.Spending.{nothing_more, state_behind}
 use Rattle.stripe_write.proofs.WeighingReads.{IsReadSoFar, fault_does, read_so_far}

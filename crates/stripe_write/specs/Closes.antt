@@ -19,11 +19,11 @@ use Rattle.cache_model.specs.Vectors.{AreTold, IsVectorAs}
 use Rattle.cache_chronicle.specs.declared.chronicle.Chronicle.{Ghosts as ChronicleGhosts}
 use Rattle.call_laws.specs.Untold.{Untold}
 use Rattle.cache_model.specs.Contents.{Contents, TellsVectors}
-use Rattle.stripe_core.specs.declared.refusal.Refusal.{Refusal}
-use Rattle.stripe_core.specs.declared.refusal.Refusal.TheVariants as refusal
+use Rattle.stripe_answers.specs.declared.refusal.Refusal.{Refusal}
+use Rattle.stripe_answers.specs.declared.refusal.Refusal.TheVariants as refusal
 use Rattle.stripe_core.specs.declared.stripe.Stripe.{Stripe}
 use Rattle.stripe_core.specs.Between.{Continues, RestsWith}
-use Rattle.stripe_core.specs.Counts.{IsCounted}
+use Rattle.stripe_answers.specs.Counts.{IsCounted}
 use Rattle.stripe_core.specs.Stripe.{Wanting, kept_in, room_for, seen_in, state_in, units_in}
 use Rattle.piece_answers.specs.Covers.{Covers, SpendsFirst}
 use Rattle.held_pieces.specs.Still.{IsStill, IsUnwritten}
@@ -31,11 +31,11 @@ use Rattle.cache_model.specs.Pair.{IsKeyPair}
 use Rattle.stripe_write.specs.declared.finishing.Receipt.{Receipt}
 use Rattle.stripe_write.specs.declared.weighing.Vectors.{Vectors}
 use Rattle.stripe_write.specs.declared.writer.Writer.{Writer}
-use Rattle.stripe_write.specs.Faults.{RefusalHasRecord}
+use Rattle.stripe_answers.specs.Faults.{RefusalHasRecord}
 use Rattle.stripe_write.specs.Others.{AddsOfPut}
 use Rattle.stripe_write.specs.Writers.{IsStripeWriterOf}
 use Rattle.stripe_write.specs.Closing.{IsReadFor, SpendsAll, asked_of_closing, asked_of_rest, closing_rows, closing_size}
-use Rattle.stripe_write.specs.Numbers.{StopsExhausted}
+use Rattle.stripe_answers.specs.Numbers.{StopsExhausted}
 use Rattle.stripe_write.specs.Writes.{IsToldNextInStripe, SameWriter}
 
 -- ---- when each answer comes

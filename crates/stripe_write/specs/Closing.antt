@@ -18,11 +18,11 @@ use Rattle.cache_model.specs.Vectors.{AreVectors, IsVectorAs}
 use Rattle.cache_model.specs.Legal.{MayGrow}
 use Rattle.cache_chronicle.specs.declared.chronicle.Chronicle.{Ghosts as ChronicleGhosts}
 use Rattle.call_laws.specs.Untold.{Untold}
-use Rattle.stripe_core.specs.declared.refusal.Refusal.{Refusal}
-use Rattle.stripe_core.specs.declared.refusal.Refusal.TheVariants as refusal
+use Rattle.stripe_answers.specs.declared.refusal.Refusal.{Refusal}
+use Rattle.stripe_answers.specs.declared.refusal.Refusal.TheVariants as refusal
 use Rattle.stripe_core.specs.declared.stripe.Stripe.{Stripe}
 use Rattle.stripe_core.specs.Between.{Rests}
-use Rattle.stripe_core.specs.Counts.{IsCounted}
+use Rattle.stripe_answers.specs.Counts.{IsCounted}
 use Rattle.stripe_core.specs.Stripe.{Wanting, kept_in, room_for, seen_in, state_in, units_in}
 use Rattle.piece_answers.specs.Covers.{AllReadIsSeen, Covers, SpendsFirst}
 use Rattle.held_pieces.specs.Still.{IsUnwritten}

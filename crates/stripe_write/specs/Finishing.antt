@@ -16,12 +16,12 @@ use Rattle.cache_model.specs.Legal.{vector_length, vector_payload}
 use Rattle.cache_model.specs.Room.{greatest_pin, has_room, limit}
 use Rattle.cache_chronicle.specs.declared.chronicle.Chronicle.{Ghosts as ChronicleGhosts}
 use Rattle.cache_model.specs.Contents.{TellsVectors}
-use Rattle.stripe_core.specs.declared.refusal.Refusal.{Refusal}
-use Rattle.stripe_core.specs.declared.refusal.Refusal.TheVariants as refusal
+use Rattle.stripe_answers.specs.declared.refusal.Refusal.{Refusal}
+use Rattle.stripe_answers.specs.declared.refusal.Refusal.TheVariants as refusal
 use Rattle.stripe_core.specs.declared.stripe.Stripe.{Stripe}
-use Rattle.stripe_core.specs.Acts.{CommitsAsAsked, committed_record}
+use Rattle.stripe_answers.specs.Acts.{CommitsAsAsked, committed_record}
 use Rattle.stripe_core.specs.Between.{Continues, Rests, RestsWith}
-use Rattle.stripe_core.specs.Counts.{IsCounted}
+use Rattle.stripe_answers.specs.Counts.{IsCounted}
 use Rattle.stripe_core.specs.Stripe.{AnswersOrWants, kept_in, seen_in, state_in, units_in}
 use Rattle.piece_answers.specs.Covers.{Covers}
 use Rattle.piece_answers.specs.Flush.{StopsWith}
@@ -30,7 +30,7 @@ use Rattle.stripe_vectors.specs.declared.spelling.Spelled.{Spelled}
 use Rattle.stripe_write.specs.declared.finishing.Receipt.{Receipt}
 use Rattle.stripe_write.specs.declared.weighing.Vectors.{Vectors}
 use Rattle.stripe_write.specs.declared.writer.Writer.{Writer}
-use Rattle.stripe_write.specs.Faults.{RefusalHasRecord}
+use Rattle.stripe_answers.specs.Faults.{RefusalHasRecord}
 use Rattle.stripe_write.specs.Others.{AddsOfPut}
 use Rattle.stripe_write.specs.Writers.{HasOpenWriter, IsStripeWriterOf}
 use Rattle.stripe_write.specs.Closing.{AreSpelled, IsReadFor, SpendsAll}

@@ -2,8 +2,6 @@ pub mod Writers
 pub mod Others
 pub mod Writes
 pub mod Closing
-pub mod Numbers
-pub mod Faults
 pub mod Weighing
 pub mod Resting
 pub mod Finishing

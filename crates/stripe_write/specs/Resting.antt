@@ -15,14 +15,14 @@ use Rattle.piece_answers.specs.declared.answer.Stop.{Stop}
 use Rattle.piece_answers.specs.Covers.{Covers}
 use Rattle.piece_answers.specs.Flush.{stop_end}
 use Rattle.piece_answers.specs.Place.{IsCutAs, IsStoppedAs}
-use Rattle.stripe_core.specs.declared.refusal.Refusal.{Refusal}
+use Rattle.stripe_answers.specs.declared.refusal.Refusal.{Refusal}
 use Rattle.stripe_core.specs.declared.stripe.Stripe.{Stripe}
 use Rattle.stripe_core.specs.Between.{RestsWith}
-use Rattle.stripe_core.specs.Counts.{IsCounted}
+use Rattle.stripe_answers.specs.Counts.{IsCounted}
 use Rattle.stripe_core.specs.Stripe.{AnswersOrWants, kept_in, seen_in, state_in, units_in}
 use Rattle.stripe_write.specs.declared.writer.Writer.{Writer}
 use Rattle.stripe_write.specs.Closing.{SpendsAll, asked_of_rest, closing_rows}
-use Rattle.stripe_write.specs.Numbers.{StopsExhausted}
+use Rattle.stripe_answers.specs.Numbers.{StopsExhausted}
 use Rattle.stripe_write.specs.Writers.{IsStripeWriterOf}
 use Rattle.stripe_write.specs.Writes.{IsToldNextInStripe, SameButBytes, SameWriter, next_id, next_start}
 

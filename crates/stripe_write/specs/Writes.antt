@@ -21,8 +21,8 @@ use Rattle.dir_table.specs.declared.directory.Directory.{Ghosts as DirectoryGhos
 use Rattle.cache_chronicle.specs.declared.chronicle.Chronicle.{Ghosts as ChronicleGhosts}
 use Rattle.cache_model.specs.Contents.{Contents}
 use Rattle.piece_answers.specs.declared.answer.Placed.{Placed}
-use Rattle.stripe_core.specs.declared.refusal.Refusal.{Refusal}
-use Rattle.stripe_core.specs.declared.refusal.Refusal.TheVariants as refusal
+use Rattle.stripe_answers.specs.declared.refusal.Refusal.{Refusal}
+use Rattle.stripe_answers.specs.declared.refusal.Refusal.TheVariants as refusal
 use Rattle.piece_answers.specs.declared.answer.Stop.{Stop}
 use Rattle.piece_answers.specs.declared.answer.Stop.TheVariants as stop
 use Rattle.piece_answers.specs.Covers.{Covers, SpendsFirst}
@@ -30,12 +30,12 @@ use Rattle.cache_model.specs.Damage.{TellNoDamage}
 use Rattle.piece_answers.specs.Place.{CutsAsAsked, IsCutOrStoppedAs, place_end}
 use Rattle.held_pieces.specs.Still.{IsStill}
 use Rattle.stripe_core.specs.declared.stripe.Stripe.{Stripe}
-use Rattle.stripe_core.specs.Acts.{OpensAsAsked, write_opened_record}
+use Rattle.stripe_answers.specs.Acts.{OpensAsAsked, write_opened_record}
 use Rattle.stripe_core.specs.Between.{Rests, RestsWith}
-use Rattle.stripe_core.specs.Counts.{IsCounted}
+use Rattle.stripe_answers.specs.Counts.{IsCounted}
 use Rattle.stripe_core.specs.Stripe.{AnswersOrWants, HasMemory, Unstopped, kept_in, room_for, seen_in, state_in, units_in}
 use Rattle.stripe_write.specs.declared.writer.Writer.{Writer}
-use Rattle.stripe_write.specs.Numbers.{StopsExhausted}
+use Rattle.stripe_answers.specs.Numbers.{StopsExhausted}
 use Rattle.stripe_write.specs.Others.{IsRecordOfPut}
 use Rattle.stripe_write.specs.Writers.{IsStripeWriterOf}
 

@@ -3,7 +3,7 @@ ghost use Rattle.std.specs.Prelude.{◌≡◌, ◌≤◌, true, is_some, length,
 ghost use Rattle.cache_model.specs.Room.{has_room};
 ghost use Rattle.cache_model.specs.State.{fragment_piece, live_row_of};
 ghost use Rattle.cache_model.specs.Verdict.{live_vector_of};
-ghost use Rattle.stripe_core.specs.Acts.{IsCommitting};
+ghost use Rattle.stripe_answers.specs.Acts.{IsCommitting};
 ghost use Rattle.stripe_core.specs.Stripe.{IsStripe, state_in, units_in};
 ghost use Rattle.stripe_core.specs.Between.{IsResting};
 ghost use Rattle.stripe_write.specs.Writers.{HasOpenWriter};

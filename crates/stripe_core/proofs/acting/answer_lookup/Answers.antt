@@ -3,7 +3,7 @@ use Rattle.cache_model.specs.declared.record.Rec.TheVariants as rec
 use Rattle.cache_model.specs.State.{state_after}
 use Rattle.stripe_actors.specs.Actors.{AreActors}
 use Rattle.stripe_actors.proofs.Telling.{writing_is_open}
-use Rattle.stripe_core.specs.Acts.{IsFollowable}
+use Rattle.stripe_answers.specs.Acts.{IsFollowable}
 use Rattle.piece_answers.proofs.Results.{if_ok_map}
 use Rattle.stripe_core.proofs.acting.answer_lookup.Goals as goal
 

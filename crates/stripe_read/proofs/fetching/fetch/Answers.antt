@@ -9,7 +9,7 @@ use Rattle.stripe_read.specs.Fetches.{IsCompared, IsOtherPiece}
 use Rattle.stripe_vectors.proofs.Finding.{found_same}
 use Rattle.stripe_read.proofs.Comparing.{compared, missing}
 use Rattle.stripe_read.proofs.Harmless.{behind_unharmed}
-use Rattle.stripe_vectors.proofs.Wanting.{holds_anyway, nothing_answered}
+use Rattle.stripe_answers.proofs.Wanting.{holds_anyway, nothing_answered}
 use Rattle.stripe_core.proofs.Continuing.{continues_proceeds, proceeds_then}
 use Rattle.stripe_read.proofs.fetching.fetch.Goals as goal
 

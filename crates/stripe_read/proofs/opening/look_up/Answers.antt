@@ -8,7 +8,7 @@ use Rattle.stripe_vectors.specs.Reading.{FindsVector, vector_adds}
 use Rattle.stripe_vectors.proofs.Counting.{missed_counted}
 use Rattle.stripe_read.specs.Lookups.{IsChosen, otherwise}
 use Rattle.stripe_read.proofs.Looking.{absent_looks, absent_same, matched_adds, matched_looks, read_same, same_adds, trouble_adds, trouble_looks, unmatched_looks}
-use Rattle.stripe_vectors.proofs.Wanting.{holds_anyway, nothing_answered}
+use Rattle.stripe_answers.proofs.Wanting.{holds_anyway, nothing_answered}
 use Rattle.stripe_read.proofs.opening.look_up.Goals as goal
 
 pub look_further-requires : goal.look_further-requires

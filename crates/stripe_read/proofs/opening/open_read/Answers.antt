@@ -2,7 +2,7 @@ use Rattle.std.proofs.Common.{◌∙◌}
 use Rattle.std.proofs.lemmas.Result.{err_from_is_err_and}
 use Rattle.stripe_core.specs.Stripe.{kept_in, seen_in}
 use Rattle.stripe_read.proofs.Beginning.{adds_then, never_fails, opens_then, quiet_then, reader_then, tells_then}
-use Rattle.stripe_vectors.proofs.Wanting.{holds_anyway, nothing_answered}
+use Rattle.stripe_answers.proofs.Wanting.{holds_anyway, nothing_answered}
 use Rattle.stripe_core.proofs.Continuing.{continues_further, continues_still, continues_then}
 use Rattle.stripe_core.proofs.Stills.{still_shows, unwritten_then}
 use Rattle.stripe_read.proofs.opening.open_read.Goals as goal

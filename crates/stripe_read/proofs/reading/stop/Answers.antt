@@ -2,7 +2,7 @@ use Rattle.std.proofs.Common.{◌∙◌, ap, inl, subst, sym, [], ◌∷◌}
 use Rattle.cache_model.specs.Kept.{with_records}
 use Rattle.cache_model.specs.Legal.{answer_record}
 use Rattle.logged_disk.specs.Device.{DeviceState as Device}
-use Rattle.stripe_core.specs.Acts.{NotesAsAsked}
+use Rattle.stripe_answers.specs.Acts.{NotesAsAsked}
 use Rattle.stripe_core.specs.Stripe.{kept_in, seen_in, state_in}
 use Rattle.stripe_core.proofs.Continuing.{continues_proceeds}
 use Rattle.stripe_read.proofs.Giving.{no_piece, stop_adds, stop_goes, stop_reads}

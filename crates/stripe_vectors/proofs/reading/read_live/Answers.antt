@@ -3,8 +3,8 @@ use Rattle.std.proofs.lemmas.Result.{err_from_is_err_and}
 use Rattle.stripe_core.specs.Stripe.{seen_in}
 use Rattle.stripe_core.proofs.Continuing.{continues_same}
 use Rattle.stripe_core.proofs.Stills.{unwritten_as}
-use Rattle.stripe_vectors.proofs.Seeing.{seen_none}
-use Rattle.stripe_vectors.proofs.Wanting.{holds_anyway, nothing_answered}
+use Rattle.stripe_answers.proofs.Seeing.{seen_none}
+use Rattle.stripe_answers.proofs.Wanting.{holds_anyway, nothing_answered}
 use Rattle.stripe_vectors.proofs.reading.read_live.Goals as goal
 
 pub returns-in_err-into : goal.returns-in_err-into

@@ -7,8 +7,8 @@ use Rattle.logged_disk.proofs.GoingOn.{told_before}
 use Rattle.stripe_core.specs.Stripe.{kept_in, seen_in, state_in}
 use Rattle.stripe_pieces.proofs.VectorsListed.{are_listed}
 use Rattle.stripe_vectors.proofs.Finding.{found_fits, found_taken, found_vector, live_row, missed_adds, missed_vector, nothing_read, read_adds}
-use Rattle.stripe_vectors.proofs.Seeing.{seen_none}
-use Rattle.stripe_vectors.proofs.Wanting.{holds_anyway, nothing_answered}
+use Rattle.stripe_answers.proofs.Seeing.{seen_none}
+use Rattle.stripe_answers.proofs.Wanting.{holds_anyway, nothing_answered}
 use Rattle.stripe_vectors.proofs.reading.read_through.Goals as goal
 
 pub slice_bounds-listed-end-in-Found : goal.slice_bounds-listed-end-in-Found

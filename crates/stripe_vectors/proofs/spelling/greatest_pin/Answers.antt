@@ -2,7 +2,7 @@ use Rattle.std.proofs.Common.{◌≡◌, ◌∙◌, ◌+◌, ap, sym, arith, len
 use Rattle.std.specs.Prelude.{max}
 use Rattle.alternate_vector.specs.Alternates.{stored_of}
 use Rattle.cache_model.specs.Room.{greatest_pin}
-use Rattle.stripe_vectors.proofs.Pins.{pin_further, pin_whole}
+use Rattle.stripe_answers.proofs.Pins.{pin_further, pin_whole}
 use Rattle.stripe_vectors.proofs.spelling.greatest_pin.Goals as goal
 
 pub alternates-preserved : goal.alternates-preserved

@@ -6,7 +6,7 @@ use Rattle.cache_model.specs.State.{most_payload}
 use Rattle.cache_model.specs.Room.{greatest_pin}
 use Rattle.cache_model.proofs.Merged.{blocks_fit}
 use Rattle.stripe_vectors.specs.Spelled.{listed_with}
-use Rattle.stripe_vectors.proofs.Pins.{size_longest}
+use Rattle.stripe_answers.proofs.Pins.{size_longest}
 use Rattle.stripe_vectors.proofs.spelling.spell.Goals as goal
 
 pub returns : goal.returns

@@ -3,7 +3,7 @@ use Rattle.fragment_table.specs.Table.{total_length}
 use Rattle.cache_model.specs.Kept.{state_of}
 use Rattle.cache_model.specs.Verdict.{cuts_of}
 use Rattle.cache_model.proofs.Steps.{after_all-append}
-use Rattle.stripe_core.specs.Acts.{committed_record}
+use Rattle.stripe_answers.specs.Acts.{committed_record}
 use Rattle.stripe_core.specs.Stripe.{kept_in, state_in}
 use Rattle.stripe_write.specs.Writers.{IsStripeWriterOf}
 use Rattle.stripe_write.proofs.Completing.{closed_writer}

@@ -3,7 +3,7 @@ use Rattle.std.specs.Prelude.{Bool, Some, find, ◌==◌}
 use Rattle.device_log.specs.Calls.{Call}
 use Rattle.cache_model.specs.Kept.{Kept, state_of}
 use Rattle.cache_model.specs.State.{PutRow, vector_piece}
-use Rattle.stripe_core.specs.Acts.{IsCommitting}
+use Rattle.stripe_answers.specs.Acts.{IsCommitting}
 use Rattle.piece_answers.specs.Place.{PlacesVector}
 use Rattle.piece_answers.specs.declared.answer.Placed.{Placed}
 use Rattle.stripe_write.specs.declared.writer.Writer.{Writer}

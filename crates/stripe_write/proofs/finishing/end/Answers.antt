@@ -1,8 +1,8 @@
 use Rattle.std.proofs.Common.{Err, refl, sym, subst}
-use Rattle.stripe_core.specs.declared.refusal.Refusal.{Refusal}
-use Rattle.stripe_core.specs.Counts.{IsCounted}
+use Rattle.stripe_answers.specs.declared.refusal.Refusal.{Refusal}
+use Rattle.stripe_answers.specs.Counts.{IsCounted}
 use Rattle.stripe_core.specs.Stripe.{kept_in, seen_in, state_in}
-use Rattle.stripe_write.specs.Faults.{RefusalHasRecord}
+use Rattle.stripe_answers.specs.Faults.{RefusalHasRecord}
 use Rattle.stripe_write.specs.Finishing.{FinishesWhere, IsFirstLost}
 use Rattle.stripe_write.proofs.Owning.{owns}
 use Rattle.stripe_write.proofs.Completing.{is_closing}

@@ -6,7 +6,7 @@ use Rattle.cache_model.specs.declared.record.Rec.TheVariants as rec
 use Rattle.cache_model.specs.Kept.{state_of, with_records}
 use Rattle.cache_model.specs.Legal.{IsQuiet}
 use Rattle.cache_model.specs.Verdict.{cause_of_miss, live_vector_of}
-use Rattle.stripe_core.specs.Acts.{RemovesAsAsked}
+use Rattle.stripe_answers.specs.Acts.{RemovesAsAsked}
 use Rattle.stripe_core.specs.Stripe.{kept_in, state_in}
 use Rattle.stripe_core.proofs.Continuing.{continues_further, continues_still, still_resting}
 use Rattle.stripe_core.proofs.Stills.{still_as, still_then}

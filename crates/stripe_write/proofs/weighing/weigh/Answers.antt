@@ -5,7 +5,7 @@ use Rattle.stripe_core.specs.Stripe.{kept_in, room_for, seen_in, state_in, units
 use Rattle.stripe_write.specs.Weighing.{FitsWhere, IsOwnAlternateOf}
 use Rattle.stripe_write.proofs.Counted.{read_counted}
 use Rattle.stripe_write.proofs.Owning.{owns_fit, owns_read, then_owns}
-use Rattle.stripe_vectors.proofs.Seeing.{seen_none}
+use Rattle.stripe_answers.proofs.Seeing.{seen_none}
 use Rattle.stripe_write.proofs.Gathering.{few_gathered, still_writer}
 use Rattle.stripe_write.proofs.WeighingFits.{faults, fit_counted, more_gathered, wants_nothing, weighs, weighs_nothing, weighs_where}
 use Rattle.stripe_write.proofs.WeighingReads.{same_displaced, same_pending, same_puts, still_writing}

@@ -4,7 +4,7 @@ use Rattle.cache_model.specs.declared.record.Rec.{Rec}
 use Rattle.cache_model.specs.declared.record.Rec.TheVariants as rec
 use Rattle.cache_model.specs.Kept.{state_of, with_records}
 use Rattle.cache_model.specs.Legal.{IsQuiet, is_writing}
-use Rattle.stripe_core.specs.Acts.{GivesUpAsAsked}
+use Rattle.stripe_answers.specs.Acts.{GivesUpAsAsked}
 use Rattle.stripe_core.specs.Stripe.{kept_in, state_in}
 use Rattle.stripe_core.proofs.Continuing.{continues_further, continues_still, rests_same}
 use Rattle.stripe_core.proofs.Stills.{still_as, still_then}

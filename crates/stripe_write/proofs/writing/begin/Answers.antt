@@ -1,7 +1,7 @@
 use Rattle.std.proofs.Common.{List, [], ◌∷◌, Err, false, sym, ◌∙◌, ap, subst, refl}
 use Rattle.std.proofs.lemmas.Result.{err_from_is_err_and}
 use Rattle.cache_model.specs.declared.record.Rec.{Rec}
-use Rattle.stripe_core.specs.Acts.{write_opened_record}
+use Rattle.stripe_answers.specs.Acts.{write_opened_record}
 use Rattle.stripe_core.specs.Stripe.{kept_in, state_in}
 use Rattle.stripe_core.proofs.Continuing.{continues_rests, continues_still, rests_same}
 use Rattle.stripe_write.specs.declared.writer.Writer.{Writer}

@@ -3,12 +3,12 @@ use Rattle.std.proofs.lemmas.Result.{err_from_is_err_and}
 use Rattle.tape_base.specs.declared.geometries.Geometry.{Geometry}
 use Rattle.cache_model.specs.Kept.{state_of}
 use Rattle.cache_model.specs.Legal.{is_writing}
-use Rattle.stripe_core.specs.declared.refusal.Refusal.{Refusal}
+use Rattle.stripe_answers.specs.declared.refusal.Refusal.{Refusal}
 use Rattle.stripe_core.specs.Stripe.{kept_in, state_in}
 use Rattle.stripe_core.proofs.Continuing.{continues_still, rests_with, still_resting, then_rests}
 use Rattle.stripe_core.proofs.Stills.{still_then, unstopped_map}
 use Rattle.stripe_write.specs.declared.writer.Writer.{Writer}
-use Rattle.stripe_write.specs.Numbers.{StopsExhausted}
+use Rattle.stripe_answers.specs.Numbers.{StopsExhausted}
 use Rattle.stripe_write.specs.Writers.{IsStripeWriterOf}
 use Rattle.stripe_write.specs.Writes.{IsToldNextInStripe, IsToldWrittenInStripe, SameWriter, completes_fragment, gathered_behind, next_id, next_start, taken_up_to_cut}
 use Rattle.stripe_write.proofs.CallsRefused.{write_wanting}

@@ -12,7 +12,7 @@ use Rattle.stripe_core.specs.Stripe.{kept_in, seen_in, state_in}
 use Rattle.piece_answers.proofs.RecordsAdded.{state_of-with_records}
 use Rattle.stripe_core.proofs.Doings.{commits, one_less, open_cuts, reader_behind}
 use Rattle.stripe_core.proofs.Sparing.{made_behind, numbered_by}
-use Rattle.piece_names.proofs.Naming.{named_behind, named_committed}
+use Rattle.stripe_answers.proofs.Naming.{named_behind, named_committed}
 use Rattle.stripe_core.proofs.Between.{between-tells}
 use Rattle.stripe_core.proofs.Continuing.{no_less}
 use Rattle.piece_answers.proofs.NoneDisplaced.{none_behind}

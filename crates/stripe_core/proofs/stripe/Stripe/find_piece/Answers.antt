@@ -11,7 +11,7 @@ use Rattle.piece_answers.specs.Standing.{AreStanding}
 use Rattle.stripe_core.specs.Calls.{FindsInStripe}
 use Rattle.stripe_core.specs.Stripe.{flushes_in, kept_in, room_for, seen_in, state_in, units_in}
 use Rattle.stripe_core.proofs.Sparing.{actors_with, find_are_others, made_still, numbered_others, spent_calm}
-use Rattle.piece_names.proofs.Naming.{find_leaves, named_with}
+use Rattle.stripe_answers.proofs.Naming.{find_leaves, named_with}
 use Rattle.logged_disk.proofs.GoingOn.{goes_further}
 use Rattle.stripe_core.proofs.Between.{between-adds, between-trans}
 use Rattle.piece_answers.proofs.NoneDisplaced.{find_displaces, none_with}

@@ -11,7 +11,7 @@ use Rattle.held_pieces.specs.Still.{IsStill}
 use Rattle.stripe_core.specs.Calls.{FlushesInStripe}
 use Rattle.stripe_core.specs.Stripe.{AnswersOrWants, HasMemory, Wanting, flushes_in, kept_in, room_for, seen_in, state_in, units_in}
 use Rattle.stripe_core.proofs.Asked.{behind_unit, stop_has_memory, stop_wants_none}
-use Rattle.piece_names.proofs.Naming.{flush_leaves, named_with}
+use Rattle.stripe_answers.proofs.Naming.{flush_leaves, named_with}
 use Rattle.stripe_core.proofs.Sparing.{actors_with, answers_stop, flush_is_others, made_still, nothing_in_buffer, numbered_others, spent_by}
 use Rattle.stripe_core.proofs.Between.{between-adds, between-trans}
 use Rattle.piece_answers.proofs.NoneDisplaced.{flush_displaces, none_with}

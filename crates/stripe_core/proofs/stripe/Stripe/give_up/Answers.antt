@@ -8,7 +8,7 @@ use Rattle.stripe_core.specs.Stripe.{kept_in, seen_in, state_in}
 use Rattle.piece_answers.proofs.RecordsAdded.{state_of-with_records}
 use Rattle.stripe_core.proofs.Doings.{LeavesPieces, held_behind, one_record, reader_behind, standing_behind, gives_up}
 use Rattle.stripe_core.proofs.Sparing.{made_behind, numbered_by}
-use Rattle.piece_names.proofs.Naming.{named_aborted, named_behind}
+use Rattle.stripe_answers.proofs.Naming.{named_aborted, named_behind}
 use Rattle.stripe_core.proofs.Between.{between-tells}
 use Rattle.piece_answers.proofs.NoneDisplaced.{none_behind}
 use Rattle.stripe_core.proofs.stripe.Stripe.give_up.Goals as goal

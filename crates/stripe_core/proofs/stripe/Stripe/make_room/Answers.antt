@@ -5,7 +5,7 @@ use Rattle.cache_model.specs.Room.{has_room}
 use Rattle.stripe_core.specs.Stripe.{kept_in, seen_in, state_in}
 use Rattle.piece_answers.proofs.Making.{flush_makes, room_behind, room_stands}
 use Rattle.stripe_core.proofs.Making.{memory_alike, refusal_makes_none, stops_alike, wanting_alike}
-use Rattle.piece_names.proofs.Naming.{geometry_with}
+use Rattle.stripe_answers.proofs.Naming.{geometry_with}
 use Rattle.stripe_core.proofs.Continuing.{continues_same}
 use Rattle.stripe_core.proofs.Stills.{still_put}
 use Rattle.stripe_core.proofs.stripe.Stripe.make_room.Goals as goal

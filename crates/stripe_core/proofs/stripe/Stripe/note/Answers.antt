@@ -7,7 +7,7 @@ use Rattle.stripe_core.specs.Stripe.{kept_in, seen_in, state_in}
 use Rattle.piece_answers.proofs.RecordsAdded.{state_of-with_records}
 use Rattle.stripe_core.proofs.Doings.{answer_keeps_readers, answer_leaves, answer_leaves_tape, held_behind, notes, one_record, reader_behind, standing_behind}
 use Rattle.stripe_core.proofs.Sparing.{made_behind, numbered_by}
-use Rattle.piece_names.proofs.Naming.{answer_leaves_names, named_behind}
+use Rattle.stripe_answers.proofs.Naming.{answer_leaves_names, named_behind}
 use Rattle.stripe_core.proofs.Between.{answer_tells_no_fault, answer_tells_none, between-tells}
 use Rattle.piece_answers.proofs.NoneDisplaced.{answer_displaces, none_behind}
 use Rattle.stripe_core.proofs.stripe.Stripe.note.Goals as goal

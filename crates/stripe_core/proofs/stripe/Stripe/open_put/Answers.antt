@@ -8,19 +8,19 @@ use Rattle.tape_base.specs.declared.actors.Actor.{Actor}
 use Rattle.tape_base.specs.declared.keys.Key.{Key}
 use Rattle.alternate_vector.specs.Field.{Field}
 use Rattle.cache_model.specs.Contents.{contents_of_vectors}
-use Rattle.piece_names.specs.Named.{IsNamed}
+use Rattle.stripe_answers.specs.Named.{IsNamed}
 use Rattle.stripe_actors.specs.Actors.{AreActors}
 use Rattle.stripe_actors.specs.Calls.{IsExhausted, OpensWhere}
-use Rattle.stripe_core.specs.declared.refusal.Refusal.{Refusal}
-use Rattle.stripe_core.specs.declared.refusal.Refusal.TheVariants as refusal
-use Rattle.stripe_core.specs.Acts.{OpensAsAsked}
+use Rattle.stripe_answers.specs.declared.refusal.Refusal.{Refusal}
+use Rattle.stripe_answers.specs.declared.refusal.Refusal.TheVariants as refusal
+use Rattle.stripe_answers.specs.Acts.{OpensAsAsked}
 use Rattle.stripe_core.specs.Calls.{OpensPutInStripe}
 use Rattle.stripe_core.specs.Stripe.{kept_in, seen_in, state_in}
 use Rattle.stripe_pieces.specs.Units.{records_of_unit}
 use Rattle.piece_answers.proofs.RecordsAdded.{state_of-with_records}
 use Rattle.stripe_core.proofs.Doings.{LeavesPieces, held_behind, opens, reader_behind, refused_opens, standing_behind}
 use Rattle.stripe_core.proofs.Sparing.{behind_one, made_behind, numbered_by, spared_more}
-use Rattle.piece_names.proofs.Naming.{named_behind, named_opened}
+use Rattle.stripe_answers.proofs.Naming.{named_behind, named_opened}
 use Rattle.stripe_core.proofs.Between.{between-tells}
 use Rattle.stripe_core.proofs.Continuing.{continues_beside, continues_same}
 use Rattle.piece_answers.proofs.NoneDisplaced.{none_behind}

@@ -13,7 +13,7 @@ use Rattle.stripe_core.specs.Stripe.{AnswersOrWants, HasMemory, Wanting, flushes
 use Rattle.stripe_core.proofs.Asked.{stop_has_memory, stop_wants_none}
 use Rattle.piece_answers.proofs.RecordsAdded.{state_of-with_records}
 use Rattle.piece_answers.proofs.Displacing.{displaced_puts, pushed_kinds}
-use Rattle.piece_names.proofs.Naming.{displaced_leaves, begun_put, flush_leaves, fragment_named, fragment_new, named_with}
+use Rattle.stripe_answers.proofs.Naming.{displaced_leaves, begun_put, flush_leaves, fragment_named, fragment_new, named_with}
 use Rattle.stripe_core.proofs.Sparing.{actors_with, answers_stop, flush_is_others, fragment_actors, fragment_readers, made_still, no_vector_id, numbered_by, numbered_others, placed_state, room_for_it, spent_by}
 use Rattle.stripe_core.proofs.Between.{between-adds}
 use Rattle.stripe_core.proofs.Continuing.{continues_beside, continues_with}

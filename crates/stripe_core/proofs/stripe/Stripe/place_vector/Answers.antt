@@ -12,7 +12,7 @@ use Rattle.stripe_core.specs.Stripe.{AnswersOrWants, flushes_in, kept_in, seen_i
 use Rattle.stripe_core.proofs.Between.{between-tells}
 use Rattle.piece_answers.proofs.Groups.{no_damage_adds, place_quiet, vector_group}
 use Rattle.piece_answers.proofs.Displacing.{displaced_puts, pushed_kinds}
-use Rattle.piece_names.proofs.Naming.{displaced_leaves, begun_put, named_with, vector_named, vector_new}
+use Rattle.stripe_answers.proofs.Naming.{displaced_leaves, begun_put, named_with, vector_named, vector_new}
 use Rattle.piece_answers.proofs.RecordsAdded.{state_of-with_records}
 use Rattle.stripe_core.proofs.Sparing.{actors_with, answers_stop, made_still, numbered_others, spent_calm, vector_others, vector_state}
 use Rattle.stripe_core.proofs.Continuing.{no_less}

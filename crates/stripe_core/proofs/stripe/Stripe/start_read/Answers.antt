@@ -6,12 +6,12 @@ use Rattle.cache_model.specs.State.{state_after}
 use Rattle.cache_model.specs.Kept.{Kept, state_of, with_records}
 use Rattle.cache_model.specs.Contents.{contents_of_vectors}
 use Rattle.stripe_actors.specs.Actors.{AreActors}
-use Rattle.stripe_core.specs.Acts.{IsFollowable}
+use Rattle.stripe_answers.specs.Acts.{IsFollowable}
 use Rattle.stripe_core.specs.Calls.{StartsReadInStripe}
 use Rattle.stripe_core.specs.Stripe.{flushes_in, kept_in, seen_in, state_in, units_in}
 use Rattle.piece_answers.proofs.RecordsAdded.{state_of-with_records}
 use Rattle.stripe_core.proofs.Doings.{LeavesPieces, held_behind, looks, reader_behind, standing_behind}
-use Rattle.piece_names.proofs.Naming.{name_left, named_behind}
+use Rattle.stripe_answers.proofs.Naming.{name_left, named_behind}
 use Rattle.stripe_core.proofs.Sparing.{made_behind, numbered_by, one_told}
 use Rattle.stripe_core.proofs.Between.{between-tells, between-trans}
 use Rattle.stripe_core.proofs.Continuing.{continues_beside, continues_then}

@@ -4,7 +4,7 @@ use Rattle.cache_model.specs.Contents.{contents_of_vectors}
 use Rattle.stripe_pieces.specs.Pieces.{seen_now}
 use Rattle.stripe_core.specs.Stripe.{kept_in, seen_in, state_in}
 use Rattle.stripe_core.proofs.Doings.{one_less, removes}
-use Rattle.piece_names.proofs.Naming.{name_left, named_behind}
+use Rattle.stripe_answers.proofs.Naming.{name_left, named_behind}
 use Rattle.stripe_core.proofs.Sparing.{actors_with, made_behind, numbered_others}
 use Rattle.stripe_core.proofs.Between.{between-tells}
 use Rattle.stripe_core.proofs.Continuing.{no_less}

@@ -33,7 +33,7 @@ use Rattle.piece_answers.specs.declared.answer.Found.{Found}
 use Rattle.piece_answers.specs.declared.answer.Found.TheVariants as found
 use Rattle.piece_answers.specs.Find.{find_adds, found_records, records_of_trouble}
 use Rattle.piece_answers.specs.Flush.{AreOfFlush, IsRecordOfFlush}
-use Rattle.piece_names.specs.Named.{IsNamed, IsOwn, IsOwnOf, IsPieceOf}
+use Rattle.stripe_answers.specs.Named.{IsNamed, IsOwn, IsOwnOf, IsPieceOf}
 use Rattle.piece_answers.specs.Place.{IsFragmentOf, IsNewPiece, IsVectorFor}
 use Rattle.piece_answers.proofs.RecordsAdded.{state_of-with_records}
 use Rattle.held_pieces.proofs.Going.{all_left}

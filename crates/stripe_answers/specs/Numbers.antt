@@ -1,8 +1,8 @@
 -- Which number a call tells, where a piece has no place any more.
 use Rattle.std.specs.Prelude.{ℕ}
 use Rattle.cache_model.specs.State.{State}
-use Rattle.stripe_core.specs.declared.refusal.Refusal.{Refusal}
-use Rattle.stripe_core.specs.declared.refusal.Refusal.TheVariants as refusal
+use Rattle.stripe_answers.specs.declared.refusal.Refusal.{Refusal}
+use Rattle.stripe_answers.specs.declared.refusal.Refusal.TheVariants as refusal
 use Rattle.piece_answers.specs.Place.{IsExhaustedAt}
 
 -- a call that stops at the limit, when a piece of so many bytes was to be placed, tells that number

@@ -28,7 +28,7 @@ pub enum Refusal {
 }
 
 impl From<Stop> for Refusal {
-    ghost use Rattle.stripe_core.specs.Stripe.{refusal_of};
+    ghost use Rattle.stripe_answers.specs.Refusals.{refusal_of};
 
     ghost from_gives = { λ stop refusal. refusal ≡ refusal_of stop };
 
@@ -41,7 +41,7 @@ impl From<Stop> for Refusal {
 }
 
 impl From<AllocError> for Refusal {
-    ghost use Rattle.stripe_core.specs.declared.refusal.Refusal.TheVariants.{Memory};
+    ghost use Rattle.stripe_answers.specs.declared.refusal.Refusal.TheVariants.{Memory};
 
     ghost from_gives = { λ e refusal. refusal ≡ Memory e };
 
