@@ -1,6 +1,7 @@
 -- Which records a call may add.
 use Rattle.std.specs.Prelude.{ℕ, ◌≡◌, ◌≤◌, List}
 use Rattle.std.specs.List.{AllByRecursion}
+use Rattle.device_log.specs.Calls.{Asked, Call, RefusedCall}
 use Rattle.logged_disk.specs.Device.{TellsAll}
 use Rattle.cache_model.specs.declared.record.Rec.{Rec}
 use Rattle.cache_model.specs.declared.record.Rec.TheVariants as rec
@@ -8,6 +9,7 @@ use Rattle.cache_model.specs.Damage.{TellNoDamage}
 use Rattle.cache_model.specs.Kept.{with_records}
 use Rattle.cache_model.specs.Permit.{IsAmong}
 use Rattle.call_laws.specs.Moments.{At}
+use Rattle.call_laws.specs.Happens.{Happens}
 
 -- no record was added
 abbrev pub IsAsItWas : (old new : At) → Type 0
@@ -36,6 +38,13 @@ pub record AddsFault (count : ℕ) (old new : At) : Type 0 where
   pub added : List Rec
   pub adds : AddsAll added old new
   pub among : IsAmong (rec.Fault count) added
+
+-- it is a call that the device refused between these moments
+abbrev pub AddedFaultsAreRefusals : Type 0
+AddedFaultsAreRefusals =
+    (old new : At) (calls : List Call) (added : List Rec) (count : ℕ)
+    → Happens old new calls added → AddsFault count old new
+    → (asked : Asked) × IsAmong (RefusedCall asked count) calls
 
 -- a record of a flush: it speaks of pieces and of the device alone
 abbrev pub IsOfFlush : Rec → Type 0

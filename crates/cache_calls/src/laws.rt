@@ -1,4 +1,5 @@
 // Laws of calls, each the contract of a function with an empty body.
+ghost use Rattle.cache_calls.specs.Adds.{AddedFaultsAreRefusals};
 ghost use Rattle.cache_calls.specs.Others.{OthersStay, ReadersStay, ReadsLeaveOthers, WritersStay};
 ghost use Rattle.cache_calls.specs.Keeping.{GoesBehindCalls, KeepOn, PlainHasSteps};
 
@@ -13,6 +14,11 @@ pub fn calls_keep<S: Calls>()
 /// A cache that does not sync has a step of any calls.
 pub fn plain_has_steps()
     ensures { PlainHasSteps }
+{}
+
+/// A fault that a call added is a call of its device that was refused, with that count.
+pub fn added_faults_were_refused()
+    ensures { AddedFaultsAreRefusals }
 {}
 
 /// Records of one put leave the other puts, and all readers, as they are.

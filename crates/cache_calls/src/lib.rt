@@ -7,4 +7,7 @@ mod laws;
 
 pub use calls::{Calls, Flushed, NextPiece, Opened, Receipt, Refusal, Removal};
 pub use formats::Formats;
-pub use laws::{calls_keep, others_stay, readers_stay, reads_leave_others, writers_stay};
+pub use laws::{
+    added_faults_were_refused, calls_keep, others_stay, readers_stay, reads_leave_others,
+    writers_stay,
+};

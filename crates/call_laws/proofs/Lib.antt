@@ -7,7 +7,7 @@ pub mod Groups
 pub mod Kept
 pub mod Whole
 pub mod Firsts
-mod Backed
+pub mod Backed
 mod Asking
 mod Example
 mod SyncExample
