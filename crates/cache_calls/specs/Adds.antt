@@ -32,7 +32,7 @@ pub record AddsSoundly (IsOwn : Rec → Type 0) (old new : At) : Type 0 where
   pub own : AllByRecursion IsOwn added
   pub undamaged : TellsAll new.device → TellNoDamage added
 
--- among those that were is the fault of a refused call, with this count, to which the device has come
+-- among those that were is a fault record with this count, to which the device has come; by `Happens` it is of a refused call
 pub record AddsFault (count : ℕ) (old new : At) : Type 0 where
   pub reached : count ≤ new.device.faults
   pub added : List Rec

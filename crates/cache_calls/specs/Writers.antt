@@ -125,12 +125,12 @@ pub record CutsAs (old new : At) (w : WriterSeen) (payload : List ℕ) : Type 0 
   pub pushed : IsPushedOut old.setting (after_all (state_at old) room) (piece_cut_next w) displaced
   pub adds : AddsAll (room ++ fragment_records (after_all (state_at old) room) w payload displaced) old new
 
--- the device stopped that flush, or the limit did
+-- the device stopped a call, or the limit did: records of a flush alone
 pub record StopsAs (old new : At) : Type 0 where
   pub flush : AddsOnly IsOfFlush old new
   pub live : LiveBefore (state_at old) (state_at new)
 
--- the device refused a call of that flush, which is recorded: its count then is told
+-- the device refused a call, which is recorded: its count then is told
 pub record StopsByFault (count : ℕ) (old new : At) : Type 0 where
   pub count_is : count ≡ new.device.faults
   pub told : AddsFault count old new

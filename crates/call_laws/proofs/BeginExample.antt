@@ -1,6 +1,6 @@
 -- A call of a stripe that syncs that begins a sync in parts, behind the buffer and of an empty one: it is done in any step that
--- has it, whatever other calls wrote before it or write behind it; and it is a step of its own. Here nothing of the stripe is
--- supposed.
+-- has it, whatever other calls write behind it, and whatever wrote before it, as the buffer was not tried; and it is a step of
+-- its own. Here nothing of the stripe is supposed.
 use Rattle.std.proofs.Common.{◌≡◌, ℕ, ◌+◌, ◌≤◌, arith, true, false, List, [], ◌∷◌, ◌++◌, refl, sym, ◌∙◌, ap, subst, append_assoc, append-nil, inl, lit<, lit≤}
 use Rattle.std.specs.Prelude.{◌/◌, None, length, replicate}
 use Rattle.tape_base.specs.declared.geometries.Geometry.{Geometry}
