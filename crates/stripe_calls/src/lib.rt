@@ -6,5 +6,4 @@ mod begins;
 mod cache;
 mod seam;
 
-pub use begins::NewChronicle;
 pub use cache::StripeCache;

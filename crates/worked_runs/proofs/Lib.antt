@@ -6,7 +6,6 @@ pub mod Readings
 pub mod Along
 pub mod Script
 pub mod Tells
-pub mod WritersReadings
-pub mod WritersSteps
-pub mod Writers
-mod WritersTells
+mod Fine
+mod Sentences
+mod Whole

@@ -2,5 +2,5 @@ pub mod Script
 pub mod Steps
 pub mod History
 pub mod Told
-pub mod Writers
-pub mod WritersTold
+pub mod Sentences
+pub mod Whole

@@ -1,11 +1,13 @@
-//! Two runs, worked by hand: their steps, legal histories, answers and accounts.
+//! A run that was worked by hand: its steps, legal history, answers and account, and what the laws of `headline` say of it.
 #![tactic(auto)]
 
 ghost use Rattle.worked_runs.specs.Steps.{AHitIsAStep, AMissIsAStep, APieceIsAStep, AnEndIsAStep, APutIsAStep, AGetIsAStep, ARemovalIsAStep, AMissBehindItIsAStep, ThePutHolds};
 ghost use Rattle.worked_runs.specs.History.{OnlyTheBodyIsGiven, TheScriptIsARun, TheScriptIsAnswered, TheScriptPrints};
 ghost use Rattle.worked_runs.specs.Told.{TheScriptHasAnAccount, TheScriptIsConcluded};
-ghost use Rattle.worked_runs.specs.Writers.{TheWritersAreARun, TheWritersAreAnswered, TheWritersPrint};
-ghost use Rattle.worked_runs.specs.WritersTold.{TheWritersAreConcluded, TheWritersHaveAnAccount};
+
+mod laws;
+
+pub use laws::{the_get_is_whole, the_hit_is_whole, the_end_is_read, the_put_is_listed, nothing_was_put, the_miss_is_caused, it_was_removed, the_history_is_whole, the_put_was_answered, the_removal_was_answered, the_put_was_completed, the_removal_was_recorded, the_put_took_its_body, the_got_is_the_body, each_run_prints_it, each_run_is_done, the_run_is_told, the_run_ends, no_count_is_told, no_fault_is_told, no_damage_is_told, the_run_is_steady, each_history_prints_it, each_run_agrees};
 
 use run_promise::texts_are_output;
 
@@ -93,36 +95,3 @@ pub fn the_script_is_concluded()
     the_script_is_answered();
 }
 
-/// The lines of the second script have a legal history, written out by hand.
-pub fn the_writers_are_a_run()
-    ensures { TheWritersAreARun }
-{}
-
-/// By these turns each of its lines is answered so.
-pub fn the_writers_are_answered()
-    ensures { TheWritersAreAnswered }
-{}
-
-/// And that is what is printed.
-pub fn the_writers_print()
-    ensures { TheWritersPrint }
-{
-    the_writers_are_answered();
-    texts_are_output();
-}
-
-/// The second run has an account, with these lines, turns and answers.
-pub fn the_writers_have_an_account()
-    ensures { TheWritersHaveAnAccount }
-{
-    the_writers_are_a_run();
-    the_writers_are_answered();
-}
-
-/// What the top call concludes with the status Done holds of its logs.
-pub fn the_writers_are_concluded()
-    ensures { TheWritersAreConcluded }
-{
-    the_writers_are_a_run();
-    the_writers_are_answered();
-}

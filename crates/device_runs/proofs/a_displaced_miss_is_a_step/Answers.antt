@@ -1,5 +1,0 @@
-use Rattle.device_runs.proofs.Gone.{displaced_miss_is_a_step}
-use Rattle.device_runs.proofs.a_displaced_miss_is_a_step.Goals as goal
-
-pub returns : goal.returns
-returns c = displaced_miss_is_a_step

@@ -1,5 +1,0 @@
-use Rattle.device_runs.proofs.Flushed.{flush_is_a_step}
-use Rattle.device_runs.proofs.a_flush_is_a_step.Goals as goal
-
-pub returns : goal.returns
-returns c = flush_is_a_step c.the_put_holds.ensures

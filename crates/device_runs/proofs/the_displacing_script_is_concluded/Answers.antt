@@ -1,5 +1,0 @@
-use Rattle.device_runs.proofs.DisplacingTells.{is_concluded}
-use Rattle.device_runs.proofs.the_displacing_script_is_concluded.Goals as goal
-
-pub returns : goal.returns
-returns c = is_concluded c.the_displacing_script_is_a_run.ensures c.the_displacing_script_is_answered.ensures

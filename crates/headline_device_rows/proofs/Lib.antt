@@ -1,4 +1,0 @@
-mod Sentences
-mod DisplacingSentences
-mod PassedSentences
-mod PassedAgreeing

@@ -1,5 +1,0 @@
-use Rattle.headline_device_rows.proofs.Sentences.{no_damage_in_memory}
-use Rattle.headline_device_rows.proofs.no_damage_in_memory.Goals as goal
-
-pub returns : goal.returns
-returns c = no_damage_in_memory c.no_false_damage.ensures

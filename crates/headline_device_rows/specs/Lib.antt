@@ -1,3 +1,0 @@
-pub mod Sentences
-pub mod DisplacingSentences
-pub mod PassedSentences

@@ -1,5 +1,0 @@
-use Rattle.headline_rows.proofs.Sentences.{each_run_is_done}
-use Rattle.headline_rows.proofs.each_run_is_done.Goals as goal
-
-pub returns : goal.returns
-returns c = each_run_is_done c.done_where_fine.ensures c.texts_have_lines.ensures.spelled

@@ -1,5 +1,0 @@
-use Rattle.headline_rows.proofs.Sentences.{each_run_prints}
-use Rattle.headline_rows.proofs.each_run_prints_it.Goals as goal
-
-pub returns : goal.returns
-returns c = each_run_prints c.source_fixes_sink.ensures c.the_script_is_concluded.ensures c.the_run_is_steady.ensures.0

@@ -1,5 +1,0 @@
-use Rattle.headline_rows.proofs.Sentences.{it_was_removed}
-use Rattle.headline_rows.proofs.it_was_removed.Goals as goal
-
-pub returns : goal.returns
-returns c = it_was_removed c.removed_was_recorded.ensures c.the_script_is_answered.ensures

@@ -1,5 +1,0 @@
-use Rattle.headline_rows.proofs.Whole.{no_count_is_told}
-use Rattle.headline_rows.proofs.no_count_is_told.Goals as goal
-
-pub returns : goal.returns
-returns c = no_count_is_told c.counts_are_reached.ensures

@@ -1,5 +1,0 @@
-use Rattle.headline_rows.proofs.Sentences.{nothing_was_put}
-use Rattle.headline_rows.proofs.nothing_was_put.Goals as goal
-
-pub returns : goal.returns
-returns c = nothing_was_put c.never_put_was_none.ensures c.the_script_is_answered.ensures

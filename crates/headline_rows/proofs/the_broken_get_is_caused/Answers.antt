@@ -1,5 +1,0 @@
-use Rattle.headline_rows.proofs.CrowdedTells.{broken_get_is_caused}
-use Rattle.headline_rows.proofs.the_broken_get_is_caused.Goals as goal
-
-pub returns : goal.returns
-returns c = broken_get_is_caused c.gets_are_caused.ensures c.the_crowded_is_answered.ensures

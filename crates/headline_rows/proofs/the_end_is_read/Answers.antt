@@ -1,5 +1,0 @@
-use Rattle.headline_rows.proofs.Sentences.{end_is_read}
-use Rattle.headline_rows.proofs.the_end_is_read.Goals as goal
-
-pub returns : goal.returns
-returns c = end_is_read c.end_is_read.ensures c.the_script_is_answered.ensures

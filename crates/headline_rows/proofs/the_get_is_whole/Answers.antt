@@ -1,5 +1,0 @@
-use Rattle.headline_rows.proofs.Sentences.{get_is_whole}
-use Rattle.headline_rows.proofs.the_get_is_whole.Goals as goal
-
-pub returns : goal.returns
-returns c = get_is_whole c.got_is_whole.ensures c.the_script_is_answered.ensures

@@ -1,5 +1,0 @@
-use Rattle.headline_rows.proofs.Sentences.{hit_is_whole}
-use Rattle.headline_rows.proofs.the_hit_is_whole.Goals as goal
-
-pub returns : goal.returns
-returns c = hit_is_whole c.hit_is_whole.ensures c.the_script_is_answered.ensures

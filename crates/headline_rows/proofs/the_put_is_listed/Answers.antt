@@ -1,5 +1,0 @@
-use Rattle.headline_rows.proofs.Sentences.{put_is_listed}
-use Rattle.headline_rows.proofs.the_put_is_listed.Goals as goal
-
-pub returns : goal.returns
-returns c = put_is_listed c.found_is_listed.ensures c.the_script_is_answered.ensures

@@ -1,5 +1,0 @@
-use Rattle.headline_rows.proofs.Sentences.{removal_was_answered}
-use Rattle.headline_rows.proofs.the_removal_was_answered.Goals as goal
-
-pub returns : goal.returns
-returns c = removal_was_answered c.removal_was_answered.ensures

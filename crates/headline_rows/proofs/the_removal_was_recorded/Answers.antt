@@ -1,5 +1,0 @@
-use Rattle.headline_rows.proofs.Sentences.{removal_was_recorded}
-use Rattle.headline_rows.proofs.the_removal_was_recorded.Goals as goal
-
-pub returns : goal.returns
-returns c = removal_was_recorded c.answered_removal_was_recorded.ensures c.the_script_is_answered.ensures

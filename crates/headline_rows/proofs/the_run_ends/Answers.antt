@@ -1,5 +1,0 @@
-use Rattle.headline_rows.proofs.Whole.{run_ends}
-use Rattle.headline_rows.proofs.the_run_ends.Goals as goal
-
-pub returns : goal.returns
-returns c = run_ends c.ends_are_caused.ensures c.texts_have_lines.ensures.spelled c.the_script_is_concluded.ensures

@@ -1,4 +1,0 @@
-pub mod Sentences
-pub mod Whole
-pub mod Crowded
-pub mod BadEnd

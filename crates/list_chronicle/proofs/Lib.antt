@@ -1,2 +1,0 @@
-mod Front
-mod Standing
