@@ -1,5 +1,5 @@
-// A chronicle that keeps every record.
-ghost use Rattle.std.specs.Prelude.{◌≡◌, ◌-◌, ◌<◌, [], length, slice_get, Some, option_map};
+// A chronicle that forgets nothing: tables of what its records say, and how many these are.
+ghost use Rattle.std.specs.Prelude.{◌≡◌, [], option_map};
 ghost use Rattle.std.specs.HashMap.{get};
 ghost use Rattle.cache_model.specs.State.{count_of_vector, floor_now, row_of, vector_piece};
 ghost use Rattle.cache_model.specs.Verdict.{cause_of_piece, cause_of_vector, cause_without_vector};
@@ -9,6 +9,7 @@ ghost use Rattle.cache_chronicle.specs.LivePieces.{kept_piece};
 
 use crate::Chronicle;
 use crate::pieces::{KeptPiece, vector_piece};
+use crate::records::GhostRecords;
 use crate::tables::Tables;
 use crate::vectors::{NotedVector, last_of};
 use cache_model::{Cause, Rec};
@@ -16,10 +17,12 @@ use std::alloc::{AllocError, Global};
 use std::marker::Model;
 use tape_base::{Key, PieceId};
 
-/// Every record, and beside them tables of what they say last of each piece, place and key.
+/// Tables of what all records say last of each piece, place and key. Of the records themselves it keeps
+/// their count alone.
 #[derive(Drop)]
 pub struct FullChronicle {
-    records: Vec<Rec>,
+    records: GhostRecords,
+    count: u64,
     tables: Tables,
 }
 
@@ -40,22 +43,10 @@ impl FullChronicle {
         ensures { kept_of_history result ≡ all_of [] }
     {
         FullChronicle {
-            records: Vec::new(alloc),
+            records: GhostRecords::new(),
+            count: 0,
             tables: Tables::new(alloc),
         }
-    }
-
-    pub fn len(&self) -> usize
-        ensures { result ≡ length self.now.records }
-    {
-        self.records.len()
-    }
-
-    pub fn get(&self, i: usize) -> &Rec
-        requires { i < length self.now.records }
-        ensures { slice_get self.now.records i ≡ Some result.now }
-    {
-        &self.records[i]
     }
 
     fn floor(&self) -> u64
@@ -127,17 +118,21 @@ impl Chronicle for FullChronicle {
     ghost room = { λ c. c.room };
 
     fn reserve(&mut self, more: usize) -> Result<(), AllocError> {
-        self.records.reserve(more)?;
+        // The count has 64 bits.
+        if u64::MAX - self.count < more as u64 {
+            return Err(AllocError);
+        }
         self.tables.reserve(more)
     }
 
     fn push(&mut self, rec: Rec) {
         self.tables.note(&rec);
-        self.records.push_reserved(rec);
+        self.records.note(&rec);
+        self.count += 1;
     }
 
     fn count(&self) -> u64 {
-        self.records.len() as u64
+        self.count
     }
 
     fn why(&self, key: Key) -> Cause {

@@ -8,6 +8,7 @@ mod losses;
 mod opened;
 mod payloads;
 mod pieces;
+mod records;
 mod tables;
 mod tape;
 mod vectors;

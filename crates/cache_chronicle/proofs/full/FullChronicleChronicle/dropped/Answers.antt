@@ -2,4 +2,4 @@ use Rattle.cache_model.specs.State.{after_all, nothing_yet}
 use Rattle.cache_chronicle.proofs.full.FullChronicleChronicle.dropped.Goals as goal
 
 pub returns : goal.returns
-returns c = rw (← c.self.view_is) (c.dropped.ensures (after_all nothing_yet c.self.inside.records.items) c.self.invariant.tables.tape)
+returns c = rw (← c.self.view_is) (c.dropped.ensures (after_all nothing_yet c.self.inside.records.list) c.self.invariant.tables.tape)

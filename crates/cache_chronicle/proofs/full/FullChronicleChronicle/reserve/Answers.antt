@@ -1,4 +1,7 @@
 use Rattle.cache_chronicle.proofs.full.FullChronicleChronicle.reserve.Goals as goal
 
-pub invariant_of-self-2 : goal.invariant_of-self-2
-invariant_of-self-2 c = record { tables = c.reserve-2.ensures.has _ (rw c.reserve.ensures.items c.self.invariant.tables) }
+pub invariant_of-self : goal.invariant_of-self
+invariant_of-self c = record {
+  tables = c.reserve.ensures.has _ c.self.invariant.tables;
+  count = c.self.invariant.count;
+}
