@@ -189,7 +189,7 @@ sync_splits p k s added e (Syncing.DoesSync.runs serial on quiet parts runs is) 
 
 pub step_aside : (p : Permit) (s : State) (last : Bool) (added : List Rec) (e : End) → DoesSyncStep p s last added e → AllAside added
 step_aside p s last added e (Syncing.DoesSyncStep.none on quiet none is) = is_aside added [] is tt
-step_aside p s last added e (Syncing.DoesSyncStep.part on quiet runs front takes is) = is_aside added [] is tt
+step_aside p s last added e (Syncing.DoesSyncStep.part on quiet runs front is) = is_aside added [] is tt
 step_aside p s last added e (Syncing.DoesSyncStep.ends on quiet runs end is) = is_aside added (ended_records s) is (syncs_aside (ended_records s) (ended_of s))
 step_aside p s last added e (Syncing.DoesSyncStep.stays count on quiet c) = cannot_aside p s count added c
 

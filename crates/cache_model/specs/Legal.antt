@@ -27,7 +27,7 @@ use Rattle.cache_model.specs.declared.record.Rec.TheVariants as rec
 use Rattle.cache_model.specs.State.{State, Row, PutRow, ReaderRow, Open, most_fragments, after_all, nothing_yet, alternate_of, fragment_piece, place_now, list_of_piece, list_of_put, live_row_of, put_of, reader_of, vector_piece, with_cut}
 use Rattle.cache_model.specs.Verdict.{digest_in, is_open, live_vector_of, lookup_verdict, next_piece, next_row, reader_verdict}
 use Rattle.cache_model.specs.Permit.{Permit, Setting, IsSetBy, Intent, Flush, Sync, SyncBegin, SyncStep, Drain, CleanSync, Write, Fragment, Overflow, Weigh, Finish, Commit, GiveUp, Remove, Look, ReadOn, ReadAll, StopReading, Reason, ManyWriters, Exhausted, ManyFragments, TooLarge, Lost, Faulted, StillOpen, End, Stays, Done, Fails, Work, to_do, work_after}
-use Rattle.cache_model.specs.Given.{AreSyncsTold, CountsRead, CountsWrite, IsDamaged, IsRead, IsReadWhereLive, IsWritten, TakesBuffer, Trouble, denials, effects_in, effects_told, damage_cause, damage_record}
+use Rattle.cache_model.specs.Given.{CountsRead, CountsWrite, IsDamaged, IsRead, IsReadWhereLive, IsWritten, TakesBuffer, Trouble, denials, effects_in, effects_told, damage_cause, damage_record}
 use Rattle.cache_model.specs.Due.{due_pieces}
 use Rattle.cache_model.specs.Outcomes.{AreOutcomes, Outcome, flush_records, stopped_front_of, stopped_records}
 use Rattle.cache_model.specs.Opening.{Opening}
@@ -399,14 +399,12 @@ pub data MayGrow (p : Permit) : State → Work → List Rec → Work → Type 0 
       → MayGrow p (after_all s added) between rest after → MayGrow p s w (added ++ rest) after
 
 -- a whole step: nothing is left but what a refusal excused, no vector is pending, each call that the device refused has its
--- record, in order, and no other fault is there; of a stripe that does not sync so has each call that was no read, and of one
--- that syncs each that ended a sync
+-- record, in order, and no other fault is there; of a stripe that does not sync so has each call that was no read
 pub record IsStep (p : Permit) (s : State) (intents : List Intent) (added : List Rec) (refused : Option Reason) : Type 0 where
   pub grows : MayGrow p s (to_do intents) added (record { intents = []; refused = refused })
   pub quiet : IsQuiet (after_all s added)
   pub faults : denials (effects_told added) ≡ denials (effects_in p.events)
   pub effects : p.syncs ≡ false → effects_told added ≡ effects_in p.events
-  pub synced : p.syncs ≡ true → AreSyncsTold p s added refused
 
 -- ---- a chronicle
 

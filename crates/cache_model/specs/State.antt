@@ -113,8 +113,6 @@ pub record State : Type 0 where
   pub next_reader : ℕ
   -- the device's count at its last fault
   pub fault : ℕ
-  -- a call failed since the buffer began, which may have been written before
-  pub tried : Bool
   -- the floor of the opening with which the session began; 0 behind a format
   pub least : ℕ
   -- the serial of that opening
@@ -182,7 +180,6 @@ formatted geometry = record {
   readers = [];
   next_reader = 1;
   fault = 0;
-  tried = false;
   least = 0;
   opened = None;
   marks = mark_of_format geometry ∷ [];
@@ -329,10 +326,6 @@ mark_of s serial = find (λ m. m.serial == serial) s.marks
 abbrev pub synced_cursor : State → ℕ
 synced_cursor s = unwrap_or (option_map (λ (m : Mark). m.cursor) (mark_of s s.finished)) s.geometry.content
 
--- the place where the last of its pieces may end
-abbrev pub synced_end : State → ℕ
-synced_end s = unwrap_or (option_map (λ (m : Mark). m.end) (mark_of s s.finished)) s.geometry.content
-
 -- it is known as a clean one
 abbrev pub is_clean_sync : State → ℕ → Bool
 is_clean_sync s serial = unwrap_or (option_map (λ (m : Mark). m.clean) (mark_of s serial)) false
@@ -477,7 +470,7 @@ abbrev pub state_after : State → Rec → State
 state_after s (rec.Formatted geometry) = formatted geometry
 state_after s (rec.Opened geometry serial cursor floor next_put clean list) =
     state_of_opening geometry (record { serial = serial; cursor = cursor; floor = floor; next_put = next_put; clean = clean; found = list })
-state_after s (rec.Began cursor floor) = record s { cursor = cursor; filled = 0; tried = false }
+state_after s (rec.Began cursor floor) = record s { cursor = cursor; filled = 0 }
 state_after s (rec.Placed piece place blocks digest pin) = record s {
   filled = s.filled + blocks;
   rows = without piece s.rows ++ placed_row s piece place blocks digest pin ∷ [];
@@ -542,7 +535,7 @@ state_after s (rec.SyncDone serial) = record s {
   running = None;
   marked = if is_clean_sync s serial then s.marked else false;
 }
-state_after s (rec.Fault count) = record s { fault = count; tried = true }
+state_after s (rec.Fault count) = record s { fault = count }
 
 -- the state behind records, one after the other
 abbrev pub after_all : State → List Rec → State

@@ -9,7 +9,7 @@ use Rattle.cache_model.specs.Vectors.{AreTold, IsVectorAs}
 use Rattle.call_laws.specs.Moments.{NothingKnown, At, Facts, IsToldAt}
 use Rattle.call_laws.specs.Progress.{AllDone, FallsShort, IfDone, Leaves, Progress, Stops, in_full}
 use Rattle.call_laws.specs.Serves.{ServesFrom}
-use Rattle.call_laws.specs.Whole.{IsWholeStep, WritesFirst}
+use Rattle.call_laws.specs.Whole.{IsWholeStep}
 use Rattle.call_laws.proofs.Known.{serves_known}
 use Rattle.call_laws.proofs.Served.{serves_fails, serves_first, serves_on, serves_refused}
 use Rattle.call_laws.proofs.Whole.{serves_step}
@@ -61,5 +61,5 @@ module _ (now put rest fragments : ℕ) (a b c d : At) (Weighed : Facts) where
 
   -- a close that is a step of its own, of a stripe that syncs or not
   whole : (past : List Call) → (a.setting.syncs ≡ true → HasCopies a.setting.area) → AreTold (state_of a.kept) → IsQuiet (state_of d.kept)
-      → WritesFirst now past a d → ServesFrom IsVectorAs now a d closes AllDone IsToldAt IsToldAt → IsWholeStep IsVectorAs now past a d closes None IsToldAt
-  whole past copies known quiet firsts serves = serves_step None past in_full copies quiet firsts known serves
+      → ServesFrom IsVectorAs now a d closes AllDone IsToldAt IsToldAt → IsWholeStep IsVectorAs now past a d closes None IsToldAt
+  whole past copies known quiet serves = serves_step None past in_full copies quiet known serves

@@ -6,12 +6,10 @@ use Rattle.std.proofs.lemmas.List.Elements.{filter-append}
 use Rattle.cache_model.specs.declared.record.Rec.{Rec}
 use Rattle.cache_model.specs.State.{State, after_all}
 use Rattle.cache_model.specs.Permit.{Permit, Intent, GiveUp, StopReading, Reason, End, Stays, Done, Fails, Work, is_cleanup, to_do, work_after}
-use Rattle.cache_model.specs.Given.{buffers_begun}
 use Rattle.cache_model.specs.Legal
 use Rattle.cache_model.specs.Legal.{Does, DoesGiveUp, DoesStopReading, Advances, MayGrow, nothing, more}
 use Rattle.cache_model.specs.Pair.{Documents, IsPairNext, ShowsFrom, ShowsPair}
 use Rattle.cache_model.proofs.Steps.{after_all-append, grows_by, grows_on}
-use Rattle.call_laws.proofs.Accounts.{begun_append}
 use Rattle.call_laws.specs.Progress.{Progress, Leaves, Stops, Wants, AllDone, Spends, cleanups, is_short, left_with, progress_of, refused_work}
 
 -- ---- clean-ups
@@ -51,28 +49,6 @@ cleanup_done p s i added e is h = absurd (no is)
     no : false ≡ true → ⊥
     no e = cc
 
--- nor does it begin a buffer
-gives_none : (s : State) (put : ℕ) (added : List Rec) (e : End) → DoesGiveUp s put added e → buffers_begun added ≡ 0
-gives_none s put added e (Legal.DoesGiveUp.aborts w writing is) = ap buffers_begun is
-gives_none s put added e (Legal.DoesGiveUp.over quiet closed is) = ap buffers_begun is
-
-stops_none : (s : State) (reader : ℕ) (added : List Rec) (e : End) → DoesStopReading s reader added e → buffers_begun added ≡ 0
-stops_none s reader added e (Legal.DoesStopReading.closes r quiet found is) = ap buffers_begun is
-stops_none s reader added e (Legal.DoesStopReading.closed quiet none is) = ap buffers_begun is
-
-cleanup_none : (p : Permit) (s : State) (i : Intent) (added : List Rec) (e : End) → is_cleanup i ≡ true → Does p s i added e → buffers_begun added ≡ 0
-cleanup_none p s (GiveUp put) added e is h = gives_none s put added e h
-cleanup_none p s (StopReading reader) added e is h = stops_none s reader added e h
-cleanup_none p s i added e is h = absurd (no is)
-  where
-    no : false ≡ true → ⊥
-    no e = cc
-
-one_none : (p : Permit) (s : State) (is : List Intent) (why : Option Reason) (added : List Rec) (after : Work) → AreCleanups is
-    → Advances p s is why added after → buffers_begun added ≡ 0
-one_none p s [] why added after each h = absurd h
-one_none p s (i ∷ is) why added after each h = cleanup_none p s i added h.0 each.0 h.1
-
 one_cleans : (p : Permit) (s : State) (is : List Intent) (why : Option Reason) (added : List Rec) (after : Work) → AreCleanups is
     → Advances p s is why added after → AreCleanups after.intents × (after.refused ≡ why)
 one_cleans p s [] why added after each h = absurd h
@@ -86,21 +62,7 @@ grown_cleans {p} {s} {w} each (more added between one others) =
     let first : AreCleanups between.intents × (between.refused ≡ w.refused) = one_cleans p s w.intents w.refused added between each one in
     grown_cleans first.0 others ∙ first.1
 
-sum_none : (m n all : ℕ) → all ≡ m + n → m ≡ 0 → n ≡ 0 → all ≡ 0
-sum_none m n all sum first second = omega arith
-
-grown_none : {p : Permit} {s : State} {w after : Work} {added : List Rec} → AreCleanups w.intents → MayGrow p s w added after → buffers_begun added ≡ 0
-grown_none each nothing = refl
-grown_none {p} {s} {w} each (more {rest = others} added between one behind) =
-    let first : AreCleanups between.intents × (between.refused ≡ w.refused) = one_cleans p s w.intents w.refused added between each one in
-    sum_none (buffers_begun added) (buffers_begun others) (buffers_begun (added ++ others)) (begun_append added others)
-    (one_none p s w.intents w.refused added between each one) (grown_none first.0 behind)
-
--- so clean-ups begin none
-pub none_begun : (p : Permit) (s : State) (is : List Intent) (a : List Rec) → Spends p s (cleanups is) a AllDone → buffers_begun a ≡ 0
-none_begun p s is a h = grown_none (are_cleanups is) h
-
--- and none is refused
+-- so no clean-up is refused
 pub none_refused : (p : Permit) (s : State) (is : List Intent) (why : Reason) (a : List Rec) → Spends p s (cleanups is) a (Stops why) → ⊥
 none_refused p s is why a h = no (grown_cleans (are_cleanups is) h)
   where

@@ -1,5 +1,5 @@
 -- Calls, one behind the other, and what comes of them in a step.
-use Rattle.std.proofs.Common.{◌≡◌, ℕ, true, List, [], ◌++◌, refl, sym, ◌∙◌, ap, subst, append_assoc, append-nil}
+use Rattle.std.proofs.Common.{◌≡◌, ℕ, List, [], ◌++◌, refl, sym, ◌∙◌, ap, subst, append_assoc, append-nil}
 use Rattle.device_log.specs.Calls.{Call}
 use Rattle.cache_model.specs.declared.record.Rec.{Rec}
 use Rattle.cache_model.specs.State.{after_all}
@@ -8,9 +8,9 @@ use Rattle.cache_model.specs.Permit.{Permit, Setting}
 use Rattle.cache_model.specs.Given.{denials, effects_in, effects_told}
 use Rattle.cache_model.proofs.Steps.{after_all-append}
 use Rattle.call_laws.specs.Moments.{At, Encloses, IsStillAt}
-use Rattle.call_laws.specs.Happens.{Happens, TellsSyncs}
+use Rattle.call_laws.specs.Happens.{Happens}
 use Rattle.call_laws.specs.Serves.{InStep, IsCall, Upshots}
-use Rattle.call_laws.proofs.Accounts.{denials_append, effects_append, tells_both, tells_nothing, told_append}
+use Rattle.call_laws.proofs.Accounts.{denials_append, effects_append, told_append}
 
 -- ---- what is kept
 
@@ -55,7 +55,6 @@ happens_nothing {a} {b} h = record {
   adds = h.kept ∙ nothing_more a.kept;
   faults = refl;
   effects = λ unsynced. refl;
-  synced = λ syncs. tells_nothing a.setting.area (state_of a.kept);
 }
 
 pub happens_both : {a b c : At} {calls more : List Call} {added others : List Rec} → Happens a b calls added → Happens b c more others
@@ -71,21 +70,9 @@ happens_both {a} {b} {c} {calls} {more} {added} {others} f l = record {
       told_append added others
       ∙ (ap (λ effects. effects ++ effects_told others) (f.effects unsynced)
       ∙ (ap (λ effects. effects_in calls ++ effects) (l.effects (ap (λ (s : Setting). s.syncs) f.setting ∙ unsynced)) ∙ sym (effects_append more calls)));
-  synced = λ syncs.
-      let there : TellsSyncs b.setting.area (state_of b.kept) more others = l.synced (ap (λ (s : Setting). s.syncs) f.setting ∙ syncs) in
-      let here : TellsSyncs a.setting.area (after_all (state_of a.kept) added) more others =
-      subst (λ s. TellsSyncs a.setting.area s more others) (state_behind a.kept b.kept added f.adds)
-      (subst (λ (s : Setting). TellsSyncs s.area (state_of b.kept) more others) f.setting there) in
-      tells_both a.setting.area (state_of a.kept) calls more added others (f.synced syncs) here;
 }
 
 -- ---- what comes of it
-
--- in a step of a stripe that syncs a call tells its syncs
-tells_in : {now : ℕ} {a b : At} {p : Permit} {earlier calls : List Call} {added : List Rec} → Encloses now a.setting p earlier calls
-    → Happens a b calls added → p.syncs ≡ true → TellsSyncs p.area (state_of a.kept) calls added
-tells_in {a = a} {calls = calls} {added = added} step happens syncs =
-    subst (λ area. TellsSyncs area (state_of a.kept) calls added) (sym step.set.area) (happens.synced (sym step.set.syncs ∙ syncs))
 
 -- what comes of a call is something else too
 pub call_as : {now : ℕ} {a b : At} {comes others : Upshots}
@@ -109,7 +96,6 @@ call_still still each = record { calls = []; added = []; happens = happens_nothi
 -- what comes of one call and then of another comes of both
 pub call_then : {now : ℕ} {a b c : At} {first last all : Upshots}
     → ((p : Permit) (earlier calls more : List Call) (added others : List Rec)
-    → (p.syncs ≡ true → TellsSyncs p.area (state_of a.kept) calls added)
     → first (record { step = p; earlier = earlier; calls = calls; state = state_of a.kept; added = added })
     → last (record { step = p; earlier = calls ++ earlier; calls = more; state = after_all (state_of a.kept) added; added = others })
     → all (record { step = p; earlier = earlier; calls = more ++ calls; state = state_of a.kept; added = added ++ others }))
@@ -122,7 +108,7 @@ call_then {now} {a} {b} {c} {first} {last} {all} law f l = record {
       let inside : Encloses now b.setting p (f.calls ++ earlier) l.calls =
       subst (λ s. Encloses now s p (f.calls ++ earlier) l.calls) (sym f.happens.setting) (encloses_later f.calls l.calls step) in
       let before : Encloses now a.setting p earlier f.calls = encloses_first f.calls l.calls step in
-      law p earlier f.calls l.calls f.added l.added (tells_in before f.happens) (f.does p earlier before)
+      law p earlier f.calls l.calls f.added l.added (f.does p earlier before)
       (subst (λ s. last (record { step = p; earlier = f.calls ++ earlier; calls = l.calls; state = s; added = l.added }))
       (state_behind a.kept b.kept f.added f.happens.adds) (l.does p (f.calls ++ earlier) inside));
 }

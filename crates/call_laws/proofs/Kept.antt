@@ -48,7 +48,7 @@ module _ (P : Documents) (IsSo : State → Type 0) (keep : GroupsKeep P IsSo) wh
     from = λ k. elim (h.from k) [
       | inr pair ↦ inr pair
       | inl v ↦ elim (grown_keeps (spends_begins p (state_of a.kept) asked added o v.spends).1 (first _ k)) [
-        | inl kept ↦ inl (record { spends = v.spends; behind = (kept, v.behind); buffers = v.buffers })
+        | inl kept ↦ inl (record { spends = v.spends; behind = (kept, v.behind) })
         | inr pair ↦ inr pair
       ]
     ];
@@ -106,7 +106,6 @@ serves_surely {a = a} {b = b} {asked = asked} {o = o} leave vectors none f = cal
           inl (record {
             spends = v.spends;
             behind = (record { vectors = subst AreVectors there vectors; puts = puts; displaced = subst (λ t. t.displaced ≡ []) there none }, v.behind);
-            buffers = v.buffers;
           })
           )
     ]

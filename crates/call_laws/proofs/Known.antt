@@ -26,7 +26,6 @@ serves_known {a = a} {b = b} {known = known} other law f = call_as (λ p earlier
       spends = v.spends;
       behind = subst (other (so_far p (calls ++ earlier))) (state_behind a.kept b.kept added happens.adds)
           (law (so_far p (calls ++ earlier)) (subst (known (so_far p (calls ++ earlier))) (sym (state_behind a.kept b.kept added happens.adds)) v.behind));
-      buffers = v.buffers;
     })
     | inr pair ↦ inr pair
   ];
@@ -45,7 +44,6 @@ serves_carries {a = a} {b = b} carried brought law f = call_as (λ p earlier cal
         subst (brought (so_far p (calls ++ earlier))) (state_behind a.kept b.kept added happens.adds)
             (subst (λ past. brought past (state_of b.kept)) (sym (append_assoc calls earlier p.past)) (law (so_far p earlier) calls happens.past k.1)),
       );
-      buffers = v.buffers;
     })
     | inr pair ↦ inr pair
   ];
@@ -67,7 +65,7 @@ module _ (P Q : Documents) (wider : (s : State) (row : Row) (document : List ℕ
       → ServesFrom Q now a b asked o before known
   serves_wider {a = a} f = call_as (λ p earlier calls added step happens h. record {
     from = λ k. elim (h.from k) [
-      | inl v ↦ inl (record { spends = v.spends; behind = v.behind; buffers = v.buffers })
+      | inl v ↦ inl (record { spends = v.spends; behind = v.behind })
       | inr v ↦ inr (record { before = v.before; rest = v.rest; left = v.left; is = v.is; grows = v.grows; pair = next_of_wider p _ v.left.intents v.pair })
     ];
   }) f

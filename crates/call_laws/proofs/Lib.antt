@@ -6,11 +6,7 @@ pub mod Known
 pub mod Groups
 pub mod Kept
 pub mod Whole
-pub mod Firsts
 pub mod Backed
 mod Asking
 mod Example
-mod SyncExample
-mod StepExample
-mod BeginExample
 mod Tries

@@ -1,5 +1,5 @@
 -- What calls did, one behind the other.
-use Rattle.std.proofs.Common.{◌≡◌, ℕ, true, false, List, [], ◌∷◌, ◌++◌, sym, subst, append_assoc, inl, inr}
+use Rattle.std.proofs.Common.{◌≡◌, ℕ, List, [], ◌∷◌, ◌++◌, sym, subst, append_assoc, inl, inr}
 use Rattle.device_log.specs.Calls.{Call}
 use Rattle.cache_model.specs.declared.record.Rec.{Rec}
 use Rattle.cache_model.specs.State.{State, after_all}
@@ -8,10 +8,9 @@ use Rattle.cache_model.specs.Permit.{Intent, Permit, Reason, to_do}
 use Rattle.cache_model.specs.Pair.{Documents, ShowsPair}
 use Rattle.cache_model.proofs.Steps.{after_all-append}
 use Rattle.call_laws.specs.Moments.{At, Facts, IsStillAt, so_far}
-use Rattle.call_laws.specs.Progress.{AllDone, FallsShort, Leaves, Progress, Spends, Stops, UnlessWanting, Wants, cleanups, is_short}
-use Rattle.call_laws.specs.Serves.{InStep, ServesFrom, WritesBuffers}
-use Rattle.call_laws.proofs.Accounts.{WrittenBoth, left_written, none_written, written_behind, written_on}
-use Rattle.call_laws.proofs.Grown.{none_begun, none_refused, shown_fails, shown_first, shown_later, shown_with, spends_begins, spends_fails, spends_fails_again, spends_none, spends_on, spends_part, spends_short}
+use Rattle.call_laws.specs.Progress.{AllDone, FallsShort, Leaves, Progress, Spends, Stops, Wants, cleanups}
+use Rattle.call_laws.specs.Serves.{ServesFrom}
+use Rattle.call_laws.proofs.Grown.{shown_fails, shown_first, shown_later, shown_with, spends_begins, spends_fails, spends_fails_again, spends_none, spends_on, spends_part, spends_short}
 use Rattle.call_laws.proofs.Joined.{call_as, call_still, call_then}
 
 -- ---- one call
@@ -20,14 +19,12 @@ use Rattle.call_laws.proofs.Joined.{call_as, call_still, call_then}
 turned : {P : Documents} {now : ℕ} {a b : At} {is ks : List Intent} {o all : Progress} {before known : Facts}
     → ((p : Permit) (s : State) (r : List Rec) → Spends p s is r o → Spends p s ks r all)
     → ((p : Permit) (s : State) (r : List Rec) → ShowsPair P p s is r → ShowsPair P p s ks r)
-    → ((c : InStep) → UnlessWanting o (WritesBuffers o c) → UnlessWanting all (WritesBuffers all c))
     → ServesFrom P now a b is o before known → ServesFrom P now a b ks all before known
-turned {a = a} law pairs writes f = call_as (λ p earlier calls added step happens h. record {
+turned {a = a} law pairs f = call_as (λ p earlier calls added step happens h. record {
   from = λ k. elim (h.from k) [
     | inl v ↦ inl (record {
       spends = law p (state_of a.kept) added v.spends;
       behind = v.behind;
-      buffers = λ syncs. writes (record { step = p; earlier = earlier; calls = calls; state = state_of a.kept; added = added }) (v.buffers syncs);
     })
     | inr pair ↦ inr (pairs p (state_of a.kept) added pair)
   ];
@@ -40,27 +37,24 @@ serves_still {a = a} is still = call_still still (λ p earlier step. record {
   from = λ k. inl (record {
     spends = spends_none p (state_of a.kept) is;
     behind = k;
-    buffers = λ syncs. none_written (Leaves is) p (state_of a.kept) earlier [];
   });
 })
 
 -- some of what is asked is done
 pub serves_part : {P : Documents} {now : ℕ} {a b : At} {is left : List Intent} {before known : Facts} (js : List Intent)
     → ServesFrom P now a b is (Leaves left) before known → ServesFrom P now a b (is ++ js) (Leaves (left ++ js)) before known
-serves_part {P} {is = is} {left = left} js f = turned (λ p s r. spends_part p s is left js r) (λ p s r h. shown_with P p s (to_do is) r js _ h)
-    (λ c h. left_written left (left ++ js) c h) f
+serves_part {P} {is = is} {left = left} js f = turned (λ p s r. spends_part p s is left js r) (λ p s r h. shown_with P p s (to_do is) r js _ h) f
 
 -- it is done up to some point
 pub serves_begins : {P : Documents} {now : ℕ} {a b : At} {is : List Intent} {o : Progress} {before known : Facts}
     → ServesFrom P now a b is o before known → ServesFrom P now a b is Wants before known
-serves_begins {is = is} {o = o} f = turned (λ p s r. spends_begins p s is r o) (λ p s r h. h) (λ c h. tt) f
+serves_begins {is = is} {o = o} f = turned (λ p s r. spends_begins p s is r o) (λ p s r h. h) f
 
 -- it falls short, and nothing comes of the rest
 pub serves_short : {P : Documents} {now : ℕ} {a b : At} {is : List Intent} {o : Progress} {before known : Facts} (js : List Intent) → FallsShort o
     → cleanups js ≡ []
     → ServesFrom P now a b is o before known → ServesFrom P now a b (is ++ js) o before known
-serves_short {P} {is = is} {o = o} js short none f = turned (λ p s r. spends_short p s is js r o short.short none) (λ p s r h. shown_with P p s (to_do is) r js _ h)
-    (λ c h. h) f
+serves_short {P} {is = is} {o = o} js short none f = turned (λ p s r. spends_short p s is js r o short.short none) (λ p s r h. shown_with P p s (to_do is) r js _ h) f
 
 -- ---- one behind the other
 
@@ -69,10 +63,8 @@ joined : {P : Documents} {now : ℕ} {a b c : At} {is js ks : List Intent} {o la
     → ((p : Permit) (s : State) (r u : List Rec) → Spends p s is r o → Spends p (after_all s r) js u last → Spends p s ks (r ++ u) all)
     → ((p : Permit) (s : State) (r u : List Rec) → ShowsPair P p s is r → ShowsPair P p s ks (r ++ u))
     → ((p : Permit) (s : State) (r u : List Rec) → Spends p s is r o → ShowsPair P p (after_all s r) js u → ShowsPair P p s ks (r ++ u))
-    → ((p : Permit) (s : State) (r u : List Rec) (earlier c d : List Call) → Spends p (after_all s r) js u last
-    → WrittenBoth p s r u earlier c d o last all)
     → ServesFrom P now a b is o before between → ServesFrom P now b c js last between known → ServesFrom P now a c ks all before known
-joined {a = a} {all = all} {known = known} law pairs later writes f l = call_then (λ p earlier calls more added others tells g h. record {
+joined {a = a} {known = known} law pairs later f l = call_then (λ p earlier calls more added others g h. record {
   from = λ k. elim (g.from k) [
     | inr pair ↦ inr (pairs p (state_of a.kept) added others pair)
     | inl v ↦ elim (h.from v.behind) [
@@ -81,7 +73,6 @@ joined {a = a} {all = all} {known = known} law pairs later writes f l = call_the
         spends = law p (state_of a.kept) added others v.spends w.spends;
         behind = subst (λ calls. known (so_far p calls) (after_all (state_of a.kept) (added ++ others))) (sym (append_assoc more calls earlier))
             (subst (known (so_far p (more ++ (calls ++ earlier)))) (sym (after_all-append (state_of a.kept) added others)) w.behind);
-        buffers = λ syncs. writes p (state_of a.kept) added others earlier calls more w.spends (tells syncs) (v.buffers syncs) (w.buffers syncs);
       })
     ]
   ];
@@ -91,7 +82,7 @@ joined {a = a} {all = all} {known = known} law pairs later writes f l = call_the
 pub serves_on : {P : Documents} {now : ℕ} {a b c : At} {is js : List Intent} {o : Progress} {before between known : Facts}
     → ServesFrom P now a b is (Leaves js) before between → ServesFrom P now b c js o between known → ServesFrom P now a c is o before known
 serves_on {P} {is = is} {js = js} {o = o} f l = joined (λ p s r u. spends_on p s is js r u o) (λ p s r u h. shown_first P p s (to_do is) r u h)
-    (λ p s r u g h. shown_later P p s (to_do is) (to_do js) r u g h) (λ p s r u earlier c d h. written_on p s r u earlier c d js o) f l
+    (λ p s r u g h. shown_later P p s (to_do is) (to_do js) r u g h) f l
 
 -- some are done, and then others
 pub serves_then : {P : Documents} {now : ℕ} {a b c : At} {is js : List Intent} {o : Progress} {before between known : Facts}
@@ -113,26 +104,14 @@ pub serves_fails : {P : Documents} {now : ℕ} {a b c : At} {is : List Intent} {
     → ServesFrom P now a b is (Stops why) before between → ServesFrom P now b c (cleanups js) AllDone between known
     → ServesFrom P now a c (is ++ js) (Stops why) before known
 serves_fails {P} {is = is} {why = why} js f l = joined (λ p s r u. spends_fails p s is js why r u)
-    (λ p s r u h. shown_first P p s (to_do (is ++ js)) r u (shown_with P p s (to_do is) r js _ h)) (λ p s r u. shown_fails P p s is js why r u)
-    (λ p s r u earlier c d h. written_behind p s r u earlier c d why (none_begun p (after_all s r) js u h)) f l
-
--- clean-ups fall short for want of memory alone
-written_again : (p : Permit) (s : State) (js : List Intent) (why : Reason) (r u : List Rec) (earlier c d : List Call) (o : Progress) → is_short o ≡ true
-    → Spends p (after_all s r) (cleanups js) u o → WrittenBoth p s r u earlier c d (Stops why) o o
-written_again p s js why r u earlier c d (Leaves left) short h tells f l = absurd (no short)
-  where
-    no : false ≡ true → ⊥
-    no e = cc
-written_again p s js why r u earlier c d (Stops last) short h tells f l = absurd (none_refused p (after_all s r) js last u h)
-written_again p s js why r u earlier c d Wants short h tells f l = tt
+    (λ p s r u h. shown_first P p s (to_do (is ++ js)) r u (shown_with P p s (to_do is) r js _ h)) (λ p s r u. shown_fails P p s is js why r u) f l
 
 -- or fall short too
 pub serves_fails_again : {P : Documents} {now : ℕ} {a b c : At} {is : List Intent} {why : Reason} {o : Progress} {before between known : Facts} (js : List Intent)
     → ServesFrom P now a b is (Stops why) before between → FallsShort o → ServesFrom P now b c (cleanups js) o between known
     → ServesFrom P now a c (is ++ js) o before known
 serves_fails_again {P} {is = is} {why = why} {o = o} js f short l = joined (λ p s r u. spends_fails_again p s is js why r u o short.short)
-    (λ p s r u h. shown_first P p s (to_do (is ++ js)) r u (shown_with P p s (to_do is) r js _ h)) (λ p s r u. shown_fails P p s is js why r u)
-    (λ p s r u earlier c d h. written_again p s js why r u earlier c d o short.short h) f l
+    (λ p s r u h. shown_first P p s (to_do (is ++ js)) r u (shown_with P p s (to_do is) r js _ h)) (λ p s r u. shown_fails P p s is js why r u) f l
 
 -- ---- so far: all that was asked, and what is left of it
 

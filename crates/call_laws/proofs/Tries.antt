@@ -11,10 +11,9 @@ use Rattle.cache_model.specs.Permit.{HasCopies, Intent, Permit, Reason, to_do}
 use Rattle.cache_model.specs.Legal.{nothing}
 use Rattle.cache_model.specs.Pair.{Documents, IsPairOf, ShowsPair}
 use Rattle.call_laws.specs.Moments.{NothingKnown, At, Facts, IsStillAt}
-use Rattle.call_laws.specs.Progress.{AllDone, Leaves, Progress, Stops, UnlessWanting, Wants}
+use Rattle.call_laws.specs.Progress.{AllDone, Leaves, Progress, Stops, Wants}
 use Rattle.call_laws.specs.Happens.{Happens}
-use Rattle.call_laws.specs.Serves.{InStep, IsCall, Serves, ServesFrom, Upshots, WritesBuffers}
-use Rattle.call_laws.proofs.Accounts.{no_writes}
+use Rattle.call_laws.specs.Serves.{IsCall, Serves, ServesFrom, Upshots}
 use Rattle.call_laws.proofs.Groups.{happens_plainly}
 use Rattle.call_laws.proofs.Grown.{shown_first}
 use Rattle.call_laws.proofs.Joined.{nothing_more}
@@ -48,12 +47,6 @@ one_read {a = a} at bytes unsynced setting kept past = record {
     from = λ k. inl (record {
       spends = nothing;
       behind = tt;
-      buffers = λ syncs. record {
-        content = tt;
-        times = no_writes AllDone 0;
-        asked = refl;
-        going = refl;
-      };
     });
   };
 }
@@ -81,12 +74,6 @@ in_no_step : {now : ℕ} {a b : At} {comes : Upshots} (calls : List Call) (added
     → Happens a b calls added → IsCall now a b comes
 in_no_step calls added syncs none happens =
     record { calls = calls; added = added; happens = happens; does = λ p earlier step. absurd (none (step.set.copies syncs)) }
-
--- ---- want of memory
-
--- what was written before memory was wanting is not said
-any_writes : (c : InStep) → UnlessWanting Wants (WritesBuffers Wants c)
-any_writes c = tt
 
 -- ---- a pair
 

@@ -1,6 +1,6 @@
 -- What a call cannot make up.
-use Rattle.std.specs.Prelude.{ℕ, ◌≡◌, ◌+◌, ◌*◌, Bool, true, false, List, [], ◌∷◌, length, Some}
-use Rattle.device_log.specs.Calls.{Asked, ToRead, Call, Read, Wrote, RefusedCall}
+use Rattle.std.specs.Prelude.{ℕ, ◌≡◌, ◌+◌, ◌*◌, true, List, [], ◌∷◌, length, Some}
+use Rattle.device_log.specs.Calls.{Asked, ToRead, Call, Read, RefusedCall}
 use Rattle.tape_base.specs.declared.keys.Key.{Key}
 use Rattle.tape_base.specs.Place.{slot_of}
 use Rattle.alternate_vector.specs.Field.{Field}
@@ -29,33 +29,6 @@ abbrev pub RefusalsAreFaults : Type 0
 RefusalsAreFaults =
     (a b : At) (calls : List Call) (added : List Rec) (asked : Asked) (count : ℕ)
     → Happens a b calls added → IsAmong (RefusedCall asked count) calls → IsAmong (rec.Fault count) added
-
--- of a stripe that does not sync: where a buffer begins, the device took a write
-abbrev pub BeginningsAreWrites : Type 0
-BeginningsAreWrites =
-    (a b : At) (calls : List Call) (added : List Rec) (cursor floor : ℕ)
-    → a.setting.syncs ≡ false → Happens a b calls added → IsAmong (rec.Began cursor floor) added
-    → (at : ℕ) × (bytes : List ℕ) × IsAmong (Wrote at bytes) calls
-
--- and where it took one, a buffer begins
-abbrev pub WritesAreBeginnings : Type 0
-WritesAreBeginnings =
-    (a b : At) (calls : List Call) (added : List Rec) (at : ℕ) (bytes : List ℕ)
-    → a.setting.syncs ≡ false → Happens a b calls added → IsAmong (Wrote at bytes) calls
-    → (cursor : ℕ) × (floor : ℕ) × IsAmong (rec.Began cursor floor) added
-
--- a read, a write, or a call that failed
-abbrev pub is_plain : Call → Bool
-is_plain (Read at bytes) = true
-is_plain (Wrote at bytes) = true
-is_plain (RefusedCall asked count) = true
-is_plain _ = false
-
--- of such a stripe: the device made no other call
-abbrev pub CallsArePlain : Type 0
-CallsArePlain =
-    (a b : At) (calls : List Call) (added : List Rec) (call : Call)
-    → a.setting.syncs ≡ false → Happens a b calls added → IsAmong call calls → is_plain call ≡ true
 
 -- in one of these calls the device was asked for so many blocks from one on: it gave that many bytes, or failed
 pub data WasAsked (block blocks : ℕ) (calls : List Call) : Type 0 where

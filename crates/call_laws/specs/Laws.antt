@@ -12,10 +12,10 @@ use Rattle.cache_model.specs.Vectors.{IsVectorAs}
 use Rattle.logged_disk.specs.Device.{DeviceState as Device}
 use Rattle.call_laws.specs.Untold.{Untold}
 use Rattle.call_laws.specs.Moments.{NothingKnown, At, BothFacts, Encloses, Facts, IsStillAt, IsToldAt, OfState, so_far}
-use Rattle.call_laws.specs.Progress.{AllDone, EndsWith, FallsShort, Leaves, Progress, Stops, Wants, cleanups, left_with, progress_of, progress_of_group}
-use Rattle.call_laws.specs.Happens.{Happens, TellsSyncs}
-use Rattle.call_laws.specs.Serves.{Acts, Groups, IsCall, Serves, ServesFrom, Upshots}
-use Rattle.call_laws.specs.Whole.{GroupsKeep, GroupsLeavePuts, GroupsLeaveTold, IsWholeStep, LeavesListed, WritesFirst}
+use Rattle.call_laws.specs.Progress.{AllDone, EndsWith, FallsShort, Leaves, Progress, Stops, Wants, cleanups, left_with, progress_of}
+use Rattle.call_laws.specs.Happens.{Happens}
+use Rattle.call_laws.specs.Serves.{IsCall, Serves, ServesFrom, Upshots}
+use Rattle.call_laws.specs.Whole.{GroupsKeep, GroupsLeavePuts, GroupsLeaveTold, IsWholeStep, LeavesListed}
 
 -- ---- one call
 
@@ -87,10 +87,9 @@ module _ (IsPlaced : Documents) (before between known : Facts) where
       → ServesFrom IsPlaced now b c (cleanups more) o between known
       → ServesFrom IsPlaced now a c (asked ++ more) o before known
 
--- in any step, what comes of a call from this state, which tells its syncs, and of the next one comes of both together
+-- in any step, what comes of a call from this state and of the next one comes of both together
 abbrev pub ComeTogether : State → (first last both : Upshots) → Type 0
 ComeTogether s first last both = (p : Permit) (earlier calls more : List Call) (added others : List Rec)
-    → (p.syncs ≡ true → TellsSyncs p.area s calls added)
     → first (record { step = p; earlier = earlier; calls = calls; state = s; added = added })
     → last (record { step = p; earlier = calls ++ earlier; calls = more; state = after_all s added; added = others })
     → both (record { step = p; earlier = earlier; calls = more ++ calls; state = s; added = added ++ others })
@@ -102,28 +101,7 @@ CallsJoin first last both = (now : ℕ) (a b c : At) → ComeTogether (state_of 
 
 -- ---- one group of records
 
--- a call that makes a group of records serves what is asked by it
-abbrev pub ActsServe : Documents → (before : Facts) → Groups → Type 0
-ActsServe IsPlaced before group = (now : ℕ) (a b : At) (i : Intent) (e : End)
-    → ((p : Permit) (s : State) (added : List Rec) → group p s added → Does p s i added e)
-    → Acts now a b group (progress_of_group e) before → ServesFrom IsPlaced now a b (i ∷ []) (progress_of i e) before NothingKnown
-
--- by what is known before, such a group is one for what is asked, and that is known behind it, or a pair is shown of a piece
--- that is read for it
-abbrev pub GroupServes : Documents → (before known : Facts) → Groups → (now : ℕ) → (old new : At) → Intent → End → Type 0
-GroupServes IsPlaced before known group now old new i e = (p : Permit) (earlier calls : List Call) (added : List Rec)
-    → Encloses now old.setting p earlier calls → Happens old new calls added
-    → before (so_far p earlier) (state_of old.kept) → group p (state_of old.kept) added
-    → Does p (state_of old.kept) i added e × known (so_far p (calls ++ earlier)) (after_all (state_of old.kept) added)
-    ⊎ IsPair IsPlaced p (state_of old.kept) i
-
--- then the call serves so
-abbrev pub ActsServeKnown : Documents → (before known : Facts) → Groups → Type 0
-ActsServeKnown IsPlaced before known group = (now : ℕ) (a b : At) (i : Intent) (e : End)
-    → GroupServes IsPlaced before known group now a b i e
-    → Acts now a b group (progress_of_group e) before → ServesFrom IsPlaced now a b (i ∷ []) (progress_of i e) before known
-
--- one whose records rest on no call of the device serves what is asked by them
+-- a group of records that rests on no call of the device serves what is asked by it
 abbrev pub RecordsServe : Documents → (before : Facts) → Type 0
 RecordsServe IsPlaced before = (now : ℕ) (a b : At) (i : Intent) (e : End) (added : List Rec) → Happens a b [] added
     → ((p : Permit) → Does p (state_of a.kept) i added e) → ServesFrom IsPlaced now a b (i ∷ []) (progress_of i e) before NothingKnown
@@ -132,11 +110,6 @@ RecordsServe IsPlaced before = (now : ℕ) (a b : At) (i : Intent) (e : End) (ad
 abbrev pub NoneServes : Documents → (known : Facts) → Type 0
 NoneServes IsPlaced known = (now : ℕ) (a b : At) (i : Intent) (e : End) → IsStillAt a b
     → ((p : Permit) → Does p (state_of a.kept) i [] e) → ServesFrom IsPlaced now a b (i ∷ []) (progress_of i e) known known
-
--- a call that adds nothing has begun whatever is asked
-abbrev pub ActsWant : Documents → (before : Facts) → Type 0
-ActsWant IsPlaced before = (now : ℕ) (a b : At) (asked : List Intent)
-    → Acts now a b (λ p s added. added ≡ []) Wants before → ServesFrom IsPlaced now a b asked Wants before NothingKnown
 
 -- ---- what is known
 
@@ -191,13 +164,13 @@ ToldServes known = (now : ℕ) (a b : At) (asked : List Intent) (o : Progress) �
 
 -- ---- steps
 
--- a call that leaves nothing of what is asked, and no vector that is not committed, and whose writes stand in order, is a step
--- of its own, behind any steps with whose calls that is known which it starts from
+-- a call that leaves nothing of what is asked, and no vector that is not committed, is a step of its own, behind any steps with
+-- whose calls that is known which it starts from
 abbrev pub ServesStep : Documents → (before known : Facts) → Type 0
 ServesStep IsPlaced before known =
     (now : ℕ) (a b : At) (asked : List Intent) (o : Progress) (why : Option Reason) (past : List Call) → EndsWith o why
     → (a.setting.syncs ≡ true → HasCopies a.setting.area) → IsQuiet (state_of b.kept)
-    → WritesFirst now past a b → before past (state_of a.kept)
+    → before past (state_of a.kept)
     → ServesFrom IsPlaced now a b asked o before known → IsWholeStep IsPlaced now past a b asked why known
 
 -- what records make of some work they make of it with more asked behind it, and something refused before it

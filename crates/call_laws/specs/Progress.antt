@@ -1,9 +1,8 @@
 -- What becomes of what a call is asked, and the records by which it does.
-use Rattle.std.specs.Prelude.{ℕ, ◌≡◌, ◌+◌, ◌≤◌, Bool, true, false, List, [], ◌∷◌, ◌++◌, filter, Option, Some, None, Result, Ok, Err}
+use Rattle.std.specs.Prelude.{ℕ, ◌≡◌, Bool, true, false, List, [], ◌∷◌, ◌++◌, filter, Option, Some, None, Result, Ok, Err}
 use Rattle.cache_model.specs.declared.record.Rec.{Rec}
 use Rattle.cache_model.specs.State.{State}
 use Rattle.cache_model.specs.Permit.{Permit, Intent, Reason, End, Stays, Done, Fails, Work, is_cleanup, to_do}
-use Rattle.cache_model.specs.Given.{faults_of_reason}
 use Rattle.cache_model.specs.Legal.{MayGrow}
 use Rattle.call_laws.specs.Moments.{Facts, NothingKnown}
 
@@ -26,12 +25,6 @@ progress_of i Stays = Leaves (i ∷ [])
 progress_of i Done = AllDone
 progress_of i (Fails why) = Stops why
 
--- the same of the group alone, whatever asks for it
-abbrev pub progress_of_group : End → Progress
-progress_of_group Stays = AllDone
-progress_of_group Done = AllDone
-progress_of_group (Fails why) = Stops why
-
 -- where an answer does, by what each refusal means
 abbrev pub progress_by : {X E : Type 0} → (E → Progress) → Result X E → Progress
 progress_by meaning (Ok x) = AllDone
@@ -50,25 +43,6 @@ abbrev pub Spends : Permit → State → List Intent → List Rec → Progress �
 Spends p s asked added (Leaves left) = MayGrow p s (to_do asked) added (to_do left)
 Spends p s asked added (Stops why) = MayGrow p s (to_do asked) added (refused_work [] why)
 Spends p s asked added Wants = (left : Work) × MayGrow p s (to_do asked) added left
-
--- a stripe that syncs may write to the content area so many times where it begins so many buffers: once for each, and once
--- more where the device refused what was asked; where memory was wanting, which ends no step, any number of times
-abbrev pub MayWrite : Progress → (begun times : ℕ) → Type 0
-MayWrite (Leaves left) begun times = times ≤ begun
-MayWrite (Stops why) begun times = times ≤ begun + faults_of_reason (Some why)
-MayWrite Wants begun times = Unit {0}
-
--- this is so where memory was not wanting; where it was, no step ends
-abbrev pub UnlessWanting : Progress → Type 0 → Type 0
-UnlessWanting (Leaves left) So = So
-UnlessWanting (Stops why) So = So
-UnlessWanting Wants So = Unit
-
--- this is so where the step goes on, neither refused nor given up for want of memory
-abbrev pub IfLeaving : Progress → Type 0 → Type 0
-IfLeaving (Leaves left) So = So
-IfLeaving (Stops why) So = Unit
-IfLeaving Wants So = Unit
 
 -- it was refused, or memory was wanting
 abbrev pub is_short : Progress → Bool

@@ -1,17 +1,16 @@
 -- What a call did: one statement for all of them.
-use Rattle.std.specs.Prelude.{ℕ, ◌≡◌, ◌⊎◌, true, List, ◌++◌}
+use Rattle.std.specs.Prelude.{ℕ, ◌⊎◌, List, ◌++◌}
 use Rattle.device_log.specs.Calls.{Call}
 use Rattle.cache_model.specs.declared.record.Rec.{Rec}
 use Rattle.cache_model.specs.State.{State, after_all}
 use Rattle.cache_model.specs.Kept.{state_of}
 use Rattle.cache_model.specs.Permit.{Intent, Permit}
-use Rattle.cache_model.specs.Given.{buffers_begun, content_writes, is_calm}
 use Rattle.cache_model.specs.Pair.{Documents, ShowsPair}
 use Rattle.cache_model.specs.Vectors.{IsVectorAs}
 use Rattle.call_laws.specs.Moments.{NothingKnown, At, Encloses, Facts, IsToldAt, so_far}
-use Rattle.call_laws.specs.Progress.{IfLeaving, MayWrite, Progress, Spends, UnlessWanting}
+use Rattle.call_laws.specs.Progress.{Progress, Spends}
 use Rattle.call_laws.specs.Untold.{Untold}
-use Rattle.call_laws.specs.Happens.{AreOfBuffersBehind, Happens, are_asked_refusals}
+use Rattle.call_laws.specs.Happens.{Happens}
 
 -- a call as it stands in a step: the calls that the device made in the step before it, those that it made in the call itself,
 -- the state before the call, and the records that this added
@@ -34,41 +33,12 @@ pub record IsCall (now : ℕ) (old new : At) (comes : Upshots) : Type 0 where
   pub does : (p : Permit) (earlier : List Call) → Encloses now old.setting p earlier calls
       → comes (record { step = p; earlier = earlier; calls = calls; state = state_of old.kept; added = added })
 
--- what a call of a stripe that syncs wrote: each write to the content area is of a buffer, there are no more than its progress
--- allows, each refused write was one to ask for, and one that lets its step go on had no write or sync of the device refused
-pub record WritesBuffers (o : Progress) (c : InStep) : Type 0 where
-  pub content : AreOfBuffersBehind c.step c.state c.added c.earlier c.calls
-  pub times : MayWrite o (buffers_begun c.added) (content_writes c.step.area c.calls)
-  pub asked : are_asked_refusals c.step.area (so_far c.step c.earlier) c.calls ≡ true
-  pub going : IfLeaving o (is_calm c.calls ≡ true)
-
--- ---- a call that makes one group of records
-
--- which records a group may be, in a step and a state
-abbrev pub Groups : Type 1
-Groups = Permit → State → List Rec → Type 0
-
--- the records are such a group, and the writes are what this progress allows
-pub record IsGroup (group : Groups) (o : Progress) (c : InStep) : Type 0 where
-  pub is : group c.step c.state c.added
-  pub buffers : c.step.syncs ≡ true → UnlessWanting o (WritesBuffers o c)
-
--- so it is where this is known before
-pub record MakesGroup (group : Groups) (o : Progress) (before : Facts) (c : InStep) : Type 0 where
-  pub from : before (so_far c.step c.earlier) c.state → IsGroup group o c
-
--- a call whose records are such a group, for whatever asks for that, from what is known before: it was done, was refused, or
--- wanted memory
-abbrev pub Acts : (now : ℕ) → (old new : At) → Groups → Progress → (before : Facts) → Type 0
-Acts now old new group o before = IsCall now old new (MakesGroup group o before)
-
 -- ---- a call that does what it is asked
 
 -- what is asked has come there, and this is known behind it
 pub record Serving (asked : List Intent) (o : Progress) (known : Facts) (c : InStep) : Type 0 where
   pub spends : Spends c.step c.state asked c.added o
   pub behind : known (so_far c.step (c.calls ++ c.earlier)) (after_all c.state c.added)
-  pub buffers : c.step.syncs ≡ true → UnlessWanting o (WritesBuffers o c)
 
 -- where this is known before, so it is, or two documents of one SHA-256 are shown some way into the records, by bytes that the
 -- device gave in the step

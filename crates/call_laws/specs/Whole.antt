@@ -6,13 +6,12 @@ use Rattle.cache_model.specs.declared.record.Rec.{Rec}
 use Rattle.cache_model.specs.State.{State, after_all}
 use Rattle.cache_model.specs.Kept.{state_of}
 use Rattle.cache_model.specs.Permit.{End, Intent, IsSetBy, Permit, Reason}
-use Rattle.cache_model.specs.Given.{IsContentSynced, begins_in_parts}
 use Rattle.cache_model.specs.Legal.{Does, IsStep}
 use Rattle.cache_model.specs.Tape.{IsSound}
 use Rattle.cache_model.specs.Pair.{Documents, IsPair, ShowsPair}
 use Rattle.cache_model.specs.Vectors.{ArePuts, AreTold, AreVectors, IsVectorAs}
 use Rattle.call_laws.specs.Moments.{At, Facts, permit_of}
-use Rattle.call_laws.specs.Happens.{AreWrittenFirst, Happens}
+use Rattle.call_laws.specs.Happens.{Happens}
 
 -- each group of records keeps this, or a pair is shown of a piece that is read for what was asked
 abbrev pub GroupsKeep : Documents → (State → Type 0) → Type 0
@@ -33,18 +32,6 @@ GroupsLeavePuts = (p : Permit) (s : State) (i : Intent) (added : List Rec) (e : 
 pub record LeavesListed (last : Device) (s : State) : Type 0 where
   pub vectors : TellsAll last → AreVectors s
   pub none : s.displaced ≡ []
-
--- no buffer is written that was written before in the step, and where a sync in parts begins the device synced behind all
--- that the step wrote to the content area: facts of the whole step, which no call of it can tell by itself, since another
--- call may have written before it or may write behind it
-pub record WritesInOrder (p : Permit) (s : State) (added : List Rec) : Type 0 where
-  pub first : AreWrittenFirst p s added
-  pub shut : begins_in_parts added ≡ true → IsContentSynced p
-
--- so it is of a stripe that syncs, in the step that has the calls between two moments alone
-abbrev pub WritesFirst : (now : ℕ) (past : List Call) (old new : At) → Type 0
-WritesFirst now past old new = old.setting.syncs ≡ true → (calls : List Call) (added : List Rec) → Happens old new calls added
-    → WritesInOrder (permit_of now old.setting past calls) (state_of old.kept) added
 
 -- a step of a session whose earlier steps made these calls: it has the calls of this call alone; what it added is legal and
 -- this is known behind it, or two documents of one SHA-256 are shown

@@ -1,6 +1,6 @@
 // Laws of what calls did, in the subject's sentences. These functions do nothing when they run.
-ghost use Rattle.call_laws.specs.Backed.{BeginningsAreWrites, CallsArePlain, FaultsAreRefusals, LookupsAsk, RefusalsAreFaults, WritesAreBeginnings};
-ghost use Rattle.call_laws.specs.Laws.{ActsServe, ActsServeKnown, ActsWant, CallsJoin, GrowsWithMore, NoneServes, RecordsServe, ServesBegins, ServesCarries, ServesEnds, ServesFails, ServesFailsAgain, ServesFirst, ServesGiven, ServesKeeps, ServesKnown, ServesNext, ServesOn, ServesPart, ServesShort, ServesStep, ServesStill, ServesThen, ServesWhereTold, ServesWider, ToldServes};
+ghost use Rattle.call_laws.specs.Backed.{FaultsAreRefusals, LookupsAsk, RefusalsAreFaults};
+ghost use Rattle.call_laws.specs.Laws.{CallsJoin, GrowsWithMore, NoneServes, RecordsServe, ServesBegins, ServesCarries, ServesEnds, ServesFails, ServesFailsAgain, ServesFirst, ServesGiven, ServesKeeps, ServesKnown, ServesNext, ServesOn, ServesPart, ServesShort, ServesStep, ServesStill, ServesThen, ServesWhereTold, ServesWider, ToldServes};
 
 use crate::promise::Promise;
 
@@ -49,14 +49,6 @@ pub fn calls_join<P: Promise>()
     ensures { CallsJoin P.first P.last P.both }
 {}
 
-/// A call that makes one group of records serves what is asked by it; one that adds nothing has
-/// begun it.
-pub fn acts_serve<P: Promise>()
-    ensures serves { ActsServe P.placed P.before P.group }
-    ensures known { ActsServeKnown P.placed P.before P.known P.group }
-    ensures wants { ActsWant P.placed P.before }
-{}
-
 /// A group of records that rests on no call of the device serves what is asked by it.
 pub fn records_serve<P: Promise>()
     ensures records { RecordsServe P.placed P.before }
@@ -82,8 +74,7 @@ pub fn serves_told<P: Promise>()
     ensures serves { ToldServes P.known }
 {}
 
-/// A call that leaves nothing of what it was asked, and writes no buffer twice, is a step of its
-/// own.
+/// A call that leaves nothing of what it was asked is a step of its own.
 pub fn serves_step<P: Promise>()
     ensures { ServesStep P.placed P.before P.known }
 {}
@@ -93,15 +84,10 @@ pub fn grows_with_more()
     ensures { GrowsWithMore }
 {}
 
-/// Each fault is a failed call, and each failed call a fault. Of a stripe that does not sync so
-/// it is
-/// of buffers that begin and writes, and there are no other calls but reads.
+/// Each fault is a failed call, and each failed call a fault.
 pub fn records_are_backed()
     ensures faults { FaultsAreRefusals }
     ensures refusals { RefusalsAreFaults }
-    ensures beginnings { BeginningsAreWrites }
-    ensures writes { WritesAreBeginnings }
-    ensures plain { CallsArePlain }
 {}
 
 /// A lookup whose key has a live vector that was written out asked the device for it.

@@ -1,11 +1,11 @@
 // What a law leaves open.
 
-ghost use Rattle.std.specs.Prelude.{⊤, ◌≡◌, []};
+ghost use Rattle.std.specs.Prelude.{⊤};
 ghost use Rattle.cache_model.specs.Pair.{Documents};
 ghost use Rattle.cache_model.specs.State.{State};
 ghost use Rattle.cache_model.specs.Vectors.{AreTold, IsVectorAs};
 ghost use Rattle.call_laws.specs.Moments.{NothingKnown, Facts, IsToldAt};
-ghost use Rattle.call_laws.specs.Serves.{Groups, Upshots};
+ghost use Rattle.call_laws.specs.Serves.{Upshots};
 
 use std::marker::Brand;
 
@@ -32,9 +32,6 @@ pub trait Promise {
     /// What each group of records keeps.
     ghost is_so: { State → Type 0 };
 
-    /// Which group of records a call makes.
-    ghost group: { Groups };
-
     /// What comes of one call.
     ghost first: { Upshots };
 
@@ -60,8 +57,6 @@ impl Promise for Brand {
     ghost more = { NothingKnown };
 
     ghost is_so = { AreTold };
-
-    ghost group = { λ p s added. added ≡ [] };
 
     ghost first = { λ c. ⊤ };
 

@@ -133,7 +133,7 @@ module _ (put : ℕ) where
 
     part_ends : (s : State) (last : Bool) (added : List Rec) (e : End) → DoesSyncStep p s last added e → EndsSo e
     part_ends s last added e (Syncing.DoesSyncStep.none x q r is) = tt
-    part_ends s last added e (Syncing.DoesSyncStep.part x q r l t is) = tt
+    part_ends s last added e (Syncing.DoesSyncStep.part x q r l is) = tt
     part_ends s last added e (Syncing.DoesSyncStep.ends x q r l is) = tt
     part_ends s last added e (Syncing.DoesSyncStep.stays count x q c) = tt
 

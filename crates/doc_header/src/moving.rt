@@ -5,7 +5,7 @@ ghost use Rattle.doc_header.specs.Document.{check_of, IsDocument};
 ghost use Rattle.doc_header.specs.Moving.{moved_to, doc_moved_to, MovesKeep, MovedIsSpelled, MovedIsRecorded, MovedIsSame, MovedAlike};
 
 use crate::layout::{CHECK_AT, PLACE_AT};
-use sha2::{Digest as _, Sha256};
+use sha_words::digest;
 
 // Puts a field over as many bytes.
 fn replace(bytes: &mut [u8], at: usize, field: &[u8])
@@ -24,7 +24,7 @@ fn check_anew(bytes: &mut [u8])
         bytes.new ≡ fields ++ check_of fields ++ drop 128 bytes.old }
     ensures len { length bytes.new ≡ length bytes.old }
 {
-    let check = Sha256::digest(&bytes[..CHECK_AT]);
+    let check = digest(&bytes[..CHECK_AT]);
     replace(bytes, CHECK_AT, &check[..16]);
 }
 

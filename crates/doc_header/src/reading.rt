@@ -13,7 +13,7 @@ use crate::layout::{
     BLOCK, BLOCKS_AT, CHECK_AT, DIGEST_AT, GENERATION_AT, HEADER, INDEX_AT, KEY_AT, LENGTH_AT,
     MAGIC, PIN_AT, PLACE_AT, PUT_AT, START_AT, VERSION, VERSION_AT,
 };
-use sha2::{Digest as _, Sha256};
+use sha_words::digest;
 use tape_base::{Digest, Key, PieceId};
 
 // The blocks of a document whose payload has this length in bytes.
@@ -36,7 +36,7 @@ fn has_check(bytes: &[u8]) -> bool
     requires { 128 ≤ length bytes.now }
     ensures { result ≡ bytes_eq (slice_at 112 16 bytes.now) (check_of (slice_at 0 112 bytes.now)) }
 {
-    let check = Sha256::digest(field(bytes, 0, CHECK_AT));
+    let check = digest(field(bytes, 0, CHECK_AT));
     field(bytes, CHECK_AT, 16) == &check[..16]
 }
 

@@ -7,7 +7,7 @@ ghost use Rattle.doc_header.specs.Document.{name_bytes, header_bytes, document_b
 
 use crate::documents::Doc;
 use crate::layout::{BLOCK, MAGIC, VERSION};
-use sha2::{Digest as _, Sha256};
+use sha_words::digest;
 use tape_base::Digest;
 
 // Puts a field behind the first `at` bytes, and tells where it ends.
@@ -70,7 +70,7 @@ fn put_check(into: &mut [u8], at: usize) -> usize
     ensures front { take result into.new ≡ take at into.old ++ check_of (take at into.old) }
     ensures len { length into.new ≡ length into.old }
 {
-    let check = Sha256::digest(&into[..at]);
+    let check = digest(&into[..at]);
     put(into, at, &check[..16])
 }
 

@@ -58,7 +58,7 @@ pub serves_whole : {P : Documents} {now : ℕ} {a b : At} {asks : List Intent} {
     → a.setting ≡ plain_setting → IsQuiet (state_at b) → before [] (state_at a) → ServesFrom P now a b asks o before known
     → IsWholeStep P now [] a b asks why known
 serves_whole {a = a} why ends plain quiet first serves =
-    serves_step why [] ends (λ syncs. absurd (unsynced a plain syncs)) quiet (λ syncs. absurd (unsynced a plain syncs)) first serves
+    serves_step why [] ends (λ syncs. absurd (unsynced a plain syncs)) quiet first serves
 
 -- ---- beside a run
 

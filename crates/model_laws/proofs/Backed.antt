@@ -152,7 +152,7 @@ fault_behind p s recs asked count h m =
     along_append (IsRight p) s recs _ (syncs_right p s recs h) (fault p t asked count (counts_alike p s t asked count (syncs_alike s recs h).2 m), tt)
 
 -- behind the end of a sync in parts too
-ended_fault : (p : Permit) (s : State) (r : Rec) (count : ℕ) → IsOfSync r → Given.CountsSync p s count → AllRight p s (ended_records s ++ r ∷ rec.Fault count ∷ [])
+ended_fault : (p : Permit) (s : State) (r : Rec) (count : ℕ) → IsOfSync r → Given.CountsCall p s count → AllRight p s (ended_records s ++ r ∷ rec.Fault count ∷ [])
 ended_fault p s r count h c =
     let ended : List Rec = ended_records s in
     let t : State = after_all s ended in
@@ -177,7 +177,7 @@ goes p k s added m =
 -- what was begun before the device stopped the flush, and the call for which it did
 begun_of : (p : Permit) (k : Syncing) (s : State) (front : List Rec) (count : ℕ) (begun : List Rec) → StopsBehind p k s front count begun
     → AreOfSyncs begun × ((asked : Asked) × Given.MayCount p (after_all s front) asked count)
-begun_of p k s front count begun (Syncing.StopsBehind.buffer c) = (tt, (_, record { rose = c.rose; refused = call_made p _ c.older c.refused }))
+begun_of p k s front count begun (Syncing.StopsBehind.buffer c) = (tt, (c.asked, c.counts))
 begun_of p k s front count begun (Syncing.StopsBehind.ended t n r c) = (tt, (c.asked, c.counts))
 begun_of p k s front count begun (Syncing.StopsBehind.whole t n c) =
     (all_append IsOfSync (ended_records s) (begun_record s (cursor_next s) false false ∷ []) (ended_of s) (tt, tt), (c.asked, c.counts))
@@ -209,7 +209,7 @@ sync p k s added e (Syncing.DoesSync.runs serial on quiet parts runs is) = as_gi
 
 sync_step : (p : Permit) (s : State) (last : Bool) (added : List Rec) (e : End) → DoesSyncStep p s last added e → AllRight p s added
 sync_step p s last added e (Syncing.DoesSyncStep.none on quiet none is) = as_given p s added [] is tt
-sync_step p s last added e (Syncing.DoesSyncStep.part on quiet runs front takes is) = as_given p s added [] is tt
+sync_step p s last added e (Syncing.DoesSyncStep.part on quiet runs front is) = as_given p s added [] is tt
 sync_step p s last added e (Syncing.DoesSyncStep.ends on quiet runs end is) = as_given p s added _ is (syncs_right p s _ (ended_of s))
 sync_step p s last added e (Syncing.DoesSyncStep.stays count on quiet c) = cannot_end p s count added c
 

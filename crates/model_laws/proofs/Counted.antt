@@ -138,7 +138,7 @@ syncs_leave p k s added f (Syncing.DoesSync.runs serial on quiet parts runs is) 
 
 step_leaves : (p : Permit) (s : State) (last : Bool) (added : List Rec) (e : End) → DoesSyncStep p s last added e → AllLeaveCounts added
 step_leaves p s last added e (Syncing.DoesSyncStep.none on quiet none is) = leave_as added [] is tt
-step_leaves p s last added e (Syncing.DoesSyncStep.part on quiet runs front takes is) = leave_as added [] is tt
+step_leaves p s last added e (Syncing.DoesSyncStep.part on quiet runs front is) = leave_as added [] is tt
 step_leaves p s last added e (Syncing.DoesSyncStep.ends on quiet runs end is) = leave_as added _ is (ended_leaves s)
 step_leaves p s last added e (Syncing.DoesSyncStep.stays count on quiet c) = leave_as added _ c.is (tt, tt)
 

@@ -167,7 +167,6 @@ a_put_is_a_step = record {
   quiet = refl;
   faults = refl;
   effects = λ off. refl;
-  synced = λ on. cc;
 }
 
 -- ---- a get that hits it and reads to the end
@@ -226,7 +225,6 @@ a_get_is_a_step = record {
   quiet = refl;
   faults = refl;
   effects = λ off. refl;
-  synced = λ on. cc;
 }
 
 -- ---- a put whose fragment finds a full buffer, and whose flush meets a fault
@@ -274,7 +272,6 @@ a_refused_put_is_a_step = record {
   quiet = refl;
   faults = refl;
   effects = λ off. refl;
-  synced = λ on. cc;
 }
 
 -- ---- a close whose vector finds a full buffer, which begins with the fragment
@@ -368,7 +365,6 @@ a_close_that_flushes_is_a_step bytes buffer = record {
   quiet = refl;
   faults = refl;
   effects = λ off. refl;
-  synced = λ on. cc;
 }
 
 -- ---- a get of a vector for which the device gives other bytes
@@ -423,7 +419,6 @@ a_get_of_a_damaged_vector_is_a_step kept differ = record {
   quiet = refl;
   faults = refl;
   effects = λ off. refl;
-  synced = λ on. cc;
 }
 
 -- ---- a get of a vector that the device gives
@@ -475,5 +470,4 @@ a_get_of_what_the_device_gives_is_a_step bytes whole small = record {
   quiet = refl;
   faults = refl;
   effects = λ off. refl;
-  synced = λ on. cc;
 }

@@ -16,8 +16,7 @@ use Rattle.cache_model.specs.Opening.{Opening}
 use Rattle.cache_model.specs.Openings.{opened_records}
 use Rattle.cache_model.specs.Permit.{Exhausted, Flush, Permit}
 use Rattle.cache_model.specs.State.{State, after_all, fragment_piece, nothing_yet}
-use Rattle.record_rows.specs.Refused.{IsBlock, put_of_no_bytes}
-use Rattle.record_rows.specs.Worked.{a, b, no_digest}
+use Rattle.record_rows.specs.Worked.{IsBlock, a, b, no_digest, put_of_no_bytes}
 
 -- 96 blocks, so that a lap goes on above 2^62; buffers of 8, and fragments of up to 1,600 bytes, which take half of one
 abbrev pub over_the_end : Geometry

@@ -1,13 +1,14 @@
--- Steps of a stripe that syncs, with the calls of the device on which they rest, each worked by hand; and records that are
--- no step, since a call is missing or is another one.
+-- Steps of a stripe that syncs, with calls of the device, each worked by hand.
 use Rattle.std.specs.Prelude.{ℕ, ◌≡◌, ◌*◌, ◌-◌, ◌^◌, ◌≤◌, true, false, List, [], ◌∷◌, ◌++◌, Some, None, length}
 use Rattle.std.specs.List.{repeat}
 use Rattle.device_log.specs.Calls.{Call, RefusedCall, Synced, ToWrite, Wrote}
+use Rattle.tape_base.specs.declared.digests.Digest.{Digest}
+use Rattle.doc_header.specs.Reading.{document_digest}
 use Rattle.cache_model.specs.declared.record.Rec.TheVariants as rec
 use Rattle.cache_model.specs.Legal.{IsStep, format_records}
 use Rattle.cache_model.specs.Permit.{CleanSync, Drain, Exhausted, Faulted, Flush, NoSync, Permit, Sync, SyncBegin, SyncRuns, SyncStep}
 use Rattle.cache_model.specs.State.{State, after_all, nothing_yet}
-use Rattle.record_rows.specs.Worked.{behind_format, behind_opening, synced, wide}
+use Rattle.record_rows.specs.Worked.{IsBlock, a, behind_format, behind_opening, put_of_no_bytes, synced, wide}
 use Rattle.record_rows.specs.Rows.{at_end_in_parts, clean_sync, once_refused, while_it_runs}
 
 -- a step of a stripe that syncs, whose content area begins behind two copies of six blocks of directory
@@ -52,31 +53,16 @@ AnEmptySyncAtTheTapeEndIsAStep = (body : List ℕ) → IsCopyBody body
 abbrev pub ARefusedSyncAtTheTapeEndIsNoStep : Type 0
 ARefusedSyncAtTheTapeEndIsNoStep = IsStep (with_calls []) at_tape_end (Sync ∷ []) [] (Some Exhausted) → ⊥
 
--- and it is none without its calls
-abbrev pub ASyncWithoutCallsIsNoStep : Type 0
-ASyncWithoutCallsIsNoStep = IsStep (with_calls []) (behind_format []) (Sync ∷ []) (synced 2 64 false) None → ⊥
+-- ---- a buffer, and the sync that names it
 
--- nor where the gate is shut once more
-abbrev pub ASyncBehindAShutGateIsNoStep : Type 0
-ASyncBehindAShutGateIsNoStep = (body : List ℕ)
-    → IsStep (with_calls (Synced ∷ shut 2 ∷ Synced ∷ Wrote 11 body ∷ Synced ∷ [])) (behind_format []) (Sync ∷ []) (synced 2 64 false) None → ⊥
+-- one object is in the buffer
+abbrev pub with_one : Digest → State
+with_one digest = behind_format (put_of_no_bytes 64 1 a digest)
 
--- nor where it is opened before its body is durable
-abbrev pub AGateOpenedEarlyIsNoStep : Type 0
-AGateOpenedEarlyIsNoStep = (body : List ℕ) → IsCopyBody body
-    → IsStep (with_calls (Synced ∷ gate_written 2 ∷ Wrote 11 body ∷ Synced ∷ [])) (behind_format []) (Sync ∷ [])
-    (synced 2 64 false) None → ⊥
-
--- ---- writes that are of no sync and of no buffer
-
--- no copy of the directory is written where no sync goes on
-abbrev pub ABodyWithoutASyncIsNoStep : Type 0
-ABodyWithoutASyncIsNoStep = (body : List ℕ) → IsStep (with_calls (Wrote 11 body ∷ [])) (behind_format []) (Flush ∷ []) [] None → ⊥
-
--- and nothing is written to the content area where the buffer is empty
-abbrev pub AWriteOfNoBufferIsNoStep : Type 0
-AWriteOfNoBufferIsNoStep = (at : ℕ) (block : List ℕ) → 19 ≤ at
-    → IsStep (with_calls (Wrote at block ∷ [])) (behind_format []) (Flush ∷ []) [] None → ⊥
+-- the buffer is written before the sync
+abbrev pub AWriteBeforeItsSyncIsAStep : Type 0
+AWriteBeforeItsSyncIsAStep = (body block : List ℕ) → IsCopyBody body → IsBlock block
+    → IsStep (with_calls (calls_of_sync body ++ (Wrote 19 block ∷ []))) (with_one (document_digest block)) (Sync ∷ []) (synced 2 65 false ++ (rec.Began 65 9 ∷ [])) None
 
 -- ---- a sync in parts
 
@@ -103,10 +89,6 @@ abbrev pub APartIsAStep : Type 0
 APartIsAStep = (part : List ℕ) → length part ≡ 512 * 64
     → IsStep (record (with_calls (Wrote 326 part ∷ [])) { area = 649 }) while_parts_are_left (SyncStep false ∷ []) [] None
 
--- a part that was not written is none
-abbrev pub APartWithoutAWriteIsNoStep : Type 0
-APartWithoutAWriteIsNoStep = IsStep (with_calls []) while_it_runs (SyncStep false ∷ []) [] None → ⊥
-
 -- where none goes on there is no part to write
 abbrev pub NoPartWithoutASync : Type 0
 NoPartWithoutASync = IsStep (with_calls []) (behind_format []) (SyncStep true ∷ []) [] (Some NoSync)
@@ -120,10 +102,6 @@ refused_gate = RefusedCall (ToWrite 2 1 []) 1 ∷ []
 -- that is the fault alone
 abbrev pub ARefusedEndIsAStep : Type 0
 ARefusedEndIsAStep = IsStep (with_calls refused_gate) while_it_runs (Sync ∷ []) (rec.Fault 1 ∷ []) (Some (Faulted 1))
-
--- and no end, behind which another one was begun
-abbrev pub AnEndBehindItIsNoStep : Type 0
-AnEndBehindItIsNoStep = IsStep (with_calls refused_gate) while_it_runs (Sync ∷ []) (rec.SyncDone 2 ∷ rec.SyncBegun 3 66 false false ∷ rec.Fault 1 ∷ []) (Some (Faulted 1)) → ⊥
 
 -- ---- a sync in parts at the end of a lap
 

@@ -118,6 +118,16 @@ put_with before request response place put key =
 abbrev pub put_at : ℕ → ℕ → Key → List Rec
 put_at place put key = put_with [] [] [] place put key
 
+-- an object of no bytes: its vector alone, which has this digest
+abbrev pub put_of_no_bytes : ℕ → ℕ → Key → Digest → List Rec
+put_of_no_bytes place put key digest =
+    rec.WriteOpened (record { 0 = 0 }) put key [] [] 0 ∷ rec.Placed (vector_piece key put) place 1 digest 0
+    ∷ rec.Committed put key 0 (no_bytes put ∷ []) ∷ []
+
+-- the block of its vector
+abbrev pub IsBlock : List ℕ → Type 0
+IsBlock block = length block ≡ 512
+
 -- a whole sync
 abbrev pub synced : ℕ → ℕ → Bool → List Rec
 synced serial cursor clean = rec.SyncBegun serial cursor clean false ∷ rec.SyncDone serial ∷ []

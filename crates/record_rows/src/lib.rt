@@ -1,10 +1,8 @@
 //! Sessions with openings and syncs, worked by hand and computed by the definitions over records.
 #![tactic(auto)]
 
-ghost use Rattle.record_rows.specs.Refused.{AGateMayBeRefused, AGateMayBeRefusedInALaterStep, AGateRefusedBehindALeftBodyIsNoStep, AGateRefusedEarlyIsNoStep, AnOpenGateMayStaySo, ASecondWriteIsNoStep, ASpoiledBufferIsWrittenAgain, ASpoiledBufferThatIsLeftIsNoStep, ASyncMayBeginInParts, AWriteAgainIsNoStep, AWriteBeforeARefusedGateIsNoStep, AWriteBeforeItsSyncIsAStep, AWriteBehindAnOpenGateIsNoStep, AWriteBehindARefusedGateIsNoStep, AWriteBehindItsSyncIsNoStep, AWriteBehindTheEndIsAStep, AWriteOutOfReachIsNoStep, AWriteThatIsNotSyncedIsNoStep, AWriteUnderAMarkIsNoStep, AWriteWithoutAFlushIsNoStep, SwappedBuffersAreNoStep, TwoBuffersAreAStep};
 ghost use Rattle.record_rows.specs.Limit.{ACopyAboveTheLimitIsNoStep, ACopyMayEndBelowTheLimit, AFlushAtTheLimitIsRefused};
-ghost use Rattle.record_rows.specs.Steps.{ABodyWithoutASyncIsNoStep, AGateOpenedEarlyIsNoStep, APartIsAStep, AWriteOfNoBufferIsNoStep, AClosedStripeIsAStep, ALastPartIsAStep, AMarkedStripeMayBeClosed, APartWithoutAWriteIsNoStep, ARefusedEndIsAStep, ARefusedPartIsAStep, ARefusedPartLeavesTheSync, ARefusedSyncAtTheTapeEndIsNoStep, ASecondOneIsRefused, ASyncBehindAShutGateIsNoStep, ASyncWithoutCallsIsNoStep, AnEmptySyncAtTheTapeEndIsAStep, AnEmptySyncIsAStep, AnEndBehindItIsNoStep, NoPartWithoutASync};
-ghost use Rattle.record_rows.specs.Laps.{ABufferIsWrittenInEachLap, ABufferOfTheLapBeforeDoesNotStand};
+ghost use Rattle.record_rows.specs.Steps.{AClosedStripeIsAStep, ALastPartIsAStep, AMarkedStripeMayBeClosed, APartIsAStep, ARefusedEndIsAStep, ARefusedPartIsAStep, ARefusedPartLeavesTheSync, ARefusedSyncAtTheTapeEndIsNoStep, ASecondOneIsRefused, AWriteBeforeItsSyncIsAStep, AnEmptySyncAtTheTapeEndIsAStep, AnEmptySyncIsAStep, NoPartWithoutASync};
 ghost use Rattle.record_rows.specs.Unlike.{ACopyOfItIsDamage, AnUnlikePayloadIsDamage, AnUnlikePayloadIsNotGiven, AnUnlikePayloadMayBeFound};
 ghost use Rattle.record_rows.specs.Rows.{AClosedStripeOpensClean, AFinishedSyncIsTaken, AFormatMayBeOpened, AFoundVectorIsKnown, AFullSegmentLosesATenth, ALapEndsWithASync, AnOpeningFollows, AnotherPutMerges, ARemovalComesBack, ARunningSyncIsEndedFirst, ARunningSyncMayBeTaken, AShortBufferEndsTheLap, AnEmptyPutEndsItFirst, LaterPutsAreLost, TwoVectorsMayBeFound, WhatIsWrittenUnmarks};
 
@@ -108,31 +106,6 @@ pub fn a_refused_sync_at_the_tape_end_is_no_step()
     ensures { ARefusedSyncAtTheTapeEndIsNoStep }
 {}
 
-/// Without its calls it is none.
-pub fn a_sync_without_calls_is_no_step()
-    ensures { ASyncWithoutCallsIsNoStep }
-{}
-
-/// Nor where its gate stays shut.
-pub fn a_sync_behind_a_shut_gate_is_no_step()
-    ensures { ASyncBehindAShutGateIsNoStep }
-{}
-
-/// Nor where its gate is opened before its body is durable.
-pub fn a_gate_opened_early_is_no_step()
-    ensures { AGateOpenedEarlyIsNoStep }
-{}
-
-/// No copy of the directory is written where no sync goes on.
-pub fn a_body_without_a_sync_is_no_step()
-    ensures { ABodyWithoutASyncIsNoStep }
-{}
-
-/// And nothing to the content area where the buffer is empty.
-pub fn a_write_of_no_buffer_is_no_step()
-    ensures { AWriteOfNoBufferIsNoStep }
-{}
-
 /// While a sync in parts goes on, another one is refused.
 pub fn a_second_one_is_refused()
     ensures { ASecondOneIsRefused }
@@ -153,11 +126,6 @@ pub fn a_part_is_a_step()
     ensures { APartIsAStep }
 {}
 
-/// A part that was not written is none.
-pub fn a_part_without_a_write_is_no_step()
-    ensures { APartWithoutAWriteIsNoStep }
-{}
-
 /// Where no sync goes on there is no part.
 pub fn no_part_without_a_sync()
     ensures { NoPartWithoutASync }
@@ -166,11 +134,6 @@ pub fn no_part_without_a_sync()
 /// Where a sync in parts cannot be ended, that is a fault alone.
 pub fn a_refused_end_is_a_step()
     ensures { ARefusedEndIsAStep }
-{}
-
-/// It is not its end with another sync behind it.
-pub fn an_end_behind_it_is_no_step()
-    ensures { AnEndBehindItIsNoStep }
 {}
 
 /// A stripe with an empty buffer is closed by one clean sync.
@@ -186,121 +149,6 @@ pub fn a_marked_stripe_may_be_closed()
 /// A buffer is written before the sync that names it.
 pub fn a_write_before_its_sync_is_a_step()
     ensures { AWriteBeforeItsSyncIsAStep }
-{}
-
-/// It is not written again behind the sync that names it.
-pub fn a_write_again_is_no_step()
-    ensures { AWriteAgainIsNoStep }
-{}
-
-/// Nor only behind that sync.
-pub fn a_write_behind_its_sync_is_no_step()
-    ensures { AWriteBehindItsSyncIsNoStep }
-{}
-
-/// So it is where the device opens the gate and refuses to sync that.
-pub fn an_open_gate_may_stay_so()
-    ensures { AnOpenGateMayStaySo }
-{}
-
-/// The buffer is not written only behind that.
-pub fn a_write_behind_an_open_gate_is_no_step()
-    ensures { AWriteBehindAnOpenGateIsNoStep }
-{}
-
-/// A device that refuses to take a gate behind its body stops the sync.
-pub fn a_gate_may_be_refused()
-    ensures { AGateMayBeRefused }
-{}
-
-/// It is not asked to before the body is durable.
-pub fn a_gate_refused_early_is_no_step()
-    ensures { AGateRefusedEarlyIsNoStep }
-{}
-
-/// Nor in a later step, which writes no body.
-pub fn a_gate_refused_behind_a_left_body_is_no_step()
-    ensures { AGateRefusedBehindALeftBodyIsNoStep }
-{}
-
-/// But where that step writes the body anew.
-pub fn a_gate_may_be_refused_in_a_later_step()
-    ensures { AGateMayBeRefusedInALaterStep }
-{}
-
-/// Nor is the buffer written only behind that.
-pub fn a_write_behind_a_refused_gate_is_no_step()
-    ensures { AWriteBehindARefusedGateIsNoStep }
-{}
-
-/// Or right before it.
-pub fn a_write_before_a_refused_gate_is_no_step()
-    ensures { AWriteBeforeARefusedGateIsNoStep }
-{}
-
-/// A sync in parts begins with the buffer, and a sync of the device.
-pub fn a_sync_may_begin_in_parts()
-    ensures { ASyncMayBeginInParts }
-{}
-
-/// The buffer is not left without that.
-pub fn a_write_that_is_not_synced_is_no_step()
-    ensures { AWriteThatIsNotSyncedIsNoStep }
-{}
-
-/// Nothing is written by a put that has room.
-pub fn a_write_without_a_flush_is_no_step()
-    ensures { AWriteWithoutAFlushIsNoStep }
-{}
-
-/// Nor before a clean mark is taken back.
-pub fn a_write_under_a_mark_is_no_step()
-    ensures { AWriteUnderAMarkIsNoStep }
-{}
-
-/// A buffer is written once the sync in parts has ended that it has to wait for.
-pub fn a_write_behind_the_end_is_a_step()
-    ensures { AWriteBehindTheEndIsAStep }
-{}
-
-/// A buffer out of reach is not written before the sync in parts has ended.
-pub fn a_write_out_of_reach_is_no_step()
-    ensures { AWriteOutOfReachIsNoStep }
-{}
-
-/// Two buffers of one step are written in their order.
-pub fn two_buffers_are_a_step()
-    ensures { TwoBuffersAreAStep }
-{}
-
-/// And not in the other one.
-pub fn swapped_buffers_are_no_step()
-    ensures { SwappedBuffersAreNoStep }
-{}
-
-/// A buffer is written once in a step.
-pub fn a_second_write_is_no_step()
-    ensures { ASecondWriteIsNoStep }
-{}
-
-/// What a refused write may have spoiled is written again.
-pub fn a_spoiled_buffer_is_written_again()
-    ensures { ASpoiledBufferIsWrittenAgain }
-{}
-
-/// It is not left as it is.
-pub fn a_spoiled_buffer_that_is_left_is_no_step()
-    ensures { ASpoiledBufferThatIsLeftIsNoStep }
-{}
-
-/// A buffer is written, whatever was written to its blocks a lap ago.
-pub fn a_buffer_is_written_in_each_lap()
-    ensures { ABufferIsWrittenInEachLap }
-{}
-
-/// It is not left for that.
-pub fn a_buffer_of_the_lap_before_does_not_stand()
-    ensures { ABufferOfTheLapBeforeDoesNotStand }
 {}
 
 /// An opening may find a fragment with another payload than the one that its vector lists.

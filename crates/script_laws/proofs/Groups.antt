@@ -90,12 +90,6 @@ module _ (p : Permit) where
       let rose : min (s.fault + 1) (2 ^ 64 - 1) ≤ count = m.rose in
       ((asked, m.refused), omega (arith, rose))
 
-  -- what it refused of the rest of the buffer
-  rest_counted : (s t : State) (count : ℕ) → Given.CountsRest p s t count → IsKept (rec.Fault count)
-  rest_counted s t count c =
-      let rose : min (t.fault + 1) (2 ^ 64 - 1) ≤ count = c.rose in
-      ((_, call_made p _ c.older c.refused), omega (arith, rose))
-
   fault : {asked : Asked} (s : State) (count : ℕ) (added : List Rec) → Given.MayCount p s asked count → added ≡ rec.Fault count ∷ [] → IsGroup s added (Fails (Faulted count))
   fault s count added m is = silent s added (rec.Fault count ∷ []) (Fails (Faulted count)) is (inl refl) ((counted s count m, refl), tt)
 
@@ -265,7 +259,7 @@ module _ (p : Permit) where
       ((tt, refl), copies_silent _ (copies_of rows m.outcomes)))))
 
   begun_silent : (k : Syncing) (s : State) (front : List Rec) (count : ℕ) (begun : List Rec) → StopsBehind p k s front count begun → AreSilent (begun ++ rec.Fault count ∷ [])
-  begun_silent k s front count begun (Syncing.StopsBehind.buffer c) = ((rest_counted s (after_all s front) count c, refl), tt)
+  begun_silent k s front count begun (Syncing.StopsBehind.buffer c) = ((counted (after_all s front) count c.counts, refl), tt)
   begun_silent k s front count begun (Syncing.StopsBehind.ended t n r c) = ((counted (after_all s front) count c.counts, refl), tt)
   begun_silent k s front count begun (Syncing.StopsBehind.whole t n c) =
       all_append IsSilent (ended_records s ++ begun_record s (cursor_next s) false false ∷ []) _ (ended_then s _ ((tt, refl), tt)) ((counted (after_all s front) count c.counts, refl), tt)
@@ -282,7 +276,7 @@ module _ (p : Permit) where
       (all_append IsSilent front _ (stopped_front_silent s (budget_of s.geometry) rows m.outcomes m.are) (begun_silent k (at_first k s) front count m.begun m.stops)))
 
   -- a sync was begun, and the fault stands behind that
-  begun_stops : (s : State) (count : ℕ) (added : List Rec) (r : Rec) → IsOfSync r → added ≡ ended_records s ++ r ∷ rec.Fault count ∷ [] → Given.CountsSync p s count
+  begun_stops : (s : State) (count : ℕ) (added : List Rec) (r : Rec) → IsOfSync r → added ≡ ended_records s ++ r ∷ rec.Fault count ∷ [] → Given.CountsCall p s count
       → IsGroup s added (Fails (Faulted count))
   begun_stops s count added r of_sync is c =
       silent s added _ (Fails (Faulted count)) is (among_right (rec.Fault count) (ended_records s) _ (inr (inl refl)))
@@ -302,7 +296,7 @@ module _ (p : Permit) where
 
   sync_step : (s : State) (last : Bool) (added : List Rec) (e : End) → DoesSyncStep p s last added e → IsGroup s added e
   sync_step s last added e (Syncing.DoesSyncStep.none on quiet none is) = silent s added [] e is tt tt
-  sync_step s last added e (Syncing.DoesSyncStep.part on quiet runs more takes is) = silent s added [] e is tt tt
+  sync_step s last added e (Syncing.DoesSyncStep.part on quiet runs more is) = silent s added [] e is tt tt
   sync_step s last added e (Syncing.DoesSyncStep.ends on quiet runs end is) = silent s added _ e is tt (syncs_silent (ended_records s) (ended_of s))
   sync_step s last added e (Syncing.DoesSyncStep.stays count on quiet c) = cannot_end s count added c
 

@@ -20,7 +20,7 @@ sync_quiet p k s added e (Syncing.DoesSync.runs serial on quiet parts runs is) =
 
 step_quiet : (p : Permit) (s : State) (last : Bool) (added : List Rec) (e : End) → DoesSyncStep p s last added e → IsQuiet s
 step_quiet p s last added e (Syncing.DoesSyncStep.none on quiet none is) = quiet
-step_quiet p s last added e (Syncing.DoesSyncStep.part on quiet runs more takes is) = quiet
+step_quiet p s last added e (Syncing.DoesSyncStep.part on quiet runs more is) = quiet
 step_quiet p s last added e (Syncing.DoesSyncStep.ends on quiet runs end is) = quiet
 step_quiet p s last added e (Syncing.DoesSyncStep.stays count on quiet c) = quiet
 

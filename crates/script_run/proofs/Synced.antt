@@ -84,7 +84,7 @@ drain_parts p s added e (Legal.DoesDrain.syncs none some d) = sync_parts p Synci
 -- a part of a sync, a clean one, and a mark that is taken back
 pub step_syncing : (p : Permit) (s : State) (last : Bool) (added : List Rec) (e : End) → DoesSyncStep p s last added e → AllSyncing added
 step_syncing p s last added e (Syncing.DoesSyncStep.none on quiet none is) = is_syncing added [] is tt
-step_syncing p s last added e (Syncing.DoesSyncStep.part on quiet runs more takes is) = is_syncing added [] is tt
+step_syncing p s last added e (Syncing.DoesSyncStep.part on quiet runs more is) = is_syncing added [] is tt
 step_syncing p s last added e (Syncing.DoesSyncStep.ends on quiet runs end is) = is_syncing added _ is (syncs (ended_records s) (ended_of s))
 step_syncing p s last added e (Syncing.DoesSyncStep.stays count on quiet c) = cannot_syncing p s count added c
 

@@ -167,7 +167,7 @@ as_ending {i = i} added other on is h why = ends on (subst AreEnding (sym is) h)
 
 step : {p : Permit} {s : State} {last : Bool} {e : End} (added : List Rec) → DoesSyncStep p s last added e → Grouped p s (SyncStep last) added e
 step added (Syncing.DoesSyncStep.none on quiet none is) = as_ending added [] on is tt (inl tt)
-step added (Syncing.DoesSyncStep.part on quiet runs front takes is) = as_ending added [] on is tt (inl tt)
+step added (Syncing.DoesSyncStep.part on quiet runs front is) = as_ending added [] on is tt (inl tt)
 step {s = s} added (Syncing.DoesSyncStep.ends on quiet runs end is) = as_ending added (ended_records s) on is (ended_ends s) (inr (inr (ap (λ b. SyncStep b) end)))
 step added (Syncing.DoesSyncStep.stays count on quiet c) = as_ending added _ on c.is (tt, tt) (inl (tt, tt))
 

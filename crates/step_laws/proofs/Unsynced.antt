@@ -25,7 +25,7 @@ sync_on (Syncing.DoesSync.runs serial on quiet parts runs is) = on
 
 pub step_on : {p : Permit} {s : State} {last : Bool} {added : List Rec} {e : End} → DoesSyncStep p s last added e → p.syncs ≡ true
 step_on (Syncing.DoesSyncStep.none on quiet none is) = on
-step_on (Syncing.DoesSyncStep.part on quiet runs front takes is) = on
+step_on (Syncing.DoesSyncStep.part on quiet runs front is) = on
 step_on (Syncing.DoesSyncStep.ends on quiet runs end is) = on
 step_on (Syncing.DoesSyncStep.stays count on quiet c) = on
 
@@ -72,7 +72,7 @@ sync_ends (Syncing.DoesSync.runs serial on quiet parts runs is) h = cc
 
 pub step_ends : {p : Permit} {s : State} {last : Bool} {added : List Rec} {e : End} → DoesSyncStep p s last added e → e ≡ Stays → ⊥
 step_ends (Syncing.DoesSyncStep.none on quiet none is) h = cc
-step_ends (Syncing.DoesSyncStep.part on quiet runs front takes is) h = cc
+step_ends (Syncing.DoesSyncStep.part on quiet runs front is) h = cc
 step_ends (Syncing.DoesSyncStep.ends on quiet runs end is) h = cc
 step_ends (Syncing.DoesSyncStep.stays count on quiet c) h = cc
 

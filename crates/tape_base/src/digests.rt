@@ -2,7 +2,7 @@
 ghost use Rattle.std.specs.Prelude.{◌≡◌};
 ghost use Rattle.tape_base.specs.Digest.{DigestsTell, NumbersShowNothing, SidesAreBytes, digest_of};
 
-use sha2::{Digest as _, Sha256};
+use sha_words::digest;
 
 /// A SHA-256 digest.
 #[derive(Clone, Copy, Debug, PartialEq, Eq, Hash)]
@@ -12,7 +12,7 @@ impl Digest {
     pub fn of(bytes: &[u8]) -> Digest
         ensures { result ≡ digest_of bytes.now }
     {
-        Digest(Sha256::digest(bytes))
+        Digest(digest(bytes))
     }
 }
 

@@ -1,11 +1,11 @@
 // Keys: 16 bytes that name an object or a fragment in a directory.
 ghost use Rattle.std.specs.Prelude.{◌≡◌, ◌<◌, ◌^◌, ◌%◌, take};
 ghost use Rattle.tape_base.specs.Key.{key_bytes, key_of_bytes, key_of_url, segment_of, bucket_of, tag_of};
-ghost use Rattle.tape_base.specs.Piece.{key_of_piece, fragment_key};
+ghost use Rattle.tape_base.specs.Piece.{key_of_piece, fragment_key, piece_bytes};
 
 use crate::geometries::Geometry;
 use crate::pieces::PieceId;
-use sha2::{Digest, Sha256};
+use sha_words::digest;
 
 // How many values a word of 32 bits has.
 const WORD: u128 = 1 << 32;
@@ -32,7 +32,7 @@ impl Key {
     pub fn of_url(url: &[u8]) -> Key
         ensures { result ≡ key_of_url url.now }
     {
-        Key::new(front(&Sha256::digest(url)))
+        Key::new(front(&digest(url)))
     }
 
     /// The key under which a directory has a piece.
@@ -85,12 +85,18 @@ fn front(digest: &[u8; 32]) -> [u8; 16]
 }
 
 #[tactic(auto, unfolding(crate::specs::Piece::piece_bytes))]
+fn piece_bytes(id: PieceId) -> [u8; 28]
+    ensures { result ≡ piece_bytes id }
+{
+    let mut bytes = [0; 28];
+    bytes[..16].copy_from_slice(&id.first.bytes());
+    bytes[16..24].copy_from_slice(&id.put.to_le_bytes());
+    bytes[24..].copy_from_slice(&id.index.to_le_bytes());
+    bytes
+}
+
 fn of_fragment(id: PieceId) -> Key
     ensures { result ≡ fragment_key id }
 {
-    let mut hasher = Sha256::new();
-    hasher.update(id.first.bytes());
-    hasher.update(id.put.to_le_bytes());
-    hasher.update(id.index.to_le_bytes());
-    Key::new(front(&hasher.finalize()))
+    Key::new(front(&digest(&piece_bytes(id))))
 }

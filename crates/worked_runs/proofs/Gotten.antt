@@ -98,7 +98,6 @@ hit_is_a_step key = subst (λ (s : State). IsStep silent s (Look 1 key [] ∷ []
   quiet = refl;
   faults = refl;
   effects = λ off. refl;
-  synced = λ on. cc;
 })
 
 pub piece_is_a_step : APieceIsAStep
@@ -112,7 +111,6 @@ piece_is_a_step key = subst (λ (s : State). IsStep silent s (ReadOn 2 ∷ []) p
   quiet = refl;
   faults = refl;
   effects = λ off. refl;
-  synced = λ on. cc;
 })
 
 pub end_is_a_step : AnEndIsAStep
@@ -126,7 +124,6 @@ end_is_a_step key = subst (λ (s : State). IsStep silent s (ReadOn 2 ∷ []) end
   quiet = refl;
   faults = refl;
   effects = λ off. refl;
-  synced = λ on. cc;
 })
 
 -- ---- the get
@@ -177,7 +174,6 @@ get_is_a_step key = subst (GetsFrom key) (sym (end_leaves key)) (record {
   quiet = refl;
   faults = refl;
   effects = λ off. refl;
-  synced = λ on. cc;
 })
 
 -- ---- the removal
@@ -197,7 +193,6 @@ removal_is_a_step key = subst (λ (s : State). IsStep silent s (Remove key ∷ [
   quiet = refl;
   faults = refl;
   effects = λ off. refl;
-  synced = λ on. cc;
 })
 
 -- ---- the get behind it
@@ -230,5 +225,4 @@ last_is_a_step key = subst (λ (s : State). MissesFrom key (after_all s (removal
   quiet = refl;
   faults = refl;
   effects = λ off. refl;
-  synced = λ on. cc;
 })

@@ -25,5 +25,4 @@ miss_is_a_step key = record {
   quiet = refl;
   faults = refl;
   effects = λ off. refl;
-  synced = λ on. cc;
 }

@@ -87,5 +87,4 @@ put_is_a_step key = record {
   quiet = refl;
   faults = refl;
   effects = λ off. refl;
-  synced = λ on. cc;
 }

@@ -30,5 +30,4 @@ returns c = λ bytes block four size. record {
   quiet = refl;
   faults = refl;
   effects = (λ off. refl);
-  synced = (λ on. cc);
 }

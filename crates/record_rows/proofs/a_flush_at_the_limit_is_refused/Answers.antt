@@ -10,5 +10,4 @@ returns c = λ piece object. record {
   quiet = refl;
   faults = refl;
   effects = (λ off. refl);
-  synced = (λ on. cc);
 }

@@ -10,5 +10,4 @@ returns c = λ body size. record {
   quiet = refl;
   faults = refl;
   effects = λ off. cc;
-  synced = λ on. record { effects = rw size refl; copies = (λ h. refl); content = ((λ high. absurd (omega (arith, high))), ((λ high. absurd (omega (arith, high))), tt)); writes = omega arith; shut = (λ h. cc) };
 }

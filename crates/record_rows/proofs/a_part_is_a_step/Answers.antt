@@ -6,9 +6,8 @@ use Rattle.record_rows.proofs.a_part_is_a_step.Goals as goal
 
 pub returns : goal.returns
 returns c = λ part size. record {
-  grows = more [] _ (Done, Syncing.DoesSyncStep.part refl refl refl refl (record { at = 326; bytes = part; written = inl refl; whole = size; of_body = refl }) refl, refl) nothing;
+  grows = more [] _ (Done, Syncing.DoesSyncStep.part refl refl refl refl refl, refl) nothing;
   quiet = refl;
   faults = refl;
   effects = λ off. cc;
-  synced = λ on. record { effects = rw size refl; copies = (λ h. refl); content = ((λ high. absurd (omega (arith, high))), tt); writes = omega arith; shut = (λ h. cc) };
 }

@@ -7,9 +7,8 @@ use Rattle.record_rows.proofs.a_refused_part_is_a_step.Goals as goal
 
 pub returns : goal.returns
 returns c = record {
-  grows = more _ _ (Fails (Faulted 1), Syncing.DoesSyncStep.stays 1 refl refl (record { runs = refl; counts = record { asked = _; of_sync = Given.IsOfSync.body 11 8 [] refl; counts = record { rose = omega arith; refused = inl refl } }; is = refl }), refl) nothing;
+  grows = more _ _ (Fails (Faulted 1), Syncing.DoesSyncStep.stays 1 refl refl (record { runs = refl; counts = record { asked = _; changes = refl; counts = record { rose = omega arith; refused = inl refl } }; is = refl }), refl) nothing;
   quiet = refl;
   faults = refl;
   effects = λ off. cc;
-  synced = λ on. record { effects = refl; copies = (λ h. cc); content = tt; writes = omega arith; shut = (λ h. cc) };
 }

@@ -8,17 +8,15 @@ use Rattle.record_rows.proofs.a_refused_part_leaves_the_sync.Goals as goal
 pub returns : goal.returns
 returns c = (
   (λ left. record {
-    grows = more _ _ (Fails (Faulted 1), Syncing.DoesSyncStep.stays 1 refl refl (record { runs = refl; counts = record { asked = _; of_sync = Given.IsOfSync.body 3 8 left refl; counts = record { rose = lit≤ tt; refused = inl refl } }; is = refl }), refl) nothing;
+    grows = more _ _ (Fails (Faulted 1), Syncing.DoesSyncStep.stays 1 refl refl (record { runs = refl; counts = record { asked = _; changes = refl; counts = record { rose = lit≤ tt; refused = inl refl } }; is = refl }), refl) nothing;
     quiet = refl;
     faults = refl;
     effects = λ off. cc;
-    synced = λ on. record { effects = refl; copies = (λ h. cc); content = tt; writes = lit≤ tt; shut = (λ h. cc) };
   }),
   record {
     grows = more [] _ (Fails (SyncRuns 5), Syncing.DoesSync.runs 5 refl refl refl refl refl, refl) nothing;
     quiet = refl;
     faults = refl;
     effects = λ off. cc;
-    synced = λ on. record { effects = refl; copies = (λ h. cc); content = tt; writes = lit≤ tt; shut = (λ h. cc) };
   },
 )

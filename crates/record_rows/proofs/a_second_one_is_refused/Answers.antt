@@ -10,5 +10,4 @@ returns c = record {
   quiet = refl;
   faults = refl;
   effects = λ off. cc;
-  synced = λ on. record { effects = refl; copies = (λ h. cc); content = tt; writes = lit≤ tt; shut = (λ h. cc) };
 }

@@ -23,11 +23,4 @@ returns c = λ body block size whole. record {
   quiet = refl;
   faults = refl;
   effects = λ off. cc;
-  synced = λ on. record {
-    effects = rw size refl;
-    copies = (λ h. refl);
-    content = ((λ high. absurd (omega (arith, high))), ((λ high. absurd (omega (arith, high))), ((λ high. is_of_it _ block _ whole), tt)));
-    writes = lit≤ tt;
-    shut = (λ h. cc);
-  };
 }

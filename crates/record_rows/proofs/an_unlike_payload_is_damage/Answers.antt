@@ -24,5 +24,4 @@ returns c = λ there block others its. record {
   quiet = refl;
   faults = refl;
   effects = λ off. cc;
-  synced = λ on. record { effects = refl; copies = (λ h. cc); content = tt; writes = omega arith; shut = (λ h. cc) };
 }

@@ -1,0 +1,4 @@
+mod Bits
+mod Ends
+mod Lanes
+mod NextWords

@@ -1,0 +1,11 @@
+//! The SHA-256 of a message, with the words of each block made four at a time.
+#![tactic(auto)]
+
+mod constants;
+mod digests;
+mod padding;
+mod rounds;
+mod schedules;
+mod vectors;
+
+pub use digests::digest;
