@@ -1,11 +1,9 @@
 -- What the lines of a legal history leave: how many sessions they began, that no piece is lost by a fault, and what the
 -- devices that came back show of it.
-use Rattle.std.proofs.Common.{◌≡◌, ℕ, ◌+◌, List, [], ◌∷◌, ◌++◌, length, refl, sym, ◌∙◌, subst, arith, length-append, false}
-use Rattle.std.specs.Prelude.{Option, Some, None, if◌then◌else◌, is_none}
+use Rattle.std.proofs.Common.{◌≡◌, ℕ, ◌+◌, List, [], ◌∷◌, ◌++◌, length, refl, sym, ◌∙◌, subst, arith, length-append, Bool, false, true}
+use Rattle.std.specs.Prelude.{Option, Some, None, if◌then◌else◌}
 use Rattle.std.proofs.lemmas.Bool.{false_from_ne_true}
 use Rattle.std.proofs.lemmas.List.{append_cancel_left}
-use Rattle.tape_base.specs.declared.geometries.BadGeometry.{BadGeometry}
-use Rattle.tape_base.specs.Limits.{first_refusal}
 use Rattle.device_log.specs.Calls.{Call}
 use Rattle.logged_disk.specs.Device.{DeviceState as Device, TellsAll}
 use Rattle.cache_model.specs.State.{State, after_all, nothing_yet}
@@ -14,41 +12,46 @@ use Rattle.cache_model.proofs.Found.{no_truth}
 use Rattle.script_grammar.specs.declared.line.LineAnswer.{LineAnswer}
 use Rattle.script_grammar.specs.declared.line.LineAnswer.TheVariants as line
 use Rattle.script_grammar.specs.declared.step.Step.{Step}
-use Rattle.script_grammar.specs.declared.step.Step.TheVariants as step
+use Rattle.script_grammar.specs.declared.answer.StepAnswer.{StepAnswer}
 use Rattle.script_grammar.specs.Grammar.{reading_of}
 use Rattle.script_run.specs.Run.{Harm, Run, fresh}
 use Rattle.script_run.specs.Turn.{Turn}
 use Rattle.script_run.specs.Asked.{asked}
-use Rattle.script_run.specs.Behind.{after_format, after_line, after_reading, behind, harm_in, harm_of, harms_of}
-use Rattle.script_run.specs.Takes.{IsRun, ReadingTakes, SessionTakes, Takes, run_after}
+use Rattle.script_run.specs.Behind.{after_line, after_reading, harm_in, harm_of, harms_of}
+use Rattle.script_run.specs.Takes.{IsRun, ReadingTakes, SessionTakes, run_after}
 use Rattle.script_run.specs.Losses.{NoLossIsAFault}
 use Rattle.script_run.specs.Ledger.{GoesOnFrom}
+use Rattle.script_run.specs.Goes.{StepGoes, begins, begins_session, stays, waits, works}
+use Rattle.script_run.proofs.Lift.{goes, states_keep}
 use Rattle.script_run.proofs.Losses.{formats_lose_none, losses_stay}
 use Rattle.script_laws.specs.Damages.{DamageStays}
-use Rattle.line_laws.proofs.Standing.{Goes, begins, goes, stays, steps, waits}
 use Rattle.headline.specs.Account.{AreBack, ComeBackFrom, IsDeviceBehind, RunLogs, begun_in, sessions_begun}
 use Rattle.account_laws.proofs.Devices.{goes_on}
 
 -- ---- sessions
 
-format_length : (run : Run) (turn : Turn) (name : List ℕ) (bad : Option BadGeometry) → length (harms_of (after_format run name turn.added bad)) ≡ length (harms_of run) + (if is_none bad then 1 else 0)
-format_length run turn name None = omega (arith, length-append (harms_of run) (harm_in [] (after_all nothing_yet turn.added) ∷ []))
-format_length run turn name (Some bad) = omega arith
+-- one more, where the line begins one
+begun_one : (ended : List Harm) (h : Harm) (b : Bool) → b ≡ true → length (ended ++ h ∷ []) ≡ length ended + (if b then 1 else 0)
+begun_one ended h b begun = subst (λ x. length (ended ++ h ∷ []) ≡ length ended + (if x then 1 else 0)) (sym begun) (omega (arith, length-append ended (h ∷ [])))
 
-session_length : (ended : List Harm) (calls : List Call) (h : Harm) (o : Option State) (s : State) → o ≡ Some s → length (ended ++ h ∷ []) ≡ length (ended ++ harm_of calls o) + 0
+begun_none : (m n : ℕ) (b : Bool) → b ≡ false → m ≡ n → m ≡ n + (if b then 1 else 0)
+begun_none m n b keeps same = subst (λ x. m ≡ n + (if x then 1 else 0)) (sym keeps) (omega (arith, same))
+
+-- the session goes on, with other harm
+session_length : (ended : List Harm) (calls : List Call) (h : Harm) (o : Option State) (s : State) → o ≡ Some s → length (ended ++ h ∷ []) ≡ length (ended ++ harm_of calls o)
 session_length ended calls h o s e =
-    subst (λ (x : Option State). length (ended ++ h ∷ []) ≡ length (ended ++ harm_of calls x) + 0) (sym e)
+    subst (λ (x : Option State). length (ended ++ h ∷ []) ≡ length (ended ++ harm_of calls x)) (sym e)
     (omega (arith, length-append ended (h ∷ []), length-append ended (harm_in calls s ∷ [])))
 
-step_length : (run : Run) (turn : Turn) (o : Option State) (st : Step) → run.state ≡ o → Takes run turn o st → length (harms_of (behind run turn o st)) ≡ length (harms_of run) + begun_in (line.Step st)
-step_length run turn o (step.Format name segments buckets content agg reach fragment generation alternates) e takes =
-    format_length run turn name (first_refusal segments buckets content agg reach fragment alternates)
-step_length run turn o (step.Now at) e takes = omega arith
-step_length run turn (Some s) _ e takes = session_length run.ended run.calls (harm_in (turn.device.events ++ run.calls) (after_all s turn.added)) run.state s e
-step_length run turn None _ e takes = absurd takes
+step_length : (run : Run) (turn : Turn) {st : Step} {said : StepAnswer} {after : Run} → StepGoes run turn st said after → length (harms_of after) ≡ length (harms_of run) + begun_in (line.Step st)
+step_length run turn {st = st} (stays bad same none) = begun_none _ _ (begins_session st) same refl
+step_length run turn {st = st} (waits at same none) = begun_none _ _ (begins_session st) same refl
+step_length run turn {st = st} (works s same e takes) =
+    begun_none _ _ (begins_session st) same (session_length run.ended run.calls (harm_in (turn.device.events ++ run.calls) (after_all s turn.added)) run.state s e)
+step_length run turn {st = st} (begins name g begun is) = begun_one (harms_of run) (harm_in [] (after_all nothing_yet turn.added)) (begins_session st) begun
 
 reading_length : (run : Run) (turn : Turn) (l : LineAnswer) → ReadingTakes run turn l → length (harms_of (after_reading run turn l)) ≡ length (harms_of run) + begun_in l
-reading_length run turn (line.Step st) takes = step_length run turn run.state st refl takes
+reading_length run turn (line.Step st) takes = step_length run turn (goes run turn st takes)
 reading_length run turn line.Nothing takes = omega arith
 reading_length run turn (line.Bad fault) takes = absurd takes
 
@@ -65,24 +68,9 @@ abbrev LossesWhere : Option State → Type 0
 LossesWhere None = Unit {0}
 LossesWhere (Some s) = NoLossIsAFault s
 
-goes_losses : (run : Run) (turn : Turn) {o : Option State} {st : Step} {after : Run} → Goes run turn o st after → LossesWhere o → LossesWhere run.state → LossesWhere after.state
-goes_losses run turn (begins name g is) h now = subst (λ recs. NoLossIsAFault (after_all nothing_yet recs)) (sym is) (formats_lose_none nothing_yet g)
-goes_losses run turn (stays same) h now = now
-goes_losses run turn (waits at same) h now = now
-goes_losses run turn (steps s same takes) h now = losses_stay s turn.added h
-
-reading_losses : (run : Run) (turn : Turn) (l : LineAnswer) → ReadingTakes run turn l → LossesWhere run.state → LossesWhere (after_reading run turn l).state
-reading_losses run turn (line.Step st) takes now = goes_losses run turn (goes run turn run.state st takes) now now
-reading_losses run turn line.Nothing takes now = now
-reading_losses run turn (line.Bad fault) takes now = absurd takes
-
-losses_after : (lines : List (List ℕ)) (turns : List Turn) (run : Run) → IsRun run lines turns → LossesWhere run.state → LossesWhere (run_after run lines turns).state
-losses_after [] turns run is h = h
-losses_after (bytes ∷ lines) [] run is h = absurd is
-losses_after (bytes ∷ lines) (turn ∷ turns) run is h = losses_after lines turns (after_line run turn bytes) is.1 (reading_losses run turn (reading_of bytes) is.0 h)
-
 pub no_loss : (lines : List (List ℕ)) (turns : List Turn) (s : State) → IsRun fresh lines turns → (run_after fresh lines turns).state ≡ Some s → NoLossIsAFault s
-no_loss lines turns s is e = subst LossesWhere e (losses_after lines turns fresh is tt)
+no_loss lines turns s is e =
+    subst LossesWhere e (states_keep LossesWhere (λ run s turn st takes h. losses_stay s turn.added h) (formats_lose_none nothing_yet) lines turns fresh is tt)
 
 -- ---- what a device shows of it
 
@@ -125,16 +113,16 @@ module _ (law : DamageStays) (ds : List Device) where
     unharmed = λ tells. false_from_ne_true (has_damage s) (λ e. no_truth (sym (law turn.device s (asked run s st) turn.added turn.refused takes.legal e) ∙ h.unharmed tells));
   }
 
-  goes_seen : (run : Run) (turn : Turn) {o : Option State} {st : Step} {after : Run} → Goes run turn o st after → run.state ≡ o → AreSeen (harms_of after) ds → AreSeen (harms_of run) ds
-  goes_seen run turn (begins name g is) e h = front_seen (harms_of run) (harm_in [] (after_all nothing_yet turn.added) ∷ []) ds h
-  goes_seen run turn (stays same) e h = h
-  goes_seen run turn (waits at same) e h = h
-  goes_seen run turn {st = st} (steps s same takes) e h =
+  goes_seen : (run : Run) (turn : Turn) {st : Step} {said : StepAnswer} {after : Run} → StepGoes run turn st said after → AreSeen (harms_of after) ds → AreSeen (harms_of run) ds
+  goes_seen run turn (stays bad same none) h = h
+  goes_seen run turn (waits at same none) h = h
+  goes_seen run turn {st = st} (works s same e takes) h =
       subst (λ (x : Option State). AreSeen (run.ended ++ harm_of run.calls x) ds) (sym e)
       (last_seen run.ended (harm_in (turn.device.events ++ run.calls) (after_all s turn.added)) (harm_in run.calls s) ds (session_seen run s turn st takes) h)
+  goes_seen run turn (begins name g same is) h = front_seen (harms_of run) (harm_in [] (after_all nothing_yet turn.added) ∷ []) ds h
 
   pub reading_seen : (run : Run) (turn : Turn) (l : LineAnswer) → ReadingTakes run turn l → AreSeen (harms_of (after_reading run turn l)) ds → AreSeen (harms_of run) ds
-  reading_seen run turn (line.Step st) takes h = goes_seen run turn (goes run turn run.state st takes) refl h
+  reading_seen run turn (line.Step st) takes h = goes_seen run turn (goes run turn st takes) h
   reading_seen run turn line.Nothing takes h = h
   reading_seen run turn (line.Bad fault) takes h = absurd takes
 

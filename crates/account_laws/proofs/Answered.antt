@@ -2,9 +2,8 @@
 use Rattle.std.proofs.Common.{◌≡◌, ◌<◌, ℕ, arith, append_assoc, append-nil, zero, suc, ◌+◌, List, [], ◌∷◌, ◌++◌, length, take, drop, refl, sym, ◌∙◌, ap, subst, inl, inr, ◌⊎◌, Bool, true, false}
 use Rattle.std.specs.Prelude.{Option, Some, None, cond, filter, if◌then◌else◌, nat_le, ◌==◌}
 use Rattle.std.specs.List.{AllByRecursion}
-use Rattle.tape_base.specs.declared.geometries.BadGeometry.{BadGeometry}
+use Rattle.tape_base.specs.declared.geometries.Geometry.{Geometry}
 use Rattle.tape_base.specs.declared.keys.Key.{Key}
-use Rattle.tape_base.specs.Limits.{first_refusal}
 use Rattle.fragment_table.specs.Table.{total_length}
 use Rattle.alternate_vector.specs.Alternates.{Stored}
 use Rattle.alternate_vector.specs.Field.{Field}
@@ -28,9 +27,11 @@ use Rattle.script_grammar.specs.Grammar.{reading_of}
 use Rattle.script_run.specs.Run.{Holding, Run, fresh, gathered_of, held_by, put_written_by, reader_by}
 use Rattle.script_run.specs.Asked.{asked, asks_if_free, asks_if_has, body_intents, close_intents, closing, cut_intents, feed_intents, feeding, put_intents, rest_behind, whole_fragments}
 use Rattle.script_run.specs.Turn.{Turn}
-use Rattle.script_run.specs.Answers.{cause_of_lost, feed_said, if_has as has_said, put_said, refusal_said, remove_said, said, session_said, took_of}
-use Rattle.script_run.specs.Behind.{after_line}
-use Rattle.script_run.specs.Takes.{FormatTakes, IsRun, LineTakes, ReadingTakes, Takes, run_after}
+use Rattle.script_run.specs.Answers.{cause_of_lost, feed_said, if_has as has_said, put_said, refusal_said, remove_said, said, session_said, step_answer, took_of}
+use Rattle.script_run.specs.Behind.{after_line, after_step}
+use Rattle.script_run.specs.Takes.{IsRun, LineTakes, ReadingTakes, run_after}
+use Rattle.script_run.specs.Goes.{StepGoes, begins, stays, waits, works}
+use Rattle.script_run.proofs.Lift.{goes}
 use Rattle.script_run.proofs.Ended.{IsNotOpen}
 use Rattle.script_run.proofs.Listed.{is_among}
 use Rattle.script_run.proofs.Values.{value_here}
@@ -87,21 +88,17 @@ pub record EndsHere {l : RunLogs} (a : Account l) (lines : List (List ℕ)) (run
   pub tells : HistoryTells a lines asks (session_said run on.s (after_all on.s turn.added) turn asks)
 
 module _ (told : Rec) (ends : SaysEnd told) where
-  format_ends_none : (added : List Rec) (segments buckets content agg reach fragment generation alternates : ℕ) (bad : Option BadGeometry)
-      → FormatTakes added segments buckets content agg reach fragment generation alternates bad → IsAmong told added → ⊥
-  format_ends_none added segments buckets content agg reach fragment generation alternates (Some bad) takes among = subst (IsAmong told) takes among
-  format_ends_none added segments buckets content agg reach fragment generation alternates None takes among =
-      elim (subst (IsAmong told) takes.2 among) [
-        | inl first ↦ subst SaysEnd first ends
-        | inr later ↦ elim later [ inl second ↦ subst SaysEnd second ends | inr none ↦ none ]
-      ]
+  format_ends_none : (g : Geometry) → IsAmong told (format_records g) → ⊥
+  format_ends_none g (inl first) = subst SaysEnd first ends
+  format_ends_none g (inr (inl second)) = subst SaysEnd second ends
+  format_ends_none g (inr (inr none)) = none
 
-  session_ends : (run : Run) (turn : Turn) (o : Option State) (asks : Step) → Takes run turn o asks → IsAmong told turn.added → OnSession run turn o asks
-  session_ends run turn o (step.Format name segments buckets content agg reach fragment generation alternates) takes among =
-      absurd (format_ends_none turn.added segments buckets content agg reach fragment generation alternates (first_refusal segments buckets content agg reach fragment alternates) takes among)
-  session_ends run turn o (step.Now moment) takes among = absurd (subst (λ (t : Turn). IsAmong told t.added) takes among)
-  session_ends run turn (Some s) _ takes among = record { s = s; state = refl; takes = takes; said = refl; next = refl }
-  session_ends run turn None _ takes among = absurd takes
+  session_ends : (run : Run) (turn : Turn) {asks : Step} {says : StepAnswer} {after : Run} → StepGoes run turn asks says after → step_answer run turn asks ≡ says → after_step run turn asks ≡ after
+      → IsAmong told turn.added → OnSession run turn run.state asks
+  session_ends run turn (stays bad same is) answered next among = absurd (subst (IsAmong told) is among)
+  session_ends run turn (waits at same is) answered next among = absurd (subst (λ (t : Turn). IsAmong told t.added) is among)
+  session_ends run turn (works s same e takes) answered next among = record { s = s; state = e; takes = takes; said = answered; next = next }
+  session_ends run turn (begins name g same is) answered next among = absurd (format_ends_none g (subst (IsAmong told) is among))
 
   module _ {l : RunLogs} (a : Account l) (lines : List (List ℕ)) (r : RecordsBehind a lines told) where
     abbrev pub Before : Run
@@ -118,7 +115,7 @@ module _ (told : Rec) (ends : SaysEnd told) where
 
     reading_ends : (x : LineAnswer) → reading_of r.bytes ≡ x → ReadingTakes Before r.did.turn x → EndsHere a lines Before r.did.turn
     reading_ends (line.Step asks) reading takes =
-        let on : OnSession Before r.did.turn Before.state asks = session_ends Before r.did.turn Before.state asks takes r.among in
+        let on : OnSession Before r.did.turn Before.state asks = session_ends Before r.did.turn (goes Before r.did.turn asks takes) refl refl r.among in
         record {
           asks = asks;
           on = on;

@@ -1,10 +1,8 @@
 -- What holds of a session's state, and not at its beginning, a record of a line brought about; and no record since undid it.
 use Rattle.std.proofs.Common.{◌≡◌, ℕ, List, [], ◌∷◌, ◌++◌, refl, sym, ap, subst, inl, inr, ◌⊎◌, false}
-use Rattle.std.specs.Prelude.{Option, Some, None, is_none}
+use Rattle.std.specs.Prelude.{Option, Some, None}
 use Rattle.std.specs.List.{AllByRecursion}
-use Rattle.tape_base.specs.declared.geometries.BadGeometry.{BadGeometry}
 use Rattle.tape_base.specs.declared.geometries.Geometry.{Geometry}
-use Rattle.tape_base.specs.Limits.{first_refusal}
 use Rattle.cache_model.specs.declared.record.Rec.{Rec}
 use Rattle.cache_model.specs.State.{State, after_all, nothing_yet, state_after}
 use Rattle.cache_model.specs.Permit.{IsAmong, Permit}
@@ -12,15 +10,17 @@ use Rattle.cache_model.specs.Legal.{format_records}
 use Rattle.script_grammar.specs.declared.line.LineAnswer.{LineAnswer}
 use Rattle.script_grammar.specs.declared.line.LineAnswer.TheVariants as line
 use Rattle.script_grammar.specs.declared.step.Step.{Step}
-use Rattle.script_grammar.specs.declared.step.Step.TheVariants as step
-use Rattle.script_grammar.specs.Grammar.{reading_of}
+use Rattle.script_grammar.specs.declared.answer.StepAnswer.{StepAnswer}
 use Rattle.script_run.specs.Run.{Run, fresh}
 use Rattle.script_run.specs.Turn.{Turn}
-use Rattle.script_run.specs.Behind.{after_format, after_line, after_reading, behind}
-use Rattle.script_run.specs.Takes.{FormatTakes, IsRun, ReadingTakes, Takes, run_after}
+use Rattle.script_run.specs.Behind.{after_line, after_reading}
+use Rattle.script_run.specs.Takes.{IsRun, ReadingTakes, run_after}
+use Rattle.script_run.specs.Goes.{StepGoes, begins, begins_session, stays, waits, works}
+use Rattle.script_run.proofs.Lift.{goes}
 use Rattle.script_laws.proofs.Groups.{IsKept}
 use Rattle.script_laws.proofs.Walking.{walked}
-use Rattle.line_laws.specs.Along.{AreOfSession, KeepsSession, begins_session}
+use Rattle.line_laws.specs.Along.{KeepsSession}
+use Rattle.line_laws.proofs.Since.{HasAlong, made_along}
 use Rattle.headline.specs.Standing.{HasRecordedLast, NoneAmong, RecordedNone}
 
 module _ (Holds : State → Type 0) (Tells Undoes : Rec → Type 0) where
@@ -60,54 +60,15 @@ module _ (Holds : State → Type 0) (Tells Undoes : Rec → Type 0) where
   abbrev ByTurn : Run → Turn → Type 0
   ByTurn run turn = (HoldsIn run.state × NoneOf turn.added) ⊎ ToldBy turn.added
 
-  -- a line of these recorded it, and none since what undoes it, or begins another session
-  record LastAlong (run : Run) (lines : List (List ℕ)) (turns : List Turn) : Type 0 where
-    before : List (List ℕ)
-    bytes : List ℕ
-    later : List (List ℕ)
-    lines_are : lines ≡ before ++ bytes ∷ later
-    earlier : List Turn
-    turn : Turn
-    rest : List Turn
-    turns_are : turns ≡ earlier ++ turn ∷ rest
-    legal : IsRun run before earlier
-    by : ToldBy turn.added
-    same_session : AreOfSession later
-    none : RecordedNone Undoes rest
+  -- it holds before each of these lines, and none of their turns undoes it
+  abbrev LeftAlong : Run → List (List ℕ) → List Turn → Type 0
+  LeftAlong = HasAlong (λ run. HoldsIn run.state) (λ turn. NoneOf turn.added) (λ run turn l. ToldBy turn.added)
 
-  last_here : (run : Run) (turn : Turn) (bytes : List ℕ) (lines : List (List ℕ)) (turns : List Turn) → ToldBy turn.added → RecordedNone Undoes turns → AreOfSession lines
-      → LastAlong run (bytes ∷ lines) (turn ∷ turns)
-  last_here run turn bytes lines turns t none same = record {
-    before = [];
-    bytes = bytes;
-    later = lines;
-    lines_are = refl;
-    earlier = [];
-    turn = turn;
-    rest = turns;
-    turns_are = refl;
-    legal = tt;
-    by = t;
-    same_session = same;
-    none = none;
-  }
-
-  last_later : (run : Run) (turn : Turn) (bytes : List ℕ) (lines : List (List ℕ)) (turns : List Turn) → ReadingTakes run turn (reading_of bytes)
-      → LastAlong (after_line run turn bytes) lines turns → LastAlong run (bytes ∷ lines) (turn ∷ turns)
-  last_later run turn bytes lines turns takes m = record {
-    before = bytes ∷ m.before;
-    bytes = m.bytes;
-    later = m.later;
-    lines_are = ap (λ (xs : List (List ℕ)). bytes ∷ xs) m.lines_are;
-    earlier = turn ∷ m.earlier;
-    turn = m.turn;
-    rest = m.rest;
-    turns_are = ap (λ (xs : List Turn). turn ∷ xs) m.turns_are;
-    legal = (takes, m.legal);
-    by = m.by;
-    same_session = m.same_session;
-    none = m.none;
-  }
+  none_since : (lines : List (List ℕ)) (turns : List Turn) (run : Run) → IsRun run lines turns → LeftAlong run lines turns → RecordedNone Undoes turns
+  none_since [] [] run is since = λ turn among told in_turn undoes. among
+  none_since [] (turn ∷ turns) run is since = absurd is
+  none_since (bytes ∷ lines) [] run is since = absurd is
+  none_since (bytes ∷ lines) (turn ∷ turns) run is since = none_along turn turns since.1 (none_since lines turns (after_line run turn bytes) is.1 since.2)
 
   module _ (formats : (g : Geometry) → Holds (after_all nothing_yet (format_records g)) → ⊥)
       (one : (p : Permit) (s : State) (r : Rec) → IsKept p r → Holds (state_after s r) → ByRecord s r) where
@@ -123,50 +84,24 @@ module _ (Holds : State → Type 0) (Tells Undoes : Rec → Type 0) where
 
     -- ---- one line
 
-    by_format : (run : Run) (turn : Turn) (name : List ℕ) (segments buckets content agg reach fragment generation alternates : ℕ) (bad : Option BadGeometry)
-        → FormatTakes turn.added segments buckets content agg reach fragment generation alternates bad → HoldsIn (after_format run name turn.added bad).state
-        → ByTurn run turn × (is_none bad ≡ false)
-    by_format run turn name segments buckets content agg reach fragment generation alternates (Some bad) takes h = (inl (h, λ told among undoes. subst (IsAmong told) takes among), refl)
-    by_format run turn name segments buckets content agg reach fragment generation alternates None takes h =
-        absurd (formats takes.0 (subst (λ recs. Holds (after_all nothing_yet recs)) takes.2 h))
-
     by_added : (run : Run) (turn : Turn) (s : State) → run.state ≡ Some s → (Holds s × NoneOf turn.added) ⊎ ToldBy turn.added → ByTurn run turn
     by_added run turn s e (inl old) = inl (subst HoldsIn (sym e) old.0, old.1)
     by_added run turn s e (inr told) = inr told
 
-    by_step : (run : Run) (turn : Turn) (o : Option State) (st : Step) → run.state ≡ o → Takes run turn o st → HoldsIn (behind run turn o st).state
-        → ByTurn run turn × (begins_session st ≡ false)
-    by_step run turn o (step.Format name segments buckets content agg reach fragment generation alternates) e takes h =
-        by_format run turn name segments buckets content agg reach fragment generation alternates (first_refusal segments buckets content agg reach fragment alternates) takes h
-    by_step run turn o (step.Now at) e takes h = (inl (h, λ told among undoes. subst (λ (t : Turn). IsAmong told t.added) takes among), refl)
-    by_step run turn (Some s) _ e takes h = (by_added run turn s e (in_records turn.device s turn.added (walked takes.legal.grows).kept h), refl)
-    by_step run turn None _ e takes h = absurd takes
+    by_step : (run : Run) (turn : Turn) {st : Step} {said : StepAnswer} {after : Run} → StepGoes run turn st said after → HoldsIn after.state → ByTurn run turn × (begins_session st ≡ false)
+    by_step run turn (stays bad same is) h = (inl (h, λ told among undoes. subst (IsAmong told) is among), same)
+    by_step run turn (waits at same is) h = (inl (h, λ told among undoes. subst (λ (t : Turn). IsAmong told t.added) is among), same)
+    by_step run turn (works s same e takes) h = (by_added run turn s e (in_records turn.device s turn.added (walked takes.legal.grows).kept h), same)
+    by_step run turn (begins name g same is) h = absurd (formats g (subst (λ recs. Holds (after_all nothing_yet recs)) is h))
 
     by_reading : (run : Run) (turn : Turn) (l : LineAnswer) → ReadingTakes run turn l → HoldsIn (after_reading run turn l).state → ByTurn run turn × KeepsSession l
-    by_reading run turn (line.Step st) takes h = by_step run turn run.state st refl takes h
+    by_reading run turn (line.Step st) takes h = by_step run turn (goes run turn st takes) h
     by_reading run turn line.Nothing takes h = (inl (h, λ told among undoes. subst (λ (t : Turn). IsAmong told t.added) takes among), tt)
     by_reading run turn (line.Bad fault) takes h = absurd takes
 
-    -- ---- lines
-
-    along : (lines : List (List ℕ)) (turns : List Turn) (run : Run) → IsRun run lines turns → HoldsIn (run_after run lines turns).state
-        → (HoldsIn run.state × RecordedNone Undoes turns × AreOfSession lines) ⊎ LastAlong run lines turns
-    along [] [] run is h = inl (h, (λ turn among told in_turn undoes. among), tt)
-    along [] (turn ∷ turns) run is h = absurd is
-    along (bytes ∷ lines) [] run is h = absurd is
-    along (bytes ∷ lines) (turn ∷ turns) run is h = elim (along lines turns (after_line run turn bytes) is.1 h) [
-      | inr later ↦ inr (last_later run turn bytes lines turns is.0 later)
-      | inl now ↦
-          let first = by_reading run turn (reading_of bytes) is.0 now.0 in
-          elim first.0 [
-            | inl old ↦ inl (old.0, none_along turn turns old.1 now.1, (first.1, now.2))
-            | inr told ↦ inr (last_here run turn bytes lines turns told now.1 now.2)
-          ]
-    ]
-
     pub told_last : (lines : List (List ℕ)) (turns : List Turn) (s : State) → IsRun fresh lines turns → (run_after fresh lines turns).state ≡ Some s → Holds s
         → HasRecordedLast Tells Undoes lines turns
-    told_last lines turns s is e h = elim (along lines turns fresh is (subst HoldsIn (sym e) h)) [
+    told_last lines turns s is e h = elim (made_along (λ run. HoldsIn run.state) (λ turn. NoneOf turn.added) (λ run turn l. ToldBy turn.added) by_reading lines turns fresh is (subst HoldsIn (sym e) h)) [
       | inl old ↦ absurd old.0
       | inr m ↦ record {
         is = record {
@@ -179,15 +114,15 @@ module _ (Holds : State → Type 0) (Tells Undoes : Rec → Type 0) where
           rest = m.rest;
           turns_are = m.turns_are;
           legal = m.legal;
-          told = m.by.told;
-          among = m.by.among;
-          tells = m.by.tells;
-          same_session = m.same_session;
+          told = m.made.told;
+          among = m.made.among;
+          tells = m.made.tells;
+          same_session = m.same_session.1;
         };
-        front = m.by.front;
-        back = m.by.back;
-        added_are = m.by.are;
-        none_behind = m.by.none;
-        none_later = m.none;
+        front = m.made.front;
+        back = m.made.back;
+        added_are = m.made.are;
+        none_behind = m.made.none;
+        none_later = none_since m.later m.rest (after_line (run_after fresh m.before m.earlier) m.turn m.bytes) m.goes m.since;
       }
     ]

@@ -2,21 +2,21 @@
 use Rattle.std.proofs.Common.{◌≡◌, ℕ, List, [], ◌∷◌, ◌++◌, length, refl, sym, ap, subst, arith, inl, inr, ◌⊎◌, false}
 use Rattle.std.specs.Prelude.{Option, Some, None}
 use Rattle.tape_base.specs.declared.geometries.BadGeometry.{BadGeometry}
-use Rattle.tape_base.specs.Limits.{first_refusal}
 use Rattle.cache_model.specs.declared.record.Rec.{Rec}
 use Rattle.cache_model.specs.State.{State, after_all}
 use Rattle.cache_model.proofs.Found.{same_some}
 use Rattle.script_grammar.specs.declared.line.LineAnswer.{LineAnswer}
 use Rattle.script_grammar.specs.declared.line.LineAnswer.TheVariants as line
 use Rattle.script_grammar.specs.declared.step.Step.{Step}
-use Rattle.script_grammar.specs.declared.step.Step.TheVariants as step
 use Rattle.script_grammar.specs.declared.answer.StepAnswer.{StepAnswer}
 use Rattle.script_grammar.specs.Grammar.{reading_of}
 use Rattle.script_run.specs.Run.{Run, fresh}
 use Rattle.script_run.specs.Turn.{Turn}
 use Rattle.script_run.specs.Answers.{format_said, session_said, step_answer, step_said}
 use Rattle.script_run.specs.Behind.{after_line, after_reading, after_step, behind, in_session}
-use Rattle.script_run.specs.Takes.{IsRun, ReadingTakes, SessionTakes, StepTakes, Takes, run_after}
+use Rattle.script_run.specs.Takes.{IsRun, ReadingTakes, SessionTakes, StepTakes, run_after}
+use Rattle.script_run.specs.Goes.{StepGoes, begins, stays, waits, works}
+use Rattle.script_run.proofs.Lift.{goes}
 use Rattle.script_laws.specs.Causes.{cause_answered}
 use Rattle.script_laws.specs.Runs.{answers_damage, answers_fault}
 use Rattle.run_promise.specs.Lines.{answers_of, reading_answer}
@@ -102,12 +102,12 @@ format_untroubled : (added : List Rec) (bad : Option BadGeometry) → IsUntroubl
 format_untroubled added None = record { no_fault = refl; no_damage = refl; no_cause = refl }
 format_untroubled added (Some bad) = record { no_fault = refl; no_damage = refl; no_cause = refl }
 
-kinds : (run : Run) (turn : Turn) (o : Option State) (asks : Step) → Takes run turn o asks → OnSession run turn o asks ⊎ IsUntroubled (step_said run turn o asks)
-kinds run turn o (step.Format name segments buckets content agg reach fragment generation alternates) takes =
-    inr (format_untroubled turn.added (first_refusal segments buckets content agg reach fragment alternates))
-kinds run turn o (step.Now at) takes = inr (record { no_fault = refl; no_damage = refl; no_cause = refl })
-kinds run turn (Some s) _ takes = inl (record { s = s; state = refl; takes = takes; said = refl; next = refl })
-kinds run turn None _ takes = absurd takes
+kinds : (run : Run) (turn : Turn) {asks : Step} {said : StepAnswer} {after : Run} → StepGoes run turn asks said after → step_answer run turn asks ≡ said → after_step run turn asks ≡ after
+    → OnSession run turn run.state asks ⊎ IsUntroubled said
+kinds run turn (stays bad same none) answered next = inr (format_untroubled turn.added (Some bad))
+kinds run turn (waits at same none) answered next = inr (record { no_fault = refl; no_damage = refl; no_cause = refl })
+kinds run turn (works s same e takes) answered next = inl (record { s = s; state = e; takes = takes; said = answered; next = next })
+kinds run turn (begins name g same is) answered next = inr (format_untroubled turn.added None)
 
 pub kind_of : (run : Run) (turn : Turn) (asks : Step) → StepTakes run turn asks → OnSession run turn run.state asks ⊎ IsUntroubled (step_answer run turn asks)
-kind_of run turn asks takes = kinds run turn run.state asks takes
+kind_of run turn asks takes = kinds run turn (goes run turn asks takes) refl refl

@@ -1,12 +1,10 @@
 -- What a record of a line brings about, and no other record undoes, holds behind each later line of its session.
-use Rattle.std.proofs.Common.{◌≡◌, ℕ, List, [], ◌∷◌, ◌++◌, Bool, true, false, refl, sym, ◌∙◌, ap, subst, inl, inr}
-use Rattle.std.specs.Prelude.{Option, Some, None, cond, is_none}
+use Rattle.std.proofs.Common.{◌≡◌, ℕ, List, [], ◌∷◌, ◌++◌, Bool, true, false, sym, ◌∙◌, ap, subst, inl, inr}
+use Rattle.std.specs.Prelude.{Option, Some, None, cond}
 use Rattle.std.specs.List.{AllByRecursion}
-use Rattle.tape_base.specs.declared.geometries.BadGeometry.{BadGeometry}
 use Rattle.tape_base.specs.declared.geometries.Geometry.{Geometry}
 use Rattle.tape_base.specs.declared.keys.Key.{Key}
 use Rattle.tape_base.specs.Key.{same_key}
-use Rattle.tape_base.specs.Limits.{first_refusal}
 use Rattle.tape_base.proofs.NameLaws.{same_key-same}
 use Rattle.cache_model.specs.declared.record.Rec.{Rec}
 use Rattle.cache_model.specs.State.{State, after_all, state_after}
@@ -16,15 +14,17 @@ use Rattle.cache_model.proofs.Found.{no_truth, none_is}
 use Rattle.script_grammar.specs.declared.line.LineAnswer.{LineAnswer}
 use Rattle.script_grammar.specs.declared.line.LineAnswer.TheVariants as line
 use Rattle.script_grammar.specs.declared.step.Step.{Step}
-use Rattle.script_grammar.specs.declared.step.Step.TheVariants as step
+use Rattle.script_grammar.specs.declared.answer.StepAnswer.{StepAnswer}
 use Rattle.script_grammar.specs.Grammar.{reading_of}
 use Rattle.script_run.specs.Run.{Run, fresh}
 use Rattle.script_run.specs.Turn.{Turn}
-use Rattle.script_run.specs.Behind.{after_format, after_line, after_reading, behind}
-use Rattle.script_run.specs.Takes.{FormatTakes, IsRun, ReadingTakes, Takes, run_after}
+use Rattle.script_run.specs.Behind.{after_line, after_reading}
+use Rattle.script_run.specs.Takes.{IsRun, ReadingTakes, run_after}
+use Rattle.script_run.specs.Goes.{StepGoes, begins, begins_session, stays, waits, works}
+use Rattle.script_run.proofs.Lift.{goes}
 use Rattle.script_laws.proofs.Groups.{IsKept}
 use Rattle.script_laws.proofs.Walking.{walked}
-use Rattle.line_laws.specs.Along.{AreOfSession, KeepsSession, begins_session}
+use Rattle.line_laws.specs.Along.{AreOfSession, KeepsSession}
 use Rattle.line_laws.proofs.Since.{GoesOn, goes_on}
 use Rattle.headline.specs.Standing.{HasRecorded}
 
@@ -61,43 +61,28 @@ module _ (Makes : Rec → Type 0) (Has : State → Type 0)
 
   -- ---- behind the line that recorded it
 
-  by_format : (run : Run) (turn : Turn) (name : List ℕ) (segments buckets content agg reach fragment generation alternates : ℕ) (bad : Option BadGeometry) (told : Rec)
-      → FormatTakes turn.added segments buckets content agg reach fragment generation alternates bad → IsAmong told turn.added → Makes told → HasWhere (after_format run name turn.added bad).state
-  by_format run turn name segments buckets content agg reach fragment generation alternates (Some bad) told takes among makes = absurd (subst (IsAmong told) takes among)
-  by_format run turn name segments buckets content agg reach fragment generation alternates None told takes among makes =
-      absurd (none_of_format takes.0 told (subst (IsAmong told) takes.2 among) makes)
-
-  by_step : (run : Run) (turn : Turn) (o : Option State) (st : Step) (told : Rec) → Takes run turn o st → IsAmong told turn.added → Makes told
-      → HasWhere (behind run turn o st).state
-  by_step run turn o (step.Format name segments buckets content agg reach fragment generation alternates) told takes among makes =
-      by_format run turn name segments buckets content agg reach fragment generation alternates (first_refusal segments buckets content agg reach fragment alternates) told takes among makes
-  by_step run turn o (step.Now at) told takes among makes = absurd (subst (λ (t : Turn). IsAmong told t.added) takes among)
-  by_step run turn (Some s) _ told takes among makes = by_among turn.device s turn.added told (walked takes.legal.grows).kept among makes
-  by_step run turn None _ told takes among makes = absurd takes
+  by_step : (run : Run) (turn : Turn) {st : Step} {said : StepAnswer} {after : Run} (told : Rec) → StepGoes run turn st said after → IsAmong told turn.added → Makes told → HasWhere after.state
+  by_step run turn told (stays bad same is) among makes = absurd (subst (IsAmong told) is among)
+  by_step run turn told (waits at same is) among makes = absurd (subst (λ (t : Turn). IsAmong told t.added) is among)
+  by_step run turn told (works s same e takes) among makes = by_among turn.device s turn.added told (walked takes.legal.grows).kept among makes
+  by_step run turn told (begins name g same is) among makes = absurd (none_of_format g told (subst (IsAmong told) is among) makes)
 
   by_reading : (run : Run) (turn : Turn) (l : LineAnswer) (told : Rec) → ReadingTakes run turn l → IsAmong told turn.added → Makes told
       → HasWhere (after_reading run turn l).state
-  by_reading run turn (line.Step st) told takes among makes = by_step run turn run.state st told takes among makes
+  by_reading run turn (line.Step st) told takes among makes = by_step run turn told (goes run turn st takes) among makes
   by_reading run turn line.Nothing told takes among makes = absurd (subst (λ (t : Turn). IsAmong told t.added) takes among)
   by_reading run turn (line.Bad fault) told takes among makes = absurd takes
 
   -- ---- and behind each later line of the session
 
-  format_stays : (run : Run) (turn : Turn) (name : List ℕ) (bad : Option BadGeometry) → is_none bad ≡ false → HasWhere run.state
-      → HasWhere (after_format run name turn.added bad).state
-  format_stays run turn name (Some bad) keeps has = has
-  format_stays run turn name None keeps has = no_truth keeps
-
-  step_stays : (run : Run) (turn : Turn) (o : Option State) (st : Step) → run.state ≡ o → begins_session st ≡ false → Takes run turn o st → HasWhere o
-      → HasWhere (behind run turn o st).state
-  step_stays run turn o (step.Format name segments buckets content agg reach fragment generation alternates) e keeps takes has =
-      format_stays run turn name (first_refusal segments buckets content agg reach fragment alternates) keeps (subst HasWhere (sym e) has)
-  step_stays run turn o (step.Now at) e keeps takes has = subst HasWhere (sym e) has
-  step_stays run turn (Some s) _ e keeps takes has = still_all turn.device s turn.added (walked takes.legal.grows).kept has
-  step_stays run turn None _ e keeps takes has = absurd has
+  step_stays : (run : Run) (turn : Turn) {st : Step} {said : StepAnswer} {after : Run} → StepGoes run turn st said after → begins_session st ≡ false → HasWhere run.state → HasWhere after.state
+  step_stays run turn (stays bad same none) keeps has = has
+  step_stays run turn (waits at same none) keeps has = has
+  step_stays run turn (works s same e takes) keeps has = still_all turn.device s turn.added (walked takes.legal.grows).kept (subst HasWhere e has)
+  step_stays run turn (begins name g begun is) keeps has = no_truth (sym begun ∙ keeps)
 
   reading_stays : (run : Run) (turn : Turn) (l : LineAnswer) → KeepsSession l → ReadingTakes run turn l → HasWhere run.state → HasWhere (after_reading run turn l).state
-  reading_stays run turn (line.Step st) keeps takes has = step_stays run turn run.state st refl keeps takes has
+  reading_stays run turn (line.Step st) keeps takes has = step_stays run turn (goes run turn st takes) keeps has
   reading_stays run turn line.Nothing keeps takes has = has
   reading_stays run turn (line.Bad fault) keeps takes has = absurd takes
 

@@ -85,7 +85,7 @@ is_read (ToRead at blocks) = true
 is_read asked = false
 
 -- why a flush or a sync stops: a refused call that is no read
-pub record CountsCall (p : Permit) (s : State) (count : ℕ) : Type 0 where
+pub record CountsStop (p : Permit) (s : State) (count : ℕ) : Type 0 where
   pub asked : Asked
   pub changes : is_read asked ≡ false
   pub counts : MayCount p s asked count

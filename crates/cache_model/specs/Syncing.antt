@@ -8,7 +8,7 @@ use Rattle.cache_model.specs.declared.record.Rec.{Rec}
 use Rattle.cache_model.specs.declared.record.Rec.TheVariants as rec
 use Rattle.cache_model.specs.State.{State, Mark, after_all, cursor_next, synced_cursor}
 use Rattle.cache_model.specs.Permit.{Permit, Exhausted, Faulted, SyncRuns, NoSync, StillMoving, End, Stays, Done, Fails}
-use Rattle.cache_model.specs.Given.{CountsCall, StandsWritten}
+use Rattle.cache_model.specs.Given.{CountsStop, StandsWritten}
 use Rattle.cache_model.specs.Due.{due_pieces}
 use Rattle.cache_model.specs.Outcomes.{AreOutcomes, Outcome, flush_tail, front_of, stopped_front_of}
 use Rattle.cache_model.specs.Room.{limit, is_flush_exhausted}
@@ -121,11 +121,11 @@ pub record MaySyncBehind (p : Permit) (k : Syncing) (s : State) (added : List Re
 -- behind the records of the reads the device refuses to take the buffer, or stops a sync; last come the records of syncs up
 -- to there
 pub data StopsBehind (p : Permit) (k : Syncing) (s : State) (front : List Rec) (count : ℕ) : List Rec → Type 0 where
-  buffer : CountsCall p (after_all s front) count → StopsBehind p k s front count []
+  buffer : CountsStop p (after_all s front) count → StopsBehind p k s front count []
   -- the sync in parts was to be ended
-  ended : StandsWritten p s → needs_sync k s ≡ true → is_some s.running ≡ true → CountsCall p (after_all s front) count → StopsBehind p k s front count []
+  ended : StandsWritten p s → needs_sync k s ≡ true → is_some s.running ≡ true → CountsStop p (after_all s front) count → StopsBehind p k s front count []
   -- a whole one was begun
-  whole : StandsWritten p s → needs_whole k s ≡ true → CountsCall p (after_all s front) count
+  whole : StandsWritten p s → needs_whole k s ≡ true → CountsStop p (after_all s front) count
       → StopsBehind p k s front count (ended_records s ++ begun_record s (cursor_next s) false false ∷ [])
 
 -- a flush that stops so
@@ -141,7 +141,7 @@ pub record MayStopSync (p : Permit) (k : Syncing) (s : State) (count : ℕ) (add
 -- the sync in parts cannot be ended: its next part begins anew
 pub record CannotEnd (p : Permit) (s : State) (count : ℕ) (added : List Rec) : Type 0 where
   pub runs : is_some s.running ≡ true
-  pub counts : CountsCall p s count
+  pub counts : CountsStop p s count
   pub is : added ≡ rec.Fault count ∷ []
 
 -- ---- a sync of an empty buffer
@@ -158,7 +158,7 @@ pub record MayStopEmpty (p : Permit) (k : Syncing) (s : State) (count : ℕ) (ad
   pub can : CanSync p k s
   pub asked : is_asked k ≡ true
   pub empty : s.filled ≡ 0
-  pub counts : CountsCall p s count
+  pub counts : CountsStop p s count
   pub is : added ≡ ended_records s ++ begun_record s s.cursor false false ∷ rec.Fault count ∷ []
 
 -- ---- what a stripe that syncs does of a buffer
@@ -204,7 +204,7 @@ pub record MustUnmark (p : Permit) (s : State) : Type 0 where
 pub data Unmarks (p : Permit) (s : State) (added : List Rec) : End → Type 0 where
   unmarks : MustUnmark p s → is_unmark_exhausted s ≡ false → added ≡ unmark_records s → Unmarks p s added Stays
   stays : (count : ℕ) → MustUnmark p s → is_unmark_exhausted s ≡ false → CannotEnd p s count added → Unmarks p s added (Fails (Faulted count))
-  stops : (count : ℕ) → MustUnmark p s → is_unmark_exhausted s ≡ false → (once_ended s).marked ≡ true → CountsCall p s count
+  stops : (count : ℕ) → MustUnmark p s → is_unmark_exhausted s ≡ false → (once_ended s).marked ≡ true → CountsStop p s count
       → added ≡ ended_records s ++ begun_record s s.cursor false false ∷ rec.Fault count ∷ [] → Unmarks p s added (Fails (Faulted count))
   exhausted : MustUnmark p s → is_unmark_exhausted s ≡ true → added ≡ [] → Unmarks p s added (Fails Exhausted)
 
@@ -215,7 +215,7 @@ pub data DoesCleanSync (p : Permit) (s : State) (added : List Rec) : End → Typ
       → DoesCleanSync p s added (Fails (SyncRuns serial))
   syncs : p.syncs ≡ true → s.pending ≡ None → s.filled ≡ 0 → s.running ≡ None → next_serial s < limit
       → added ≡ begun_record s s.cursor true false ∷ rec.SyncDone (next_serial s) ∷ [] → DoesCleanSync p s added Done
-  stops : (count : ℕ) → p.syncs ≡ true → s.pending ≡ None → s.filled ≡ 0 → s.running ≡ None → next_serial s < limit → CountsCall p s count
+  stops : (count : ℕ) → p.syncs ≡ true → s.pending ≡ None → s.filled ≡ 0 → s.running ≡ None → next_serial s < limit → CountsStop p s count
       → added ≡ begun_record s s.cursor true false ∷ rec.Fault count ∷ [] → DoesCleanSync p s added (Fails (Faulted count))
   exhausted : p.syncs ≡ true → s.pending ≡ None → s.filled ≡ 0 → s.running ≡ None → limit ≤ next_serial s → added ≡ []
       → DoesCleanSync p s added (Fails Exhausted)

@@ -16,7 +16,7 @@ use Rattle.script_run.specs.Turn.{Turn}
 use Rattle.script_run.specs.Behind.{harm_of, harms_of}
 use Rattle.script_run.specs.Takes.{IsRun, LineShows, run_after}
 use Rattle.script_run.specs.Ledger.{IsReached, Ledger}
-use Rattle.line_laws.specs.Along.{begins_session}
+use Rattle.script_run.specs.Goes.{begins_session}
 use Rattle.run_promise.specs.Outline.{all_told, blank_outline, with_calls_of}
 use Rattle.run_promise.specs.Lines.{AreAnswered, answers_of, outline_of}
 use Rattle.run_promise.specs.declared.status.Status.{Status}

@@ -1,27 +1,22 @@
 -- No reader is at a fragment before the first, whatever records follow.
 use Rattle.std.proofs.Common.{ℕ, ◌+◌, ◌<◌, List, [], ◌∷◌, arith, Bool, true, false}
-use Rattle.std.specs.Prelude.{Option, Some, None, if◌then◌else◌, ◌==◌}
+use Rattle.std.specs.Prelude.{if◌then◌else◌, ◌==◌}
 use Rattle.std.specs.List.{AllByRecursion}
 use Rattle.cache_model.specs.declared.answer.ReadAnswer.{ReadAnswer}
 use Rattle.cache_model.specs.declared.answer.ReadAnswer.TheVariants as read
 use Rattle.cache_model.specs.declared.record.Rec.{Rec}
 use Rattle.cache_model.specs.declared.record.Rec.TheVariants as rec
-use Rattle.cache_model.specs.State.{ReaderRow, State, after_all, change_reader, nothing_yet, opened_reader, state_after}
+use Rattle.cache_model.specs.State.{ReaderRow, State, after_all, change_reader, opened_reader, state_after}
 use Rattle.tape_base.specs.declared.keys.Key.{Key}
 use Rattle.alternate_vector.specs.Field.{Field}
 use Rattle.cache_model.proofs.Steps.{all_append}
-use Rattle.script_grammar.specs.declared.step.Step.{Step}
-use Rattle.script_grammar.specs.declared.line.LineAnswer.{LineAnswer}
-use Rattle.script_grammar.specs.declared.line.LineAnswer.TheVariants as line
-use Rattle.script_grammar.specs.Grammar.{reading_of}
 use Rattle.script_run.specs.Run.{Run}
 use Rattle.script_run.specs.Turn.{Turn}
-use Rattle.script_run.specs.Behind.{after_line, after_reading}
-use Rattle.script_run.specs.Takes.{IsRun, ReadingTakes, run_after}
+use Rattle.script_run.specs.Takes.{IsRun, run_after}
+use Rattle.script_run.proofs.Lift.{lines_keep}
 use Rattle.script_run.proofs.Carried.{all_filter}
 use Rattle.line_laws.specs.Along.{StandsWhere}
-use Rattle.line_laws.proofs.Standing
-use Rattle.line_laws.proofs.Standing.{Goes, goes}
+use Rattle.line_laws.proofs.Stands.{stands_kept}
 
 abbrev pub IsPlaced : ReaderRow → Type 0
 IsPlaced r = 0 < r.next
@@ -62,23 +57,5 @@ records_place s (r ∷ recs) h = records_place (state_after s r) recs (record_pl
 abbrev pub PlacedIn : Run → Type 0
 PlacedIn run = StandsWhere (λ x s. ArePlaced s) run run.state
 
-moment_places : (run : Run) (at : ℕ) (o : Option State) → StandsWhere (λ x s. ArePlaced s) run o → StandsWhere (λ x s. ArePlaced s) (record run { now = at }) o
-moment_places run at None h = tt
-moment_places run at (Some s) h = h
-
-goes_places : (run : Run) (turn : Turn) {o : Option State} {st : Step} {after : Run} → Goes run turn o st after → StandsWhere (λ x s. ArePlaced s) run o → PlacedIn run → PlacedIn after
-goes_places run turn (Standing.Goes.begins name g is) h now = records_place nothing_yet turn.added tt
-goes_places run turn (Standing.Goes.stays same) h now = now
-goes_places run turn (Standing.Goes.waits at same) h now = moment_places run at run.state now
-goes_places run turn (Standing.Goes.steps s same takes) h now = records_place s turn.added h
-
-reading_places : (run : Run) (turn : Turn) (l : LineAnswer) → ReadingTakes run turn l → PlacedIn run → PlacedIn (after_reading run turn l)
-reading_places run turn (line.Step st) takes now = goes_places run turn (goes run turn run.state st takes) now now
-reading_places run turn line.Nothing takes now = now
-reading_places run turn (line.Bad fault) takes now = absurd takes
-
 pub lines_place : (lines : List (List ℕ)) (turns : List Turn) (run : Run) → IsRun run lines turns → PlacedIn run → PlacedIn (run_after run lines turns)
-lines_place [] turns run takes h = h
-lines_place (bytes ∷ lines) [] run takes h = absurd takes
-lines_place (bytes ∷ lines) (turn ∷ turns) run takes h =
-    lines_place lines turns (after_line run turn bytes) takes.1 (reading_places run turn (reading_of bytes) takes.0 h)
+lines_place = lines_keep PlacedIn (stands_kept (λ x s. ArePlaced s) (λ run at s h. h) (λ run s turn asks takes h. records_place s turn.added h) (λ run name g. tt))

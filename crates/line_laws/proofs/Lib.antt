@@ -10,6 +10,7 @@ pub mod Lines
 pub mod Running
 mod Writing
 mod Shown
+pub mod Stands
 pub mod Standing
 pub mod Firsts
 pub mod Since

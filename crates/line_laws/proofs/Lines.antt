@@ -21,7 +21,8 @@ use Rattle.script_run.specs.Asked.{asked, asks_if_has}
 use Rattle.script_run.specs.Turn.{Turn, told_in}
 use Rattle.script_run.specs.Behind.{after_format, after_reading, behind, in_session, streams_behind}
 use Rattle.script_run.specs.Takes.{IsNextPiece, IsPiece, ReadingTakes, SessionTakes, Takes}
-use Rattle.line_laws.specs.Along.{KeepsSession, StandsKept, begins_session}
+use Rattle.script_run.specs.Goes.{begins_session}
+use Rattle.line_laws.specs.Along.{KeepsSession, StandsKept}
 use Rattle.line_laws.specs.Given.{given_by_line, given_by_step, given_where}
 use Rattle.line_laws.proofs.Beside.{AllBeside, AnyNumber, OtherThan, AllOther, grown_beside}
 use Rattle.line_laws.proofs.Keeping.{KeepsReader, keeps_all, keeps_self}

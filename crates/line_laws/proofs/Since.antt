@@ -9,13 +9,15 @@ use Rattle.cache_model.specs.Legal.{format_records}
 use Rattle.script_grammar.specs.declared.line.LineAnswer.{LineAnswer}
 use Rattle.script_grammar.specs.declared.line.LineAnswer.TheVariants as line
 use Rattle.script_grammar.specs.declared.step.Step.{Step}
+use Rattle.script_grammar.specs.declared.answer.StepAnswer.{StepAnswer}
 use Rattle.script_grammar.specs.Grammar.{reading_of}
 use Rattle.script_run.specs.Run.{Run}
 use Rattle.script_run.specs.Turn.{Turn}
 use Rattle.script_run.specs.Behind.{after_line, after_reading, in_session}
 use Rattle.script_run.specs.Takes.{IsRun, LineTakes, ReadingTakes, SessionTakes, run_after}
-use Rattle.line_laws.specs.Along.{AreOfSession, KeepsSession, begins_session}
-use Rattle.line_laws.proofs.Standing.{Goes, begins, goes, stays, steps, waits}
+use Rattle.script_run.specs.Goes.{StepGoes, begins, begins_session, stays, waits, works}
+use Rattle.script_run.proofs.Lift.{goes}
+use Rattle.line_laws.specs.Along.{AreOfSession, KeepsSession}
 
 -- ---- lines behind others
 
@@ -36,12 +38,16 @@ goes_on run (b ∷ before) (x ∷ earlier) turn bytes later rest legal is =
 
 -- ---- what came to hold
 
-module _ (Has : Run → Type 0) (Makes : Run → Turn → LineAnswer → Type 0) where
-  -- it is so before each of these lines, and behind the last one
+-- nothing is asked of a turn
+abbrev pub AnyTurn : Turn → Type 0
+AnyTurn turn = Unit {0}
+
+module _ (Has : Run → Type 0) (Leaves : Turn → Type 0) (Makes : Run → Turn → LineAnswer → Type 0) where
+  -- it is so before each of these lines, whose turn leaves it, and behind the last one
   abbrev pub HasAlong : Run → List (List ℕ) → List Turn → Type 0
   HasAlong run [] turns = Has run
   HasAlong run (bytes ∷ lines) [] = Has run
-  HasAlong run (bytes ∷ lines) (turn ∷ turns) = Has run × HasAlong (after_line run turn bytes) lines turns
+  HasAlong run (bytes ∷ lines) (turn ∷ turns) = Has run × Leaves turn × HasAlong (after_line run turn bytes) lines turns
 
   -- a line of these made it so, and none since began another session
   pub record MadeAlong (run : Run) (lines : List (List ℕ)) (turns : List Turn) : Type 0 where
@@ -61,9 +67,9 @@ module _ (Has : Run → Type 0) (Makes : Run → Turn → LineAnswer → Type 0)
     pub since : HasAlong (after_line (run_after run before earlier) turn bytes) later rest
     pub ends : run_after run lines turns ≡ run_after (after_line (run_after run before earlier) turn bytes) later rest
 
-  -- what is so behind a line was so before it, or the line made it so; and the line begins no session
+  -- what is so behind a line was so before it, and its turn left it, or the line made it so; and the line begins no session
   abbrev pub ByLine : Type 0
-  ByLine = (run : Run) (turn : Turn) (l : LineAnswer) → ReadingTakes run turn l → Has (after_reading run turn l) → (Has run ⊎ Makes run turn l) × KeepsSession l
+  ByLine = (run : Run) (turn : Turn) (l : LineAnswer) → ReadingTakes run turn l → Has (after_reading run turn l) → ((Has run × Leaves turn) ⊎ Makes run turn l) × KeepsSession l
 
   made_here : (run : Run) (turn : Turn) (bytes : List ℕ) (lines : List (List ℕ)) (turns : List Turn) → LineTakes run turn bytes → Makes run turn (reading_of bytes)
       → KeepsSession (reading_of bytes)
@@ -116,7 +122,7 @@ module _ (Has : Run → Type 0) (Makes : Run → Turn → LineAnswer → Type 0)
     | inl now ↦
         let one = by_line run turn (reading_of bytes) is.0 now.0 in
         elim one.0 [
-          | inl old ↦ inl (old, (old, now.1), (one.1, now.2))
+          | inl old ↦ inl (old.0, (old.0, old.1, now.1), (one.1, now.2))
           | inr made ↦ inr (made_here run turn bytes lines turns is.0 made one.1 is.1 now.1 now.2)
         ]
   ]
@@ -140,7 +146,7 @@ module _ (Holds : State → Type 0) (Tells : Rec → Type 0) where
     pub tells : Tells told
 
   abbrev pub ToldAlong : Run → List (List ℕ) → List Turn → Type 0
-  ToldAlong = MadeAlong (λ run. HoldsWhere run.state) ToldHere
+  ToldAlong = MadeAlong (λ run. HoldsWhere run.state) AnyTurn ToldHere
 
   module _ (formats : (g : Geometry) → Holds (after_all nothing_yet (format_records g)) → ⊥) (one : (s : State) (r : Rec) → Holds (state_after s r) → Holds s ⊎ Tells r) where
     pub told_in : (s : State) (added : List Rec) → Holds (after_all s added) → Holds s ⊎ ((r : Rec) × IsAmong r added × Tells r)
@@ -155,24 +161,23 @@ module _ (Holds : State → Type 0) (Tells : Rec → Type 0) where
 
     by_steps : (run : Run) (turn : Turn) (st : Step) (s : State) (after : Run) → after ≡ in_session run s (after_all s turn.added) turn st → run.state ≡ Some s
         → SessionTakes run s turn st
-        → (l : LineAnswer) → after_reading run turn l ≡ after → Holds s ⊎ ((r : Rec) × IsAmong r turn.added × Tells r) → HoldsWhere run.state ⊎ ToldHere run turn l
-    by_steps run turn st s after is e takes l ends (inl old) = inl (subst HoldsWhere (sym e) old)
+        → (l : LineAnswer) → after_reading run turn l ≡ after → Holds s ⊎ ((r : Rec) × IsAmong r turn.added × Tells r) → (HoldsWhere run.state × AnyTurn turn) ⊎ ToldHere run turn l
+    by_steps run turn st s after is e takes l ends (inl old) = inl (subst HoldsWhere (sym e) old, tt)
     by_steps run turn st s after is e takes l ends (inr told) =
         inr (record { s = s; state = e; asks = st; takes = takes; next = ends ∙ is; told = told.0; among = told.1; tells = told.2 })
 
-    by_goes : (run : Run) (turn : Turn) (l : LineAnswer) {o : Option State} {st : Step} {after : Run} → Goes run turn o st after → run.state ≡ o
-        → after_reading run turn l ≡ after → HoldsWhere after.state
-        → (HoldsWhere run.state ⊎ ToldHere run turn l) × (begins_session st ≡ false)
-    by_goes run turn l (begins name g is) e ends h = absurd (formats g (subst (λ recs. Holds (after_all nothing_yet recs)) is h))
-    by_goes run turn l (stays same) e ends h = (inl h, same)
-    by_goes run turn l (waits at same) e ends h = (inl h, same)
-    by_goes run turn l {st = st} (steps s same takes) e ends h = (by_steps run turn st s _ refl e takes l ends (told_in s turn.added h), same)
+    by_goes : (run : Run) (turn : Turn) {st : Step} {said : StepAnswer} {after : Run} → StepGoes run turn st said after → after_reading run turn (line.Step st) ≡ after → HoldsWhere after.state
+        → ((HoldsWhere run.state × AnyTurn turn) ⊎ ToldHere run turn (line.Step st)) × (begins_session st ≡ false)
+    by_goes run turn (stays bad same none) ends h = (inl (h, tt), same)
+    by_goes run turn (waits at same none) ends h = (inl (h, tt), same)
+    by_goes run turn {st = st} (works s same e takes) ends h = (by_steps run turn st s _ refl e takes (line.Step st) ends (told_in s turn.added h), same)
+    by_goes run turn (begins name g same is) ends h = absurd (formats g (subst (λ recs. Holds (after_all nothing_yet recs)) is h))
 
-    by_line : ByLine (λ run. HoldsWhere run.state) ToldHere
-    by_line run turn (line.Step st) takes h = by_goes run turn (line.Step st) (goes run turn run.state st takes) refl refl h
-    by_line run turn line.Nothing takes h = (inl h, tt)
+    by_line : ByLine (λ run. HoldsWhere run.state) AnyTurn ToldHere
+    by_line run turn (line.Step st) takes h = by_goes run turn (goes run turn st takes) refl h
+    by_line run turn line.Nothing takes h = (inl (h, tt), tt)
     by_line run turn (line.Bad fault) takes h = absurd takes
 
     pub told_along : (lines : List (List ℕ)) (turns : List Turn) (run : Run) → IsRun run lines turns → HoldsWhere (run_after run lines turns).state
-        → (HoldsWhere run.state × HasAlong (λ run. HoldsWhere run.state) ToldHere run lines turns × AreOfSession lines) ⊎ ToldAlong run lines turns
-    told_along = made_along (λ run. HoldsWhere run.state) ToldHere by_line
+        → (HoldsWhere run.state × HasAlong (λ run. HoldsWhere run.state) AnyTurn ToldHere run lines turns × AreOfSession lines) ⊎ ToldAlong run lines turns
+    told_along = made_along (λ run. HoldsWhere run.state) AnyTurn ToldHere by_line

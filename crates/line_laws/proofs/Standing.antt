@@ -2,11 +2,8 @@
 -- actor writes is open; and each fragment is that of what its writer took, or a line shows two documents of one
 -- SHA-256 in its turn.
 use Rattle.std.proofs.Common.{◌≡◌, ℕ, List, [], ◌∷◌, ◌++◌, refl, sym, subst, inl, inr, ◌⊎◌, false}
-use Rattle.std.specs.Prelude.{Option, Some, None, is_none}
+use Rattle.std.specs.Prelude.{Option, Some, None}
 use Rattle.tape_base.specs.declared.geometries.Geometry.{Geometry}
-use Rattle.tape_base.specs.declared.geometries.BadGeometry.{BadGeometry}
-use Rattle.tape_base.specs.Limits.{first_refusal}
-use Rattle.cache_model.specs.declared.record.Rec.{Rec}
 use Rattle.cache_model.specs.State.{State, after_all, nothing_yet}
 use Rattle.cache_model.specs.Legal
 use Rattle.cache_model.specs.Legal.{IsQuiet, format_records}
@@ -20,19 +17,21 @@ use Rattle.step_laws.specs.VectorLaws.{FormatsTell, StepsTell}
 use Rattle.cache_model.proofs.Found.{none_is}
 use Rattle.step_laws.proofs.Pairs.{also_shows}
 use Rattle.script_grammar.specs.declared.step.Step.{Step}
-use Rattle.script_grammar.specs.declared.step.Step.TheVariants as step
+use Rattle.script_grammar.specs.declared.answer.StepAnswer.{StepAnswer}
 use Rattle.script_grammar.specs.declared.line.LineAnswer.{LineAnswer}
 use Rattle.script_grammar.specs.declared.line.LineAnswer.TheVariants as line
 use Rattle.script_grammar.specs.Grammar.{reading_of}
 use Rattle.script_run.specs.Run.{Run, fresh, no_stream}
 use Rattle.script_run.specs.Asked.{asked}
 use Rattle.script_run.specs.Turn.{Turn}
-use Rattle.script_run.specs.Behind.{after_format, after_line, after_reading, at_moment, behind, in_session, with_format}
+use Rattle.script_run.specs.Behind.{after_line, after_reading, at_moment, in_session, with_format}
 use Rattle.script_run.specs.Laws.{FormatsKeep, FormatsOwn, OwnIsKept, StepsKeep, StepsOwn}
 use Rattle.script_run.specs.Own.{AreOwn, ArePayloadsOwn, IsPlacedAs}
-use Rattle.script_run.specs.Takes
-use Rattle.script_run.specs.Takes.{FormatTakes, IsRun, ReadingShows, ReadingTakes, SessionShows, SessionTakes, StepShows, run_after, streams_with}
-use Rattle.line_laws.specs.Along.{AreOfSession, KeptAlong, OwnAlong, QuietWhere, ShowsAlong, StandsKept, StandsOwn, StandsWhere, begins_session}
+use Rattle.script_run.specs.Goes.{StepGoes, begins, stays, waits, works}
+use Rattle.script_run.specs.Takes.{IsRun, ReadingShows, ReadingTakes, SessionShows, SessionTakes, StepShows, run_after, streams_with}
+use Rattle.line_laws.specs.Along.{AreOfSession, KeptAlong, OwnAlong, QuietWhere, ShowsAlong, StandsKept, StandsOwn, StandsWhere}
+use Rattle.script_run.proofs.Lift.{EachKeeps, goes, line_keeps, lines_keep}
+use Rattle.line_laws.proofs.Stands.{stands_at, stands_kept}
 use Rattle.line_laws.proofs.Shown.{shown_behind, shown_front, shown_here, shown_later}
 use Rattle.line_laws.proofs.Writing.{AreHeld, are_writing, held_step}
 
@@ -52,27 +51,6 @@ pub record OfLines : Type 0 where
   pub formats_own : FormatsOwn
   pub steps_own : StepsOwn
 
--- ---- what a line does to a run
-
--- it begins a session, changes nothing that stands, or is one step of a session
-pub data Goes (run : Run) (turn : Turn) : Option State → Step → Run → Type 0 where
-  begins : {o : Option State} {st : Step} (name : List ℕ) (g : Geometry) → turn.added ≡ format_records g → Goes run turn o st (with_format run name turn.added)
-  stays : {o : Option State} {st : Step} → begins_session st ≡ false → Goes run turn o st run
-  waits : {o : Option State} {st : Step} (at : ℕ) → begins_session st ≡ false → Goes run turn o st (at_moment run at)
-  steps : {st : Step} (s : State) → begins_session st ≡ false → SessionTakes run s turn st → Goes run turn (Some s) st (in_session run s (after_all s turn.added) turn st)
-
-format_goes : (run : Run) (turn : Turn) (o : Option State) (st : Step) (name : List ℕ) (segments buckets content agg reach fragment generation alternates : ℕ) (bad : Option BadGeometry)
-    → begins_session st ≡ is_none bad → FormatTakes turn.added segments buckets content agg reach fragment generation alternates bad → Goes run turn o st (after_format run name turn.added bad)
-format_goes run turn o st name segments buckets content agg reach fragment generation alternates (Some bad) same takes = stays same
-format_goes run turn o st name segments buckets content agg reach fragment generation alternates None same takes = begins name takes.0 takes.2
-
-pub goes : (run : Run) (turn : Turn) (o : Option State) (st : Step) → Takes.Takes run turn o st → Goes run turn o st (behind run turn o st)
-goes run turn o (step.Format name segments buckets content agg reach fragment generation alternates) takes =
-    format_goes run turn o _ name segments buckets content agg reach fragment generation alternates (first_refusal segments buckets content agg reach fragment alternates) refl takes
-goes run turn o (step.Now at) takes = waits at refl
-goes run turn (Some s) _ takes = steps s refl takes
-goes run turn None _ takes = absurd takes
-
 -- ---- whatever a copy shows
 
 -- what holds between lines
@@ -87,22 +65,21 @@ pub record Keeps (run : Run) (s : State) : Type 0 where
 abbrev pub KeepsIn : Run → Type 0
 KeepsIn run = StandsWhere Keeps run run.state
 
-module _ (laws : OfKept) (run : Run) (turn : Turn) where
-  formatted_keeps : (name : List ℕ) (added : List Rec) (g : Geometry) → added ≡ format_records g → KeepsIn (with_format run name added)
-  formatted_keeps name added g is = subst (λ recs. KeepsIn (with_format run name recs)) (sym is) (record {
+module _ (laws : OfKept) where
+  formatted_keeps : (run : Run) (name : List ℕ) (g : Geometry) → Keeps (with_format run name (format_records g)) (after_all nothing_yet (format_records g))
+  formatted_keeps run name g = record {
     sound = laws.legal_is_sound (record { packed = false; syncs = false; area = 0 }) [] (format_records g) (Legal.IsLegal.begins g);
     displaced = refl;
     quiet = refl;
     kept = laws.formats_keep nothing_yet g (λ put. no_stream);
     held = record { writing = λ i put has. none_is has; apart = λ i j put has also. none_is has };
-  })
+  }
 
-  moment_keeps : (at : ℕ) (o : Option State) → StandsWhere Keeps run o → StandsWhere Keeps (at_moment run at) o
-  moment_keeps at None h = tt
-  moment_keeps at (Some s) h = record { sound = h.sound; displaced = h.displaced; quiet = h.quiet; kept = h.kept; held = h.held }
+  moment_keeps : (run : Run) (at : ℕ) (s : State) → Keeps run s → Keeps (at_moment run at) s
+  moment_keeps run at s h = record { sound = h.sound; displaced = h.displaced; quiet = h.quiet; kept = h.kept; held = h.held }
 
-  keeps_step : (s : State) (st : Step) → SessionTakes run s turn st → Keeps run s → Keeps (in_session run s (after_all s turn.added) turn st) (after_all s turn.added)
-  keeps_step s st takes h =
+  keeps_step : (run : Run) (s : State) (turn : Turn) (st : Step) → SessionTakes run s turn st → Keeps run s → Keeps (in_session run s (after_all s turn.added) turn st) (after_all s turn.added)
+  keeps_step run s turn st takes h =
       let k = laws.steps_keep run s turn st h.sound h.displaced h.quiet h.kept (are_writing run s h.held) takes.legal in
       record {
         sound = (laws.steps_are_sound turn.device s (asked run s st) turn.added turn.refused h.sound takes.legal).0;
@@ -112,16 +89,14 @@ module _ (laws : OfKept) (run : Run) (turn : Turn) where
         held = held_step laws.numbers_follow run s turn h.kept h.held st takes.legal;
       }
 
-  goes_keeps : {o : Option State} {st : Step} {after : Run} → Goes run turn o st after → StandsWhere Keeps run o → KeepsIn run → KeepsIn after
-  goes_keeps (begins name g is) h now = formatted_keeps name turn.added g is
-  goes_keeps (stays same) h now = now
-  goes_keeps (waits at same) h now = moment_keeps at run.state now
-  goes_keeps {st = st} (steps s same takes) h now = keeps_step s st takes h
+  each_keeps : EachKeeps KeepsIn
+  each_keeps = stands_kept Keeps moment_keeps keeps_step formatted_keeps
 
-  pub reading_keeps : (l : LineAnswer) → ReadingTakes run turn l → KeepsIn run → KeepsIn (after_reading run turn l)
-  reading_keeps (line.Step st) takes now = goes_keeps (goes run turn run.state st takes) now now
-  reading_keeps line.Nothing takes now = now
-  reading_keeps (line.Bad fault) takes now = absurd takes
+  pub reading_keeps : (run : Run) (turn : Turn) (l : LineAnswer) → ReadingTakes run turn l → KeepsIn run → KeepsIn (after_reading run turn l)
+  reading_keeps = line_keeps KeepsIn each_keeps
+
+  pub keeps_after : (lines : List (List ℕ)) (turns : List Turn) (run : Run) → IsRun run lines turns → KeepsIn run → KeepsIn (run_after run lines turns)
+  keeps_after = lines_keep KeepsIn each_keeps
 
 kept_where : (run : Run) (o : Option State) → StandsWhere Keeps run o → StandsWhere StandsKept run o
 kept_where run None h = tt
@@ -130,12 +105,6 @@ kept_where run (Some s) h = record { kept = h.kept; writing = are_writing run s 
 quiet_where : (run : Run) (o : Option State) → StandsWhere Keeps run o → QuietWhere o
 quiet_where run None h = tt
 quiet_where run (Some s) h = h.quiet
-
-pub keeps_after : (laws : OfKept) (lines : List (List ℕ)) (turns : List Turn) (run : Run) → IsRun run lines turns → KeepsIn run → KeepsIn (run_after run lines turns)
-keeps_after laws [] turns run takes h = h
-keeps_after laws (bytes ∷ lines) [] run takes h = absurd takes
-keeps_after laws (bytes ∷ lines) (turn ∷ turns) run takes h =
-    keeps_after laws lines turns (after_line run turn bytes) takes.1 (reading_keeps laws run turn (reading_of bytes) takes.0 h)
 
 pub kept_along : (laws : OfKept) (lines : List (List ℕ)) (turns : List Turn) (run : Run) → IsRun run lines turns → AreOfSession lines → KeepsIn run → KeptAlong run lines turns
 kept_along laws [] turns run takes keeps h = kept_where run run.state h
@@ -160,50 +129,48 @@ record Holds (run : Run) (s : State) : Type 0 where
 abbrev HoldsIn : Run → Type 0
 HoldsIn run = StandsWhere Holds run run.state
 
-module _ (laws : OfLines) (run : Run) (turn : Turn) where
-  formatted_holds : (name : List ℕ) (added : List Rec) (g : Geometry) → added ≡ format_records g → HoldsIn (with_format run name added)
-  formatted_holds name added g is = subst (λ recs. HoldsIn (with_format run name recs)) (sym is) (record {
-    keeps = formatted_keeps laws.kept run turn name (format_records g) g refl;
-    told = laws.formats_tell nothing_yet g;
-    own = laws.formats_own nothing_yet g (λ put. no_stream);
-  })
+module _ (laws : OfLines) where
+  formatted_holds : (run : Run) (name : List ℕ) (g : Geometry) → Holds (with_format run name (format_records g)) (after_all nothing_yet (format_records g))
+  formatted_holds run name g =
+      record { keeps = formatted_keeps laws.kept run name g; told = laws.formats_tell nothing_yet g; own = laws.formats_own nothing_yet g (λ put. no_stream) }
 
-  moment_holds : (at : ℕ) (o : Option State) → StandsWhere Holds run o → StandsWhere Holds (at_moment run at) o
-  moment_holds at None h = tt
-  moment_holds at (Some s) h = record { keeps = moment_keeps laws.kept run turn at (Some s) h.keeps; told = h.told; own = h.own }
+  moment_holds : (run : Run) (at : ℕ) (s : State) → Holds run s → Holds (at_moment run at) s
+  moment_holds run at s h = record { keeps = moment_keeps laws.kept run at s h.keeps; told = h.told; own = h.own }
 
-  -- a copied vector shows them some way into the step, and so does a fragment
-  vector_shows : (s : State) (st : Step) → SessionTakes run s turn st → ShowsPair IsVectorAs turn.device s (asked run s st) turn.added → SessionShows run s turn st
-  vector_shows s st takes v = record {
-    packs = takes.packs;
-    unsynced = takes.unsynced;
-    content = takes.content;
-    moment = takes.moment;
-    shows = also_shows IsVectorAs (IsPlacedAs (streams_with run s st)) (λ t row document vector. inl vector) turn.device s (to_do (asked run s st)) turn.added v;
-  }
+  module _ (run : Run) (turn : Turn) where
+    -- a copied vector shows them some way into the step, and so does a fragment
+    vector_shows : (s : State) (st : Step) → SessionTakes run s turn st → ShowsPair IsVectorAs turn.device s (asked run s st) turn.added → SessionShows run s turn st
+    vector_shows s st takes v = record {
+      packs = takes.packs;
+      unsynced = takes.unsynced;
+      content = takes.content;
+      moment = takes.moment;
+      shows = also_shows IsVectorAs (IsPlacedAs (streams_with run s st)) (λ t row document vector. inl vector) turn.device s (to_do (asked run s st)) turn.added v;
+    }
 
-  holds_step : (s : State) (st : Step) → SessionTakes run s turn st → Holds run s
-      → Holds (in_session run s (after_all s turn.added) turn st) (after_all s turn.added) ⊎ StepShows run turn (Some s) st
-  holds_step s st takes h =
-      let k : Keeps run s = h.keeps in
-      elim (laws.steps_tell turn.device s (asked run s st) turn.added turn.refused k.sound h.told takes.legal) [
-        | inr v ↦ inr (vector_shows s st takes v)
-        | inl told ↦ elim (laws.steps_own run s turn st k.sound h.told k.quiet h.own (are_writing run s k.held) takes.legal) [
-          | inl own ↦ inl (record { keeps = keeps_step laws.kept run turn s st takes k; told = told; own = own })
-          | inr shown ↦ inr (record { packs = takes.packs; unsynced = takes.unsynced; content = takes.content; moment = takes.moment; shows = shown })
+    holds_step : (s : State) (st : Step) → SessionTakes run s turn st → Holds run s
+        → Holds (in_session run s (after_all s turn.added) turn st) (after_all s turn.added) ⊎ StepShows run turn (Some s) st
+    holds_step s st takes h =
+        let k : Keeps run s = h.keeps in
+        elim (laws.steps_tell turn.device s (asked run s st) turn.added turn.refused k.sound h.told takes.legal) [
+          | inr v ↦ inr (vector_shows s st takes v)
+          | inl told ↦ elim (laws.steps_own run s turn st k.sound h.told k.quiet h.own (are_writing run s k.held) takes.legal) [
+            | inl own ↦ inl (record { keeps = keeps_step laws.kept run s turn st takes k; told = told; own = own })
+            | inr shown ↦ inr (record { packs = takes.packs; unsynced = takes.unsynced; content = takes.content; moment = takes.moment; shows = shown })
+          ]
         ]
-      ]
 
-  goes_holds : {o : Option State} {st : Step} {after : Run} → Goes run turn o st after → StandsWhere Holds run o → HoldsIn run → HoldsIn after ⊎ StepShows run turn o st
-  goes_holds (begins name g is) h now = inl (formatted_holds name turn.added g is)
-  goes_holds (stays same) h now = inl now
-  goes_holds (waits at same) h now = inl (moment_holds at run.state now)
-  goes_holds {st = st} (steps s same takes) h now = holds_step s st takes h
+    goes_holds : {st : Step} {said : StepAnswer} {after : Run} → StepGoes run turn st said after → HoldsIn run → HoldsIn after ⊎ StepShows run turn run.state st
+    goes_holds (stays bad same none) h = inl h
+    goes_holds (waits at same none) h = inl (stands_at Holds moment_holds run at run.state h)
+    goes_holds {st = st} (works s same e takes) h =
+        subst (λ (o : Option State). HoldsIn (in_session run s (after_all s turn.added) turn st) ⊎ StepShows run turn o st) (sym e) (holds_step s st takes (subst (StandsWhere Holds run) e h))
+    goes_holds (begins name g same is) h = inl (subst (λ recs. HoldsIn (with_format run name recs)) (sym is) (formatted_holds run name g))
 
-  reading_holds : (l : LineAnswer) → ReadingTakes run turn l → HoldsIn run → HoldsIn (after_reading run turn l) ⊎ ReadingShows run turn l
-  reading_holds (line.Step st) takes now = goes_holds (goes run turn run.state st takes) now now
-  reading_holds line.Nothing takes now = inl now
-  reading_holds (line.Bad fault) takes now = absurd takes
+    reading_holds : (l : LineAnswer) → ReadingTakes run turn l → HoldsIn run → HoldsIn (after_reading run turn l) ⊎ ReadingShows run turn l
+    reading_holds (line.Step st) takes h = goes_holds (goes run turn st takes) h
+    reading_holds line.Nothing takes h = inl h
+    reading_holds (line.Bad fault) takes h = absurd takes
 
 own_where : (run : Run) (o : Option State) → StandsWhere Holds run o → StandsWhere StandsOwn run o
 own_where run None h = tt

@@ -19,11 +19,7 @@ use Rattle.script_run.specs.Turn.{Turn}
 use Rattle.script_run.specs.Behind.{after_line}
 use Rattle.script_run.specs.Own.{AreOwn, ArePayloadsOwn, AreWriting}
 use Rattle.script_run.specs.Takes.{IsRun, LineShows, LineTakes, run_after}
-
--- a format that is not refused begins another session
-abbrev pub begins_session : Step → Bool
-begins_session (step.Format name segments buckets content agg reach fragment generation alternates) = is_none (first_refusal segments buckets content agg reach fragment alternates)
-begins_session _ = false
+use Rattle.script_run.specs.Goes.{begins_session}
 
 -- a line that is read so begins none
 abbrev pub KeepsSession : LineAnswer → Type 0

@@ -152,7 +152,7 @@ fault_behind p s recs asked count h m =
     along_append (IsRight p) s recs _ (syncs_right p s recs h) (fault p t asked count (counts_alike p s t asked count (syncs_alike s recs h).2 m), tt)
 
 -- behind the end of a sync in parts too
-ended_fault : (p : Permit) (s : State) (r : Rec) (count : ℕ) → IsOfSync r → Given.CountsCall p s count → AllRight p s (ended_records s ++ r ∷ rec.Fault count ∷ [])
+ended_fault : (p : Permit) (s : State) (r : Rec) (count : ℕ) → IsOfSync r → Given.CountsStop p s count → AllRight p s (ended_records s ++ r ∷ rec.Fault count ∷ [])
 ended_fault p s r count h c =
     let ended : List Rec = ended_records s in
     let t : State = after_all s ended in

@@ -19,7 +19,7 @@ use Rattle.cache_model.specs.Verdict.{digest_in, live_vector_of, next_piece, nex
 use Rattle.cache_model.specs.Permit.{Permit, Intent, Flush, Sync, SyncBegin, SyncStep, Drain, CleanSync, Write, Fragment, Overflow, Weigh, Finish, Commit, GiveUp, Remove, Look, ReadOn, ReadAll, StopReading, End, Stays, Done}
 use Rattle.model_laws.specs.Choices.{IsFaithful}
 use Rattle.cache_model.specs.Given
-use Rattle.cache_model.specs.Given.{Trouble, buffers_begun, damage_cause, damage_record}
+use Rattle.cache_model.specs.Given.{Trouble, damage_cause, damage_record}
 use Rattle.cache_model.specs.Legal
 use Rattle.cache_model.specs.Legal.{Does, DoesReadAll, DoesReadOn, IsLookup, IsNextAsListed, IsReading, IsUnlike, MakesRoom, MayFlush, MayReadOn, ReadTrouble, answer_record, is_given}
 use Rattle.cache_model.specs.Tape.{IsSound}
@@ -186,6 +186,12 @@ group_untroubled p s (StopReading reader) added e other sound off still (Legal.D
 group_untroubled p s (StopReading reader) added e other sound off still (Legal.DoesStopReading.closed quiet none is) = none_untroubled is
 
 -- ---- one group at most
+
+-- how many buffers the records begin
+abbrev buffers_begun : List Rec → ℕ
+buffers_begun [] = 0
+buffers_begun (rec.Began cursor floor ∷ recs) = 1 + buffers_begun recs
+buffers_begun (r ∷ recs) = buffers_begun recs
 
 -- a group that copies nothing tells what it tells without the digests of copies, and begins no buffer
 record IsPlain (added : List Rec) : Type 0 where

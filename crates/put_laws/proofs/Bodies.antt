@@ -1,10 +1,8 @@
 -- What the writer of a put took whose line was answered so stays that line's body: no actor writes a put that was completed.
 use Rattle.std.proofs.Common.{◌≡◌, ℕ, suc, ◌+◌, ◌<◌, List, [], ◌∷◌, ◌++◌, length, take, Bool, true, false, refl, sym, ◌∙◌, ap, subst, arith, append_assoc, append-nil, inl, inr}
-use Rattle.std.specs.Prelude.{Option, Some, None, cond, if◌then◌else◌, is_none, ◌==◌}
+use Rattle.std.specs.Prelude.{Option, Some, None, cond, if◌then◌else◌, ◌==◌}
 use Rattle.std.specs.List.{AllByRecursion}
-use Rattle.tape_base.specs.declared.geometries.BadGeometry.{BadGeometry}
 use Rattle.tape_base.specs.declared.keys.Key.{Key}
-use Rattle.tape_base.specs.Limits.{first_refusal}
 use Rattle.fragment_table.specs.Table.{made_row}
 use Rattle.alternate_vector.specs.Alternates.{Stored}
 use Rattle.alternate_vector.specs.Field.{Field}
@@ -29,15 +27,17 @@ use Rattle.script_run.specs.Run.{Holding, Run, Stream, fresh, held_by, put_writt
 use Rattle.script_run.specs.Turn.{Turn}
 use Rattle.script_run.specs.Asked.{asked, body_intents, put_intents}
 use Rattle.script_run.specs.Answers.{feed_said, idle, if_has as has_said, put_said, refusal_said, said, took_of}
-use Rattle.script_run.specs.Behind.{after_format, after_line, after_reading, behind, fed, in_session, of_put, sealed_by, streams_behind, streams_closed, streams_fed, streams_opened, taken_in_line}
+use Rattle.script_run.specs.Behind.{after_line, after_reading, behind, fed, in_session, of_put, sealed_by, streams_behind, streams_closed, streams_fed, streams_opened, taken_in_line}
 use Rattle.script_run.specs.Own.{AreWriting}
 use Rattle.script_run.specs.Takes.{IsRun, LineTakes, ReadingTakes, SessionTakes, Takes, run_after}
+use Rattle.script_run.specs.Goes.{StepGoes, begins, begins_session, stays, waits, works}
+use Rattle.script_run.proofs.Lift.{goes}
 use Rattle.script_run.proofs.Changed.{Changes, Was, changed, changed_from, either, itself}
 use Rattle.script_run.proofs.Ended.{IsNotOpen, open_row}
 use Rattle.script_run.proofs.Values.{other_than, value_here}
 use Rattle.script_laws.proofs.Groups.{IsKept}
 use Rattle.script_laws.proofs.Walking.{walked}
-use Rattle.line_laws.specs.Along.{AreOfSession, KeepsSession, KeptAlong, StandsKept, StandsWhere, begins_session}
+use Rattle.line_laws.specs.Along.{AreOfSession, KeepsSession, KeptAlong, StandsKept, StandsWhere}
 use Rattle.line_laws.specs.Laws
 use Rattle.line_laws.specs.Laws.{IsMeasured, LegalIsKept, PutIsMeasured}
 use Rattle.headline.specs.Account.{Account, HistoryTells, RunLogs}
@@ -204,24 +204,18 @@ module _ (put : ℕ) where
           bytes = bytes_stay run s (after_all s turn.added) turn below over writing st ∙ k.bytes;
         }
 
-    format_taken : (run : Run) (name : List ℕ) (added : List Rec) (bad : Option BadGeometry) → is_none bad ≡ false → HasTaken run body
-        → HasTaken (after_format run name added bad) body
-    format_taken run name added (Some bad) same k = k
-    format_taken run name added None same k = no_truth same
-
-    step_taken : (run : Run) (turn : Turn) (o : Option State) (st : Step) → begins_session st ≡ false → Takes run turn o st → run.state ≡ o
-        → (k : HasTaken run body) → StandsKept run k.s → HasTaken (behind run turn o st) body
-    step_taken run turn o (step.Format name segments buckets content agg reach fragment generation alternates) same takes e k stands =
-        format_taken run name turn.added (first_refusal segments buckets content agg reach fragment alternates) same k
-    step_taken run turn o (step.Now moment) same takes e k stands =
+    step_taken : (run : Run) (turn : Turn) {st : Step} {says : StepAnswer} {after : Run} → StepGoes run turn st says after → begins_session st ≡ false
+        → (k : HasTaken run body) → StandsKept run k.s → HasTaken after body
+    step_taken run turn (stays bad same none) keeps k stands = k
+    step_taken run turn (waits at same none) keeps k stands =
         record { s = k.s; state = k.state; over = k.over; below = k.below; bytes = k.bytes }
-    step_taken run turn (Some s) st same takes e k stands = in_session_taken run turn s st takes k e stands
-    step_taken run turn None _ same takes e k stands = absurd takes
+    step_taken run turn {st = st} (works s same e takes) keeps k stands = in_session_taken run turn s st takes k e stands
+    step_taken run turn (begins name g begun is) keeps k stands = no_truth (sym begun ∙ keeps)
 
     reading_taken : (run : Run) (turn : Turn) (x : LineAnswer) → KeepsSession x → ReadingTakes run turn x → (k : HasTaken run body)
         → StandsKept run k.s
         → HasTaken (after_reading run turn x) body
-    reading_taken run turn (line.Step st) same takes k stands = step_taken run turn run.state st same takes refl k stands
+    reading_taken run turn (line.Step st) same takes k stands = step_taken run turn (goes run turn st takes) same k stands
     reading_taken run turn line.Nothing same takes k stands = k
     reading_taken run turn (line.Bad fault) same takes k stands = absurd takes
 

@@ -4,7 +4,6 @@ use Rattle.std.specs.Prelude.{Option, Some, None, if◌then◌else◌}
 use Rattle.std.proofs.lemmas.List.{append_cancel_left}
 use Rattle.tape_base.specs.declared.geometries.BadGeometry.{BadGeometry}
 use Rattle.tape_base.specs.declared.keys.Key.{Key}
-use Rattle.tape_base.specs.Limits.{first_refusal}
 use Rattle.alternate_vector.specs.Alternates.{Stored}
 use Rattle.alternate_vector.specs.Field.{Field}
 use Rattle.cache_model.specs.declared.answer.ReadAnswer.{ReadAnswer}
@@ -30,14 +29,17 @@ use Rattle.script_grammar.specs.Grammar.{reading_of}
 use Rattle.script_run.specs.Run.{Holding, Run, fresh, gathered_of, held_by, put_written_by, reader_by}
 use Rattle.script_run.specs.Turn.{Turn, lookup_in, told_in}
 use Rattle.script_run.specs.Asked.{asked, asks_if_has, body_intents, close_intents, closing, feed_intents, put_intents, rest_behind, rest_intents, whole_fragments}
-use Rattle.script_run.specs.Answers.{broken_said, end_said, format_said, get_said, if_free, if_has as has_said, lookup_said, miss_said, next_said, put_said, refusal_said, remove_said, said, session_said, step_said}
+use Rattle.script_run.specs.Answers.{broken_said, end_said, format_said, get_said, if_free, if_has as has_said, lookup_said, miss_said, next_said, put_said, refusal_said, remove_said, said, session_said, step_answer}
+use Rattle.script_run.specs.Behind.{after_step}
 use Rattle.script_run.specs.Own.{AreWriting}
-use Rattle.script_run.specs.Takes.{Takes, run_after}
+use Rattle.script_run.specs.Takes.{run_after}
+use Rattle.script_run.specs.Goes.{StepGoes, begins, stays, waits, works}
+use Rattle.script_run.proofs.Lift.{goes}
 use Rattle.script_laws.proofs.Among.{among_left, among_right}
 use Rattle.line_laws.specs.Laws.{LegalIsKept}
 use Rattle.headline.specs.Account.{Account, HistoryTells, RunLogs}
 use Rattle.headline.specs.Answered
-use Rattle.headline.specs.Answered.{ActorWrites, AnsweredAbortWasRecorded, AnsweredPutWasCompleted, AnsweredRemovalWasRecorded, AsksToComplete, GivesUpSo, IsUnclosable, IsUnstorable, RecordedAbort, RecordedPut, RecordedRemoval, RecordsBehind}
+use Rattle.headline.specs.Answered.{ActorWrites, AnsweredAbortWasRecorded, AnsweredPutWasCompleted, AnsweredRemovalWasRecorded, AsksToComplete, GivesUpSo, IsUnclosable, IsUnstorable, RecordedAbort, RecordedPut, RecordsBehind}
 use Rattle.account_laws.proofs.Answered.{completed_was_answered, giving_up_was_answered, removal_was_answered}
 use Rattle.account_laws.proofs.Opened.{kept_here}
 use Rattle.account_laws.proofs.Places.{Found, OnSession, told_line}
@@ -200,13 +202,12 @@ format_kind added None = refl
 format_kind added (Some bad) = refl
 
 -- a line that is answered so is one of a session
-on_session : (run : Run) (turn : Turn) (o : Option State) (asks : Step) → Takes run turn o asks → (kind (step_said run turn o asks) ≡ 0 → ⊥)
-    → OnSession run turn o asks
-on_session run turn o (step.Format name segments buckets content agg reach fragment generation alternates) takes ends =
-    absurd (ends (format_kind turn.added (first_refusal segments buckets content agg reach fragment alternates)))
-on_session run turn o (step.Now moment) takes ends = absurd (ends refl)
-on_session run turn (Some s) _ takes ends = record { s = s; state = refl; takes = takes; said = refl; next = refl }
-on_session run turn None _ takes ends = absurd takes
+on_session : (run : Run) (turn : Turn) {asks : Step} {says : StepAnswer} {after : Run} → StepGoes run turn asks says after
+    → step_answer run turn asks ≡ says → after_step run turn asks ≡ after → (kind says ≡ 0 → ⊥) → OnSession run turn run.state asks
+on_session run turn (stays bad same none) answered next ends = absurd (ends (format_kind turn.added (Some bad)))
+on_session run turn (waits at same none) answered next ends = absurd (ends refl)
+on_session run turn (works s same e takes) answered next ends = record { s = s; state = e; takes = takes; said = answered; next = next }
+on_session run turn (begins name g same is) answered next ends = absurd (ends (format_kind turn.added None))
 
 -- a put or a close is answered a put, where nothing is refused, and else none of these
 data PutKind (why : Option Reason) (n : ℕ) : Type 0 where
@@ -430,7 +431,7 @@ module _ (l : RunLogs) (a : Account l) (lines : List (List ℕ)) (asks : Step) (
     Before = run_after fresh lines f.earlier
 
     session_of : (kind says ≡ 0 → ⊥) → OnSession Before f.turn Before.state asks
-    session_of ends = on_session Before f.turn Before.state asks f.takes (λ zero. ends (ap kind f.is ∙ zero))
+    session_of ends = on_session Before f.turn (goes Before f.turn asks f.takes) refl refl (λ zero. ends (ap kind f.is ∙ zero))
 
     abbrev records_of : (told : Rec) → IsAmong told f.turn.added → RecordsBehind a lines told
     records_of told among =

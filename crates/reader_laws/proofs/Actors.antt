@@ -1,11 +1,9 @@
 -- The reader that an actor has was opened by a line of that actor, and the lines of the actor alone were given its fragments.
 use Rattle.std.proofs.Common.{◌≡◌, ℕ, ◌+◌, ◌<◌, ◌≤◌, List, [], ◌∷◌, ◌++◌, length, refl, sym, ◌∙◌, ap, subst, arith, inl, inr, ◌⊎◌, Bool, true, false}
-use Rattle.std.specs.Prelude.{Option, Some, None, cond, if◌then◌else◌, is_some, option_and_then, ◌==◌}
+use Rattle.std.specs.Prelude.{Option, Some, None, cond, is_some, option_and_then}
 use Rattle.std.specs.Cmp.Lexicographic.{same_text, other_text}
 use Rattle.std.proofs.lemmas.Option.{same_Some}
 use Rattle.tape_base.specs.declared.keys.Key.{Key}
-use Rattle.tape_base.specs.declared.geometries.BadGeometry.{BadGeometry}
-use Rattle.tape_base.specs.Limits.{first_refusal}
 use Rattle.alternate_vector.specs.Field.{Field}
 use Rattle.actor_table.specs.Table.{number_of_name, same_name, with_actor}
 use Rattle.cache_model.specs.declared.record.Rec.{Rec}
@@ -16,23 +14,25 @@ use Rattle.cache_model.proofs.Found.{no_truth, none_is}
 use Rattle.step_laws.specs.StepLaws.{IsNumbered}
 use Rattle.script_grammar.specs.declared.line.LineAnswer.{LineAnswer}
 use Rattle.script_grammar.specs.declared.line.LineAnswer.TheVariants as line
+use Rattle.script_grammar.specs.declared.answer.StepAnswer.{StepAnswer}
 use Rattle.script_grammar.specs.declared.step.Step.{Step}
 use Rattle.script_grammar.specs.declared.step.Step.TheVariants as step
 use Rattle.script_grammar.specs.Grammar.{reading_of}
 use Rattle.script_run.specs.Run.{Holding, HoldsReader, Run, HoldsWriter, actor_of, fresh, held_by, reader_by, reader_in, with_value}
 use Rattle.script_run.specs.Asked.{asked}
 use Rattle.script_run.specs.Turn.{Turn}
-use Rattle.script_run.specs.Behind.{after_format, after_line, after_reading, behind, held_behind, holds_behind, in_session, open_reader_at, or_else, still_open, writer_at}
-use Rattle.script_run.specs.Takes.{IsRun, ReadingTakes, SessionTakes, Takes, run_after}
+use Rattle.script_run.specs.Behind.{after_line, after_reading, behind, held_behind, holds_behind, in_session, open_reader_at, or_else, still_open, writer_at}
+use Rattle.script_run.specs.Takes.{IsRun, ReadingTakes, SessionTakes, run_after}
 use Rattle.script_run.proofs.Values.{value_by}
-use Rattle.line_laws.specs.Along.{KeepsSession, begins_session}
+use Rattle.script_run.specs.Goes.{StepGoes, begins, begins_session, stays, waits, works}
+use Rattle.script_run.proofs.Lift.{EachKeeps, goes, line_keeps, lines_keep}
 use Rattle.line_laws.specs.Given.{given_by_line, given_to, given_where}
 use Rattle.line_laws.specs.Actors.{asked_by, given_by_name}
 use Rattle.line_laws.proofs.Beside.{AllBeside, AllOther, AnyNumber, IsBeside, IsOther, grown_beside}
 use Rattle.line_laws.proofs.Fronts.{own_begun}
 use Rattle.reader_laws.proofs.Names.{Extends, HasCome, behind_extends, come, extends_self, extends_then, known_kept, same_number}
-use Rattle.line_laws.proofs.Since.{HasAlong}
-use Rattle.line_laws.proofs.Standing.{Goes, Keeps, KeepsIn, OfKept, begins, goes, reading_keeps, stays, steps, waits}
+use Rattle.line_laws.proofs.Since.{AnyTurn, ByLine, HasAlong}
+use Rattle.line_laws.proofs.Standing.{Keeps, KeepsIn, OfKept, reading_keeps}
 
 -- ---- what an actor has behind a step
 
@@ -107,53 +107,42 @@ module _ (k n : ℕ) where
 
   held_before : (run : Run) (turn : Turn) (s : State) (st : Step) (o : Option (List ℕ)) → run.state ≡ Some s → actor_of st ≡ o
       → held_behind run s (after_all s turn.added) st o k ≡ Some (HoldsReader n)
-      → Has run ⊎ Makes run turn (line.Step st)
-  held_before run turn s st None e is h = inl h
+      → (Has run × AnyTurn turn) ⊎ Makes run turn (line.Step st)
+  held_before run turn s st None e is h = inl (h, tt)
   held_before run turn s st (Some name) e is h =
-      value_by (λ (x : Option Holding). x ≡ Some (HoldsReader n) → Has run ⊎ Makes run turn (line.Step st)) (holds_behind run s (after_all s turn.added) st name) (run.held k) k (number_of_name run.actors name)
+      value_by (λ (x : Option Holding). x ≡ Some (HoldsReader n) → (Has run × AnyTurn turn) ⊎ Makes run turn (line.Step st)) (holds_behind run s (after_all s turn.added) st name) (run.held k) k (number_of_name run.actors name)
       (λ same has. elim (holds_by run s (after_all s turn.added) st name n is has) [
-        | inl before ↦ inl (ap run.held same ∙ before)
+        | inl before ↦ inl (ap run.held same ∙ before, tt)
         | inr opens ↦ inr (record { name = name; numbered = sym same; s = s; state = e; st = st; is = refl; opens = opens })
       ])
-      (λ other before. inl before) h
+      (λ other before. inl (before, tt)) h
 
-  format_before : (run : Run) (turn : Turn) (name : List ℕ) (bad : Option BadGeometry) → Has (after_format run name turn.added bad)
-      → Has run × (Rattle.std.specs.Prelude.is_none bad ≡ false)
-  format_before run turn name (Some bad) h = (h, refl)
-  format_before run turn name None h = none_is h
+  step_before : (run : Run) (turn : Turn) {st : Step} {said : StepAnswer} {after : Run} → StepGoes run turn st said after → Has after
+      → ((Has run × AnyTurn turn) ⊎ Makes run turn (line.Step st)) × (begins_session st ≡ false)
+  step_before run turn (stays bad same none) h = (inl (h, tt), same)
+  step_before run turn (waits at same none) h = (inl (h, tt), same)
+  step_before run turn {st = st} (works s same e takes) h = (held_before run turn s st (actor_of st) e refl h, same)
+  step_before run turn (begins name g same is) h = none_is h
 
-  step_before : (run : Run) (turn : Turn) (o : Option State) (st : Step) → run.state ≡ o → Takes run turn o st → Has (behind run turn o st)
-      → (Has run ⊎ Makes run turn (line.Step st)) × (begins_session st ≡ false)
-  step_before run turn o (step.Format name segments buckets content agg reach fragment generation alternates) e takes h =
-      let f = format_before run turn name (first_refusal segments buckets content agg reach fragment alternates) h in
-      (inl f.0, f.1)
-  step_before run turn o (step.Now at) e takes h = (inl h, refl)
-  step_before run turn (Some s) st e takes h = (held_before run turn s _ _ e refl h, refl)
-  step_before run turn None st e takes h = absurd takes
-
-  pub line_before : (run : Run) (turn : Turn) (l : LineAnswer) → ReadingTakes run turn l → Has (after_reading run turn l) → (Has run ⊎ Makes run turn l) × KeepsSession l
-  line_before run turn (line.Step st) takes h = step_before run turn run.state st refl takes h
-  line_before run turn line.Nothing takes h = (inl h, tt)
+  pub line_before : ByLine Has AnyTurn Makes
+  line_before run turn (line.Step st) takes h = step_before run turn (goes run turn st takes) h
+  line_before run turn line.Nothing takes h = (inl (h, tt), tt)
   line_before run turn (line.Bad fault) takes h = absurd takes
 
 -- ---- the names of actors
 
-goes_extends : (run : Run) (turn : Turn) {o : Option State} {st : Step} {after : Run} → Goes run turn o st after → Extends run.actors after.actors
-goes_extends run turn (begins name g is) = extends_self run.actors
-goes_extends run turn (stays same) = extends_self run.actors
-goes_extends run turn (waits at same) = extends_self run.actors
-goes_extends run turn {st = st} (steps s same takes) = behind_extends run.actors (actor_of st)
+grows : (actors : List (List ℕ)) → EachKeeps (λ run. Extends actors run.actors)
+grows actors = record {
+  moments = λ run at h. h;
+  steps = λ run s turn st e takes h. extends_then actors run.actors _ h (behind_extends run.actors (actor_of st));
+  formats = λ run name g h. h;
+}
 
 reading_extends : (run : Run) (turn : Turn) (l : LineAnswer) → ReadingTakes run turn l → Extends run.actors (after_reading run turn l).actors
-reading_extends run turn (line.Step st) takes = goes_extends run turn (goes run turn run.state st takes)
-reading_extends run turn line.Nothing takes = extends_self run.actors
-reading_extends run turn (line.Bad fault) takes = absurd takes
+reading_extends run turn l takes = line_keeps (λ next. Extends run.actors next.actors) (grows run.actors) run turn l takes (extends_self run.actors)
 
 pub run_extends : (lines : List (List ℕ)) (turns : List Turn) (run : Run) → IsRun run lines turns → Extends run.actors (run_after run lines turns).actors
-run_extends [] turns run is = extends_self run.actors
-run_extends (bytes ∷ lines) [] run is = absurd is
-run_extends (bytes ∷ lines) (turn ∷ turns) run is =
-    extends_then run.actors (after_line run turn bytes).actors _ (reading_extends run turn (reading_of bytes) is.0) (run_extends lines turns (after_line run turn bytes) is.1)
+run_extends lines turns run is = lines_keep (λ next. Extends run.actors next.actors) (grows run.actors) lines turns run is (extends_self run.actors)
 
 -- the name of an actor that has come is known, with this number
 pub record IsKnown (run : Run) (name : List ℕ) (k : ℕ) : Type 0 where
@@ -259,14 +248,14 @@ module _ (laws : OfKept) (run : Run) (turn : Turn) where
       below = λ t same. subst (λ (x : State). (i m : ℕ) → held_behind run s Behind st (actor_of st) i ≡ Some (HoldsReader m) → m < x.next_reader) (same_Some Behind t same) (below_behind (actor_of st) refl);
     }
 
-  goes_apart : {o : Option State} {st : Step} {after : Run} → Goes run turn o st after → run.state ≡ o → KeepsIn after → AreApart run → AreApart after
-  goes_apart (begins name g is) e keeps h = record { apart = λ i j m has. none_is has; below = λ s same i m has. none_is has }
-  goes_apart (stays same) e keeps h = h
-  goes_apart (waits at same) e keeps h = record { apart = h.apart; below = h.below }
-  goes_apart {st = st} (steps s same takes) e keeps h = step_apart s st e takes keeps h
+  goes_apart : {st : Step} {said : StepAnswer} {after : Run} → StepGoes run turn st said after → KeepsIn after → AreApart run → AreApart after
+  goes_apart (stays bad same none) keeps h = h
+  goes_apart (waits at same none) keeps h = record { apart = h.apart; below = h.below }
+  goes_apart {st = st} (works s same e takes) keeps h = step_apart s st e takes keeps h
+  goes_apart (begins name g same is) keeps h = record { apart = λ i j m has. none_is has; below = λ s same i m has. none_is has }
 
   pub reading_apart : (l : LineAnswer) → ReadingTakes run turn l → KeepsIn (after_reading run turn l) → AreApart run → AreApart (after_reading run turn l)
-  reading_apart (line.Step st) takes keeps h = goes_apart (goes run turn run.state st takes) refl keeps h
+  reading_apart (line.Step st) takes keeps h = goes_apart (goes run turn st takes) keeps h
   reading_apart line.Nothing takes keeps h = h
   reading_apart (line.Bad fault) takes keeps h = absurd takes
 
@@ -318,13 +307,13 @@ module _ (name : List ℕ) (k n : ℕ) (run : Run) (turn : Turn) (h : AreApart r
 
 module _ (laws : OfKept) (name : List ℕ) (k n : ℕ) where
   pub all_given : (lines : List (List ℕ)) (turns : List Turn) (run : Run) → IsRun run lines turns → KeepsIn run → AreApart run → IsKnown run name k
-      → HasAlong (Has k n) (Makes k n) run lines turns
+      → HasAlong (Has k n) AnyTurn (Makes k n) run lines turns
       → given_to n run lines turns ≡ given_by_name name lines turns
   all_given [] turns run is keeps apart known has = refl
   all_given (bytes ∷ lines) [] run is keeps apart known has = refl
   all_given (bytes ∷ lines) (turn ∷ turns) run is keeps apart known has =
       let after : Run = after_line run turn bytes in
       let next : KeepsIn after = reading_keeps laws run turn (reading_of bytes) is.0 keeps in
-      let rest = all_given lines turns after is.1 next (reading_apart laws run turn (reading_of bytes) is.0 next apart) (known_on run after name k (reading_extends run turn (reading_of bytes) is.0) known) has.1 in
+      let rest = all_given lines turns after is.1 next (reading_apart laws run turn (reading_of bytes) is.0 next apart) (known_on run after name k (reading_extends run turn (reading_of bytes) is.0) known) has.2 in
       ap (λ (xs : List ℕ). xs ++ given_to n after lines turns) (line_given name k n run turn apart known has.0 (reading_of bytes))
       ∙ ap (λ (xs : List ℕ). asked_by name (reading_of bytes) turn.given ++ xs) rest

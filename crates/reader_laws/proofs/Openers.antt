@@ -40,7 +40,7 @@ use Rattle.reader_laws.proofs.Actors.{AreApart, Has, IsKnown, Makes, all_given, 
 use Rattle.line_laws.proofs.Fronts.{own_begun}
 use Rattle.reader_laws.proofs.Hits.{follow_is_asked, hit_is_asked}
 use Rattle.reader_laws.proofs.Names.{same_number}
-use Rattle.line_laws.proofs.Since.{MadeAlong, made_along}
+use Rattle.line_laws.proofs.Since.{AnyTurn, MadeAlong, made_along}
 use Rattle.line_laws.proofs.Standing.{Keeps, KeepsIn, OfKept, keeps_after, reading_keeps}
 
 -- ---- what a lookup was answered that opened a reader
@@ -139,7 +139,7 @@ module _ (laws : OfKept) (one : OneGroup) (hits : HitIsPut) (lines : List (List 
   abbrev Number : ℕ
   Number = number_of_name Last.actors name
 
-  by_made : MadeAlong (Has Number reader) (Makes Number reader) fresh lines turns → IsOpenedBy lines turns name reader
+  by_made : MadeAlong (Has Number reader) AnyTurn (Makes Number reader) fresh lines turns → IsOpenedBy lines turns name reader
   by_made m =
       let before : Run = run_after fresh m.before m.earlier in
       let opened : Run = after_line before m.turn m.bytes in
@@ -175,7 +175,7 @@ module _ (laws : OfKept) (one : OneGroup) (hits : HitIsPut) (lines : List (List 
       }
 
   pub reader_is_opened : IsOpenedBy lines turns name reader
-  reader_is_opened = elim (made_along (Has Number reader) (Makes Number reader) (line_before Number reader) lines turns fresh legal (reader_held (Last.held Number) reader by)) [
+  reader_is_opened = elim (made_along (Has Number reader) AnyTurn (Makes Number reader) (line_before Number reader) lines turns fresh legal (reader_held (Last.held Number) reader by)) [
     | inl old ↦ none_is old.0
     | inr made ↦ by_made made
   ]

@@ -11,6 +11,7 @@ use Rattle.cache_model.specs.declared.record.Rec.TheVariants as rec
 use Rattle.cache_model.specs.State.{State, PutRow, Closed, GivenUp, after_all, change_put, nothing_yet, put_of, state_after, with_cut, with_writing}
 use Rattle.cache_model.specs.Permit.{IsAmong}
 use Rattle.cache_model.proofs.Found.{number_of}
+use Rattle.script_grammar.specs.declared.answer.StepAnswer.{StepAnswer}
 use Rattle.script_grammar.specs.declared.step.Step.{Step}
 use Rattle.script_grammar.specs.declared.line.LineAnswer.{LineAnswer}
 use Rattle.script_grammar.specs.declared.line.LineAnswer.TheVariants as line
@@ -21,8 +22,9 @@ use Rattle.script_run.specs.Behind.{after_line, after_reading}
 use Rattle.script_run.specs.Takes.{IsRun, LineTakes, ReadingTakes, run_after}
 use Rattle.script_run.proofs.Changed.{either}
 use Rattle.script_run.proofs.Finding.{found_in}
-use Rattle.line_laws.specs.Along.{AreOfSession, KeepsSession, OpenedAlong, begins_session}
-use Rattle.line_laws.proofs.Standing.{Goes, begins, goes, stays, steps, waits}
+use Rattle.script_run.specs.Goes.{StepGoes, begins, begins_session, stays, waits, works}
+use Rattle.script_run.proofs.Lift.{goes}
+use Rattle.line_laws.specs.Along.{AreOfSession, KeepsSession, OpenedAlong}
 
 -- ---- the line that opened a put
 
@@ -111,15 +113,15 @@ module _ (P : ℕ → Key → List Field → List Field → ℕ → Type 0) wher
   OfPuts None = Unit {0}
   OfPuts (Some s) = AllByRecursion OfPut s.puts
 
-  goes_puts : {run : Run} {turn : Turn} {o : Option State} {st : Step} {after : Run} → Goes run turn o st after → AllByRecursion OfRecord turn.added
-      → (begins_session st ≡ false → OfPuts o) → (begins_session st ≡ false → OfPuts run.state) → OfPuts after.state
-  goes_puts {turn = turn} (begins name g is) said h now = records_puts nothing_yet turn.added tt said
-  goes_puts (stays same) said h now = now same
-  goes_puts (waits at same) said h now = now same
-  goes_puts {turn = turn} (steps s same takes) said h now = records_puts s turn.added (h same) said
+  goes_puts : (run : Run) (turn : Turn) {st : Step} {said : StepAnswer} {after : Run} → StepGoes run turn st said after → AllByRecursion OfRecord turn.added
+      → (begins_session st ≡ false → OfPuts run.state) → OfPuts after.state
+  goes_puts run turn (stays bad same none) said now = now same
+  goes_puts run turn (waits at same none) said now = now same
+  goes_puts run turn (works s same e takes) said now = records_puts s turn.added (subst OfPuts e (now same)) said
+  goes_puts run turn (begins name g same is) said now = records_puts nothing_yet turn.added tt said
 
   reading_puts : (run : Run) (turn : Turn) (l : LineAnswer) → ReadingTakes run turn l → AllByRecursion OfRecord turn.added → (KeepsSession l → OfPuts run.state) → OfPuts (after_reading run turn l).state
-  reading_puts run turn (line.Step st) takes said now = goes_puts (goes run turn run.state st takes) said now now
+  reading_puts run turn (line.Step st) takes said now = goes_puts run turn (goes run turn st takes) said now
   reading_puts run turn line.Nothing takes said now = now tt
   reading_puts run turn (line.Bad fault) takes said now = absurd takes
 

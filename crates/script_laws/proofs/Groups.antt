@@ -276,7 +276,7 @@ module _ (p : Permit) where
       (all_append IsSilent front _ (stopped_front_silent s (budget_of s.geometry) rows m.outcomes m.are) (begun_silent k (at_first k s) front count m.begun m.stops)))
 
   -- a sync was begun, and the fault stands behind that
-  begun_stops : (s : State) (count : ℕ) (added : List Rec) (r : Rec) → IsOfSync r → added ≡ ended_records s ++ r ∷ rec.Fault count ∷ [] → Given.CountsCall p s count
+  begun_stops : (s : State) (count : ℕ) (added : List Rec) (r : Rec) → IsOfSync r → added ≡ ended_records s ++ r ∷ rec.Fault count ∷ [] → Given.CountsStop p s count
       → IsGroup s added (Fails (Faulted count))
   begun_stops s count added r of_sync is c =
       silent s added _ (Fails (Faulted count)) is (among_right (rec.Fault count) (ended_records s) _ (inr (inl refl)))

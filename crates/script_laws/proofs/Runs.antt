@@ -5,7 +5,6 @@ use Rattle.std.proofs.lemmas.Bool.{false_from_ne_true}
 use Rattle.std.proofs.lemmas.List.Elements.{All-append, All-cons, All-head, All-nil, All-tail}
 use Rattle.tape_base.specs.declared.geometries.BadGeometry.{BadGeometry}
 use Rattle.tape_base.specs.declared.geometries.Geometry.{Geometry}
-use Rattle.tape_base.specs.Limits.{first_refusal}
 use Rattle.cache_model.specs.declared.cause.Cause.{Cause}
 use Rattle.cache_model.specs.declared.record.Rec.{Rec}
 use Rattle.cache_model.specs.State.{State, after_all, nothing_yet}
@@ -13,7 +12,6 @@ use Rattle.cache_model.specs.Legal.{format_records}
 use Rattle.cache_model.proofs.Found.{no_truth}
 use Rattle.cache_model.specs.Damage.{has_damage, is_damage}
 use Rattle.script_grammar.specs.declared.step.Step.{Step}
-use Rattle.script_grammar.specs.declared.step.Step.TheVariants as step
 use Rattle.script_grammar.specs.declared.line.LineAnswer.{LineAnswer}
 use Rattle.script_grammar.specs.declared.line.LineAnswer.TheVariants as line
 use Rattle.script_grammar.specs.declared.answer.StepAnswer.{StepAnswer}
@@ -23,12 +21,14 @@ use Rattle.device_log.specs.Calls.{Call}
 use Rattle.script_run.specs.Run.{Harm, Run, fresh}
 use Rattle.script_run.specs.Turn.{Turn}
 use Rattle.script_run.specs.Asked.{asked}
-use Rattle.script_run.specs.Answers.{format_said, session_said, step_said}
-use Rattle.script_run.specs.Behind.{after_format, after_line, after_reading, behind, harm_in, harm_of, harms_of}
-use Rattle.script_run.specs.Takes.{FormatTakes, IsRun, ReadingTakes, SessionTakes, Takes, run_after}
+use Rattle.script_run.specs.Answers.{format_said, session_said}
+use Rattle.script_run.specs.Behind.{after_line, after_reading, harm_in, harm_of, harms_of, in_session}
+use Rattle.script_run.specs.Goes.{StepGoes, begins, stays, waits, works}
+use Rattle.script_run.specs.Takes.{IsRun, ReadingTakes, SessionTakes, run_after}
 use Rattle.script_laws.specs.Causes.{cause_answered}
 use Rattle.script_run.specs.Losses.{NoLossIsAFault, is_fault}
 use Rattle.script_laws.specs.Runs.{NoneAnswers, ReadsWithout, answers_damage, answers_fault}
+use Rattle.script_run.proofs.Lift.{goes}
 use Rattle.script_run.proofs.Losses.{formats_lose_none, losses_stay}
 use Rattle.script_laws.proofs.Walking.{fault_stays}
 use Rattle.script_laws.proofs.Faults.{fault_is_recorded, named_is_recorded}
@@ -66,55 +66,42 @@ module _ (test : StepAnswer → Bool) (Fine : Harm → Type 0) (Sound : State �
   AreFine harms = All Fine harms
 
   -- what a line leaves, and what was told behind it shows
-  record IsPlayed (run : Run) (state : Option State) (next : Run) (Without : Type 0) : Type 0 where
+  record IsPlayed (run next : Run) (Without : Type 0) : Type 0 where
     sound : IsSound next.state
-    back : AreFine (harms_of next) → Without × AreFine (run.ended ++ harm_of run.calls state)
+    back : AreFine (harms_of next) → Without × AreFine (harms_of run)
 
-  in_session : (run : Run) (s : State) (turn : Turn) (step : Step) (next : Run) → next.state ≡ Some (after_all s turn.added) → next.ended ≡ run.ended → Sound s → SessionTakes run s turn step
-      → IsPlayed run (Some s) next (test (session_said run s (after_all s turn.added) turn step) ≡ false)
-  in_session run s turn step next state ended sound takes =
+  on_session : (run : Run) (s : State) (turn : Turn) (step : Step) → run.state ≡ Some s → Sound s → SessionTakes run s turn step
+      → IsPlayed run (in_session run s (after_all s turn.added) turn step) (test (session_said run s (after_all s turn.added) turn step) ≡ false)
+  on_session run s turn step e sound takes =
       let t : State = after_all s turn.added in
+      let calls : List Call = turn.device.events ++ run.calls in
+      let new : Harm = harm_in calls t in
+      let old : Harm = harm_in run.calls s in
       record {
-        sound = subst IsSound (sym state) (w.stays run s turn step takes sound);
-        back = λ (fine : AreFine (harms_of next)).
-            let new : Harm = harm_in next.calls t in
-            let old : Harm = harm_in run.calls s in
-            let told : AreFine (run.ended ++ new ∷ []) = rw (ended, state) at fine in
-            let last : Fine new = All-head Fine new [] (all_behind Fine run.ended (new ∷ []) told) in
-            let here : Fine old = w.before run s turn step run.calls next.calls takes last in (
-              w.without run s turn step next.calls takes sound last,
-              All-append Fine run.ended (old ∷ []) (all_front Fine run.ended (new ∷ []) told) (All-cons Fine old [] here (All-nil Fine)),
+        sound = w.stays run s turn step takes sound;
+        back = λ (fine : AreFine (run.ended ++ new ∷ [])).
+            let last : Fine new = All-head Fine new [] (all_behind Fine run.ended (new ∷ []) fine) in
+            let here : Fine old = w.before run s turn step run.calls calls takes last in (
+              w.without run s turn step calls takes sound last,
+              subst (λ (x : Option State). AreFine (run.ended ++ harm_of run.calls x)) (sym e)
+                  (All-append Fine run.ended (old ∷ []) (all_front Fine run.ended (new ∷ []) fine) (All-cons Fine old [] here (All-nil Fine))),
             );
       }
 
-  by_format : (run : Run) (turn : Turn) (name : List ℕ) (segments buckets content agg reach fragment generation alternates : ℕ) (bad : Option BadGeometry) → IsSound run.state
-      → FormatTakes turn.added segments buckets content agg reach fragment generation alternates bad
-      → IsPlayed run run.state (after_format run name turn.added bad) (test (format_said turn.added bad) ≡ false)
-  by_format run turn name segments buckets content agg reach fragment generation alternates (Some bad) sound takes =
-      record { sound = sound; back = λ fine. (w.format turn.added (Some bad), fine) }
-  by_format run turn name segments buckets content agg reach fragment generation alternates None sound takes = record {
-    sound = subst (λ added. Sound (after_all nothing_yet added)) (sym takes.2) (w.formats takes.0);
+  -- ---- each line
+
+  played : (run : Run) (turn : Turn) {step : Step} {said : StepAnswer} {next : Run} → StepGoes run turn step said next → IsSound run.state → IsPlayed run next (test said ≡ false)
+  played run turn (stays bad same none) sound = record { sound = sound; back = λ fine. (w.format turn.added (Some bad), fine) }
+  played run turn (waits at same none) sound = record { sound = sound; back = λ fine. (w.moment at, fine) }
+  played run turn {step = step} (works s same e takes) sound = on_session run s turn step e (subst IsSound e sound) takes
+  played run turn (begins name g same is) sound = record {
+    sound = subst (λ added. Sound (after_all nothing_yet added)) (sym is) (w.formats g);
     back = λ fine. (w.format turn.added None, all_front Fine (harms_of run) (harm_in [] (after_all nothing_yet turn.added) ∷ []) fine);
   }
 
-  -- ---- each line
-
-  played : (run : Run) (turn : Turn) (o : Option State) (step : Step) → run.state ≡ o → IsSound o → Takes run turn o step
-      → IsPlayed run o (behind run turn o step) (test (step_said run turn o step) ≡ false)
-  played run turn o (step.Format name segments buckets content agg reach fragment generation alternates) e sound takes =
-      let bad : Option BadGeometry = first_refusal segments buckets content agg reach fragment alternates in
-      subst (λ (x : Option State). IsPlayed run x (after_format run name turn.added bad) (test (format_said turn.added bad) ≡ false)) e
-      (by_format run turn name segments buckets content agg reach fragment generation alternates bad (subst IsSound (sym e) sound) takes)
-  played run turn o (step.Now at) e sound takes = record {
-    sound = subst IsSound (sym e) sound;
-    back = λ fine. (w.moment at, subst (λ (x : Option State). AreFine (run.ended ++ harm_of run.calls x)) e fine);
-  }
-  played run turn (Some s) step e sound takes = in_session run s turn step (behind run turn (Some s) step) refl refl sound takes
-  played run turn None step e sound takes = absurd takes
-
   read : (run : Run) (turn : Turn) (reading : LineAnswer) → IsSound run.state → ReadingTakes run turn reading
-      → IsPlayed run run.state (after_reading run turn reading) (ReadsWithout test run turn reading)
-  read run turn (line.Step s) sound takes = played run turn run.state s refl sound takes
+      → IsPlayed run (after_reading run turn reading) (ReadsWithout test run turn reading)
+  read run turn (line.Step s) sound takes = played run turn (goes run turn s takes) sound
   read run turn line.Nothing sound takes = record { sound = sound; back = λ fine. (tt, fine) }
   read run turn (line.Bad fault) sound takes = absurd takes
 
@@ -126,7 +113,7 @@ module _ (test : StepAnswer → Bool) (Fine : Harm → Type 0) (Sound : State �
   along run [] (turn ∷ turns) is sound fine = absurd is
   along run (bytes ∷ lines) [] is sound fine = absurd is
   along run (bytes ∷ lines) (turn ∷ turns) is sound fine =
-      let one : IsPlayed run run.state (after_line run turn bytes) (ReadsWithout test run turn (reading_of bytes)) = read run turn (reading_of bytes) sound is.0 in
+      let one : IsPlayed run (after_line run turn bytes) (ReadsWithout test run turn (reading_of bytes)) = read run turn (reading_of bytes) sound is.0 in
       let rest : NoneAnswers test (after_line run turn bytes) lines turns × AreFine (harms_of (after_line run turn bytes)) = along (after_line run turn bytes) lines turns is.1 one.sound fine in
       let here = one.back rest.1 in
       ((here.0, rest.0), here.1)
@@ -176,7 +163,7 @@ faultless_runs = whole answers_fault (λ harm. harm.fault ≡ 0) NoLossIsAFault 
 -- ---- damage
 
 was_not_true : (a b : Bool) → (a ≡ true → b ≡ true) → b ≡ false → a ≡ false
-was_not_true a b stays e = false_from_ne_true a (λ h. no_truth (sym (stays h) ∙ e))
+was_not_true a b rises e = false_from_ne_true a (λ h. no_truth (sym (rises h) ∙ e))
 
 no_format_damage : (added : List Rec) (bad : Option BadGeometry) → answers_damage (format_said added bad) ≡ false
 no_format_damage added None = refl

@@ -1,8 +1,5 @@
 -- Each session of a script goes from its format on by legal steps of one setting.
 use Rattle.std.proofs.Common.{◌≡◌, ℕ, List, [], ◌∷◌, ◌++◌, refl, sym, ◌∙◌, ap, subst, append_assoc, append-nil}
-use Rattle.std.specs.Prelude.{Option, Some, None}
-use Rattle.tape_base.specs.declared.geometries.BadGeometry.{BadGeometry}
-use Rattle.tape_base.specs.Limits.{first_refusal}
 use Rattle.device_log.specs.Calls.{Call}
 use Rattle.cache_model.specs.State.{State, after_all, nothing_yet}
 use Rattle.cache_model.specs.Permit.{IsSetBy}
@@ -10,15 +7,11 @@ use Rattle.cache_model.specs.Legal
 use Rattle.cache_model.specs.Legal.{Course, IsStep, calls_of_courses, format_records}
 use Rattle.cache_model.proofs.Steps.{after_all-append}
 use Rattle.script_grammar.specs.declared.step.Step.{Step}
-use Rattle.script_grammar.specs.declared.step.Step.TheVariants as step
-use Rattle.script_grammar.specs.declared.line.LineAnswer.{LineAnswer}
-use Rattle.script_grammar.specs.declared.line.LineAnswer.TheVariants as line
-use Rattle.script_grammar.specs.Grammar.{reading_of}
 use Rattle.script_run.specs.Asked.{asked}
-use Rattle.script_run.specs.Behind.{after_format, after_line, after_reading, behind}
 use Rattle.script_run.specs.Run.{Run, fresh}
-use Rattle.script_run.specs.Takes.{FormatTakes, IsRun, ReadingTakes, SessionTakes, Takes, run_after}
+use Rattle.script_run.specs.Takes.{IsRun, SessionTakes, run_after}
 use Rattle.script_run.specs.Turn.{Turn}
+use Rattle.script_run.proofs.Lift.{lines_keep}
 use Rattle.cache_calls.specs.Keeping.{plain_setting}
 use Rattle.script_laws.specs.Sessions.{IsLegalWhere, IsOfLegal}
 
@@ -49,38 +42,11 @@ goes_on run s turn step h takes =
       made = calls_behind h.courses course ∙ ap (λ calls. turn.device.events ++ calls) h.made;
     }
 
--- ---- a line
-
-by_format : (run : Run) (turn : Turn) (name : List ℕ) (segments buckets content agg reach fragment generation alternates : ℕ) (bad : Option BadGeometry) → IsLegalWhere run.calls run.state
-    → FormatTakes turn.added segments buckets content agg reach fragment generation alternates bad
-    → IsLegalWhere (after_format run name turn.added bad).calls (after_format run name turn.added bad).state
-by_format run turn name segments buckets content agg reach fragment generation alternates (Some bad) h takes = h
-by_format run turn name segments buckets content agg reach fragment generation alternates None h takes =
-    record { courses = []; recs = turn.added; legal = subst (Legal.IsLegal plain_setting []) (sym takes.2) (Legal.IsLegal.begins takes.0); comes_to = refl; made = refl }
-
-played : (run : Run) (turn : Turn) (o : Option State) (step : Step) → run.state ≡ o → IsLegalWhere run.calls o → Takes run turn o step
-    → IsLegalWhere (behind run turn o step).calls (behind run turn o step).state
-played run turn o (step.Format name segments buckets content agg reach fragment generation alternates) e h takes =
-    by_format run turn name segments buckets content agg reach fragment generation alternates (first_refusal segments buckets content agg reach fragment alternates)
-    (subst (IsLegalWhere run.calls) (sym e) h) takes
-played run turn o (step.Now at) e h takes = subst (IsLegalWhere run.calls) (sym e) h
-played run turn (Some s) step e h takes = goes_on run s turn step h takes
-played run turn None step e h takes = absurd takes
-
-read : (run : Run) (turn : Turn) (reading : LineAnswer) → IsLegalWhere run.calls run.state → ReadingTakes run turn reading
-    → IsLegalWhere (after_reading run turn reading).calls (after_reading run turn reading).state
-read run turn (line.Step s) h takes = played run turn run.state s refl h takes
-read run turn line.Nothing h takes = h
-read run turn (line.Bad fault) h takes = absurd takes
-
 -- ---- a script
 
-along : (run : Run) (lines : List (List ℕ)) (turns : List Turn) → IsRun run lines turns → IsLegalWhere run.calls run.state
-    → IsLegalWhere (run_after run lines turns).calls (run_after run lines turns).state
-along run [] [] is h = h
-along run [] (turn ∷ turns) is h = absurd is
-along run (bytes ∷ lines) [] is h = absurd is
-along run (bytes ∷ lines) (turn ∷ turns) is h = along (after_line run turn bytes) lines turns is.1 (read run turn (reading_of bytes) h is.0)
-
 pub sessions_are_legal : (lines : List (List ℕ)) (turns : List Turn) → IsRun fresh lines turns → IsLegalWhere (run_after fresh lines turns).calls (run_after fresh lines turns).state
-sessions_are_legal lines turns is = along fresh lines turns is tt
+sessions_are_legal lines turns is = lines_keep (λ run. IsLegalWhere run.calls run.state) (record {
+  moments = λ run at h. h;
+  steps = λ run s turn asks e takes h. goes_on run s turn asks (subst (IsLegalWhere run.calls) e h) takes;
+  formats = λ run name g h. record { courses = []; recs = format_records g; legal = Legal.IsLegal.begins g; comes_to = refl; made = refl };
+}) lines turns fresh is tt

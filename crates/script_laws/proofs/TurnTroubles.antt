@@ -1,13 +1,11 @@
 -- What turns recorded of refused calls and damage was told of their devices.
 use Rattle.std.proofs.Common.{◌≡◌, ℕ, List, [], ◌∷◌, ◌++◌, Bool, true, false, refl, sym, ◌∙◌, subst, inl, inr}
-use Rattle.std.specs.Prelude.{All, Option, Some, None}
+use Rattle.std.specs.Prelude.{All}
 use Rattle.std.specs.List.{AllByRecursion}
 use Rattle.std.proofs.lemmas.Bool.{false_from_ne_true}
 use Rattle.std.proofs.lemmas.List.Elements.{All-cons, All-head, All-nil}
 use Rattle.device_log.specs.Calls.{Call}
-use Rattle.tape_base.specs.declared.geometries.BadGeometry.{BadGeometry}
 use Rattle.tape_base.specs.declared.geometries.Geometry.{Geometry}
-use Rattle.tape_base.specs.Limits.{first_refusal}
 use Rattle.cache_model.specs.declared.record.Rec.{Rec}
 use Rattle.cache_model.specs.declared.record.Rec.TheVariants as rec
 use Rattle.cache_model.specs.State.{State, after_all}
@@ -18,12 +16,14 @@ use Rattle.cache_model.proofs.Found.{no_truth}
 use Rattle.script_grammar.specs.declared.line.LineAnswer.{LineAnswer}
 use Rattle.script_grammar.specs.declared.line.LineAnswer.TheVariants as line
 use Rattle.script_grammar.specs.declared.step.Step.{Step}
-use Rattle.script_grammar.specs.declared.step.Step.TheVariants as step
+use Rattle.script_grammar.specs.declared.answer.StepAnswer.{StepAnswer}
 use Rattle.script_grammar.specs.Grammar.{reading_of}
 use Rattle.script_run.specs.Run.{Harm, Run}
 use Rattle.script_run.specs.Turn.{Turn}
-use Rattle.script_run.specs.Behind.{after_line, after_reading, behind, harm_in, harms_of}
-use Rattle.script_run.specs.Takes.{FormatTakes, IsRun, ReadingTakes, Takes, run_after}
+use Rattle.script_run.specs.Behind.{after_line, after_reading, harm_in, harms_of}
+use Rattle.script_run.specs.Goes.{StepGoes, begins, stays, waits, works}
+use Rattle.script_run.specs.Takes.{IsRun, ReadingTakes, run_after}
+use Rattle.script_run.proofs.Lift.{goes}
 use Rattle.script_run.proofs.Listed.{is_among}
 use Rattle.step_laws.specs.StepLaws.{IsRefusalCount}
 use Rattle.script_laws.specs.TurnTroubles.{TellNoFault, TellsRefusals, tells_fault}
@@ -39,25 +39,18 @@ module _ (Are : Permit → List Rec → Type 0) (Fine : Harm → Type 0)
     (none : (p : Permit) → Are p []) (formats : (p : Permit) (geometry : Geometry) → Are p (format_records geometry))
     (session : (p : Permit) (calls : List Call) (s : State) (recs : List Rec) → AllByRecursion (IsKept p) recs → Fine (harm_in calls (after_all s recs)) → Are p recs)
     (before : (run : Run) (lines : List (List ℕ)) (turns : List Turn) → IsRun run lines turns → All Fine (harms_of (run_after run lines turns)) → All Fine (harms_of run)) where
-  by_format : (turn : Turn) (segments buckets content agg reach fragment generation alternates : ℕ) (bad : Option BadGeometry)
-      → FormatTakes turn.added segments buckets content agg reach fragment generation alternates bad → Are turn.device turn.added
-  by_format turn segments buckets content agg reach fragment generation alternates (Some bad) takes = subst (Are turn.device) (sym takes) (none turn.device)
-  by_format turn segments buckets content agg reach fragment generation alternates None takes = subst (Are turn.device) (sym takes.2) (formats turn.device takes.0)
-
-  by_step : (run : Run) (turn : Turn) (o : Option State) (step : Step) → Takes run turn o step
-      → All Fine (harms_of (behind run turn o step)) → Are turn.device turn.added
-  by_step run turn o (step.Format name segments buckets content agg reach fragment generation alternates) takes fine =
-      by_format turn segments buckets content agg reach fragment generation alternates (first_refusal segments buckets content agg reach fragment alternates) takes
-  by_step run turn o (step.Now at) takes fine = subst (λ (t : Turn). Are t.device t.added) (sym takes) (none _)
-  by_step run turn (Some s) step takes fine =
+  by_step : (run : Run) (turn : Turn) {step : Step} {said : StepAnswer} {after : Run} → StepGoes run turn step said after → All Fine (harms_of after) → Are turn.device turn.added
+  by_step run turn (stays bad same is) fine = subst (Are turn.device) (sym is) (none turn.device)
+  by_step run turn (waits at same is) fine = subst (λ (t : Turn). Are t.device t.added) (sym is) (none _)
+  by_step run turn (works s same e takes) fine =
       let calls : List Call = turn.device.events ++ run.calls in
       let last : Harm = harm_in calls (after_all s turn.added) in
       session turn.device calls s turn.added (walked takes.legal.grows).kept (All-head Fine last [] (all_behind Fine run.ended (last ∷ []) fine))
-  by_step run turn None step takes fine = absurd takes
+  by_step run turn (begins name g same is) fine = subst (Are turn.device) (sym is) (formats turn.device g)
 
   by_reading : (run : Run) (turn : Turn) (reading : LineAnswer) → ReadingTakes run turn reading
       → All Fine (harms_of (after_reading run turn reading)) → Are turn.device turn.added
-  by_reading run turn (line.Step step) takes fine = by_step run turn run.state step takes fine
+  by_reading run turn (line.Step step) takes fine = by_step run turn (goes run turn step takes) fine
   by_reading run turn line.Nothing takes fine = subst (λ (t : Turn). Are t.device t.added) (sym takes) (none _)
   by_reading run turn (line.Bad fault) takes fine = absurd takes
 

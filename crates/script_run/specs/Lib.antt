@@ -6,5 +6,6 @@ pub mod Answers
 pub mod Behind
 pub mod Own
 pub mod Takes
+pub mod Goes
 pub mod Laws
 pub mod Losses

@@ -15,7 +15,8 @@ use Rattle.script_run.specs.Takes.{IsRun, ReadingTakes, StepTakes, run_after}
 use Rattle.run_promise.specs.Lines.{AreAnswered, IsReadAs, answers_of, outline_of, outline_read, reading_answer}
 use Rattle.run_promise.specs.Needs.{NeedsSession}
 use Rattle.run_promise.specs.Outline.{IsAnswered, Outline, outline_after}
-use Rattle.line_laws.specs.Along.{AreOfSession, KeepsSession, begins_session}
+use Rattle.script_run.specs.Goes.{begins_session}
+use Rattle.line_laws.specs.Along.{AreOfSession, KeepsSession}
 use Rattle.headline.specs.Account.{begun_in}
 use Rattle.headline.specs.Endings.{AreTakeable, MayBeTaken}
 

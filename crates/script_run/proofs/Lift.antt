@@ -1,0 +1,75 @@
+-- What holds of a run before its lines and is kept by each kind of step (`StepGoes`) holds behind them.
+use Rattle.std.proofs.Common.{◌≡◌, ℕ, List, [], ◌∷◌, refl, sym, subst}
+use Rattle.std.specs.Prelude.{Option, Some, None, is_none}
+use Rattle.tape_base.specs.declared.geometries.BadGeometry.{BadGeometry}
+use Rattle.tape_base.specs.declared.geometries.Geometry.{Geometry}
+use Rattle.tape_base.specs.Limits.{first_refusal}
+use Rattle.cache_model.specs.State.{State, after_all, nothing_yet}
+use Rattle.cache_model.specs.Legal.{format_records}
+use Rattle.script_grammar.specs.declared.answer.StepAnswer.{StepAnswer}
+use Rattle.script_grammar.specs.declared.line.LineAnswer.{LineAnswer}
+use Rattle.script_grammar.specs.declared.line.LineAnswer.TheVariants as line
+use Rattle.script_grammar.specs.declared.step.Step.{Step}
+use Rattle.script_grammar.specs.declared.step.Step.TheVariants as step
+use Rattle.script_grammar.specs.Grammar.{reading_of}
+use Rattle.script_run.specs.Run.{Run}
+use Rattle.script_run.specs.Turn.{Turn}
+use Rattle.script_run.specs.Answers.{format_said, step_answer, step_said}
+use Rattle.script_run.specs.Behind.{after_format, after_line, after_reading, after_step, at_moment, behind, in_session, with_format}
+use Rattle.script_run.specs.Takes.{FormatTakes, IsRun, ReadingTakes, SessionTakes, StepTakes, Takes, run_after}
+use Rattle.script_run.specs.Goes.{StepGoes, begins, begins_session, stays, waits, works}
+
+-- ---- each step is of one kind
+
+format_goes : (run : Run) (turn : Turn) (asks : Step) (name : List ℕ) (segments buckets content agg reach fragment generation alternates : ℕ) (bad : Option BadGeometry)
+    → begins_session asks ≡ is_none bad → FormatTakes turn.added segments buckets content agg reach fragment generation alternates bad
+    → StepGoes run turn asks (format_said turn.added bad) (after_format run name turn.added bad)
+format_goes run turn asks name segments buckets content agg reach fragment generation alternates (Some bad) same takes = stays bad same takes
+format_goes run turn asks name segments buckets content agg reach fragment generation alternates None same takes = begins name takes.0 same takes.2
+
+goes_by : (run : Run) (turn : Turn) (o : Option State) (asks : Step) → run.state ≡ o → Takes run turn o asks → StepGoes run turn asks (step_said run turn o asks) (behind run turn o asks)
+goes_by run turn o (step.Format name segments buckets content agg reach fragment generation alternates) e takes =
+    format_goes run turn _ name segments buckets content agg reach fragment generation alternates (first_refusal segments buckets content agg reach fragment alternates) refl takes
+goes_by run turn o (step.Now at) e takes = waits at refl takes
+goes_by run turn (Some s) _ e takes = works s refl e takes
+goes_by run turn None _ e takes = absurd takes
+
+pub goes : (run : Run) (turn : Turn) (asks : Step) → StepTakes run turn asks → StepGoes run turn asks (step_answer run turn asks) (after_step run turn asks)
+goes run turn asks takes = goes_by run turn run.state asks refl takes
+
+-- ---- what holds of a run
+
+-- the moment keeps it, and so does a step of the session and the format of another one
+pub record EachKeeps (Has : Run → Type 0) : Type 0 where
+  pub moments : (run : Run) (at : ℕ) → Has run → Has (at_moment run at)
+  pub steps : (run : Run) (s : State) (turn : Turn) (asks : Step) → run.state ≡ Some s → SessionTakes run s turn asks → Has run → Has (in_session run s (after_all s turn.added) turn asks)
+  pub formats : (run : Run) (name : List ℕ) (g : Geometry) → Has run → Has (with_format run name (format_records g))
+
+module _ (Has : Run → Type 0) (kept : EachKeeps Has) where
+  step_keeps : (run : Run) (turn : Turn) {asks : Step} {said : StepAnswer} {after : Run} → StepGoes run turn asks said after → Has run → Has after
+  step_keeps run turn (stays bad same none) h = h
+  step_keeps run turn (waits at same none) h = kept.moments run at h
+  step_keeps run turn {asks = asks} (works s same e takes) h = kept.steps run s turn asks e takes h
+  step_keeps run turn (begins name g same is) h = subst (λ recs. Has (with_format run name recs)) (sym is) (kept.formats run name g h)
+
+  pub line_keeps : (run : Run) (turn : Turn) (l : LineAnswer) → ReadingTakes run turn l → Has run → Has (after_reading run turn l)
+  line_keeps run turn (line.Step asks) takes h = step_keeps run turn (goes run turn asks takes) h
+  line_keeps run turn line.Nothing takes h = h
+  line_keeps run turn (line.Bad fault) takes h = absurd takes
+
+  pub lines_keep : (lines : List (List ℕ)) (turns : List Turn) (run : Run) → IsRun run lines turns → Has run → Has (run_after run lines turns)
+  lines_keep [] turns run is h = h
+  lines_keep (bytes ∷ lines) [] run is h = absurd is
+  lines_keep (bytes ∷ lines) (turn ∷ turns) run is h = lines_keep lines turns (after_line run turn bytes) is.1 (line_keeps run turn (reading_of bytes) is.0 h)
+
+-- ---- what holds of the state, where there is a session
+
+module _ (Has : Option State → Type 0)
+    (steps : (run : Run) (s : State) (turn : Turn) (asks : Step) → SessionTakes run s turn asks → Has (Some s) → Has (Some (after_all s turn.added)))
+    (formats : (g : Geometry) → Has (Some (after_all nothing_yet (format_records g)))) where
+  pub states_keep : (lines : List (List ℕ)) (turns : List Turn) (run : Run) → IsRun run lines turns → Has run.state → Has (run_after run lines turns).state
+  states_keep = lines_keep (λ run. Has run.state) (record {
+    moments = λ run at h. h;
+    steps = λ run s turn asks e takes h. steps run s turn asks takes (subst Has e h);
+    formats = λ run name g h. formats g;
+  })

@@ -1,0 +1,36 @@
+-- What a step does to a run, whatever its verb.
+use Rattle.std.specs.Prelude.{ℕ, ◌≡◌, Bool, false, true, is_none, List, [], Some, None}
+use Rattle.tape_base.specs.declared.geometries.Geometry.{Geometry}
+use Rattle.tape_base.specs.declared.geometries.BadGeometry.{BadGeometry}
+use Rattle.tape_base.specs.Limits.{first_refusal}
+use Rattle.cache_model.specs.State.{State, after_all}
+use Rattle.cache_model.specs.Legal.{format_records}
+use Rattle.script_grammar.specs.declared.step.Step.{Step}
+use Rattle.script_grammar.specs.declared.step.Step.TheVariants as step
+use Rattle.script_grammar.specs.declared.answer.StepAnswer.{StepAnswer}
+use Rattle.script_grammar.specs.declared.answer.StepAnswer.TheVariants as answer
+use Rattle.script_run.specs.Run.{Run}
+use Rattle.script_run.specs.Turn.{Turn, no_turn}
+use Rattle.script_run.specs.Answers.{format_said, session_said}
+use Rattle.script_run.specs.Behind.{at_moment, in_session, with_format}
+use Rattle.script_run.specs.Takes.{SessionTakes}
+
+-- a format that is not refused begins another session
+abbrev pub begins_session : Step → Bool
+begins_session (step.Format name segments buckets content agg reach fragment generation alternates) = is_none (first_refusal segments buckets content agg reach fragment alternates)
+begins_session _ = false
+
+-- what a step does to a run in its turn, what it is answered, and the run that it leaves
+pub data StepGoes (run : Run) (turn : Turn) : Step → StepAnswer → Run → Type 0 where
+  -- a refused geometry leaves all as it is
+  stays : {asks : Step} (bad : BadGeometry) → begins_session asks ≡ false → turn.added ≡ []
+      → StepGoes run turn asks (format_said turn.added (Some bad)) run
+  -- the moment is set
+  waits : {asks : Step} (at : ℕ) → begins_session asks ≡ false → turn ≡ no_turn
+      → StepGoes run turn asks (answer.Now at) (at_moment run at)
+  -- the session makes one step
+  works : {asks : Step} (s : State) → begins_session asks ≡ false → run.state ≡ Some s → SessionTakes run s turn asks
+      → StepGoes run turn asks (session_said run s (after_all s turn.added) turn asks) (in_session run s (after_all s turn.added) turn asks)
+  -- another session begins, on the device of this name
+  begins : {asks : Step} (name : List ℕ) (g : Geometry) → begins_session asks ≡ true → turn.added ≡ format_records g
+      → StepGoes run turn asks (format_said turn.added None) (with_format run name turn.added)
