@@ -4,7 +4,7 @@ use Rattle.std.specs.Prelude.{ℕ, ◌≡◌, ◌≢◌, ◌+◌, ◌-◌, ◌*�
 use Rattle.std.specs.List.{AllByRecursion}
 use Rattle.hex.specs.Hex.{IsBytes}
 use Rattle.device_log.specs.Causes.{Rose}
-use Rattle.device_log.specs.Calls.{Asked, ToRead, ToWrite, Call, Read, Wrote, RefusedCall}
+use Rattle.device_log.specs.Calls.{Asked, ToRead, ToWrite, Call, Read, Wrote, RefusedCall, PowerCut}
 use Rattle.device_log.specs.Image.{in_range}
 use Rattle.tape_base.specs.declared.digests.Digest.{Digest}
 use Rattle.tape_base.specs.Place.{slot_of}
@@ -54,12 +54,13 @@ pub record AreUpTo (p : Permit) (calls : List Call) : Type 0 where
   pub later : List Call
   pub is : p.events ≡ later ++ calls
 
--- what calls, the newest first, wrote to a block last; nothing where a write of it was refused since
+-- what calls, the newest first, wrote to a block last; nothing where a write of it was refused or the power was cut since
 abbrev pub written_of : List Call → ℕ → Option (List ℕ)
 written_of [] block = None
 written_of (Wrote at bytes ∷ older) block =
     if in_range at (length bytes / 512) block then Some (take 512 (drop (512 * (block - at)) bytes)) else written_of older block
 written_of (RefusedCall (ToWrite at n left) count ∷ older) block = if in_range at n block then None else written_of older block
+written_of (PowerCut choice left ∷ older) block = None
 written_of (call ∷ older) block = written_of older block
 
 -- from a block on these are the bytes that the calls wrote last

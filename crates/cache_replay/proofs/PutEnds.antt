@@ -50,7 +50,7 @@ pub serves_tells : {P : Documents} {now : ℕ} {a b : At} {asked : List Intent} 
     → ServesFrom P now a b asked o before known → ServesFrom P now a b asked o before (OfState IsSo)
 serves_tells IsSo law f = call_as (λ p earlier calls added step happens h. record {
   from = λ k. elim (h.from k) [
-    | inl v ↦ inl (record { spends = v.spends; behind = law p added v.spends; buffers = v.buffers })
+    | inl v ↦ inl (record { spends = v.spends; behind = law p added v.spends })
     | inr pair ↦ inr pair
   ];
 }) f

@@ -13,7 +13,6 @@ use Rattle.call_laws.specs.Moments.{At, Facts, IsToldAt, OfState}
 use Rattle.call_laws.specs.Progress.{AllDone}
 use Rattle.call_laws.specs.Serves.{ServesFrom, ServesTold}
 use Rattle.call_laws.specs.Whole.{LeavesListed}
-use Rattle.call_laws.proofs.Accounts.{none_written}
 use Rattle.call_laws.proofs.Grown.{one_spends}
 use Rattle.call_laws.proofs.Joined.{call_still}
 use Rattle.call_laws.proofs.Kept.{serves_told}
@@ -60,7 +59,6 @@ over_serves now a put known quiet = call_still (record { kept = refl; past = ref
   from = λ k. inl (record {
     spends = one_spends p (state_at a) (GiveUp put) [] Done (DoesGiveUp.over quiet k.1 refl);
     behind = k.0;
-    buffers = λ syncs. none_written AllDone p (state_at a) earlier [];
   });
 })
 

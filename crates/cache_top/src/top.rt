@@ -16,7 +16,7 @@ use run_script::run_words;
 use std::alloc::Global;
 use stripe_calls::StripeCache;
 
-// The cache of the program: its directory has packed entries, and its chronicle keeps each record.
+// The cache of the program: its directory has packed entries, and its chronicle forgets nothing.
 type Cache<D> = StripeCache<D, PackedDirectory, FullChronicle>;
 
 /// Runs the command that the words give, by the cache of the program: `replay` runs the script that the source holds.

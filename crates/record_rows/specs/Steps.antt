@@ -99,7 +99,7 @@ NoPartWithoutASync = IsStep (with_calls []) (behind_format []) (SyncStep true �
 abbrev pub refused_gate : List Call
 refused_gate = RefusedCall (ToWrite 2 1 []) 1 ∷ []
 
--- that is the fault alone
+-- that may be the fault alone
 abbrev pub ARefusedEndIsAStep : Type 0
 ARefusedEndIsAStep = IsStep (with_calls refused_gate) while_it_runs (Sync ∷ []) (rec.Fault 1 ∷ []) (Some (Faulted 1))
 

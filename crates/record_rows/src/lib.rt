@@ -131,7 +131,7 @@ pub fn no_part_without_a_sync()
     ensures { NoPartWithoutASync }
 {}
 
-/// Where a sync in parts cannot be ended, that is a fault alone.
+/// Where a sync in parts cannot be ended, that may be a fault alone.
 pub fn a_refused_end_is_a_step()
     ensures { ARefusedEndIsAStep }
 {}

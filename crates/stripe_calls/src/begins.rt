@@ -8,7 +8,7 @@ use std::alloc::{AllocError, Global};
 use stripe_core::Stripe;
 use tape_base::Geometry;
 
-/// Its directory has packed entries, and its chronicle keeps each record.
+/// Its directory has packed entries, and its chronicle forgets nothing.
 impl<D: Disk> Formats<D> for StripeCache<D, PackedDirectory, FullChronicle> {
     fn format(
         alloc: Global,

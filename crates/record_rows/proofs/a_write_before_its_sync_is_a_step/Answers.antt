@@ -3,7 +3,7 @@ use Rattle.cache_model.specs.Legal.{more, nothing}
 use Rattle.cache_model.specs.Permit.{Done}
 use Rattle.cache_model.specs.Syncing
 use Rattle.record_rows.specs.Steps.{calls_of_sync}
-use Rattle.record_rows.proofs.Blocks.{is_of_it, takes_it}
+use Rattle.record_rows.proofs.Blocks.{takes_it}
 use Rattle.record_rows.proofs.a_write_before_its_sync_is_a_step.Goals as goal
 
 pub returns : goal.returns
