@@ -15,7 +15,7 @@ use Rattle.racing_read.specs.declared.ticket.Ticket.{Ticket}
 use Rattle.racing_read.specs.declared.ticket.Raced.{Raced}
 use Rattle.racing_read.specs.declared.ticket.Raced.TheVariants as raced
 use Rattle.racing_read.specs.RaceCalls.{RaceCall, PeekGave, PeekFailed, FloorLoaded}
-use Rattle.racing_read.specs.Races.{RaceSide, ReadsThenLoads, RaceGave, RacePassed, RaceDamaged, RaceFailed}
+use Rattle.racing_read.specs.Races.{RaceMoment, ReadsThenLoads, RaceGave, RacePassed, RaceDamaged, RaceFailed}
 use Rattle.racing_read.specs.RaceLaws.{IsDocumentOrCollides, GivenIsDocument, RaceIsDecided, RacesSeeLaterFloors, PassedStaysPassed}
 
 same_is_document : (bytes : List ℕ) (doc : Doc) (payload : List ℕ) → Fits doc payload → 512 * blocks_of (length payload) ≤ length bytes
@@ -55,7 +55,7 @@ module _ {T R : Type 0} (k : Ghosts T R) where
       let now : new.pass.floor ≡ floor = ap (λ p. p.floor) passed.reads.sees.same in
       omega (arith, now, passed.below, later_floor, ends.higher)
 
-  module _ (ticket : Ticket) (old new : RaceSide R) (bytes : List ℕ) where
+  module _ (ticket : Ticket) (old new : RaceMoment R) (bytes : List ℕ) where
     one_floor : (f g : ℕ) → ReadsThenLoads k ticket old new bytes f → ReadsThenLoads k ticket old new bytes g → f ≡ g
     one_floor f g a b = let same : suc f ≡ suc g = ap last_floor (sym a.order ∙ b.order) in omega (arith, same)
 

@@ -14,7 +14,7 @@ use Rattle.stripe_lock.specs.Turns.{LockEnds}
 use Rattle.racing_read.specs.declared.ticket.Ticket.{Ticket}
 use Rattle.racing_read.specs.declared.ticket.Raced.{Raced}
 use Rattle.racing_read.specs.declared.ticket.Raced.TheVariants as raced
-use Rattle.racing_read.specs.Races.{RaceSide, ReadsThenLoads, RacesAs}
+use Rattle.racing_read.specs.Races.{RaceMoment, ReadsThenLoads, RacesAs}
 
 -- the ticket is of this document
 pub record IsTicketOf (ticket : Ticket) (doc : Doc) (payload : List ℕ) : Type 0 where
@@ -33,13 +33,13 @@ IsDocumentOrCollides bytes doc payload =
 module _ {T R : Type 0} (k : Ghosts T R) where
   -- what is given to the ticket of a document is that document, also where the read was torn, unless they collide
   abbrev pub GivenIsDocument : Type 0
-  GivenIsDocument = (ticket : Ticket) (old new : RaceSide R) (bytes : List ℕ) (n : ℕ) (doc : Doc) (payload : List ℕ)
+  GivenIsDocument = (ticket : Ticket) (old new : RaceMoment R) (bytes : List ℕ) (n : ℕ) (doc : Doc) (payload : List ℕ)
       → length bytes ≡ 512 * blocks_of ticket.length → IsTicketOf ticket doc payload
       → RacesAs k ticket old new bytes (raced.Given n) → IsDocumentOrCollides bytes doc payload
 
   -- one read and one floor have one answer
   abbrev pub RaceIsDecided : Type 0
-  RaceIsDecided = (ticket : Ticket) (old new : RaceSide R) (bytes : List ℕ) (one other : Raced)
+  RaceIsDecided = (ticket : Ticket) (old new : RaceMoment R) (bytes : List ℕ) (one other : Raced)
       → RacesAs k ticket old new bytes one → RacesAs k ticket old new bytes other → one ≡ other
 
   -- the floor that was loaded is the one behind a history in which the turns before the read stand
@@ -50,12 +50,12 @@ module _ {T R : Type 0} (k : Ghosts T R) where
   -- Where the pass was told of all turns that it has seen, as behind each turn, the turn that looked the ticket up among them,
   -- the loaded floor is not one from before these.
   abbrev pub RacesSeeLaterFloors : Type 0
-  RacesSeeLaterFloors = (ticket : Ticket) (old new : RaceSide R) (bytes : List ℕ) (floor : ℕ)
+  RacesSeeLaterFloors = (ticket : Ticket) (old new : RaceMoment R) (bytes : List ℕ) (floor : ℕ)
       → old.pass.told ≡ old.pass.seen → ReadsThenLoads k ticket old new bytes floor
       → LoadsLaterFloor old.pass.seen new.pass floor
 
   -- what was passed lies below the floor of the state that the lock gives in the end
   abbrev pub PassedStaysPassed : Type 0
-  PassedStaysPassed = (ticket : Ticket) (old new : RaceSide R) (bytes : List ℕ) (place floor : ℕ) (later : PassState R) (x : T)
+  PassedStaysPassed = (ticket : Ticket) (old new : RaceMoment R) (bytes : List ℕ) (place floor : ℕ) (later : PassState R) (x : T)
       → RacesAs k ticket old new bytes (raced.Passed place floor) → new.pass.floor ≤ later.floor → LockEnds k later x
       → ticket.place < k.floor_of (k.chronicle x) (k.turns x)

@@ -18,13 +18,13 @@ abbrev pub Peeks : {T E : Type 0} → ℕ → List ℕ → ℕ → ℕ → List 
 Peeks block bytes missed now before after (Ok x) = (after ≡ PeekGave block bytes ∷ before) × (now ≡ missed)
 Peeks block bytes missed now before after (Err e) = (after ≡ PeekFailed block (length bytes) now ∷ before) × (now ≡ next_count missed)
 
--- one side of a racing read: what the pass knows, the calls so far, and how many reads of the eye have failed
-pub record RaceSide (R : Type 0) : Type 0 where
+-- a moment of a racing read: what the pass knows, the calls so far, and how many reads of the eye have failed
+pub record RaceMoment (R : Type 0) : Type 0 where
   pub pass : PassState R
   pub calls : List RaceCall
   pub missed : ℕ
 
-module _ {T R : Type 0} (k : Ghosts T R) (ticket : Ticket) (old new : RaceSide R) (bytes : List ℕ) where
+module _ {T R : Type 0} (k : Ghosts T R) (ticket : Ticket) (old new : RaceMoment R) (bytes : List ℕ) where
   -- the ticket's blocks were read, and behind that the floor was loaded from its word, each once
   pub record ReadsThenLoads (floor : ℕ) : Type 0 where
     pub order : new.calls ≡ FloorLoaded floor ∷ PeekGave ticket.block bytes ∷ old.calls
