@@ -10,4 +10,5 @@ mod streams;
 pub use choice::CutChoice;
 pub use laws::{cuts_leave, faults_are_counted, writes_are_seen};
 pub use log::DeviceLog;
+pub use rows::GhostRows;
 pub use streams::{SinkLog, SourceLog};

@@ -271,7 +271,7 @@ moved_is_recorded_lem place bytes doc payload fits h =
     digest_told (moved_to place bytes) (doc_moved_to place doc) payload fits (moved_is_spelled_lem place bytes doc payload h)
 
 -- bytes that are looked at as far as a document goes begin with it
-extent_begins : (bytes : List ℕ) (doc : Doc) (payload : List ℕ) → length payload < 2 ^ 32
+pub extent_begins : (bytes : List ℕ) (doc : Doc) (payload : List ℕ) → length payload < 2 ^ 32
     → take (extent_of bytes) bytes ≡ header_bytes doc payload ++ payload → BeginsWith bytes doc payload
 extent_begins bytes doc payload fits h =
     let rest = drop (extent_of bytes) bytes in

@@ -1,0 +1,4 @@
+pub mod RaceCalls
+pub mod RaceLog
+pub mod Races
+pub mod RaceLaws

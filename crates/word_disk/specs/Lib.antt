@@ -1,0 +1,2 @@
+pub mod WordEye
+pub mod WordDisk
