@@ -1,5 +1,5 @@
 // What no clause of `logged_disk` and `device_bay` says: which files a bay makes and keeps, and what stands in them.
-use device_bay::{Bay, HostBay};
+use device_bay::{Bay, HostBay, NoDevice, Refusal, Start};
 use logged_disk::{Disk, FileDisk, FileStart};
 use std::alloc::AllocError;
 use std::fs::{self, OpenOptions, remove_file};
@@ -24,7 +24,7 @@ fn a_path_names_a_file_and_a_missing_one_is_made_for_some_blocks_alone(
 ) -> Result<(), Fail> {
     let mut bay: HostBay<&HostRuntime, Blank> = HostBay::new(&rt);
     let (path, missing) = ("base_trials_names.img", "base_trials_missing.img");
-    fs::write(&rt, path, &[7; 2660])?;
+    fs::write(&rt, path, &[0; 2660])?;
     let rows: [(&[u8], u64, Option<u64>, u64); 8] = [
         // the name, the blocks that are asked, those that are given, and how long the first file is then
         (path.as_bytes(), 2, Some(5), 2660),
@@ -46,6 +46,65 @@ fn a_path_names_a_file_and_a_missing_one_is_made_for_some_blocks_alone(
     }
     remove_file(&rt, path)?;
     remove_file(&rt, missing)?;
+    Ok(())
+}
+
+#[test]
+fn what_stands_in_a_file_is_kept_from_a_format_and_given_without_one(
+    rt: HostRuntime,
+) -> Result<(), Fail> {
+    let path = "base_trials_used.img";
+    fs::write(&rt, path, &[3; 2660])?;
+    let mut bay: HostBay<&HostRuntime, Blank> = HostBay::new(&rt);
+    assert!(rt; bay.attach(rt.alloc(), path.as_bytes(), 9).is_err());
+    assert!(rt;
+        matches!(
+            bay.refusal(),
+            Some(Refusal {
+                why: NoDevice::Used {
+                    block: 0,
+                    start: Start([3, 3, 3, 3, 3, 3, 3, 3]),
+                    front: 1,
+                },
+                ..
+            })
+        )
+    );
+    assert_eq!(rt; fs::metadata(&rt, path)?.len(), 2660);
+
+    // It is locked as long as it is attached.
+    let mut device = bay.attach(rt.alloc(), path.as_bytes(), 0)?;
+    let mut blocks = [0; 2560];
+    assert!(rt; are_read(&mut device, &mut blocks) && blocks == [3; 2560]);
+    assert!(rt; bay.attach(rt.alloc(), path.as_bytes(), 0).is_err());
+    assert!(rt;
+        matches!(
+            bay.refusal(),
+            Some(Refusal {
+                why: NoDevice::InUse,
+                ..
+            })
+        )
+    );
+    drop(device);
+    assert!(rt; bay.attach(rt.alloc(), path.as_bytes(), 0).is_ok());
+    remove_file(&rt, path)?;
+    Ok(())
+}
+
+#[test]
+fn a_file_that_may_be_read_alone_is_given_for_no_blocks(rt: HostRuntime) -> Result<(), Fail> {
+    // Nobody may write it, and several may read it at once. (not every system has it)
+    let path = "/sys/devices/system/cpu/possible";
+    let Ok(told) = fs::metadata(&rt, path) else {
+        return Ok(());
+    };
+    let mut bay: HostBay<&HostRuntime, Blank> = HostBay::new(&rt);
+    let first = bay.attach(rt.alloc(), path.as_bytes(), 0)?;
+    let second = bay.attach(rt.alloc(), path.as_bytes(), 0)?;
+    assert_eq!(rt; first.blocks(), told.len() / 512);
+    assert_eq!(rt; second.blocks(), first.blocks());
+    assert!(rt; bay.attach(rt.alloc(), path.as_bytes(), 1).is_err());
     Ok(())
 }
 

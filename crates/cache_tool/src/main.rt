@@ -23,5 +23,9 @@ fn main(rt: HostRuntime) -> ExitCode {
     let mut sink = StdSink::new(io::writer(&rt));
     let mut bay: HostBay<&HostRuntime, Blank> = HostBay::new(&rt);
     let status = cache_main(alloc, &words, &mut source, &mut sink, &mut bay);
+    if let Some(refusal) = bay.refusal() {
+        // (where it cannot be printed, the status says it)
+        let _ = eprintln!(rt; "cache_tool: {refusal}");
+    }
     ExitCode::from(status.code())
 }

@@ -1,5 +1,5 @@
 -- What the calls of a bay do.
-use Rattle.std.specs.Prelude.{◌≡◌, ℕ, ◌≤◌, ◌==◌, if◌then◌else◌, Bool, true, List, [], ◌∷◌, length, codes, nat_eq}
+use Rattle.std.specs.Prelude.{◌≡◌, ℕ, ◌≤◌, ◌==◌, ◌&&◌, ◌||◌, not, if◌then◌else◌, Bool, true, false, List, [], ◌∷◌, length, codes, nat_eq}
 use Rattle.std.specs.List.{starts_with}
 use Rattle.device_log.specs.Image.{blank}
 use Rattle.device_log.specs.Faults.{next_count}
@@ -38,3 +38,8 @@ is_memory_name name = starts_with nat_eq name (codes "mem:")
 -- a name that is kept for words that threads share
 abbrev pub is_word_name : List ℕ → Bool
 is_word_name name = starts_with nat_eq name (codes "word:")
+
+-- A colon stands in the name before any slash, as in the names of devices that are no files.
+abbrev pub has_kind : List ℕ → Bool
+has_kind [] = false
+has_kind (byte ∷ rest) = byte == 58 || (not (byte == 47) && has_kind rest)

@@ -2,6 +2,7 @@
 #![tactic(auto)]
 
 mod bay;
+mod device_file;
 mod entries;
 mod host_bay;
 mod host_disk;
@@ -10,7 +11,8 @@ mod mem_bay;
 mod register;
 
 pub use bay::{Bay, BayFault};
-pub use host_bay::HostBay;
+pub use device_file::{NoDevice, Start};
+pub use host_bay::{HostBay, Refusal};
 pub use host_disk::HostDisk;
 pub use laws::returns_tell;
 pub use mem_bay::{MemBay, OWN_BLOCKS};

@@ -1,6 +1,7 @@
 -- What a contract sees of a `FileDisk`.
-use Rattle.std.specs.Prelude.{◌≡◌, ℕ, Bool, true, false, []}
+use Rattle.std.specs.Prelude.{◌≡◌, ℕ, ◌*◌, ◌/◌, ◌<◌, Bool, true, false, List, [], ◌∷◌, length, take}
 use Rattle.device_log.specs.Image.{Image}
+use Rattle.device_log.specs.Calls.{ToWrite, RefusedCall}
 use Rattle.device_log.specs.Seen.{ReadsAreSeen}
 use Rattle.device_log.specs.Faults.{IsLog, faults_of, obeys_switch}
 use Rattle.device_log.specs.DeviceLog.{calls_of}
@@ -31,6 +32,14 @@ pub record IsAttached (number : ℕ) (settled : Bool) (s : DeviceState) : Type 0
   pub settled_is : s.settled ≡ settled
   pub past : s.past ≡ []
   pub faults : s.faults ≡ 0
+
+-- A write that was cut short: whole blocks of its front are seen as written, not all of its blocks, and of the
+-- others what was seen before.
+pub record LeavesFront (at : ℕ) (bytes : List ℕ) (old new : DeviceState) : Type 0 where
+  pub taken : ℕ
+  pub not_all : taken * 512 < length bytes
+  pub past : new.past
+      ≡ RefusedCall (ToWrite at (length bytes / 512) (take (taken * 512) bytes)) new.faults ∷ old.past
 
 pub file_is_log : {S : Type 0} (first : ℕ → Image) (disk : FileDisk S)
     → IsLog (file_state first disk).past

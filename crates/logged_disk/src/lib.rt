@@ -9,7 +9,7 @@ mod pending_block;
 mod switch;
 
 pub use device::{Disk, PowerDisk};
-pub use file_disk::{FileDisk, FileStart};
+pub use file_disk::{FileDisk, FileStart, device_bytes};
 pub use mem_disk::MemDisk;
 
 /// How many bytes a block has.
