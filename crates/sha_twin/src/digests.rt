@@ -55,7 +55,7 @@ fn behind_two(bytes: &[u8]) -> &[u8]
     &bytes[2 * BLOCK..]
 }
 
-/// The SHA-256 of the payload, which stands behind a header of 128 bytes, and of header and payload.
+/// The SHA-256 of the payload, which stands behind a header of 128 bytes, and that of both.
 pub fn digest_document(bytes: &[u8]) -> ([u8; 32], [u8; 32])
     requires { 128 ≤ length bytes.now }
     ensures payload { result.0 ≡ sha256 (drop 128 bytes.now) }

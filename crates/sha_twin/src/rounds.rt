@@ -91,7 +91,8 @@ fn four_steps(keyed: &[u32; 64], v: [u64x2; 8], t: usize) -> [u64x2; 8]
 // Takes one block into both states.
 pub(crate) fn compress_both(states: &mut [u64x2; 8], block: &[u8])
     requires { length block.now ≡ 64 }
-    ensures { (j : ℕ) → j < 2 → state_of_lane j states.new ≡ compress (state_of_lane j states.old) block.now }
+    ensures { (j : ℕ) → j < 2
+        → state_of_lane j states.new ≡ compress (state_of_lane j states.old) block.now }
 {
     let keyed = keyed_words(block);
     let mut v = *states;
