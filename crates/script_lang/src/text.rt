@@ -5,7 +5,7 @@ ghost use Rattle.script_grammar.specs.Texts.{shown, numbered, passed_text, displ
 use cache_model::Cause;
 use hex::encode;
 use script_grammar::{Refused, StepAnswer};
-use sha2::{Digest as _, Sha256};
+use sha_words::digest;
 use std::alloc::{AllocError, Global};
 use tape_base::Digest;
 
@@ -20,7 +20,7 @@ fn shown(alloc: Global, bytes: &[u8]) -> Result<String, AllocError>
     if bytes.len() <= 64 {
         return encode(alloc, bytes);
     }
-    let digest = encode(alloc, Sha256::digest(bytes).as_slice())?;
+    let digest = encode(alloc, digest(bytes).as_slice())?;
     format!(in alloc; "sha256 {digest}")
 }
 

@@ -1,4 +1,4 @@
-mod Bits
-mod Ends
+pub mod Bits
+pub mod Ends
 mod Lanes
 mod NextWords

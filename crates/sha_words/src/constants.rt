@@ -67,7 +67,8 @@ pub(crate) const ROUND_CONSTANTS: [u32; 64] = [
     0xc671_78f2,
 ];
 
-pub(crate) const INITIAL_STATE: [u32; 8] = [
+/// The state of no block yet.
+pub const INITIAL_STATE: [u32; 8] = [
     0x6a09_e667,
     0xbb67_ae85,
     0x3c6e_f372,

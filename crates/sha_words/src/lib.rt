@@ -8,4 +8,8 @@ mod rounds;
 mod schedules;
 mod vectors;
 
-pub use digests::digest;
+pub use constants::INITIAL_STATE;
+pub use digests::{digest, digest_from};
+pub use padding::{BLOCK, block_at};
+pub use rounds::compress;
+pub use schedules::keyed_words;

@@ -2,10 +2,11 @@
 ghost use Rattle.std.specs.Prelude.{◌≡◌, ◌+◌, ◌-◌, ◌*◌, ◌/◌, ◌%◌, ◌≤◌, ◌++◌, length, take, drop, replicate};
 ghost use Rattle.sha2.specs.Sha256.{padded_message};
 
-// How many bytes a block has.
-pub(crate) const BLOCK: usize = 64;
+/// How many bytes a block has.
+pub const BLOCK: usize = 64;
 
-pub(crate) fn block_at(bytes: &[u8], i: usize) -> &[u8]
+/// A block of the bytes.
+pub fn block_at(bytes: &[u8], i: usize) -> &[u8]
     requires { i * 64 + 64 ≤ length bytes.now }
     ensures block { result.now ≡ take 64 (drop (i * 64) bytes.now) }
     ensures size { length result.now ≡ 64 }

@@ -88,3 +88,31 @@ pub(crate) fn put_keyed(keyed: &mut [u32; 64], at: usize, words: u32x4)
     keyed[at + 2] = c;
     keyed[at + 3] = d;
 }
+
+/// The words of a block, each with the constant of its round added.
+pub fn keyed_words(block: &[u8]) -> [u32; 64]
+    requires { length block.now ≡ 64 }
+    ensures { IsKeyedBelow 64 result (schedule block.now 48) }
+{
+    let mut keyed = [0u32; 64];
+    let mut w0 = load_four(block, 0);
+    let mut w1 = load_four(block, 4);
+    let mut w2 = load_four(block, 8);
+    let mut w3 = load_four(block, 12);
+    put_keyed(&mut keyed, 0, w0);
+    put_keyed(&mut keyed, 4, w1);
+    put_keyed(&mut keyed, 8, w2);
+    put_keyed(&mut keyed, 12, w3);
+    'turns: for turn in 0..3 {
+        let t = 16 * turn;
+        w0 = next_four(w0, w1, w2, w3);
+        put_keyed(&mut keyed, t + 16, w0);
+        w1 = next_four(w1, w2, w3, w0);
+        put_keyed(&mut keyed, t + 20, w1);
+        w2 = next_four(w2, w3, w0, w1);
+        put_keyed(&mut keyed, t + 24, w2);
+        w3 = next_four(w3, w0, w1, w2);
+        put_keyed(&mut keyed, t + 28, w3);
+    }
+    keyed
+}

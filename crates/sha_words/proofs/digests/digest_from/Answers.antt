@@ -1,11 +1,7 @@
-use Rattle.std.proofs.Common.{◌≡◌, ◌+◌, ◌/◌, ◌%◌, ◌∙◌, length, ap, arith, refl, List, ℕ}
-use Rattle.sha2.specs.Sha256.{digest_bytes, hash_after, initial_hash_256, padded_message, sha256}
+use Rattle.std.proofs.Common.{◌≡◌, ◌+◌, ◌/◌, ◌%◌, ◌∙◌, length, ap, arith, List, ℕ}
+use Rattle.sha2.specs.Sha256.{digest_bytes, initial_hash_256, padded_message, sha256}
 use Rattle.sha_words.proofs.Ends.{blocks_of_padded, one_block_more, one_last_block_more, whole_blocks}
-use Rattle.sha_words.proofs.digests.digest.Goals as goal
-
-pub whole-init : goal.whole-init
-unfolding hash_after
-whole-init c = refl
+use Rattle.sha_words.proofs.digests.digest_from.Goals as goal
 
 pub whole-preserved : goal.whole-preserved
 whole-preserved c =
