@@ -6,6 +6,8 @@ mod buffers;
 #[cfg(test)]
 mod devices;
 #[cfg(test)]
+mod digests;
+#[cfg(test)]
 mod documents;
 #[cfg(test)]
 mod entries;
