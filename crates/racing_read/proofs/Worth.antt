@@ -1,5 +1,5 @@
 -- What the answers of a racing read are worth.
-use Rattle.std.proofs.Common.{◌≡◌, ◌≤◌, ◌<◌, ◌+◌, ◌*◌, ℕ, suc, List, [], ◌∷◌, ◌++◌, length, take, refl, sym, ap, subst, ◌∙◌, arith, inl, inr}
+use Rattle.std.proofs.Common.{◌≡◌, ◌≤◌, ◌*◌, ℕ, suc, List, [], ◌∷◌, ◌++◌, length, take, refl, sym, ap, subst, ◌∙◌, arith, inl, inr}
 use mathlib.Core.List.{IsPrefix}
 use Rattle.tape_base.specs.declared.digests.Digest.{Digest}
 use Rattle.tape_base.specs.Blocks.{blocks_of}
@@ -12,7 +12,6 @@ use Rattle.doc_header.specs.Reading.{extent_of}
 use Rattle.doc_header.proofs.MovingLaws.{extent_begins, document_small}
 use Rattle.stripe_lock.specs.declared.kept.KeptState.{Ghosts}
 use Rattle.racing_read.specs.declared.ticket.Ticket.{Ticket}
-use Rattle.racing_read.specs.declared.ticket.Raced.{Raced}
 use Rattle.racing_read.specs.declared.ticket.Raced.TheVariants as raced
 use Rattle.racing_read.specs.RaceCalls.{RaceCall, PeekGave, PeekFailed, FloorLoaded}
 use Rattle.racing_read.specs.Races.{RaceMoment, ReadsThenLoads, RaceGave, RacePassed, RaceDamaged, RaceFailed}

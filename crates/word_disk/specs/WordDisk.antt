@@ -1,6 +1,6 @@
 -- What a contract sees of a `WordDisk`.
-use Rattle.std.specs.Prelude.{◌≡◌, ℕ, Bool, true, false, []}
-use Rattle.device_log.specs.Image.{Image, IsImage, blank}
+use Rattle.std.specs.Prelude.{◌≡◌, true, false}
+use Rattle.device_log.specs.Image.{IsImage, blank}
 use Rattle.device_log.specs.Seen.{ReadsAreSeen}
 use Rattle.device_log.specs.Faults.{IsLog, faults_of, obeys_switch}
 use Rattle.device_log.specs.DeviceLog.{calls_of}
