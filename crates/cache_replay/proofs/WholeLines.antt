@@ -28,7 +28,6 @@ use Rattle.line_calls.specs.Moves.{MovesOrShows, ShowsIn}
 use Rattle.line_calls.specs.Standing.{OwnStands}
 use Rattle.line_calls.proofs.Whole.{shows_line, turn_by}
 
-
 module _ {S W R : Type 0} (c : CallsGhosts S W R) (run : Run) (now : ℕ) (a b : S) (key : Key) (request : List Field) (plain : (c.at a).setting ≡ plain_setting)
     (moment : run.now ≡ now) (rest : IsAtRest (c.at a)) (told : AreTold (state_at (c.at a))) (own : AreOwn (state_at (c.at a)) run.streams)
     (standing : OwnStands run.streams (state_at (c.at a)) (c.stands a)) where

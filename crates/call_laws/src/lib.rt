@@ -5,8 +5,8 @@ mod laws;
 mod promise;
 
 pub use laws::{
-    calls_join, grows_with_more, lookups_ask, records_are_backed, records_serve,
-    serves_begins, serves_fails, serves_keeps, serves_known, serves_next, serves_part,
-    serves_short, serves_step, serves_still, serves_then, serves_told,
+    calls_join, grows_with_more, lookups_ask, records_are_backed, records_serve, serves_begins,
+    serves_fails, serves_keeps, serves_known, serves_next, serves_part, serves_short, serves_step,
+    serves_still, serves_then, serves_told,
 };
 pub use promise::Promise;

@@ -2,13 +2,21 @@
 ghost use Rattle.worked_runs.specs.Sentences.{EachRunIsDone, EachRunPrintsIt, ItWasRemoved, NothingWasPut, TheEndIsRead, TheGetIsWhole, TheGotIsTheBody, TheHistoryIsWhole, TheHitIsWhole, TheMissIsCaused, ThePutIsListed, ThePutTookItsBody, ThePutWasAnswered, ThePutWasCompleted, TheRemovalWasAnswered, TheRemovalWasRecorded};
 ghost use Rattle.worked_runs.specs.Whole.{EachHistoryPrintsIt, EachRunAgrees, NoCountIsTold, NoDamageIsTold, NoFaultIsTold, TheRunEnds, TheRunIsSteady, TheRunIsTold};
 
+use crate::{the_script_is_answered, the_script_is_concluded};
 use account_laws::{completed_was_answered, got_is_whole, hit_is_whole, removal_was_answered};
-use cause_laws::{end_is_read, found_is_listed, misses_are_caused, never_put_was_none, removed_was_recorded};
+use cause_laws::{
+    end_is_read, found_is_listed, misses_are_caused, never_put_was_none, removed_was_recorded,
+};
 use edge_io::texts_have_lines;
 use headline::honest_runs_are_whole;
-use put_laws::{answered_put_was_completed, answered_removal_was_recorded, got_is_the_body, put_took_its_body};
-use run_laws::{counts_are_reached, done_where_fine, ends_are_caused, histories_agree_before_trouble, no_false_damage, no_false_faults, runs_agree_before_trouble, runs_are_told, source_fixes_sink, switched_runs_are_steady};
-use crate::{the_script_is_answered, the_script_is_concluded};
+use put_laws::{
+    answered_put_was_completed, answered_removal_was_recorded, got_is_the_body, put_took_its_body,
+};
+use run_laws::{
+    counts_are_reached, done_where_fine, ends_are_caused, histories_agree_before_trouble,
+    no_false_damage, no_false_faults, runs_agree_before_trouble, runs_are_told, source_fixes_sink,
+    switched_runs_are_steady,
+};
 
 /// The get gave all that the writer of put 1 took.
 pub fn the_get_is_whole()
@@ -198,4 +206,3 @@ pub fn each_run_agrees()
     runs_agree_before_trouble();
     the_script_is_concluded();
 }
-

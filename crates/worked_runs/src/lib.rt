@@ -7,8 +7,14 @@ ghost use Rattle.worked_runs.specs.Told.{TheScriptHasAnAccount, TheScriptIsConcl
 
 mod laws;
 
-pub use laws::{the_get_is_whole, the_hit_is_whole, the_end_is_read, the_put_is_listed, nothing_was_put, the_miss_is_caused, it_was_removed, the_history_is_whole, the_put_was_answered, the_removal_was_answered, the_put_was_completed, the_removal_was_recorded, the_put_took_its_body, the_got_is_the_body, each_run_prints_it, each_run_is_done, the_run_is_told, the_run_ends, no_count_is_told, no_fault_is_told, no_damage_is_told, the_run_is_steady, each_history_prints_it, each_run_agrees};
-
+pub use laws::{
+    each_history_prints_it, each_run_agrees, each_run_is_done, each_run_prints_it, it_was_removed,
+    no_count_is_told, no_damage_is_told, no_fault_is_told, nothing_was_put, the_end_is_read,
+    the_get_is_whole, the_got_is_the_body, the_history_is_whole, the_hit_is_whole,
+    the_miss_is_caused, the_put_is_listed, the_put_took_its_body, the_put_was_answered,
+    the_put_was_completed, the_removal_was_answered, the_removal_was_recorded, the_run_ends,
+    the_run_is_steady, the_run_is_told,
+};
 use run_promise::texts_are_output;
 
 /// A lookup before the put finds nothing.
@@ -94,4 +100,3 @@ pub fn the_script_is_concluded()
     the_script_is_a_run();
     the_script_is_answered();
 }
-

@@ -6,4 +6,3 @@ returns-clause-faults c = faults_are_refusals
 
 pub returns-clause-refusals : goal.returns-clause-refusals
 returns-clause-refusals c = refusals_are_faults
-
