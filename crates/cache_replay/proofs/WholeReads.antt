@@ -226,7 +226,7 @@ pub knows_then : {now : ℕ} {run : Run} {asks : List Intent} {stands : Contents
     → all (record { step = p; earlier = earlier; calls = more ++ calls; state = state_of first.kept; added = added ++ others })
     ⊎ ShowsPair (Untold b.device (IsPlacedAs run.streams)) p (state_of first.kept) asks (added ++ others))
     → IsCall now first a (Knowing stands a.device run asks one) → IsCall now a b last → IsCall now first b (Knowing stands b.device run asks all)
-knows_then {run = run} {asks = asks} {first = first} {a = a} {b = b} goes law f l = call_then (λ p earlier calls more added others tells known next. λ is standing.
+knows_then {run = run} {asks = asks} {first = first} {a = a} {b = b} goes law f l = call_then (λ p earlier calls more added others known next. λ is standing.
     elim (known is standing) [
       | inr pair ↦ inr (later_shows run.streams a.device b.device goes p (state_of first.kept) asks (added ++ others)
           (shown_first (Untold a.device (IsPlacedAs run.streams)) p (state_of first.kept) (to_do asks) added others pair))
