@@ -1,5 +1,5 @@
 -- How a row is put together: a small geometry, the records of a put and of a sync, and what an opening has.
-use Rattle.std.specs.Prelude.{ℕ, zero, suc, ◌+◌, ◌*◌, nat_le, Bool, false, true, if◌then◌else◌, refl, List, [], ◌∷◌, ◌++◌, length, map, filter, codes, option_map, unwrap_or}
+use Rattle.std.specs.Prelude.{◌≡◌, ℕ, zero, suc, ◌+◌, ◌*◌, nat_le, Bool, false, true, if◌then◌else◌, refl, List, [], ◌∷◌, ◌++◌, length, map, filter, codes, option_map, unwrap_or}
 use Rattle.std.specs.List.{range_with_len, repeat}
 use Rattle.std.proofs.Math.Dec.{lit≤, lit<}
 use Rattle.tape_base.specs.declared.digests.Digest.{Digest}
