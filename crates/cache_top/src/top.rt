@@ -1,11 +1,13 @@
 // The top call: words, a script, and what came of it.
-ghost use Rattle.std.specs.Prelude.{◌≡◌, ◌↔◌, ◌⊎◌, false, [], length, IsTrue};
+ghost use Rattle.std.specs.Prelude.{◌≡◌, ◌⊎◌, [], length};
 ghost use Rattle.edge_io.specs.Source.{Draws};
 ghost use Rattle.edge_io.specs.Sink.{Grows};
 ghost use Rattle.device_bay.specs.Calls.{IsBayLog, gifts_of, out_of, refusals_of, returned_by};
 ghost use Rattle.script_run.specs.Ledger.{InOrder, ledger_of};
 ghost use Rattle.run_promise.specs.Story.{refusals_around};
-ghost use Rattle.run_promise.specs.Top.{IsReplay, ReadsFailed, AttachesRefused, ComeBackSteady, Concludes};
+ghost use Rattle.run_promise.specs.Top.{ReadsFailed, AttachesRefused, ComeBackSteady};
+ghost use Rattle.command_words.specs.Words.{asked_in_words};
+ghost use Rattle.run_script.specs.Commands.{ConcludesAs, IsUsageBy};
 
 use cache_chronicle::FullChronicle;
 use device_bay::Bay;
@@ -27,9 +29,9 @@ pub fn cache_main<S: Source, K: Sink, B: Bay>(
     sink: &mut K,
     bay: &mut B,
 ) -> Status
-    ensures concludes { Concludes (S.reads source.old) (S.reads source.new) (K.writes sink.old) (K.writes sink.new) (refusals_around (refusals_of (B.past bay.old)) (refusals_of (B.past bay.new)))
-        (ledger_of B.Bay bay.old) (ledger_of B.Bay bay.new) result }
-    ensures usage { (result ≡ Status.Usage) ↔ (IsReplay words.now → ⊥) }
+    ensures concludes { ConcludesAs (asked_in_words words.now) (S.reads source.old) (S.reads source.new) (K.writes sink.old) (K.writes sink.new)
+        (refusals_around (refusals_of (B.past bay.old)) (refusals_of (B.past bay.new))) (ledger_of B.Bay bay.old) (ledger_of B.Bay bay.new) result }
+    ensures usage { IsUsageBy (asked_in_words words.now) result }
     ensures reads { ReadsFailed (S.reads source.old) (S.reads source.new) result }
 
     // Every device was given back.

@@ -5,3 +5,4 @@ pub mod Ends
 pub mod Tops
 mod Witnesses
 pub mod Steady
+mod Commands

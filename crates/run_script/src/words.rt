@@ -1,5 +1,5 @@
 // The command that words give, over any cache: a script, and what came of it.
-ghost use Rattle.std.specs.Prelude.{◌≡◌, ◌↔◌, ◌⊎◌, false, [], length, IsTrue};
+ghost use Rattle.std.specs.Prelude.{◌≡◌, ◌≢◌, ◌⊎◌, false, [], length, option_map};
 ghost use Rattle.edge_io.specs.Source.{Draws};
 ghost use Rattle.edge_io.specs.Sink.{Grows};
 ghost use Rattle.device_bay.specs.Calls.{IsBayLog, gifts_of, out_of, refusals_of, returned_by};
@@ -7,27 +7,21 @@ ghost use Rattle.script_grammar.specs.Texts.{last_line};
 ghost use Rattle.script_run.specs.Ledger.{InOrder, ledger_of};
 ghost use Rattle.cache_replay.specs.Stop.{RefusesNone};
 ghost use Rattle.run_promise.specs.Story.{refusals_around};
+ghost use Rattle.command_words.specs.Words.{asked_in_words, wish_of};
+ghost use Rattle.run_script.specs.Commands.{ConcludesAs, IsUsageBy, PrintsText};
 ghost use Rattle.run_script.specs.Ending.{EndsRun, FailedReads, IsOfRun, is_bay_ending};
-ghost use Rattle.run_promise.specs.Top.{IsReplay, WentOut, EachBack, EachBackOrMore, ReadsFailed, status_of, AttachesRefused, ComeBackSteady, Concludes};
+ghost use Rattle.run_promise.specs.Top.{WentOut, EachBack, EachBackOrMore, ReadsFailed, status_of, AttachesRefused, ComeBackSteady, Concludes};
 
 use crate::run::{Ending, run_lines};
 use cache_calls::Formats;
 use cache_replay::{Session, begin, close};
+use command_words::{Command, help_text, read_words, version_text};
 use device_bay::Bay;
 use edge_io::{LineBuffer, LineReader, Sink, Source};
 use run_promise::Status;
 use script_grammar::LastLine;
 use script_lang::{last_line_text, usage_text};
 use std::alloc::Global;
-
-fn is_replay(words: &[String]) -> bool
-    ensures { IsTrue result ↔ IsReplay words.now }
-{
-    match words {
-        [word] => word.as_str() == "replay",
-        _ => false,
-    }
-}
 
 fn status_of(last: LastLine) -> Status
     ensures { result ≡ status_of last }
@@ -66,6 +60,27 @@ fn conclude<K: Sink>(alloc: Global, sink: &mut K, last: LastLine) -> Status
     }
 }
 
+/// Prints a text of the program itself.
+fn print<K: Sink>(sink: &mut K, text: &str) -> Status
+    ensures prints { PrintsText (K.writes sink.old) (K.writes sink.new) text.now result }
+    ensures grows { Grows (K.writes sink.old) (K.writes sink.new) }
+{
+    match sink.write_all(text.as_bytes()) {
+        Ok(()) => Status::Done,
+        Err(_) => Status::WriteFault,
+    }
+}
+
+/// Says that words are no command.
+fn refuse<K: Sink>(sink: &mut K) -> Status
+    ensures usage { result ≡ Status.Usage }
+    ensures out { WentOut (K.writes sink.old) (K.writes sink.new) [] (last_line LastLine.Usage) }
+    ensures grows { Grows (K.writes sink.old) (K.writes sink.new) }
+{
+    send(sink, usage_text());
+    Status::Usage
+}
+
 /// Runs a script.
 fn replay<S: Source, K: Sink, B: Bay, C: Formats<B::Dev>>(
     alloc: Global,
@@ -95,6 +110,60 @@ fn replay<S: Source, K: Sink, B: Bay, C: Formats<B::Dev>>(
     ending
 }
 
+/// Runs the script that the source holds, and writes its last line where it ends early.
+fn replay_through<S: Source, K: Sink, B: Bay, C: Formats<B::Dev>>(
+    alloc: Global,
+    source: &mut S,
+    sink: &mut K,
+    bay: &mut B,
+) -> Status
+    ensures concludes { Concludes (S.reads source.old) (S.reads source.new) (K.writes sink.old) (K.writes sink.new) (refusals_around (refusals_of (B.past bay.old)) (refusals_of (B.past bay.new)))
+        (ledger_of B.Bay bay.old) (ledger_of B.Bay bay.new) result }
+    ensures begun { result ≢ Status.Usage }
+    ensures reads { ReadsFailed (S.reads source.old) (S.reads source.new) result }
+    ensures out { out_of (B.past bay.new) ≡ out_of (B.past bay.old) }
+    ensures source { Draws S.reads S.left source.old source.new }
+    ensures sink { Grows (K.writes sink.old) (K.writes sink.new) }
+    ensures order { InOrder (length (gifts_of (B.past bay.old))) [] (B.past bay.old) (B.past bay.new) }
+    ensures refusals { AttachesRefused (refusals_of (B.past bay.old)) (refusals_of (B.past bay.new)) result }
+    ensures steady { ComeBackSteady (returned_by (B.past bay.old)) (returned_by (B.past bay.new)) }
+{
+    match replay::<S, K, B, C>(alloc, source, sink, bay) {
+        Ending::Done => Status::Done,
+        Ending::Stopped(last) => conclude(alloc, sink, last),
+        Ending::WriteFault => Status::WriteFault,
+        Ending::OutOfMemory => Status::OutOfMemory,
+    }
+}
+
+/// Runs a command, or says that there is none.
+fn run_command<S: Source, K: Sink, B: Bay, C: Formats<B::Dev>>(
+    alloc: Global,
+    command: Option<Command<'_>>,
+    source: &mut S,
+    sink: &mut K,
+    bay: &mut B,
+) -> Status
+    ensures concludes { ConcludesAs (option_map wish_of command.entry) (S.reads source.old) (S.reads source.new) (K.writes sink.old) (K.writes sink.new)
+        (refusals_around (refusals_of (B.past bay.old)) (refusals_of (B.past bay.new))) (ledger_of B.Bay bay.old) (ledger_of B.Bay bay.new) result }
+    ensures usage { IsUsageBy (option_map wish_of command.entry) result }
+    ensures reads { ReadsFailed (S.reads source.old) (S.reads source.new) result }
+    ensures out { out_of (B.past bay.new) ≡ out_of (B.past bay.old) }
+    ensures source { Draws S.reads S.left source.old source.new }
+    ensures sink { Grows (K.writes sink.old) (K.writes sink.new) }
+    ensures order { InOrder (length (gifts_of (B.past bay.old))) [] (B.past bay.old) (B.past bay.new) }
+    ensures refusals { AttachesRefused (refusals_of (B.past bay.old)) (refusals_of (B.past bay.new)) result }
+    ensures steady { ComeBackSteady (returned_by (B.past bay.old)) (returned_by (B.past bay.new)) }
+{
+    match command {
+        Some(Command::Help) => print(sink, help_text()),
+        Some(Command::Version) => print(sink, version_text()),
+        Some(Command::Replay) => replay_through::<S, K, B, C>(alloc, source, sink, bay),
+        Some(Command::Inspect { name: _ }) => refuse(sink),
+        None => refuse(sink),
+    }
+}
+
 /// Runs the command that the words give, by a cache of the type `C`: `replay` runs the script that the source holds.
 pub fn run_words<S: Source, K: Sink, B: Bay, C: Formats<B::Dev>>(
     alloc: Global,
@@ -103,9 +172,9 @@ pub fn run_words<S: Source, K: Sink, B: Bay, C: Formats<B::Dev>>(
     sink: &mut K,
     bay: &mut B,
 ) -> Status
-    ensures concludes { Concludes (S.reads source.old) (S.reads source.new) (K.writes sink.old) (K.writes sink.new) (refusals_around (refusals_of (B.past bay.old)) (refusals_of (B.past bay.new)))
-        (ledger_of B.Bay bay.old) (ledger_of B.Bay bay.new) result }
-    ensures usage { (result ≡ Status.Usage) ↔ (IsReplay words.now → ⊥) }
+    ensures concludes { ConcludesAs (asked_in_words words.now) (S.reads source.old) (S.reads source.new) (K.writes sink.old) (K.writes sink.new)
+        (refusals_around (refusals_of (B.past bay.old)) (refusals_of (B.past bay.new))) (ledger_of B.Bay bay.old) (ledger_of B.Bay bay.new) result }
+    ensures usage { IsUsageBy (asked_in_words words.now) result }
     ensures reads { ReadsFailed (S.reads source.old) (S.reads source.new) result }
 
     // Every device was given back.
@@ -126,14 +195,8 @@ pub fn run_words<S: Source, K: Sink, B: Bay, C: Formats<B::Dev>>(
     // No switch was told anything, so each device that has one refused nothing and told its content to the end.
     ensures steady { ComeBackSteady (returned_by (B.past bay.old)) (returned_by (B.past bay.new)) }
 {
-    if !is_replay(words) {
-        send(sink, usage_text());
-        return Status::Usage;
-    }
-    match replay::<S, K, B, C>(alloc, source, sink, bay) {
-        Ending::Done => Status::Done,
-        Ending::Stopped(last) => conclude(alloc, sink, last),
-        Ending::WriteFault => Status::WriteFault,
-        Ending::OutOfMemory => Status::OutOfMemory,
+    match read_words(alloc, words) {
+        Ok(command) => run_command::<S, K, B, C>(alloc, command, source, sink, bay),
+        Err(_) => Status::OutOfMemory,
     }
 }

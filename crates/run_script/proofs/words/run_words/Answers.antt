@@ -1,30 +1,29 @@
-use Rattle.script_run.specs.Ledger.{ledger_of}
-use Rattle.std.proofs.Common.{[]}
+use Rattle.std.proofs.Common.{Option, subst}
+use Rattle.command_words.specs.Words.{Wish}
 use Rattle.device_bay.specs.Calls.{refusals_of}
+use Rattle.script_run.specs.Ledger.{ledger_of}
 use Rattle.run_promise.specs.Story.{refusals_around}
 use Rattle.edge_io.proofs.Draws.{draws_nothing}
-use Rattle.run_script.proofs.Halts.{grows_more}
-use Rattle.run_script.proofs.Tops.{concludes_stopped, reads_stopped, refusals_stopped}
+use Rattle.run_script.specs.Commands.{ConcludesAs, IsUsageBy}
+use Rattle.run_script.proofs.Commands.{unread_usage, unread_words}
 use Rattle.run_script.proofs.words.run_words.Goals as goal
 
-pub returns-in-Stopped-clause-concludes : goal.returns-in-Stopped-clause-concludes
-returns-in-Stopped-clause-concludes g c =
-    let bay = refusals_around (refusals_of (g.B.Bay.past c.args.bay.now)) (refusals_of (g.B.Bay.past c.replay.new.bay)) in
-    concludes_stopped _ _ _ (g.K.Sink.writes c.replay.new.sink) _ bay _ _ c.in-Stopped.last c.in-Stopped.ensures.begun c.in-Stopped.ensures.ends c.conclude.result c.conclude.ensures.said
+pub returns-in-Err-clause-concludes : goal.returns-in-Err-clause-concludes
+returns-in-Err-clause-concludes g c =
+    let past = g.B.Bay.past c.args.bay.now in
+    unread_words (g.S.Source.reads c.args.source.now) (g.K.Sink.writes c.args.sink.now) (refusals_around (refusals_of past) (refusals_of past)) (ledger_of g.B.Bay c.args.bay.now) _ c.in-Err.ensures.wanting
 
-pub returns-in-Stopped-clause-reads : goal.returns-in-Stopped-clause-reads
-returns-in-Stopped-clause-reads g c =
-    let ledger = ledger_of g.B.Bay c.args.bay.now in
-    let sink = g.K.Sink.writes c.replay.new.sink in
-    reads_stopped _ _ sink sink (g.K.Sink.writes c.conclude.new.sink) (refusals_around [] []) ledger ledger c.in-Stopped.last c.in-Stopped.ensures.reads c.conclude.result c.conclude.ensures.said
+pub returns-in-Err-clause-usage : goal.returns-in-Err-clause-usage
+returns-in-Err-clause-usage g c = unread_usage _
 
-pub returns-in-Stopped-clause-sink : goal.returns-in-Stopped-clause-sink
-returns-in-Stopped-clause-sink g c = grows_more _ _ _ c.replay.ensures.sink c.conclude.ensures.grows
+pub returns-in-Err-clause-source : goal.returns-in-Err-clause-source
+returns-in-Err-clause-source g c = draws_nothing g.S.Source.reads g.S.Source.left c.args.source.now
 
-pub returns-then-not-is_replay-clause-source : goal.returns-then-not-is_replay-clause-source
-returns-then-not-is_replay-clause-source g c = draws_nothing g.S.Source.reads g.S.Source.left c.args.source.now
+pub returns-in-Ok-clause-concludes : goal.returns-in-Ok-clause-concludes
+returns-in-Ok-clause-concludes g c =
+    subst (λ (wish : Option Wish). ConcludesAs wish (g.S.Source.reads c.args.source.now) (g.S.Source.reads c.run_command.new.source) (g.K.Sink.writes c.args.sink.now) (g.K.Sink.writes c.run_command.new.sink)
+    (refusals_around (refusals_of (g.B.Bay.past c.args.bay.now)) (refusals_of (g.B.Bay.past c.run_command.new.bay))) (ledger_of g.B.Bay c.args.bay.now) (ledger_of g.B.Bay c.run_command.new.bay) c.run_command.result)
+    c.in-Ok.ensures.asked c.run_command.ensures.concludes
 
-pub returns-in-Stopped-clause-refusals : goal.returns-in-Stopped-clause-refusals
-returns-in-Stopped-clause-refusals g c =
-    let bay = refusals_around (refusals_of (g.B.Bay.past c.args.bay.now)) (refusals_of (g.B.Bay.past c.replay.new.bay)) in
-    refusals_stopped _ _ _ (g.K.Sink.writes c.replay.new.sink) _ bay _ _ c.in-Stopped.last c.in-Stopped.ensures.refusals c.in-Stopped.ensures.ends c.conclude.result c.conclude.ensures.said
+pub returns-in-Ok-clause-usage : goal.returns-in-Ok-clause-usage
+returns-in-Ok-clause-usage g c = subst (λ (wish : Option Wish). IsUsageBy wish c.run_command.result) c.in-Ok.ensures.asked c.run_command.ensures.usage

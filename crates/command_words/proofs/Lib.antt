@@ -1,0 +1,5 @@
+mod Turns
+mod Leaves
+mod Tells
+mod Parses
+mod Glue

@@ -1,0 +1,54 @@
+// The commands, as `clap` is told them.
+ghost use Rattle.std.specs.Prelude.{◌≡◌, IfOk};
+ghost use Rattle.clap.specs.Words.{app_of, new_app};
+ghost use Rattle.command_words.specs.Line.{bare_app, command_app, named_app, with_command};
+
+use clap::{Arg, Command};
+use std::alloc::{AllocError, Global};
+
+/// The command line with no command yet: `--help` is no flag of clap's, and `help` no command.
+fn bare<'a>(alloc: Global) -> Command<'a>
+    ensures { app_of result ≡ bare_app }
+{
+    Command::new(alloc, "cache_tool")
+        .no_binary_name(true)
+        .disable_help_flag(true)
+        .disable_help_subcommand(true)
+        .subcommand_required(true)
+}
+
+/// Adds a command that takes no parameter.
+fn with_plain<'a>(
+    alloc: Global,
+    above: Command<'a>,
+    verb: &'a str,
+) -> Result<Command<'a>, AllocError>
+    ensures { IfOk result (λ c. app_of c ≡ with_command (app_of above.entry) (new_app verb.now)) }
+{
+    let command = Command::new(alloc, verb);
+    let all = above.subcommand(command)?;
+    Ok(all)
+}
+
+/// Adds a command that takes the name of a device.
+fn with_named<'a>(
+    alloc: Global,
+    above: Command<'a>,
+    verb: &'a str,
+) -> Result<Command<'a>, AllocError>
+    ensures { IfOk result (λ c. app_of c ≡ with_command (app_of above.entry) (named_app verb.now)) }
+{
+    let name = Arg::new(alloc, "name").required(true);
+    let command = Command::new(alloc, verb).arg(name)?;
+    let all = above.subcommand(command)?;
+    Ok(all)
+}
+
+/// The command line with all commands.
+pub(crate) fn line<'a>(alloc: Global) -> Result<Command<'a>, AllocError>
+    ensures { IfOk result (λ c. app_of c ≡ command_app) }
+{
+    let replay = with_plain(alloc, bare(alloc), "replay")?;
+    let all = with_named(alloc, replay, "inspect")?;
+    Ok(all)
+}

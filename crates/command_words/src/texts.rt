@@ -1,0 +1,24 @@
+// What the program prints of itself.
+ghost use Rattle.std.specs.Prelude.{◌≡◌};
+ghost use Rattle.command_words.specs.Texts.{help_text, version_text};
+
+/// What the commands are.
+#[tactic(auto, unfolding(crate::specs::Texts::help_text))]
+pub fn help_text() -> &'static str
+    ensures { result.now ≡ help_text }
+{
+    "cache_tool: a disk cache that is proved\n\n\
+     cache_tool replay < SCRIPT      runs a script: one line of output for each step\n\
+     cache_tool --help, -h           prints this\n\
+     cache_tool --version, -V        prints the version, and the toolchain that it is proved with\n\n\
+     Exit status: 0 done, 2 no such command, 3 bad line, 4 read fault, 5 write fault, 6 no device,\n\
+     7 line too long, 8 nothing to open, 9 out of memory, 10 too many lines.\n"
+}
+
+/// The version of the program, and the toolchain that it is proved with.
+#[tactic(auto, unfolding(crate::specs::Texts::version_text))]
+pub fn version_text() -> &'static str
+    ensures { result.now ≡ version_text }
+{
+    "cache_tool 0.9 (rattle-kit-13f logic dac8208d650f15bf)\n"
+}

@@ -1,0 +1,14 @@
+use Rattle.edge_io.proofs.Draws.{draws_nothing}
+use Rattle.run_script.proofs.words.run_command.Goals as goal
+
+pub returns-in-Some-Help-clause-source : goal.returns-in-Some-Help-clause-source
+returns-in-Some-Help-clause-source g c = draws_nothing g.S.Source.reads g.S.Source.left c.args.source.now
+
+pub returns-in-Some-Version-clause-source : goal.returns-in-Some-Version-clause-source
+returns-in-Some-Version-clause-source g c = draws_nothing g.S.Source.reads g.S.Source.left c.args.source.now
+
+pub returns-in-Some-Inspect-clause-source : goal.returns-in-Some-Inspect-clause-source
+returns-in-Some-Inspect-clause-source g c = draws_nothing g.S.Source.reads g.S.Source.left c.args.source.now
+
+pub returns-in-None-clause-source : goal.returns-in-None-clause-source
+returns-in-None-clause-source g c = draws_nothing g.S.Source.reads g.S.Source.left c.args.source.now
