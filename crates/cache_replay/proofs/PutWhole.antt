@@ -13,17 +13,17 @@ use Rattle.call_laws.specs.Moments.{At, Facts, IsToldAt, OfState}
 use Rattle.call_laws.specs.Progress.{AllDone}
 use Rattle.call_laws.specs.Serves.{ServesFrom, ServesTold}
 use Rattle.call_laws.specs.Whole.{LeavesListed}
-use Rattle.call_laws.proofs.Accounts.{none_written}
 use Rattle.call_laws.proofs.Grown.{one_spends}
 use Rattle.call_laws.proofs.Joined.{call_still}
 use Rattle.call_laws.proofs.Kept.{serves_told}
 use Rattle.call_laws.proofs.Known.{serves_carries, serves_known}
 use Rattle.call_laws.proofs.Served.{serves_fails, serves_then}
-use Rattle.cache_calls.specs.declared.calls.Receipt.{Receipt}
-use Rattle.cache_calls.specs.declared.calls.Refusal.{Refusal}
-use Rattle.cache_calls.specs.declared.calls.Refusal.TheVariants as refusal
+use Rattle.cache_answers.specs.declared.answers.Receipt.{Receipt}
+use Rattle.cache_answers.specs.declared.answers.Refusal.{Refusal}
+use Rattle.cache_answers.specs.declared.answers.Refusal.TheVariants as refusal
 use Rattle.cache_calls.specs.Actors.{WriterSeen}
-use Rattle.cache_calls.specs.Adds.{AddsOnly, IsOfPut}
+use Rattle.cache_model.specs.Subjects.{IsOfPut}
+use Rattle.cache_calls.specs.Adds.{AddsOnly}
 use Rattle.cache_calls.specs.Asked.{given_up_at}
 use Rattle.cache_calls.specs.Keeping.{state_at}
 use Rattle.cache_calls.specs.Writers.{GivesUp}
@@ -60,7 +60,6 @@ over_serves now a put known quiet = call_still (record { kept = refl; past = ref
   from = λ k. inl (record {
     spends = one_spends p (state_at a) (GiveUp put) [] Done (DoesGiveUp.over quiet k.1 refl);
     behind = k.0;
-    buffers = λ syncs. none_written AllDone p (state_at a) earlier [];
   });
 })
 

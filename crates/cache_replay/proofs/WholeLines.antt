@@ -14,7 +14,8 @@ use Rattle.cache_model.specs.Vectors.{AreTold}
 use Rattle.call_laws.specs.Moments.{At, permit_of}
 use Rattle.call_laws.proofs.Joined.{state_behind}
 use Rattle.cache_calls.specs.declared.calls.Calls.{Ghosts as CallsGhosts}
-use Rattle.cache_calls.specs.Adds.{AddsOnly, IsOfReader}
+use Rattle.cache_model.specs.Subjects.{IsOfReader}
+use Rattle.cache_calls.specs.Adds.{AddsOnly}
 use Rattle.cache_calls.specs.Keeping.{IsAtRest, StaysUnharmed, plain_setting, state_at}
 use Rattle.cache_calls.proofs.Keeping.{plain_has_steps}
 use Rattle.cache_calls.proofs.Others.{reads_leave_others}
@@ -27,7 +28,6 @@ use Rattle.cache_replay.specs.Getting.{GetIsAnswered, StaysSound}
 use Rattle.line_calls.specs.Moves.{MovesOrShows, ShowsIn}
 use Rattle.line_calls.specs.Standing.{OwnStands}
 use Rattle.line_calls.proofs.Whole.{shows_line, turn_by}
-
 
 module _ {S W R : Type 0} (c : CallsGhosts S W R) (run : Run) (now : ℕ) (a b : S) (key : Key) (request : List Field) (plain : (c.at a).setting ≡ plain_setting)
     (moment : run.now ≡ now) (rest : IsAtRest (c.at a)) (told : AreTold (state_at (c.at a))) (own : AreOwn (state_at (c.at a)) run.streams)

@@ -42,10 +42,11 @@ use Rattle.call_laws.proofs.Grown.{shown_first}
 use Rattle.call_laws.proofs.Joined.{call_as, call_then, state_behind}
 use Rattle.call_laws.proofs.Kept.{tells_or_not}
 use Rattle.cache_calls.specs.declared.calls.Calls.{Ghosts as CallsGhosts}
-use Rattle.cache_calls.specs.declared.calls.NextPiece.{NextPiece}
-use Rattle.cache_calls.specs.declared.calls.NextPiece.TheVariants as piece
+use Rattle.cache_answers.specs.declared.answers.NextPiece.{NextPiece}
+use Rattle.cache_answers.specs.declared.answers.NextPiece.TheVariants as piece
 use Rattle.cache_calls.specs.Actors.{IsReaderOf, ReaderSeen, as_row, row_by}
-use Rattle.cache_calls.specs.Adds.{AddsOnly, IsOfReader}
+use Rattle.cache_model.specs.Subjects.{IsOfReader}
+use Rattle.cache_calls.specs.Adds.{AddsOnly}
 use Rattle.cache_calls.specs.Keeping.{IsAtRest, IsPlain, state_at}
 use Rattle.cache_calls.specs.Readers.{GoesOnReading, HasRead, IsBehindAnswer, IsFragment, IsGivenAs, IsToldTo, ReaderGoesOn, listed_length, next_trouble, noted, read_adds}
 use Rattle.cache_calls.specs.Standing.{GivesAsTold, GivesPayload, StaysStanding}
@@ -226,7 +227,7 @@ pub knows_then : {now : ℕ} {run : Run} {asks : List Intent} {stands : Contents
     → all (record { step = p; earlier = earlier; calls = more ++ calls; state = state_of first.kept; added = added ++ others })
     ⊎ ShowsPair (Untold b.device (IsPlacedAs run.streams)) p (state_of first.kept) asks (added ++ others))
     → IsCall now first a (Knowing stands a.device run asks one) → IsCall now a b last → IsCall now first b (Knowing stands b.device run asks all)
-knows_then {run = run} {asks = asks} {first = first} {a = a} {b = b} goes law f l = call_then (λ p earlier calls more added others tells known next. λ is standing.
+knows_then {run = run} {asks = asks} {first = first} {a = a} {b = b} goes law f l = call_then (λ p earlier calls more added others known next. λ is standing.
     elim (known is standing) [
       | inr pair ↦ inr (later_shows run.streams a.device b.device goes p (state_of first.kept) asks (added ++ others)
           (shown_first (Untold a.device (IsPlacedAs run.streams)) p (state_of first.kept) (to_do asks) added others pair))

@@ -60,13 +60,6 @@ covers_in {p = p} {earlier = earlier} {calls = calls} before after is h = record
     own = all_are (λ call. IsAmong call p.events) calls
         (λ x among. subst (IsAmong x) (sym h.events) (among_behind x h.later (calls ++ earlier) (among_front x calls earlier among)))
 
--- no step of such a cache syncs
-pub never_syncs : {packed : Bool} {past : List Call} {p : Permit} → IsSetBy (unsynced_setting packed) past p → p.syncs ≡ true → ⊥
-never_syncs set syncs = clash (sym set.syncs ∙ syncs)
-  where
-    clash : false ≡ true → ⊥
-    clash e = cc
-
 -- ---- records
 
 -- the same records
@@ -141,7 +134,6 @@ module _ {packed : Bool} {k l : Kept} {d e : Device} (accounted : IsAccounted d.
             | inl v ↦ inl (record {
               spends = v.0;
               behind = subst (known (so_far p (calls ++ earlier))) (state_behind k l added adds) (v.1 (so_far p (calls ++ earlier)));
-              buffers = λ syncs. absurd (never_syncs step.set syncs);
             })
             | inr pair ↦ inr pair
           ];
