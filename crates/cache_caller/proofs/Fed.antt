@@ -24,7 +24,7 @@ use Rattle.cache_model.proofs.Steps.{after_all-append}
 use Rattle.call_laws.specs.Moments.{At, permit_of}
 use Rattle.call_laws.proofs.Joined.{state_behind}
 use Rattle.cache_calls.specs.Actors.{IsAtHand, IsWriterOf, WriterSeen}
-use Rattle.cache_calls.specs.Adds.{IsOfFlush}
+use Rattle.cache_model.specs.Subjects.{IsOfFlush}
 use Rattle.cache_calls.specs.Asked.{fills_fragment, gathered_with, rest_rows, rows_at_close}
 use Rattle.cache_calls.specs.Keeping.{KeepsUnharmed, state_at}
 use Rattle.cache_calls.specs.Writers.{CutsAs, HasBegun, HasTaken, IsPushedOut, TakesBytes, fragment_records, opened_writer_record, piece_cut_next}

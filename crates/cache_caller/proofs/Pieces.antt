@@ -4,7 +4,7 @@ use Rattle.std.specs.Prelude.{min}
 use Rattle.std.proofs.lemmas.List.{length-take}
 use Rattle.logged_disk.specs.Device.{IsAfter}
 use Rattle.call_laws.specs.Moments.{At, permit_of}
-use Rattle.cache_calls.specs.declared.calls.NextPiece.TheVariants as piece
+use Rattle.cache_answers.specs.declared.answers.NextPiece.TheVariants as piece
 use Rattle.cache_calls.specs.Actors.{ReaderSeen}
 use Rattle.cache_calls.specs.Keeping.{IsPlain, state_at}
 use Rattle.cache_calls.specs.Readers.{IsFragment, ReadsNext}

@@ -2,8 +2,8 @@
 use Rattle.std.specs.Prelude.{ℕ, ◌≡◌, false}
 use Rattle.cache_model.specs.State.{State}
 use Rattle.cache_model.specs.Legal.{is_writing}
-use Rattle.cache_calls.specs.declared.calls.Refusal.{Refusal}
-use Rattle.cache_calls.specs.declared.calls.Refusal.TheVariants as refusal
+use Rattle.cache_answers.specs.declared.answers.Refusal.{Refusal}
+use Rattle.cache_answers.specs.declared.answers.Refusal.TheVariants as refusal
 
 -- it is not open, unless memory was wanting
 abbrev pub RefusedIsOver : State → ℕ → Refusal → Type 0

@@ -15,7 +15,8 @@ use Rattle.cache_model.proofs.ByNumber.{find-changed, find-without}
 use Rattle.call_laws.specs.Moments.{At}
 use Rattle.call_laws.proofs.Joined.{state_behind}
 use Rattle.cache_calls.specs.Actors.{IsAtHand, IsOpenReader, IsReaderOf, IsWriterOf, ReaderSeen, WriterSeen}
-use Rattle.cache_calls.specs.Adds.{AddsOnly, IsOfPut, IsOfReader}
+use Rattle.cache_model.specs.Subjects.{IsOfPut, IsOfReader}
+use Rattle.cache_calls.specs.Adds.{AddsOnly}
 use Rattle.cache_calls.specs.Keeping.{state_at}
 use Rattle.cache_calls.specs.Others.{LeavesOtherReaders, LeavesOthers}
 

@@ -7,8 +7,8 @@ use Rattle.cache_model.specs.State.{State, most_fragments}
 use Rattle.cache_model.specs.Permit.{Commit, Exhausted, Faulted, Finish, Fragment, GiveUp, Intent, Lost, ManyFragments, ManyWriters, Overflow, TooLarge, Weigh}
 use Rattle.cache_model.specs.Legal.{is_writing}
 use Rattle.call_laws.specs.Progress.{AllDone, Leaves, Progress, Stops, progress_by}
-use Rattle.cache_calls.specs.declared.calls.Refusal.{Refusal}
-use Rattle.cache_calls.specs.declared.calls.Refusal.TheVariants as refusal
+use Rattle.cache_answers.specs.declared.answers.Refusal.{Refusal}
+use Rattle.cache_answers.specs.declared.answers.Refusal.TheVariants as refusal
 use Rattle.cache_calls.specs.Actors.{WriterSeen}
 
 -- ---- writers

@@ -3,7 +3,8 @@ use Rattle.std.specs.Prelude.{ℕ, ◌≡◌}
 use Rattle.cache_model.specs.State.{State, put_of, reader_of}
 use Rattle.call_laws.specs.Moments.{At}
 use Rattle.cache_calls.specs.Actors.{IsOpenReader, IsReaderOf, IsWriterOf, ReaderSeen, WriterSeen}
-use Rattle.cache_calls.specs.Adds.{AddsOnly, IsOfPut, IsOfReader}
+use Rattle.cache_model.specs.Subjects.{IsOfPut, IsOfReader}
+use Rattle.cache_calls.specs.Adds.{AddsOnly}
 use Rattle.cache_calls.specs.Keeping.{state_at}
 
 -- ---- writers

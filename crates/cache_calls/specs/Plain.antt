@@ -8,14 +8,15 @@ use Rattle.cache_model.specs.State.{State, floor_now}
 use Rattle.cache_model.specs.Verdict.{cause_of_miss, live_vector_of}
 use Rattle.cache_model.specs.Room.{copies_end, is_flush_exhausted, limit}
 use Rattle.call_laws.specs.Moments.{At}
-use Rattle.cache_calls.specs.declared.calls.Flushed.{Flushed}
-use Rattle.cache_calls.specs.declared.calls.Refusal.{Refusal}
-use Rattle.cache_calls.specs.declared.calls.Refusal.TheVariants as refusal
-use Rattle.cache_calls.specs.declared.calls.Removal.{Removal}
-use Rattle.cache_calls.specs.declared.calls.Removal.TheVariants as removal
+use Rattle.cache_answers.specs.declared.answers.Flushed.{Flushed}
+use Rattle.cache_answers.specs.declared.answers.Refusal.{Refusal}
+use Rattle.cache_answers.specs.declared.answers.Refusal.TheVariants as refusal
+use Rattle.cache_answers.specs.declared.answers.Removal.{Removal}
+use Rattle.cache_answers.specs.declared.answers.Removal.TheVariants as removal
 use Rattle.cache_calls.specs.Adds.{AddsAll, IsAsItWas}
 use Rattle.cache_calls.specs.Keeping.{IsIdle, state_at}
-use Rattle.cache_calls.specs.Writers.{LiveBefore, StopsByFault}
+use Rattle.cache_model.specs.Live.{LiveBefore}
+use Rattle.cache_calls.specs.Writers.{StopsByFault}
 
 -- ---- a removal
 

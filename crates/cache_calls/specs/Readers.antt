@@ -20,22 +20,17 @@ use Rattle.cache_model.specs.Verdict.{cause_of_miss, cause_of_piece, live_vector
 use Rattle.cache_model.specs.Permit.{Permit}
 use Rattle.cache_model.specs.Given.{IsDocumentOf}
 use Rattle.cache_model.specs.Legal.{IsAsListed, IsUnlike, answer_record, live_next}
+use Rattle.cache_model.specs.Troubles.{cause_records}
 use Rattle.call_laws.specs.Moments.{At, BothFacts, Encloses, Facts, IsToldAt, OfState}
-use Rattle.cache_calls.specs.declared.calls.NextPiece.{NextPiece}
-use Rattle.cache_calls.specs.declared.calls.NextPiece.TheVariants as piece
-use Rattle.cache_calls.specs.declared.calls.Opened.{Opened}
-use Rattle.cache_calls.specs.declared.calls.Opened.TheVariants as opened
+use Rattle.cache_answers.specs.declared.answers.NextPiece.{NextPiece}
+use Rattle.cache_answers.specs.declared.answers.NextPiece.TheVariants as piece
+use Rattle.cache_answers.specs.declared.answers.Opened.{Opened}
+use Rattle.cache_answers.specs.declared.answers.Opened.TheVariants as opened
 use Rattle.cache_calls.specs.Actors.{IsOpenReader, IsReaderOf, ReaderSeen, as_row}
 use Rattle.cache_calls.specs.Adds.{AddsAll, AddsFault, IsAsItWas}
 use Rattle.cache_calls.specs.Keeping.{AreSeen, state_at}
 
 -- ---- troubles
-
--- the record of what kept a live piece from being read
-abbrev pub cause_records : Row → Cause → List Rec
-cause_records row (cause.DeviceFault count) = rec.Fault count ∷ []
-cause_records row (cause.Damaged place kept found) = rec.Damaged row.id row.place kept found ∷ []
-cause_records row _ = []
 
 -- a fault that is told as a cause was recorded, with its count
 abbrev pub IsCountedCause : (old new : At) → Cause → Type 0

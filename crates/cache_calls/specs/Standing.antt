@@ -8,9 +8,9 @@ use Rattle.cache_model.specs.Verdict.{cuts_of}
 use Rattle.cache_model.specs.Legal.{live_next}
 use Rattle.cache_model.specs.Contents.{Contents, TellsVectors}
 use Rattle.call_laws.specs.Moments.{At}
-use Rattle.cache_calls.specs.declared.calls.NextPiece.{NextPiece}
-use Rattle.cache_calls.specs.declared.calls.NextPiece.TheVariants as piece
-use Rattle.cache_calls.specs.declared.calls.Refusal.{Refusal}
+use Rattle.cache_answers.specs.declared.answers.NextPiece.{NextPiece}
+use Rattle.cache_answers.specs.declared.answers.NextPiece.TheVariants as piece
+use Rattle.cache_answers.specs.declared.answers.Refusal.{Refusal}
 use Rattle.cache_calls.specs.Actors.{ReaderSeen, WriterSeen, as_row}
 use Rattle.cache_calls.specs.Asked.{fills_fragment, gathered_with}
 use Rattle.cache_calls.specs.Keeping.{state_at}

@@ -1,5 +1,5 @@
 -- What writers are answered, and what then stands in the records.
-use Rattle.std.specs.Prelude.{ℕ, ◌≡◌, ◌+◌, ◌<◌, ◌≤◌, ◌⊎◌, ◌==◌, true, false, if◌then◌else◌, List, [], ◌∷◌, ◌++◌, length, Some, Result, Ok, Err, IfErr, MatchBool}
+use Rattle.std.specs.Prelude.{ℕ, ◌≡◌, ◌+◌, ◌<◌, ◌≤◌, ◌⊎◌, ◌==◌, true, false, if◌then◌else◌, List, [], ◌∷◌, ◌++◌, length, Result, Ok, Err, IfErr, MatchBool}
 use Rattle.std.specs.List.{AllByRecursion}
 use Rattle.tape_base.specs.declared.actors.Actor.{Actor}
 use Rattle.tape_base.specs.declared.geometries.Geometry.{Geometry}
@@ -13,17 +13,20 @@ use Rattle.alternate_vector.specs.Field.{Field}
 use Rattle.alternate_vector.specs.Alternates.{Stored, vector_size}
 use Rattle.cache_model.specs.declared.record.Rec.{Rec}
 use Rattle.cache_model.specs.declared.record.Rec.TheVariants as rec
-use Rattle.cache_model.specs.State.{Row, State, after_all, fragment_piece, live_row_of, most_fragments, place_now}
+use Rattle.cache_model.specs.State.{State, after_all, fragment_piece, most_fragments}
 use Rattle.cache_model.specs.Verdict.{cause_of_piece, cuts_of}
 use Rattle.cache_model.specs.Legal.{is_writing, most_writers, open_writers, vector_length}
 use Rattle.cache_model.specs.Permit.{Permit, Setting}
-use Rattle.cache_model.specs.Room.{MayDisplace, copies_end, has_room, limit, placed_record}
+use Rattle.cache_model.specs.Room.{MayDisplace, has_room, limit, placed_record}
+use Rattle.cache_model.specs.Limits.{ReachesLimit}
+use Rattle.cache_model.specs.Live.{LiveBefore}
 use Rattle.call_laws.specs.Moments.{At, Facts, OfState}
-use Rattle.cache_calls.specs.declared.calls.Receipt.{Receipt}
-use Rattle.cache_calls.specs.declared.calls.Refusal.{Refusal}
-use Rattle.cache_calls.specs.declared.calls.Refusal.TheVariants as refusal
+use Rattle.cache_answers.specs.declared.answers.Receipt.{Receipt}
+use Rattle.cache_answers.specs.declared.answers.Refusal.{Refusal}
+use Rattle.cache_answers.specs.declared.answers.Refusal.TheVariants as refusal
 use Rattle.cache_calls.specs.Actors.{IsWriterOf, WriterSeen}
-use Rattle.cache_calls.specs.Adds.{AddsAll, AddsFault, AddsOnly, IsAsItWas, IsOfFlush}
+use Rattle.cache_model.specs.Subjects.{IsOfFlush}
+use Rattle.cache_calls.specs.Adds.{AddsAll, AddsFault, AddsOnly, IsAsItWas}
 use Rattle.cache_calls.specs.Keeping.{state_at}
 use Rattle.cache_calls.specs.Asked.{fills_fragment, gathered_with, next_payload, rows_at_close, taken_of}
 
@@ -61,28 +64,6 @@ OpensAs seen old new opened (Err why) = IsAsItWas old new × OpensNone (state_at
 pub record OpensWriter {W : Type 0} (seen : W → WriterSeen) (old new : At) (opened : Rec) (result : Result W Refusal) : Type 0 where
   pub answers : OpensAs seen old new opened result
   pub still : new.device ≡ old.device
-
--- ---- places
-
--- the same piece, where it stood or at another place
-pub record IsSamePiece (before row : Row) : Type 0 where
-  pub id : row.id ≡ before.id
-  pub blocks : row.blocks ≡ before.blocks
-  pub payload : row.payload ≡ before.payload
-  pub pin : row.pin ≡ before.pin
-  pub alternates : row.alternates ≡ before.alternates
-
--- what is live then was live before
-abbrev pub LiveBefore : State → State → Type 0
-LiveBefore s t = (id : PieceId) (row : Row) → live_row_of t id ≡ Some row → (before : Row) × (live_row_of s id ≡ Some before) × IsSamePiece before row
-
--- where a piece of so many bytes would end; or where it has no room, where the copies of the flush that it needs would end at most
-abbrev pub number_over : State → ℕ → ℕ
-number_over t bytes = if has_room t bytes then place_now t + blocks_of bytes else copies_end t
-
--- that is the number, and it is the limit or above
-abbrev pub ReachesLimit : State → ℕ → ℕ → Type 0
-ReachesLimit t bytes number = (number ≡ number_over t bytes) × (limit ≤ number)
 
 -- a call that stops at the limit, when a piece of so many bytes was to be placed, tells that number
 abbrev pub StopsAtLimit : State → ℕ → Refusal → Type 0

@@ -1,4 +1,4 @@
-// The calls of a cache, and what they answer.
+// The calls of a cache.
 ghost use Rattle.std.specs.Prelude.{ℕ, ◌≡◌, ◌*◌, ◌⊎◌, [], ◌∷◌, IfOk, length};
 ghost use Rattle.tape_base.specs.Geometry.{budget_of};
 ghost use Rattle.cache_model.specs.Legal.{is_writing};
@@ -10,7 +10,8 @@ ghost use Rattle.cache_model.specs.Contents.{AnyContents, AreRecordedAs, Content
 ghost use Rattle.call_laws.specs.Moments.{At, IsToldAt, NothingKnown};
 ghost use Rattle.call_laws.specs.Serves.{ServesFrom, ServesTold};
 ghost use Rattle.cache_calls.specs.Actors.{IsOpenReader, IsWriterOf, ReaderSeen, WriterSeen};
-ghost use Rattle.cache_calls.specs.Adds.{AddsOnly, AddsSoundly, IsOfFlush, IsOfPut, IsOfReader};
+ghost use Rattle.cache_model.specs.Subjects.{IsOfFlush, IsOfPut, IsOfReader};
+ghost use Rattle.cache_calls.specs.Adds.{AddsOnly, AddsSoundly};
 ghost use Rattle.cache_calls.specs.Asked.{close_asks, given_up_at, progress_at, unless_wanting, write_asks};
 ghost use Rattle.cache_calls.specs.Keeping.{Goes, IsAtRest, KeepsUnharmed, StaysUnharmed, state_at};
 ghost use Rattle.cache_calls.specs.Plain.{Flushes, Removes};
@@ -19,83 +20,9 @@ ghost use Rattle.cache_calls.specs.Readers.{ClosesReader, HasItsTable, IsOtherNe
 ghost use Rattle.cache_calls.specs.Writers.{Closes, GivesUp, NumberAtClose, OpensWriter, WriterCloses, WriterGoesOn, Writes, opened_writer_record};
 
 use alternate_vector::Fields;
-use cache_model::Cause;
+use cache_answers::{Flushed, NextPiece, Opened, Receipt, Refusal, Removal};
 use std::alloc::AllocError;
 use tape_base::{Actor, Geometry, Key};
-
-/// Why a call did less than it was asked.
-#[derive(Clone, Copy, Debug, PartialEq, Eq)]
-pub enum Refusal {
-    /// As many writers are open as may be.
-    TooManyWriters,
-    /// A put would have more fragments than may be.
-    TooManyFragments,
-    /// The vector of the new alternate alone would have so many bytes.
-    VectorTooLarge { bytes: u64 },
-    /// The fragment of this index is not live any more.
-    Lost { index: u32, cause: Cause },
-    /// The device refused a call, and its count of faults then stood at `count`.
-    DeviceFault { count: u64 },
-    /// The writer was closed in vain, and takes no more bytes.
-    Sealed,
-    /// This place or number would reach the limit.
-    Exhausted { number: u64 },
-    /// No writer of that put is open.
-    NoSuchWriter,
-    Memory(AllocError),
-}
-
-/// What came of a put that was closed.
-#[derive(Clone, Copy, Debug, PartialEq, Eq)]
-pub struct Receipt {
-    pub put: u64,
-    /// The bytes of its body.
-    pub length: u64,
-    pub fragments: u32,
-}
-
-/// What came of a removal.
-#[derive(Clone, Copy, Debug, PartialEq, Eq)]
-pub enum Removal {
-    /// The object of this put was removed.
-    Removed { put: u64 },
-    /// There was none, for this cause.
-    Absent(Cause),
-}
-
-/// The buffer that was written out, and the one that began.
-#[derive(Clone, Copy, Debug, PartialEq, Eq)]
-pub struct Flushed {
-    /// How many blocks were written.
-    pub blocks: u32,
-    /// Where the buffer begins now.
-    pub cursor: u64,
-    /// The least place that may be read now.
-    pub floor: u64,
-}
-
-/// What came of a lookup.
-#[derive(Debug, Drop)]
-pub enum Opened<R> {
-    /// A stored alternate, whose body has so many bytes.
-    Hit { reader: R, put: u64, length: u64 },
-    /// An open writer, which the reader follows.
-    Follow { reader: R, put: u64 },
-    /// There is nothing to read, for this cause.
-    Miss(Cause),
-}
-
-/// What a reader is given.
-#[derive(Clone, Copy, Debug, PartialEq, Eq)]
-pub enum NextPiece {
-    /// A fragment, by its index from 1, of so many bytes.
-    Piece { index: u32, length: u32 },
-    /// All was given; the body has so many bytes.
-    End { length: u64 },
-    /// All of the fragments cut so far were given, and the writer is open.
-    NotYet { cut: u32 },
-    Broken(Cause),
-}
 
 /// A cache: objects by their keys, which are written and read in parts.
 ///

@@ -5,7 +5,8 @@ mod calls;
 mod formats;
 mod laws;
 
-pub use calls::{Calls, Flushed, NextPiece, Opened, Receipt, Refusal, Removal};
+pub use cache_answers::{Flushed, NextPiece, Opened, Receipt, Refusal, Removal};
+pub use calls::Calls;
 pub use formats::Formats;
 pub use laws::{
     added_faults_were_refused, calls_keep, others_stay, readers_stay, reads_leave_others,

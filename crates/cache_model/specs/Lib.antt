@@ -20,3 +20,7 @@ pub mod Openings
 pub mod Slots
 pub mod Syncs
 pub mod Forgetting
+pub mod Subjects
+pub mod Live
+pub mod Limits
+pub mod Troubles

@@ -20,9 +20,9 @@ use Rattle.call_laws.specs.Moments.{At, Facts, IsToldAt}
 use Rattle.call_laws.specs.Progress as progress
 use Rattle.call_laws.specs.Progress.{AllDone, EndsWith, Progress, Stops}
 use Rattle.call_laws.specs.Serves.{ServesFrom}
-use Rattle.cache_calls.specs.declared.calls.Receipt.{Receipt}
-use Rattle.cache_calls.specs.declared.calls.Refusal.{Refusal}
-use Rattle.cache_calls.specs.declared.calls.Refusal.TheVariants as refusal
+use Rattle.cache_answers.specs.declared.answers.Receipt.{Receipt}
+use Rattle.cache_answers.specs.declared.answers.Refusal.{Refusal}
+use Rattle.cache_answers.specs.declared.answers.Refusal.TheVariants as refusal
 use Rattle.cache_calls.specs.Actors.{WriterSeen}
 use Rattle.cache_calls.specs.Asked.{close_asks, ending_asks, progress_at, rest_asks, rest_rows, rows_at_close}
 use Rattle.cache_calls.specs.Keeping.{plain_setting, state_at}

@@ -11,10 +11,10 @@ use Rattle.cache_model.specs.declared.cause.Cause.TheVariants as cause
 use Rattle.cache_model.specs.State.{Complete, LastVector, Row, State, TakenOut, last_abort, last_vector, live_row_of, row_of, vector_piece}
 use Rattle.cache_model.specs.Verdict.{cause_of_beginning, cause_of_last, cause_of_miss, cause_of_piece, cause_without_vector, next_piece, no_match, no_record, passed}
 use Rattle.call_laws.specs.Moments.{At}
-use Rattle.cache_calls.specs.declared.calls.NextPiece.{NextPiece}
-use Rattle.cache_calls.specs.declared.calls.NextPiece.TheVariants as piece
-use Rattle.cache_calls.specs.declared.calls.Opened.{Opened}
-use Rattle.cache_calls.specs.declared.calls.Opened.TheVariants as opened
+use Rattle.cache_answers.specs.declared.answers.NextPiece.{NextPiece}
+use Rattle.cache_answers.specs.declared.answers.NextPiece.TheVariants as piece
+use Rattle.cache_answers.specs.declared.answers.Opened.{Opened}
+use Rattle.cache_answers.specs.declared.answers.Opened.TheVariants as opened
 use Rattle.cache_calls.specs.Actors.{ReaderSeen, as_row}
 use Rattle.cache_calls.specs.Keeping.{state_at}
 use Rattle.cache_calls.specs.Readers.{IsCountedBreak, IsCountedCause, IsCountedMiss, answer_in}

@@ -13,7 +13,8 @@ use Rattle.call_laws.specs.Serves.{ServesTold}
 use Rattle.call_laws.proofs.Joined.{state_behind}
 use Rattle.cache_calls.specs.declared.calls.Calls.{Ghosts as CallsGhosts}
 use Rattle.cache_calls.specs.Actors.{ReaderSeen}
-use Rattle.cache_calls.specs.Adds.{AddsAll, AddsOnly, IsOfReader}
+use Rattle.cache_model.specs.Subjects.{IsOfReader}
+use Rattle.cache_calls.specs.Adds.{AddsAll, AddsOnly}
 use Rattle.cache_calls.specs.Keeping.{IsAtRest, KeepsUnharmed}
 use Rattle.cache_calls.specs.Standing.{StaysStanding}
 use Rattle.script_grammar.specs.declared.step.Step.TheVariants as step

@@ -14,8 +14,8 @@ use Rattle.call_laws.specs.Moments.{At}
 use Rattle.call_laws.specs.Progress as progress
 use Rattle.call_laws.specs.Progress.{AllDone, EndsWith, Progress}
 use Rattle.call_laws.specs.Serves.{Serves}
-use Rattle.cache_calls.specs.declared.calls.Refusal.{Refusal}
-use Rattle.cache_calls.specs.declared.calls.Refusal.TheVariants as refusal
+use Rattle.cache_answers.specs.declared.answers.Refusal.{Refusal}
+use Rattle.cache_answers.specs.declared.answers.Refusal.TheVariants as refusal
 use Rattle.cache_calls.specs.Actors.{WriterSeen}
 use Rattle.cache_calls.specs.Adds.{IsAsItWas}
 use Rattle.cache_calls.specs.Keeping.{plain_setting, state_at}

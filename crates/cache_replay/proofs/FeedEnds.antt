@@ -13,10 +13,11 @@ use Rattle.logged_disk.specs.Device.{TellsAll}
 use Rattle.call_laws.specs.Moments.{At}
 use Rattle.call_laws.specs.Serves.{Serves}
 use Rattle.call_laws.proofs.Served.{serves_first}
-use Rattle.cache_calls.specs.declared.calls.Refusal.{Refusal}
-use Rattle.cache_calls.specs.declared.calls.Refusal.TheVariants as refusal
+use Rattle.cache_answers.specs.declared.answers.Refusal.{Refusal}
+use Rattle.cache_answers.specs.declared.answers.Refusal.TheVariants as refusal
 use Rattle.cache_calls.specs.Actors.{WriterSeen}
-use Rattle.cache_calls.specs.Adds.{AddsOnly, IsOfPut}
+use Rattle.cache_model.specs.Subjects.{IsOfPut}
+use Rattle.cache_calls.specs.Adds.{AddsOnly}
 use Rattle.cache_calls.specs.Asked.{cuts_next, gathered_with}
 use Rattle.cache_calls.specs.Keeping.{state_at}
 use Rattle.script_run.specs.Asked.{feed_intents, rest_behind, whole_fragments}

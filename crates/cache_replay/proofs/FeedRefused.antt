@@ -18,10 +18,11 @@ use Rattle.call_laws.specs.Progress.{Leaves, Progress, Stops, cleanups}
 use Rattle.call_laws.specs.Serves.{Serves}
 use Rattle.call_laws.proofs.Joined.{state_behind}
 use Rattle.call_laws.proofs.Served.{serves_refused}
-use Rattle.cache_calls.specs.declared.calls.Refusal.{Refusal}
-use Rattle.cache_calls.specs.declared.calls.Refusal.TheVariants as refusal
+use Rattle.cache_answers.specs.declared.answers.Refusal.{Refusal}
+use Rattle.cache_answers.specs.declared.answers.Refusal.TheVariants as refusal
 use Rattle.cache_calls.specs.Actors.{IsWriterOf, WriterSeen}
-use Rattle.cache_calls.specs.Adds.{AddsOnly, IsOfFlush, IsOfPut}
+use Rattle.cache_model.specs.Subjects.{IsOfFlush, IsOfPut}
+use Rattle.cache_calls.specs.Adds.{AddsOnly}
 use Rattle.cache_calls.specs.Asked.{cuts_next, gathered_with, next_payload, refused_at, taken_of, write_asks}
 use Rattle.cache_calls.specs.Keeping.{state_at}
 use Rattle.cache_calls.specs.Writers.{IsCutting, Writes}

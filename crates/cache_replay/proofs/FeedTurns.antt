@@ -8,9 +8,10 @@ use Rattle.cache_model.specs.Legal.{is_writing}
 use Rattle.cache_model.specs.Contents.{Contents}
 use Rattle.call_laws.specs.Moments.{At}
 use Rattle.call_laws.specs.Serves.{Serves}
-use Rattle.cache_calls.specs.declared.calls.Refusal.{Refusal}
+use Rattle.cache_answers.specs.declared.answers.Refusal.{Refusal}
 use Rattle.cache_calls.specs.Actors.{IsWriterOf, WriterSeen}
-use Rattle.cache_calls.specs.Adds.{AddsOnly, IsOfPut}
+use Rattle.cache_model.specs.Subjects.{IsOfPut}
+use Rattle.cache_calls.specs.Adds.{AddsOnly}
 use Rattle.cache_calls.specs.Asked.{gathered_with, refused_at, write_asks}
 use Rattle.cache_calls.specs.Keeping.{IsAtRest, KeepsUnharmed, state_at}
 use Rattle.cache_calls.specs.Standing.{IsToldNext, IsToldWritten, StaysStanding}

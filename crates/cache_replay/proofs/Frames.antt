@@ -14,7 +14,8 @@ use Rattle.call_laws.specs.Moments.{At}
 use Rattle.call_laws.proofs.Joined.{state_behind}
 use Rattle.cache_calls.specs.declared.calls.Calls.{Ghosts as CallsGhosts}
 use Rattle.cache_calls.specs.Actors.{IsAtHand, IsWriterOf, WriterSeen}
-use Rattle.cache_calls.specs.Adds.{AddsAll, AddsOnly, IsOfPut, IsOfReader}
+use Rattle.cache_model.specs.Subjects.{IsOfPut, IsOfReader}
+use Rattle.cache_calls.specs.Adds.{AddsAll, AddsOnly}
 use Rattle.cache_calls.specs.Keeping.{Goes, IsAtRest, state_at}
 use Rattle.cache_calls.specs.Others.{LeavesOtherReaders, LeavesOthers}
 use Rattle.cache_calls.proofs.Others.{others_stay, readers_stay, reads_leave_others}

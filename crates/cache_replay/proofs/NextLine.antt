@@ -25,12 +25,13 @@ use Rattle.call_laws.specs.Serves.{ServesFrom}
 use Rattle.call_laws.specs.Whole.{IsWholeStep}
 use Rattle.call_laws.proofs.Kept.{tells_or_not}
 use Rattle.cache_calls.specs.declared.calls.Calls.{Ghosts as CallsGhosts}
-use Rattle.cache_calls.specs.declared.calls.NextPiece.{NextPiece}
-use Rattle.cache_calls.specs.declared.calls.NextPiece.TheVariants as piece
+use Rattle.cache_answers.specs.declared.answers.NextPiece.{NextPiece}
+use Rattle.cache_answers.specs.declared.answers.NextPiece.TheVariants as piece
 use Rattle.cache_calls.specs.Actors.{IsOpenReader, IsReaderOf, ReaderSeen, as_row, row_by}
 use Rattle.cache_calls.specs.Keeping.{IsAtRest, IsPlain, StaysUnharmed, plain_setting, state_at}
 use Rattle.cache_calls.specs.Standing.{GivesAsTold}
-use Rattle.cache_calls.specs.Readers.{HasRead, IsFragment, IsGivenAs, IsGivenInEachStep, IsToldTo, cause_records, listed_length, next_trouble, noted, read_adds}
+use Rattle.cache_model.specs.Troubles.{cause_records}
+use Rattle.cache_calls.specs.Readers.{HasRead, IsFragment, IsGivenAs, IsGivenInEachStep, IsToldTo, listed_length, next_trouble, noted, read_adds}
 use Rattle.cache_calls.proofs.Keeping.{plain_has_steps}
 use Rattle.script_grammar.specs.declared.step.Step.TheVariants as step
 use Rattle.script_grammar.specs.declared.answer.StepAnswer.{StepAnswer}

@@ -17,10 +17,11 @@ use Rattle.call_laws.specs.Serves.{ServesFrom}
 use Rattle.call_laws.specs.Whole.{IsWholeStep}
 use Rattle.call_laws.proofs.Joined.{state_behind}
 use Rattle.cache_calls.specs.declared.calls.Calls.{Ghosts as CallsGhosts}
-use Rattle.cache_calls.specs.declared.calls.Opened.{Opened}
-use Rattle.cache_calls.specs.declared.calls.Opened.TheVariants as opened
+use Rattle.cache_answers.specs.declared.answers.Opened.{Opened}
+use Rattle.cache_answers.specs.declared.answers.Opened.TheVariants as opened
 use Rattle.cache_calls.specs.Actors.{IsOpenReader, IsReaderOf, ReaderSeen}
-use Rattle.cache_calls.specs.Adds.{AddsOnly, IsOfReader}
+use Rattle.cache_model.specs.Subjects.{IsOfReader}
+use Rattle.cache_calls.specs.Adds.{AddsOnly}
 use Rattle.cache_calls.specs.Keeping.{IsAtRest, KeepsUnharmed}
 use Rattle.cache_calls.specs.Readers.{HasLooked, IfReader, TellsReader, answer_in, length_in, open_adds}
 use Rattle.cache_calls.specs.Standing.{StaysStanding}

@@ -18,8 +18,8 @@ use Rattle.call_laws.specs.Progress as progress
 use Rattle.call_laws.specs.Progress.{AllDone, Progress, Stops}
 use Rattle.call_laws.specs.Serves.{ServesTold}
 use Rattle.call_laws.proofs.Joined.{state_behind}
-use Rattle.cache_calls.specs.declared.calls.Refusal.{Refusal}
-use Rattle.cache_calls.specs.declared.calls.Refusal.TheVariants as refusal
+use Rattle.cache_answers.specs.declared.answers.Refusal.{Refusal}
+use Rattle.cache_answers.specs.declared.answers.Refusal.TheVariants as refusal
 use Rattle.cache_calls.specs.Actors.{IsWriterOf, WriterSeen}
 use Rattle.cache_calls.specs.Adds.{IsAsItWas}
 use Rattle.cache_calls.specs.Asked.{refused_at}

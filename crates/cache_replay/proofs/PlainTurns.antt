@@ -18,10 +18,11 @@ use Rattle.call_laws.specs.Progress.EndsWith.{in_full, refused as stopped}
 use Rattle.call_laws.specs.Serves.{ServesTold}
 use Rattle.call_laws.proofs.Joined.{nothing_more}
 use Rattle.cache_calls.specs.declared.calls.Calls.{Ghosts as CallsGhosts}
-use Rattle.cache_calls.specs.declared.calls.Flushed.{Flushed}
-use Rattle.cache_calls.specs.declared.calls.Refusal.{Refusal}
-use Rattle.cache_calls.specs.declared.calls.Refusal.TheVariants as refusal
-use Rattle.cache_calls.specs.Adds.{AddsAll, AddsSoundly, IsAsItWas, IsOfFlush, IsOfPut}
+use Rattle.cache_answers.specs.declared.answers.Flushed.{Flushed}
+use Rattle.cache_answers.specs.declared.answers.Refusal.{Refusal}
+use Rattle.cache_answers.specs.declared.answers.Refusal.TheVariants as refusal
+use Rattle.cache_model.specs.Subjects.{IsOfFlush, IsOfPut}
+use Rattle.cache_calls.specs.Adds.{AddsAll, AddsSoundly, IsAsItWas}
 use Rattle.cache_calls.specs.Asked.{progress_at}
 use Rattle.cache_calls.specs.Keeping.{IsAtRest, KeepsUnharmed, state_at}
 use Rattle.cache_calls.specs.Plain.{FlushesAs, TellsFlushed}

@@ -17,9 +17,9 @@ use Rattle.call_laws.specs.Serves.{Serves, ServesFrom}
 use Rattle.call_laws.proofs.Joined.{call_as}
 use Rattle.call_laws.proofs.Known.{serves_known}
 use Rattle.call_laws.proofs.Served.{serves_short, serves_then}
-use Rattle.cache_calls.specs.declared.calls.Receipt.{Receipt}
-use Rattle.cache_calls.specs.declared.calls.Refusal.{Refusal}
-use Rattle.cache_calls.specs.declared.calls.Refusal.TheVariants as refusal
+use Rattle.cache_answers.specs.declared.answers.Receipt.{Receipt}
+use Rattle.cache_answers.specs.declared.answers.Refusal.{Refusal}
+use Rattle.cache_answers.specs.declared.answers.Refusal.TheVariants as refusal
 use Rattle.cache_calls.specs.Actors.{WriterSeen}
 use Rattle.cache_calls.specs.Asked.{close_asks, ending_asks, progress_at, rows_at_close}
 use Rattle.cache_calls.specs.Keeping.{state_at}

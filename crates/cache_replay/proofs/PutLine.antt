@@ -12,9 +12,9 @@ use Rattle.call_laws.specs.Progress
 use Rattle.call_laws.specs.Progress.{EndsWith}
 use Rattle.call_laws.specs.Serves.{ServesFrom}
 use Rattle.cache_calls.specs.declared.calls.Calls.{Ghosts as CallsGhosts}
-use Rattle.cache_calls.specs.declared.calls.Receipt.{Receipt}
-use Rattle.cache_calls.specs.declared.calls.Refusal.{Refusal}
-use Rattle.cache_calls.specs.declared.calls.Refusal.TheVariants as refusal
+use Rattle.cache_answers.specs.declared.answers.Receipt.{Receipt}
+use Rattle.cache_answers.specs.declared.answers.Refusal.{Refusal}
+use Rattle.cache_answers.specs.declared.answers.Refusal.TheVariants as refusal
 use Rattle.cache_calls.specs.Keeping.{IsAtRest, KeepsUnharmed}
 use Rattle.cache_calls.specs.Standing.{StaysStanding}
 use Rattle.script_grammar.specs.declared.answer.StepAnswer.{StepAnswer}

@@ -20,9 +20,9 @@ use Rattle.call_laws.proofs.Joined.{state_behind}
 use Rattle.call_laws.proofs.Kept.{told_serves}
 use Rattle.call_laws.proofs.Known.{serves_known}
 use Rattle.call_laws.proofs.Served.{serves_fails, serves_first}
-use Rattle.cache_calls.specs.declared.calls.Receipt.{Receipt}
-use Rattle.cache_calls.specs.declared.calls.Refusal.{Refusal}
-use Rattle.cache_calls.specs.declared.calls.Refusal.TheVariants as refusal
+use Rattle.cache_answers.specs.declared.answers.Receipt.{Receipt}
+use Rattle.cache_answers.specs.declared.answers.Refusal.{Refusal}
+use Rattle.cache_answers.specs.declared.answers.Refusal.TheVariants as refusal
 use Rattle.cache_calls.specs.Actors.{IsWriterOf, WriterSeen}
 use Rattle.cache_calls.specs.Adds.{IsAsItWas}
 use Rattle.cache_calls.specs.Asked.{refused_at}

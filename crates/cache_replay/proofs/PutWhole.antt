@@ -18,11 +18,12 @@ use Rattle.call_laws.proofs.Joined.{call_still}
 use Rattle.call_laws.proofs.Kept.{serves_told}
 use Rattle.call_laws.proofs.Known.{serves_carries, serves_known}
 use Rattle.call_laws.proofs.Served.{serves_fails, serves_then}
-use Rattle.cache_calls.specs.declared.calls.Receipt.{Receipt}
-use Rattle.cache_calls.specs.declared.calls.Refusal.{Refusal}
-use Rattle.cache_calls.specs.declared.calls.Refusal.TheVariants as refusal
+use Rattle.cache_answers.specs.declared.answers.Receipt.{Receipt}
+use Rattle.cache_answers.specs.declared.answers.Refusal.{Refusal}
+use Rattle.cache_answers.specs.declared.answers.Refusal.TheVariants as refusal
 use Rattle.cache_calls.specs.Actors.{WriterSeen}
-use Rattle.cache_calls.specs.Adds.{AddsOnly, IsOfPut}
+use Rattle.cache_model.specs.Subjects.{IsOfPut}
+use Rattle.cache_calls.specs.Adds.{AddsOnly}
 use Rattle.cache_calls.specs.Asked.{given_up_at}
 use Rattle.cache_calls.specs.Keeping.{state_at}
 use Rattle.cache_calls.specs.Writers.{GivesUp}

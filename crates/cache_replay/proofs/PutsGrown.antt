@@ -16,7 +16,8 @@ use Rattle.cache_model.proofs.Steps.{all_as}
 use Rattle.cache_model.specs.Contents.{Contents}
 use Rattle.call_laws.specs.Moments.{At}
 use Rattle.call_laws.proofs.Joined.{state_behind}
-use Rattle.cache_calls.specs.Adds.{AddsAll, AddsOnly, IsOfPut}
+use Rattle.cache_model.specs.Subjects.{IsOfPut}
+use Rattle.cache_calls.specs.Adds.{AddsAll, AddsOnly}
 use Rattle.cache_calls.specs.Keeping.{FallBelow, IsAtRest, state_at}
 use Rattle.line_calls.specs.Standing.{TellsPut, piece_content}
 use Rattle.cache_replay.proofs.Free.{unheard}

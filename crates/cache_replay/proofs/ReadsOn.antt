@@ -7,7 +7,8 @@ use Rattle.cache_model.specs.Contents.{AnyContents}
 use Rattle.call_laws.specs.Moments.{At}
 use Rattle.call_laws.proofs.Joined.{nothing_more}
 use Rattle.cache_calls.specs.declared.calls.Calls.{Ghosts as CallsGhosts}
-use Rattle.cache_calls.specs.Adds.{AddsOnly, IsOfReader}
+use Rattle.cache_model.specs.Subjects.{IsOfReader}
+use Rattle.cache_calls.specs.Adds.{AddsOnly}
 use Rattle.cache_calls.specs.Keeping.{KeepsUnharmed, state_at}
 use Rattle.cache_calls.specs.Standing.{StaysStanding}
 use Rattle.cache_calls.proofs.Keeping.{goes_still, goes_then}

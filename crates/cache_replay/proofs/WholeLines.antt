@@ -14,7 +14,8 @@ use Rattle.cache_model.specs.Vectors.{AreTold}
 use Rattle.call_laws.specs.Moments.{At, permit_of}
 use Rattle.call_laws.proofs.Joined.{state_behind}
 use Rattle.cache_calls.specs.declared.calls.Calls.{Ghosts as CallsGhosts}
-use Rattle.cache_calls.specs.Adds.{AddsOnly, IsOfReader}
+use Rattle.cache_model.specs.Subjects.{IsOfReader}
+use Rattle.cache_calls.specs.Adds.{AddsOnly}
 use Rattle.cache_calls.specs.Keeping.{IsAtRest, StaysUnharmed, plain_setting, state_at}
 use Rattle.cache_calls.proofs.Keeping.{plain_has_steps}
 use Rattle.cache_calls.proofs.Others.{reads_leave_others}

@@ -42,10 +42,11 @@ use Rattle.call_laws.proofs.Grown.{shown_first}
 use Rattle.call_laws.proofs.Joined.{call_as, call_then, state_behind}
 use Rattle.call_laws.proofs.Kept.{tells_or_not}
 use Rattle.cache_calls.specs.declared.calls.Calls.{Ghosts as CallsGhosts}
-use Rattle.cache_calls.specs.declared.calls.NextPiece.{NextPiece}
-use Rattle.cache_calls.specs.declared.calls.NextPiece.TheVariants as piece
+use Rattle.cache_answers.specs.declared.answers.NextPiece.{NextPiece}
+use Rattle.cache_answers.specs.declared.answers.NextPiece.TheVariants as piece
 use Rattle.cache_calls.specs.Actors.{IsReaderOf, ReaderSeen, as_row, row_by}
-use Rattle.cache_calls.specs.Adds.{AddsOnly, IsOfReader}
+use Rattle.cache_model.specs.Subjects.{IsOfReader}
+use Rattle.cache_calls.specs.Adds.{AddsOnly}
 use Rattle.cache_calls.specs.Keeping.{IsAtRest, IsPlain, state_at}
 use Rattle.cache_calls.specs.Readers.{GoesOnReading, HasRead, IsBehindAnswer, IsFragment, IsGivenAs, IsToldTo, ReaderGoesOn, listed_length, next_trouble, noted, read_adds}
 use Rattle.cache_calls.specs.Standing.{GivesAsTold, GivesPayload, StaysStanding}

@@ -8,10 +8,11 @@ use Rattle.cache_model.specs.Legal.{is_writing}
 use Rattle.call_laws.specs.Moments.{At}
 use Rattle.call_laws.specs.Progress.{AllDone, Progress, Stops, Wants}
 use Rattle.call_laws.specs.Serves.{Serves}
-use Rattle.cache_calls.specs.declared.calls.Refusal.{Refusal}
-use Rattle.cache_calls.specs.declared.calls.Refusal.TheVariants as refusal
+use Rattle.cache_answers.specs.declared.answers.Refusal.{Refusal}
+use Rattle.cache_answers.specs.declared.answers.Refusal.TheVariants as refusal
 use Rattle.cache_calls.specs.Actors.{IsWriterOf, WriterSeen}
-use Rattle.cache_calls.specs.Adds.{AddsOnly, IsAsItWas, IsOfPut}
+use Rattle.cache_model.specs.Subjects.{IsOfPut}
+use Rattle.cache_calls.specs.Adds.{AddsOnly, IsAsItWas}
 use Rattle.cache_calls.specs.Keeping.{state_at}
 use Rattle.script_run.specs.Asked.{feed_intents, rest_behind, whole_fragments}
 use Rattle.cache_replay.specs.Replies.{count_of_refusal}

@@ -16,8 +16,8 @@ use Rattle.call_laws.specs.Untold.{Untold}
 use Rattle.cache_model.specs.Contents.{AnyContents, Contents}
 use Rattle.call_laws.specs.Moments.{At, Encloses}
 use Rattle.call_laws.specs.Serves.{InStep, IsCall, Upshots}
-use Rattle.cache_calls.specs.declared.calls.NextPiece.{NextPiece}
-use Rattle.cache_calls.specs.declared.calls.NextPiece.TheVariants as piece
+use Rattle.cache_answers.specs.declared.answers.NextPiece.{NextPiece}
+use Rattle.cache_answers.specs.declared.answers.NextPiece.TheVariants as piece
 use Rattle.cache_calls.specs.declared.calls.Calls.{Ghosts as CallsGhosts}
 use Rattle.cache_calls.specs.Actors.{IsOpenReader, IsReaderOf, ReaderSeen}
 use Rattle.cache_calls.specs.Keeping.{StaysUnharmed, state_at}

@@ -10,11 +10,12 @@ use Rattle.call_laws.specs.Untold.{Untold}
 use Rattle.call_laws.specs.Moments.{At, Facts, IsToldAt, OfState}
 use Rattle.call_laws.specs.Progress.{AllDone, Progress, Stops}
 use Rattle.call_laws.specs.Serves.{ServesFrom}
-use Rattle.cache_calls.specs.declared.calls.Receipt.{Receipt}
-use Rattle.cache_calls.specs.declared.calls.Refusal.{Refusal}
-use Rattle.cache_calls.specs.declared.calls.Refusal.TheVariants as refusal
+use Rattle.cache_answers.specs.declared.answers.Receipt.{Receipt}
+use Rattle.cache_answers.specs.declared.answers.Refusal.{Refusal}
+use Rattle.cache_answers.specs.declared.answers.Refusal.TheVariants as refusal
 use Rattle.cache_calls.specs.Actors.{WriterSeen}
-use Rattle.cache_calls.specs.Adds.{AddsOnly, IsOfPut}
+use Rattle.cache_model.specs.Subjects.{IsOfPut}
+use Rattle.cache_calls.specs.Adds.{AddsOnly}
 use Rattle.cache_calls.specs.Keeping.{state_at}
 use Rattle.script_run.specs.Answers.{put_said, said}
 use Rattle.script_run.specs.Asked.{body_intents, put_intents}

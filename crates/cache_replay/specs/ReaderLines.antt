@@ -6,12 +6,13 @@ use Rattle.cache_model.specs.Vectors.{AreTold}
 use Rattle.cache_model.specs.Contents.{AnyContents}
 use Rattle.call_laws.specs.Moments.{At}
 use Rattle.cache_calls.specs.declared.calls.Calls.{Ghosts as CallsGhosts}
-use Rattle.cache_calls.specs.declared.calls.NextPiece.{NextPiece}
-use Rattle.cache_calls.specs.declared.calls.NextPiece.TheVariants as piece
-use Rattle.cache_calls.specs.declared.calls.Opened.{Opened}
-use Rattle.cache_calls.specs.declared.calls.Opened.TheVariants as opened
+use Rattle.cache_answers.specs.declared.answers.NextPiece.{NextPiece}
+use Rattle.cache_answers.specs.declared.answers.NextPiece.TheVariants as piece
+use Rattle.cache_answers.specs.declared.answers.Opened.{Opened}
+use Rattle.cache_answers.specs.declared.answers.Opened.TheVariants as opened
 use Rattle.cache_calls.specs.Actors.{IsOpenReader, IsReaderOf, ReaderSeen}
-use Rattle.cache_calls.specs.Adds.{AddsOnly, IsOfReader}
+use Rattle.cache_model.specs.Subjects.{IsOfReader}
+use Rattle.cache_calls.specs.Adds.{AddsOnly}
 use Rattle.cache_calls.specs.Keeping.{Goes, StaysUnharmed, state_at}
 use Rattle.cache_calls.specs.Standing.{StaysStanding}
 use Rattle.script_grammar.specs.declared.answer.StepAnswer.{StepAnswer}

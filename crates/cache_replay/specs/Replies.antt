@@ -1,8 +1,8 @@
 -- What lines answer by what a cache answered.
 use Rattle.std.specs.Prelude.{ℕ, Option, Some, None, Result, Ok, Err}
-use Rattle.cache_calls.specs.declared.calls.Receipt.{Receipt}
-use Rattle.cache_calls.specs.declared.calls.Refusal.{Refusal}
-use Rattle.cache_calls.specs.declared.calls.Refusal.TheVariants as refusal
+use Rattle.cache_answers.specs.declared.answers.Receipt.{Receipt}
+use Rattle.cache_answers.specs.declared.answers.Refusal.{Refusal}
+use Rattle.cache_answers.specs.declared.answers.Refusal.TheVariants as refusal
 use Rattle.script_grammar.specs.declared.answer.Refused.TheVariants as refused
 use Rattle.script_grammar.specs.declared.answer.StepAnswer.{StepAnswer}
 use Rattle.script_grammar.specs.declared.answer.StepAnswer.TheVariants as answer

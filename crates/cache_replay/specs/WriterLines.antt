@@ -7,7 +7,8 @@ use Rattle.cache_model.specs.Vectors.{AreTold}
 use Rattle.call_laws.specs.Moments.{At}
 use Rattle.cache_calls.specs.declared.calls.Calls.{Ghosts as CallsGhosts}
 use Rattle.cache_calls.specs.Actors.{WriterSeen}
-use Rattle.cache_calls.specs.Adds.{AddsOnly, IsOfPut}
+use Rattle.cache_model.specs.Subjects.{IsOfPut}
+use Rattle.cache_calls.specs.Adds.{AddsOnly}
 use Rattle.cache_calls.specs.Keeping.{KeepsUnharmed, state_at}
 use Rattle.actor_table.specs.Table.{TableSeen, number_of_name}
 use Rattle.script_grammar.specs.declared.step.Step.{Step}

@@ -3,7 +3,8 @@ ghost use Rattle.std.specs.Prelude.{◌≡◌, None, Some, [], ◌∷◌, length
 ghost use Rattle.cache_model.specs.Permit.{StopReading};
 ghost use Rattle.cache_model.specs.Contents.{AnyContents};
 ghost use Rattle.cache_calls.specs.Actors.{IsOpenReader};
-ghost use Rattle.cache_calls.specs.Adds.{AddsOnly, IsOfReader};
+ghost use Rattle.cache_model.specs.Subjects.{IsOfReader};
+ghost use Rattle.cache_calls.specs.Adds.{AddsOnly};
 ghost use Rattle.cache_calls.specs.Keeping.{KeepsUnharmed, state_at};
 ghost use Rattle.cache_calls.specs.Standing.{StaysStanding};
 ghost use Rattle.script_grammar.specs.declared.step.Step.TheVariants as step;

@@ -32,7 +32,8 @@ use Rattle.call_laws.proofs.Joined.{state_behind}
 use Rattle.call_laws.proofs.Kept.{untold_later}
 use Rattle.call_laws.proofs.Known.{serves_wider}
 use Rattle.cache_calls.specs.Actors.{IsAtHand, IsWriterOf, WriterSeen}
-use Rattle.cache_calls.specs.Adds.{AddsOnly, IsOfFlush, IsOfPut}
+use Rattle.cache_model.specs.Subjects.{IsOfFlush, IsOfPut}
+use Rattle.cache_calls.specs.Adds.{AddsOnly}
 use Rattle.cache_calls.specs.Asked.{cuts_next, fed_asks, fills_fragment, gathered_with, is_overflow, next_payload, taken_of, write_asks}
 use Rattle.cache_calls.specs.Keeping.{state_at}
 use Rattle.cache_calls.specs.Writers.{CutsAs, HasTaken, IsTaking, TakesBytes, fragment_records, piece_cut_next}

@@ -13,7 +13,8 @@ use Rattle.cache_model.specs.declared.record.Rec.TheVariants as rec
 use Rattle.cache_model.specs.State.{Row, State, after_all}
 use Rattle.cache_model.specs.Verdict.{live_vector_of}
 use Rattle.cache_model.proofs.Steps.{after_all-append}
-use Rattle.cache_calls.specs.Readers.{cause_records, open_adds, vector_trouble}
+use Rattle.cache_model.specs.Troubles.{cause_records}
+use Rattle.cache_calls.specs.Readers.{open_adds, vector_trouble}
 use Rattle.script_run.specs.Turn.{lookup_in, told_in}
 
 -- ---- the lookup that the records tell is the one that it answers

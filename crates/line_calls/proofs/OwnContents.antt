@@ -12,7 +12,7 @@ use Rattle.cache_model.specs.State.{Row, State, fragment_piece, live_row_of}
 use Rattle.cache_model.specs.Verdict.{next_piece, next_row}
 use Rattle.cache_model.specs.Legal.{live_next}
 use Rattle.cache_model.specs.Contents.{AreRecordedAs, Content, IsRecordedAs, spelled_content}
-use Rattle.cache_calls.specs.declared.calls.NextPiece.TheVariants as piece
+use Rattle.cache_answers.specs.declared.answers.NextPiece.TheVariants as piece
 use Rattle.cache_calls.specs.Actors.{ReaderSeen, as_row}
 use Rattle.cache_calls.specs.Standing.{GivesPayload}
 use Rattle.script_run.specs.Run.{Stream}

@@ -29,8 +29,11 @@ use Rattle.piece_answers.specs.declared.answer.Stop.{Stop}
 use Rattle.piece_answers.specs.declared.answer.Stop.TheVariants as stop
 use Rattle.piece_answers.specs.Covers.{Covers, SpendsFirst}
 use Rattle.cache_model.specs.Damage.{TellNoDamage, tells_damage}
-use Rattle.piece_answers.specs.Flush.{AreOfFlush, EachWasLive, IsRecordOfFlush, StopsWith, stop_end}
-use Rattle.piece_answers.specs.Place.{CutsAsAsked, IsCutOrStoppedAs, IsFragmentOf, IsNewPiece, IsStoppedAs, IsVectorOf, AreOfPlace, PlaceAdds, PlacesAt, PlacesIn, IsExhaustedAt, RoomIsMade, RoomsAsAsked, FragmentStopsBehind, cut_records, place_end}
+use Rattle.cache_model.specs.Subjects.{IsOfFlush}
+use Rattle.cache_model.specs.Live.{LiveBefore}
+use Rattle.piece_answers.specs.Flush.{AreOfFlush, StopsWith, stop_end}
+use Rattle.cache_model.specs.Limits.{ReachesLimit}
+use Rattle.piece_answers.specs.Place.{CutsAsAsked, IsCutOrStoppedAs, IsFragmentOf, IsNewPiece, IsStoppedAs, IsVectorOf, AreOfPlace, PlaceAdds, PlacesAt, PlacesIn, RoomIsMade, RoomsAsAsked, FragmentStopsBehind, cut_records, place_end}
 use Rattle.piece_answers.proofs.RecordsAdded.{state_of-with_records, with_records-append}
 use Rattle.cache_model.specs.Given.{effects_told}
 use Rattle.piece_answers.specs.Faults.{HasEffects}
@@ -115,7 +118,7 @@ none_copied : (b : Bool) (f : Row → Row) (o : Option Row) → o ≡ None → (
 none_copied true f o h = ap (option_map f) h
 none_copied false f o h = h
 
-nowhere_after : (s : State) (r : Rec) (id : PieceId) → IsRecordOfFlush r → row_of s id ≡ None → row_of (state_after s r) id ≡ None
+nowhere_after : (s : State) (r : Rec) (id : PieceId) → IsOfFlush r → row_of s id ≡ None → row_of (state_after s r) id ≡ None
 nowhere_after s (rec.Began cursor floor) id h none = none
 nowhere_after s (rec.Moved piece from place digest) id h none =
     row_in-copied piece id s.rows place digest ∙ none_copied (same_piece piece id) (moved_row place digest) (row_of s id) none
@@ -229,7 +232,7 @@ module _ (now : ℕ) (old mid : Kept) (before : List Call) (device : Device) (id
     piece = added;
     kinds = r.kinds;
     none = none_added;
-    live = subst (EachWasLive s) mid_is r.live;
+    live = subst (LiveBefore s) mid_is r.live;
     are = a;
     is = refl;
     place = at.0;
@@ -238,7 +241,7 @@ module _ (now : ℕ) (old mid : Kept) (before : List Call) (device : Device) (id
   shape_by packed faults (Err (stop.Exhausted number)) added room a at =
       subst (λ xs. IsStoppedAs s faults payload xs (stop.Exhausted number)) (sym (ap (λ xs. r.added ++ xs) a ∙ append-nil r.added)) (record {
         kinds = r.kinds;
-        live = subst (EachWasLive s) mid_is r.live;
+        live = subst (LiveBefore s) mid_is r.live;
         why_is = (at.0 ∙ sym (ap (λ b. if b then place_now t + blocks_of (length payload) else copies_end t) room), at.1);
       })
   shape_by packed faults (Err (stop.DeviceFault count)) added room a at = absurd at
@@ -283,7 +286,7 @@ none_by p s bytes added (stop.Exhausted number) off m = made_exhausted p s bytes
 stopped_by : (s : State) (faults bytes : ℕ) (added : List Rec) (why : Stop) → has_room s bytes ≡ false → StopsWith s faults why → MakesNone added why → FragmentStopsBehind s (after_all s added) faults bytes why
 stopped_by s faults bytes added (stop.DeviceFault count) full stops none = (stops, full)
 stopped_by s faults bytes added (stop.Exhausted number) full stops none =
-    subst (λ t. IsExhaustedAt t bytes number) (sym (ap (after_all s) none))
+    subst (λ t. ReachesLimit t bytes number) (sym (ap (after_all s) none))
     (stops.0 ∙ sym (ap (λ b. if b then place_now s + blocks_of bytes else copies_end s) full), stops.1)
 
 pub cuts_stop : (packed : Bool) (now : ℕ) (old new : Kept) (before : List Call) (after : Device) (id : PieceId) (pin start : ℕ) (payload : List ℕ) (why : Stop)
@@ -299,7 +302,7 @@ cuts_stop packed now old new before after id pin start payload why f full stops 
       adds = r.adds;
       shape = record {
         kinds = r.kinds;
-        live = subst (EachWasLive s) state r.live;
+        live = subst (LiveBefore s) state r.live;
         why_is = stopped_by s after.faults (length payload) r.added why full stops (none_by own s (length payload) r.added why refl (r.does own refl (own_covers now before after.past)));
       };
       unharmed = r.unharmed;

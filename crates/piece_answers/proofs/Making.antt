@@ -13,16 +13,17 @@ use Rattle.cache_model.specs.Kept.{Kept, state_of, with_records}
 use Rattle.cache_model.specs.Permit.{Done, Fails, Permit, Reason, Stays}
 use Rattle.cache_model.specs.Room.{has_room}
 use Rattle.cache_model.specs.Legal.{DoesFlush, MakesRoom}
-use Rattle.piece_answers.specs.declared.answer.Flushed.{Flushed}
+use Rattle.cache_answers.specs.declared.answers.Flushed.{Flushed}
 use Rattle.piece_answers.specs.declared.answer.Stop.{Stop}
 use Rattle.piece_answers.specs.declared.answer.Stop.TheVariants as stop
-use Rattle.piece_answers.specs.Flush.{EachWasLive, FlushesAsAsked, stop_end}
+use Rattle.cache_model.specs.Live.{LiveBefore}
+use Rattle.piece_answers.specs.Flush.{FlushesAsAsked, stop_end}
 use Rattle.piece_answers.specs.Place.{RoomsAsAsked}
 use Rattle.piece_answers.proofs.Effects.{effects_none}
 
 -- ---- none is needed
 
-live_still : (s : State) → EachWasLive s s
+live_still : (s : State) → LiveBefore s s
 live_still s = λ id row h. (row, h, record { id = refl; blocks = refl; payload = refl; pin = refl; alternates = refl })
 
 none_added : (k : Kept) → k ≡ with_records k []

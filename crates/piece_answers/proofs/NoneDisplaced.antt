@@ -18,8 +18,10 @@ use Rattle.cache_model.proofs.Steps.{after_all-append}
 use Rattle.cache_model.specs.Contents.{IsToldAs, contents_of_vectors}
 use Rattle.piece_answers.specs.declared.answer.Found.{Found}
 use Rattle.piece_answers.specs.declared.answer.Found.TheVariants as found
-use Rattle.piece_answers.specs.Find.{find_adds, found_records, records_of_trouble}
-use Rattle.piece_answers.specs.Flush.{AreOfFlush, IsRecordOfFlush}
+use Rattle.cache_model.specs.Troubles.{cause_records}
+use Rattle.piece_answers.specs.Find.{find_adds, found_records}
+use Rattle.cache_model.specs.Subjects.{IsOfFlush}
+use Rattle.piece_answers.specs.Flush.{AreOfFlush}
 use Rattle.piece_answers.specs.Place.{AreOfPlace, cut_records}
 use Rattle.piece_answers.proofs.RecordsAdded.{state_of-with_records}
 
@@ -57,7 +59,7 @@ none_behind k new r is one none = none_with k new (r ∷ []) is (one, tt) none
 
 -- ---- which these are
 
-of_flush : (r : Rec) → IsRecordOfFlush r → displaces r ≡ false
+of_flush : (r : Rec) → IsOfFlush r → displaces r ≡ false
 of_flush (rec.Displaced piece segment live) h = absurd h
 of_flush _ h = refl
 
@@ -65,7 +67,7 @@ pub flush_displaces : (recs : List Rec) → AreOfFlush recs → DisplaceNone rec
 flush_displaces [] all = tt
 flush_displaces (r ∷ recs) all = (of_flush r all.0, flush_displaces recs all.1)
 
-cause_displaces : (row : Row) (why : Cause) → DisplaceNone (records_of_trouble row why)
+cause_displaces : (row : Row) (why : Cause) → DisplaceNone (cause_records row why)
 cause_displaces row (cause.DeviceFault count) = (refl, tt)
 cause_displaces row (cause.Damaged place kept other) = (refl, tt)
 cause_displaces row _ = tt

@@ -3,7 +3,8 @@ use Rattle.std.proofs.Common.{◌≡◌, List, [], ◌∷◌, refl, ◌∙◌}
 use Rattle.cache_model.specs.declared.record.Rec.{Rec}
 use Rattle.cache_model.specs.declared.record.Rec.TheVariants as rec
 use Rattle.cache_model.specs.State.{State, after_all, state_after}
-use Rattle.piece_answers.specs.Flush.{AreOfFlush, IsRecordOfFlush}
+use Rattle.cache_model.specs.Subjects.{IsOfFlush}
+use Rattle.piece_answers.specs.Flush.{AreOfFlush}
 
 -- the geometry and the puts are the same
 pub record SamePuts (s t : State) : Type 0 where
@@ -12,7 +13,7 @@ pub record SamePuts (s t : State) : Type 0 where
   pub puts : t.puts ≡ s.puts
   pub next_put : t.next_put ≡ s.next_put
 
-puts_after : (s : State) (r : Rec) → IsRecordOfFlush r → SamePuts s (state_after s r)
+puts_after : (s : State) (r : Rec) → IsOfFlush r → SamePuts s (state_after s r)
 puts_after s (rec.Began cursor floor) h = record { geometry = refl; pending = refl; puts = refl; next_put = refl }
 puts_after s (rec.Moved piece from place digest) h = record { geometry = refl; pending = refl; puts = refl; next_put = refl }
 puts_after s (rec.Unsaved piece place fault) h = record { geometry = refl; pending = refl; puts = refl; next_put = refl }

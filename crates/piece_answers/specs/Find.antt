@@ -6,7 +6,6 @@ use Rattle.tape_base.specs.Geometry.{budget_of}
 use Rattle.logged_disk.specs.Device.{TellsAll}
 use Rattle.doc_header.specs.Reading.{document_digest, payload_of}
 use Rattle.cyclone.specs.Cyclone.{BlocksStand, Seen}
-use Rattle.cache_model.specs.declared.cause.Cause.{Cause}
 use Rattle.cache_model.specs.declared.cause.Cause.TheVariants as cause
 use Rattle.cache_model.specs.declared.record.Rec.{Rec}
 use Rattle.cache_model.specs.declared.record.Rec.TheVariants as rec
@@ -15,23 +14,18 @@ use Rattle.cache_model.specs.Verdict.{cause_of_piece, size_of}
 use Rattle.cache_model.specs.Permit.{Permit}
 use Rattle.cache_model.specs.Given.{IsDocumentOf, Trouble, effects_told}
 use Rattle.cache_model.specs.Contents.{Contents}
+use Rattle.cache_model.specs.Troubles.{cause_records}
 use Rattle.piece_answers.specs.declared.answer.Found.{Found}
 use Rattle.piece_answers.specs.declared.answer.Found.TheVariants as found
 use Rattle.piece_answers.specs.Faults.{HasEffects}
 use Rattle.piece_answers.specs.Covers.{AllReadIsSeen, Covers}
 use Rattle.piece_answers.specs.Standing.{AreStanding}
 
--- the record of what kept a live piece from being read
-abbrev pub records_of_trouble : Row → Cause → List Rec
-records_of_trouble row (cause.DeviceFault count) = rec.Fault count ∷ []
-records_of_trouble row (cause.Damaged place kept found) = rec.Damaged row.id row.place kept found ∷ []
-records_of_trouble row _ = []
-
 -- no record of a piece that is not live, or that was found
 abbrev pub found_records : Option Row → Found → List Rec
 found_records None answer = []
 found_records (Some row) (found.Found length) = []
-found_records (Some row) (found.Missing why) = records_of_trouble row why
+found_records (Some row) (found.Missing why) = cause_records row why
 
 -- the same by the piece, which is live or not
 abbrev pub find_adds : State → PieceId → Found → List Rec
@@ -78,7 +72,7 @@ IsJudged place kept bytes (found.Missing why) into = (why ≡ cause.Damaged plac
 abbrev pub IsFoundAs : Permit → State → PieceId → Option Row → Found → List ℕ → Type 0
 IsFoundAs p s id None answer into = answer ≡ found.Missing (cause_of_piece s id)
 IsFoundAs p s id (Some row) (found.Found size) into = IsDocumentOf p s row size into
-IsFoundAs p s id (Some row) (found.Missing why) into = Trouble p s row (records_of_trouble row why) why
+IsFoundAs p s id (Some row) (found.Missing why) into = Trouble p s row (cause_records row why) why
 
 -- a fault with a live piece is told with the device's own count
 abbrev pub TellsCount : Option Row → ℕ → Found → Type 0

@@ -1,51 +1,30 @@
 -- What a flush adds to the records, and what it answers.
-use Rattle.std.specs.Prelude.{ℕ, ◌≡◌, ◌≤◌, ◌⊎◌, true, List, Some, Result, Ok, Err, IfErr, IfOk, OnOk}
+use Rattle.std.specs.Prelude.{ℕ, ◌≡◌, ◌≤◌, ◌⊎◌, true, List, Result, Ok, Err, IfErr, IfOk, OnOk}
 use Rattle.std.specs.List.{AllByRecursion}
-use Rattle.tape_base.specs.declared.pieces.PieceId.{PieceId}
 use Rattle.tape_base.specs.Geometry.{budget_of}
 use Rattle.device_log.specs.Calls.{Call}
 use Rattle.logged_disk.specs.Device.{DeviceState as Device, TellsAll}
 use Rattle.cache_model.specs.declared.record.Rec.{Rec}
-use Rattle.cache_model.specs.declared.record.Rec.TheVariants as rec
-use Rattle.cache_model.specs.State.{Row, State, floor_now, live_row_of}
+use Rattle.cache_model.specs.State.{State, floor_now}
 use Rattle.cache_model.specs.Kept.{Kept, state_of, with_records}
 use Rattle.cache_model.specs.Permit.{Permit, End, Done, Fails, Exhausted, Faulted, Flush}
 use Rattle.cache_model.specs.Room.{copies_end, is_flush_exhausted, limit}
 use Rattle.cache_model.specs.Given.{effects_told}
 use Rattle.cache_model.specs.Legal.{Does}
-use Rattle.piece_answers.specs.declared.answer.Flushed.{Flushed}
+use Rattle.cache_answers.specs.declared.answers.Flushed.{Flushed}
 use Rattle.piece_answers.specs.declared.answer.Stop.{Stop}
 use Rattle.piece_answers.specs.declared.answer.Stop.TheVariants as stop
 use Rattle.piece_answers.specs.Faults.{HasEffects}
 use Rattle.piece_answers.specs.Covers.{Covers}
 use Rattle.cache_model.specs.Damage.{TellNoDamage}
+use Rattle.cache_model.specs.Subjects.{IsOfFlush}
+use Rattle.cache_model.specs.Live.{LiveBefore}
 
 -- ---- its records
 
--- the record may be one of a flush: it speaks of pieces and the device alone
-abbrev pub IsRecordOfFlush : Rec → Type 0
-IsRecordOfFlush (rec.Began cursor floor) = Unit {0}
-IsRecordOfFlush (rec.Moved piece from place digest) = Unit {0}
-IsRecordOfFlush (rec.Unsaved piece place fault) = Unit {0}
-IsRecordOfFlush (rec.Damaged piece place kept found) = Unit {0}
-IsRecordOfFlush (rec.Fault count) = Unit {0}
-IsRecordOfFlush _ = ⊥
-
 -- each of them may be one of a flush
 abbrev pub AreOfFlush : List Rec → Type 0
-AreOfFlush recs = AllByRecursion IsRecordOfFlush recs
-
--- the same piece, where it stood or at another place
-pub record IsStillPiece (before row : Row) : Type 0 where
-  pub id : row.id ≡ before.id
-  pub blocks : row.blocks ≡ before.blocks
-  pub payload : row.payload ≡ before.payload
-  pub pin : row.pin ≡ before.pin
-  pub alternates : row.alternates ≡ before.alternates
-
--- what is live then was live before
-abbrev pub EachWasLive : State → State → Type 0
-EachWasLive s t = (id : PieceId) (row : Row) → live_row_of t id ≡ Some row → (before : Row) × (live_row_of s id ≡ Some before) × IsStillPiece before row
+AreOfFlush recs = AllByRecursion IsOfFlush recs
 
 -- ---- its answer
 
@@ -87,7 +66,7 @@ pub record FlushesAsAsked (now : ℕ) (old new : Kept) (before : List Call) (aft
   pub added : List Rec
   pub adds : new ≡ with_records old added
   pub kinds : AreOfFlush added
-  pub live : EachWasLive (state_of old) (state_of new)
+  pub live : LiveBefore (state_of old) (state_of new)
   -- a device that tells its content shows each piece as it was placed
   pub unharmed : TellsAll after → TellNoDamage added
   pub faults : HasEffects before after.past (effects_told added)

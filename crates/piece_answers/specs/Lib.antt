@@ -4,5 +4,6 @@ pub mod Covers
 pub mod Ahead
 pub mod Looks
 pub mod Flush
+pub mod Refusals
 pub mod Place
 pub mod Find

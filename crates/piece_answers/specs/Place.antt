@@ -16,7 +16,7 @@ use Rattle.cache_model.specs.Kept.{Kept, state_of, with_records}
 use Rattle.cache_model.specs.Verdict.{cuts_of}
 use Rattle.cache_model.specs.Permit.{Done, End, Finish, Fragment, Permit, Stays}
 use Rattle.cache_model.specs.Given.{effects_told}
-use Rattle.cache_model.specs.Room.{copies_end, greatest_pin, has_room, limit, placed_record}
+use Rattle.cache_model.specs.Room.{greatest_pin, has_room, limit, placed_record}
 use Rattle.cache_model.specs.Legal.{AreLiveTo, Does, IsCut, IsNext, IsWriting, MakesRoom, next_fragment_of, vector_length, vector_payload}
 use Rattle.piece_answers.specs.declared.answer.Placed.{Placed}
 use Rattle.piece_answers.specs.declared.answer.Stop.{Stop}
@@ -25,7 +25,9 @@ use Rattle.cache_model.specs.Displacing.{PushesOut}
 use Rattle.piece_answers.specs.Faults.{HasEffects}
 use Rattle.piece_answers.specs.Covers.{Covers, SpendsFirst}
 use Rattle.cache_model.specs.Damage.{TellNoDamage}
-use Rattle.piece_answers.specs.Flush.{AreOfFlush, EachWasLive, StopsWith, stop_end}
+use Rattle.cache_model.specs.Limits.{ReachesLimit}
+use Rattle.cache_model.specs.Live.{LiveBefore}
+use Rattle.piece_answers.specs.Flush.{AreOfFlush, StopsWith, stop_end}
 
 -- ---- room
 
@@ -39,7 +41,7 @@ pub record RoomsAsAsked (now : ℕ) (old new : Kept) (before : List Call) (after
   pub added : List Rec
   pub adds : new ≡ with_records old added
   pub kinds : AreOfFlush added
-  pub live : EachWasLive (state_of old) (state_of new)
+  pub live : LiveBefore (state_of old) (state_of new)
   pub unharmed : TellsAll after → TellNoDamage added
   pub faults : HasEffects before after.past (effects_told added)
   pub does : (p : Permit) → p.now ≡ now → Covers p before after.past → RoomIsMade p (state_of old) bytes added result
@@ -49,14 +51,6 @@ pub record AnswersRoom (s t : State) (faults bytes : ℕ) (result : Result (Unit
   pub room : OnOk result (has_room t bytes ≡ true)
   pub full : OnErr result (has_room s bytes ≡ false)
   pub stops : IfErr result (StopsWith s faults)
-
--- where a piece of so many bytes would end; or where it has no room, where the copies of the flush before it end at the latest
-abbrev pub exhausted_number : State → ℕ → ℕ
-exhausted_number t bytes = if has_room t bytes then place_now t + blocks_of bytes else copies_end t
-
--- that is the number, and it is the limit or above
-abbrev pub IsExhaustedAt : State → ℕ → ℕ → Type 0
-IsExhaustedAt t bytes number = (number ≡ exhausted_number t bytes) × (limit ≤ number)
 
 -- ---- a piece that has room
 
@@ -133,7 +127,7 @@ pub record IsCutAs (packed : Bool) (s : State) (id : PieceId) (pin start : ℕ) 
   pub piece : List Rec
   pub kinds : AreOfFlush room
   pub none : has_room s (length payload) ≡ true → room ≡ []
-  pub live : EachWasLive s (after_all s room)
+  pub live : LiveBefore s (after_all s room)
   pub are : AreOfPlace packed (after_all s room) id pin start payload piece
   pub is : added ≡ room ++ piece
   pub place : placed.place ≡ place_now (after_all s room)
@@ -142,12 +136,12 @@ pub record IsCutAs (packed : Bool) (s : State) (id : PieceId) (pin start : ℕ) 
 -- why a fragment was not placed, with its number, behind the flush that it may have needed
 abbrev pub FragmentStopsBehind : State → State → ℕ → ℕ → Stop → Type 0
 FragmentStopsBehind s t faults bytes (stop.DeviceFault count) = (count ≡ faults) × (has_room s bytes ≡ false)
-FragmentStopsBehind s t faults bytes (stop.Exhausted number) = IsExhaustedAt t bytes number
+FragmentStopsBehind s t faults bytes (stop.Exhausted number) = ReachesLimit t bytes number
 
 -- what is recorded then: that flush alone
 pub record IsStoppedAs (s : State) (faults : ℕ) (payload : List ℕ) (added : List Rec) (why : Stop) : Type 0 where
   pub kinds : AreOfFlush added
-  pub live : EachWasLive s (after_all s added)
+  pub live : LiveBefore s (after_all s added)
   pub why_is : FragmentStopsBehind s (after_all s added) faults (length payload) why
 
 -- what is recorded of a fragment, placed or stopped

@@ -1,18 +1,9 @@
 // What the calls of the pieces answer, and why they stop.
+ghost use Rattle.std.specs.Prelude.{◌≡◌};
 
+use cache_answers::Refusal;
 use cache_model::Cause;
 use tape_base::Digest;
-
-/// The buffer that was written out, and the one that began.
-#[derive(Clone, Copy, Debug, PartialEq, Eq)]
-pub struct Flushed {
-    /// How many blocks were written.
-    pub blocks: u32,
-    /// Where the buffer begins now.
-    pub cursor: u64,
-    /// The least place that may be read now.
-    pub floor: u64,
-}
 
 /// A piece that was placed.
 #[derive(Clone, Copy, Debug, PartialEq, Eq)]
@@ -38,4 +29,17 @@ pub enum Stop {
     /// This place would reach the end of the tape: that at which a piece would end, or, where the
     /// buffer was to be written out, the latest at which its copies end.
     Exhausted { number: u64 },
+}
+
+impl From<Stop> for Refusal {
+    ghost use Rattle.piece_answers.specs.Refusals.{refusal_of};
+
+    ghost from_gives = { λ stop refusal. refusal ≡ refusal_of stop };
+
+    fn from(stop: Stop) -> Refusal {
+        match stop {
+            Stop::DeviceFault { count } => Refusal::DeviceFault { count },
+            Stop::Exhausted { number } => Refusal::Exhausted { number },
+        }
+    }
 }

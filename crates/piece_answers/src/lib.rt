@@ -5,4 +5,4 @@ mod ahead;
 mod answer;
 
 pub use ahead::{Ahead, Fate};
-pub use answer::{Flushed, Found, Placed, Stop};
+pub use answer::{Found, Placed, Stop};

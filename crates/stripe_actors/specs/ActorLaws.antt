@@ -1,5 +1,5 @@
 -- What actors that are in step with a state tell of it: laws.
-use Rattle.std.specs.Prelude.{ℕ, ◌≡◌, ◌<◌, ◌≤◌, Bool, true, false, List, length, Some, None, option_map, IsSome}
+use Rattle.std.specs.Prelude.{ℕ, ◌≡◌, ◌<◌, ◌≤◌, ◌&&◌, Bool, true, false, not, List, length, Some, None, option_map, IsSome}
 use Rattle.tape_base.specs.declared.keys.Key.{Key}
 use Rattle.alternate_vector.specs.Field.{Field}
 use Rattle.fragment_table.specs.Table.{total_length}
@@ -10,6 +10,7 @@ use Rattle.cache_model.specs.declared.record.Rec.TheVariants as rec
 use Rattle.cache_model.specs.State.{State, PutRow, ReaderRow, put_of, reader_of, state_after}
 use Rattle.cache_model.specs.Verdict.{followed as followed_row, next_row}
 use Rattle.cache_model.specs.Legal.{is_writing, open_writers}
+use Rattle.cache_model.specs.Subjects.{is_of_actors, subject_of}
 use Rattle.stripe_actors.specs.Actors.{ActorsSeen, AreActors, phase_of_put}
 
 -- ---- states that the actors cannot tell apart
@@ -25,30 +26,16 @@ pub record IsAlikeForActors (s t : State) : Type 0 where
 abbrev pub AlikeStayInStep : Type 0
 AlikeStayInStep = (s t : State) (a : ActorsSeen) → IsAlikeForActors s t → AreActors s a → AreActors t a
 
+-- a reader is answered without a fragment, and stays where it is
+abbrev pub answers_alone : Rec → Bool
+answers_alone (rec.Ended reader length) = true
+answers_alone (rec.Waited reader cut) = true
+answers_alone (rec.Broke reader why) = true
+answers_alone _ = false
+
 -- a record that changes a put or a reader, or begins a session
 abbrev pub speaks_of_actors : Rec → Bool
-speaks_of_actors (rec.Formatted geometry) = true
-speaks_of_actors (rec.Opened geometry serial cursor floor next_put clean list) = true
-speaks_of_actors (rec.Began cursor floor) = false
-speaks_of_actors (rec.Placed piece place blocks digest pin) = false
-speaks_of_actors (rec.Moved piece from place digest) = false
-speaks_of_actors (rec.Unsaved piece place fault) = false
-speaks_of_actors (rec.Displaced piece segment live) = false
-speaks_of_actors (rec.Damaged piece place kept found) = false
-speaks_of_actors (rec.WriteOpened actor put key request response pin) = true
-speaks_of_actors (rec.Cut put index length digest) = true
-speaks_of_actors (rec.Committed put key length list) = true
-speaks_of_actors (rec.Aborted put key) = true
-speaks_of_actors (rec.Removed put key) = false
-speaks_of_actors (rec.ReadOpened reader actor key request answer) = true
-speaks_of_actors (rec.Gave reader index length) = true
-speaks_of_actors (rec.Ended reader length) = false
-speaks_of_actors (rec.Waited reader cut) = false
-speaks_of_actors (rec.Broke reader why) = false
-speaks_of_actors (rec.ReadClosed reader) = true
-speaks_of_actors (rec.SyncBegun serial cursor clean in_parts) = false
-speaks_of_actors (rec.SyncDone serial) = false
-speaks_of_actors (rec.Fault count) = false
+speaks_of_actors r = is_of_actors (subject_of r) && not (answers_alone r)
 
 -- any other record leaves actors in step, as they are
 abbrev pub OthersStayInStep : Type 0

@@ -13,8 +13,8 @@ use Rattle.cache_model.specs.Permit.{IsAmong}
 use Rattle.cache_model.specs.Given.{MayCount, Trouble}
 use Rattle.piece_answers.proofs.Covering.{own_permit}
 use Rattle.stripe_answers.specs.Counts.{CauseIsCounted, IsCounted}
-use Rattle.stripe_answers.specs.declared.refusal.Refusal.{Refusal}
-use Rattle.stripe_answers.specs.declared.refusal.Refusal.TheVariants as refusal
+use Rattle.cache_answers.specs.declared.answers.Refusal.{Refusal}
+use Rattle.cache_answers.specs.declared.answers.Refusal.TheVariants as refusal
 
 -- a count of faults fits its type
 faults_small : (past : List Call) → faults_of past ≤ 2 ^ 64 - 1

@@ -31,8 +31,10 @@ use Rattle.cache_model.proofs.ByNumber.{find-changed}
 use Rattle.stripe_actors.proofs.Telling.{was_given}
 use Rattle.piece_answers.specs.declared.answer.Found.{Found}
 use Rattle.piece_answers.specs.declared.answer.Found.TheVariants as found
-use Rattle.piece_answers.specs.Find.{find_adds, found_records, records_of_trouble}
-use Rattle.piece_answers.specs.Flush.{AreOfFlush, IsRecordOfFlush}
+use Rattle.cache_model.specs.Troubles.{cause_records}
+use Rattle.piece_answers.specs.Find.{find_adds, found_records}
+use Rattle.cache_model.specs.Subjects.{IsOfFlush}
+use Rattle.piece_answers.specs.Flush.{AreOfFlush}
 use Rattle.stripe_answers.specs.Named.{IsNamed, IsOwn, IsOwnOf, IsPieceOf}
 use Rattle.piece_answers.specs.Place.{IsFragmentOf, IsNewPiece, IsVectorFor}
 use Rattle.piece_answers.proofs.RecordsAdded.{state_of-with_records}
@@ -288,7 +290,7 @@ found_changed put f puts w keeps found =
 
 -- ---- which records leave the names
 
-causes_leave : (row : Row) (why : Cause) → AllLeaveNames (records_of_trouble row why)
+causes_leave : (row : Row) (why : Cause) → AllLeaveNames (cause_records row why)
 causes_leave row (cause.DeviceFault count) = (refl, tt)
 causes_leave row (cause.Damaged place kept other) = (refl, tt)
 causes_leave row _ = tt
@@ -301,7 +303,7 @@ found_leave (Some row) (found.Missing why) = causes_leave row why
 pub find_leaves : (s : State) (id : PieceId) (answer : Found) → AllLeaveNames (find_adds s id answer)
 find_leaves s id answer = found_leave (live_row_of s id) answer
 
-of_flush : (r : Rec) → IsRecordOfFlush r → leaves_names r ≡ true
+of_flush : (r : Rec) → IsOfFlush r → leaves_names r ≡ true
 of_flush (rec.Began cursor floor) h = refl
 of_flush (rec.Moved piece from place digest) h = refl
 of_flush (rec.Unsaved piece place fault) h = refl

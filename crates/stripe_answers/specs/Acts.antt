@@ -22,8 +22,8 @@ use Rattle.cache_model.specs.Given.{IsRead}
 use Rattle.cache_model.specs.Room.{limit}
 use Rattle.cache_model.specs.Legal.{Does, IsLookup, IsQuiet, IsReading, IsUnlike, IsWriting, ReadTrouble, answer_record, is_writing, most_writers, open_writers}
 use Rattle.stripe_actors.specs.Calls.{HasPutNumber}
-use Rattle.stripe_answers.specs.declared.refusal.Refusal.{Refusal}
-use Rattle.stripe_answers.specs.declared.refusal.Refusal.TheVariants as refusal
+use Rattle.cache_answers.specs.declared.answers.Refusal.{Refusal}
+use Rattle.cache_answers.specs.declared.answers.Refusal.TheVariants as refusal
 
 -- ---- a writer opens
 

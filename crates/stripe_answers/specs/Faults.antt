@@ -4,8 +4,8 @@ use Rattle.cache_model.specs.declared.record.Rec.{Rec}
 use Rattle.cache_model.specs.declared.record.Rec.TheVariants as rec
 use Rattle.cache_model.specs.Kept.{Kept, with_records}
 use Rattle.cache_model.specs.Permit.{IsAmong}
-use Rattle.stripe_answers.specs.declared.refusal.Refusal.{Refusal}
-use Rattle.stripe_answers.specs.declared.refusal.Refusal.TheVariants as refusal
+use Rattle.cache_answers.specs.declared.answers.Refusal.{Refusal}
+use Rattle.cache_answers.specs.declared.answers.Refusal.TheVariants as refusal
 
 -- among the records that were added is the fault of a refused call, with this count
 pub record RecordsFault (count : ℕ) (old new : Kept) : Type 0 where

@@ -1,5 +1,4 @@
 pub mod Counts
-pub mod Refusals
 pub mod Acts
 pub mod Unharmed
 pub mod Numbers

@@ -17,11 +17,11 @@ use Rattle.cache_model.specs.Contents.{Contents}
 use Rattle.call_laws.specs.Moments.{At, IsToldAt}
 use Rattle.call_laws.specs.Progress.{AllDone, Leaves, Progress, Spends, Stops}
 use Rattle.call_laws.specs.Serves.{ServesFrom}
-use Rattle.stripe_answers.specs.declared.refusal.Refusal.{Refusal}
-use Rattle.stripe_answers.specs.declared.refusal.Refusal.TheVariants as refusal
+use Rattle.cache_answers.specs.declared.answers.Refusal.{Refusal}
+use Rattle.cache_answers.specs.declared.answers.Refusal.TheVariants as refusal
 use Rattle.stripe_answers.specs.Counts.{IsCounted}
 use Rattle.piece_answers.specs.Faults.{IsAccounted}
-use Rattle.stripe_write.specs.declared.finishing.Receipt.{Receipt}
+use Rattle.cache_answers.specs.declared.answers.Receipt.{Receipt}
 use Rattle.stripe_write.specs.declared.writer.Writer.{Writer}
 use Rattle.stripe_write.specs.Closes as closes
 use Rattle.stripe_write.specs.Closes.{ClosesAsAsked, ClosesWhere}
@@ -32,14 +32,11 @@ use Rattle.stripe_write.specs.Writers as writers
 use Rattle.stripe_core.proofs.Between.{accounted_none}
 use Rattle.stripe_write.proofs.Ended.{open_put}
 use Rattle.stripe_write.proofs.Spending.{nothing_more}
-use Rattle.cache_calls.specs.declared.calls.Receipt as receipt
-use Rattle.cache_calls.specs.declared.calls.Refusal as refused
-use Rattle.cache_calls.specs.declared.calls.Refusal.TheVariants as said
-use Rattle.cache_calls.specs.Adds.{AddsOnly, IsOfPut}
+use Rattle.cache_model.specs.Subjects.{IsOfPut}
+use Rattle.cache_calls.specs.Adds.{AddsOnly}
 use Rattle.cache_calls.specs.Asked.{close_asks, ending_asks, progress_at, rest_asks, rest_rows, rows_at_close}
 use Rattle.cache_calls.specs.Standing.{IsToldClosed}
 use Rattle.cache_calls.specs.Writers.{Closes, NumberAtClose, SealsWhere, StopsAtLimit, TellsComplete, WriterCloses, bytes_next, size_at_close}
-use Rattle.stripe_calls.specs.Answers.{answer_as, receipt_as}
 use Rattle.stripe_calls.specs.Seen.{at_by, written_as}
 use Rattle.stripe_calls.proofs.Serving.{all_left, one_stays, same_added, serves_by, shows_asked, spends_done, spends_fails}
 use Rattle.stripe_calls.proofs.Words.{writer_as}
@@ -69,14 +66,14 @@ asks_are w =
 next_is : (t : State) (w : Writer) → closes.bytes_placed_next t w ≡ bytes_next t (written_as w)
 next_is t w = ap (λ rows. if length (cuts_of t w.put) == length rows then vector_length t w.put else length w.gathered.items) (rows_are w)
 
-abbrev Numbered : State → Writer → Result receipt.Receipt refused.Refusal → Type 0
+abbrev Numbered : State → Writer → Result Receipt Refusal → Type 0
 Numbered t w result = IfErr result (StopsAtLimit t (bytes_next t (written_as w)))
 
 number_at : (t : State) (w : Writer) (result : Result Receipt Refusal)
     → IfErr result (numbers.StopsExhausted t (closes.bytes_placed_next t w))
-    → Numbered t w (answer_as receipt_as result)
+    → Numbered t w result
 number_at t w (Ok given) h = tt
-number_at t w (Err (refusal.Exhausted number)) h = subst (λ n. StopsAtLimit t n (said.Exhausted number)) (next_is t w) h
+number_at t w (Err (refusal.Exhausted number)) h = subst (λ n. StopsAtLimit t n (refusal.Exhausted number)) (next_is t w) h
 number_at t w (Err refusal.TooManyWriters) h = tt
 number_at t w (Err refusal.TooManyFragments) h = tt
 number_at t w (Err (refusal.VectorTooLarge bytes)) h = tt
@@ -97,7 +94,7 @@ weighs s w row rest found key vector live =
 module _ (packed : Bool) (k l : Kept) (d e : Device) (now : ℕ) (w : Writer) (accounted : IsAccounted d.past e.past k l) where
   abbrev Served : List Intent → Progress → Result Receipt Refusal → Type 0
   Served asked o result =
-      ServesFrom (Untold e IsVectorAs) now (at_by packed k d) (at_by packed l e) asked o IsToldAt (NumberAtClose (written_as w) (answer_as receipt_as result))
+      ServesFrom (Untold e IsVectorAs) now (at_by packed k d) (at_by packed l e) asked o IsToldAt (NumberAtClose (written_as w) result)
 
   -- what is asked of an open put comes there, in each step that covers the call; or a pair is shown
   comes : (o : Progress) (result : Result Receipt Refusal) → writers.IsStripeWriterOf (state_of k) w → is_writing (state_of k) w.put ≡ true
@@ -134,7 +131,7 @@ module _ (packed : Bool) (k l : Kept) (d e : Device) (now : ℕ) (w : Writer) (a
 
   pub close_serves : (result : Result Receipt Refusal) → writers.IsStripeWriterOf (state_of k) w → is_writing (state_of k) w.put ≡ true
       → ClosesWhere (state_of k) (state_of l) w result → ClosesAsAsked packed now d.past e k l w result
-      → Served own_asks (progress_at w.put own_asks (answer_as receipt_as result)) result
+      → Served own_asks (progress_at w.put own_asks result) result
   close_serves (Ok given) own writing is h =
       opened AllDone (Ok given) writing (comes AllDone (Ok given) own writing (λ p added. spends_done p (state_of k) (closing.asked_of_closing w) added) h)
   close_serves (Err (refusal.VectorTooLarge bytes)) own writing is h =
@@ -164,7 +161,7 @@ none_added put a = record { added = []; adds = sym (nothing_more a.kept); own = 
 -- ---- what it gives
 
 module _ (packed : Bool) (k l : Kept) (d e : Device) (w : Writer) where
-  complete : (given : Receipt) → closes.IsCompleteInStripe w given → TellsComplete (written_as w) (receipt_as given)
+  complete : (given : Receipt) → closes.IsCompleteInStripe w given → TellsComplete (written_as w) given
   complete given h = record {
     put = h.put;
     bytes = h.bytes ∙ ap total_length (rows_are w);
@@ -185,7 +182,7 @@ module _ (packed : Bool) (k l : Kept) (d e : Device) (w : Writer) where
       }
 
   pub close_gives : (result : Result Receipt Refusal) → is_writing (state_of k) w.put ≡ true → ClosesWhere (state_of k) (state_of l) w result
-      → IfErr result (IsCounted e.faults) → IfErr result (RefusalHasRecord k l) → Closes (at_by packed k d) (at_by packed l e) (written_as w) (answer_as receipt_as result)
+      → IfErr result (IsCounted e.faults) → IfErr result (RefusalHasRecord k l) → Closes (at_by packed k d) (at_by packed l e) (written_as w) result
   close_gives (Ok given) writing is counts recorded = (is.0, complete given is.1)
   close_gives (Err (refusal.VectorTooLarge bytes)) writing is counts recorded = (is.0, (is.1 ∙ size_is, is.2))
   close_gives (Err (refusal.Lost index why)) writing is counts recorded = (is.0, is.1)
@@ -199,7 +196,7 @@ module _ (packed : Bool) (k l : Kept) (d e : Device) (w : Writer) where
 -- ---- the writer
 
 seals_as : (old new : Writer) (result : Result Receipt Refusal) → closes.SealsInStripeWhere old new result
-    → SealsWhere (written_as old) (written_as new) (answer_as receipt_as result)
+    → SealsWhere (written_as old) (written_as new) result
 seals_as old new (Ok given) h = tt
 seals_as old new (Err (refusal.DeviceFault count)) h = h
 seals_as old new (Err (refusal.Exhausted number)) h = h
@@ -212,7 +209,7 @@ seals_as old new (Err refusal.Sealed) h = tt
 seals_as old new (Err refusal.NoSuchWriter) h = tt
 
 pub writer_closes : (t : State) (old new : Writer) (result : Result Receipt Refusal) → writers.IsStripeWriterOf t new → closes.SealsInStripeWhere old new result
-    → closes.IsRested old new → WriterCloses (written_as old) (answer_as receipt_as result) t (written_as new)
+    → closes.IsRested old new → WriterCloses (written_as old) result t (written_as new)
 writer_closes t old new result own seals rested = record {
   seals = seals_as old new result seals;
   rested = elim rested [
@@ -224,7 +221,7 @@ writer_closes t old new result own seals rested = record {
 
 -- one that does not close is as it was
 pub writer_stays : (t : State) (w : Writer) → writers.IsStripeWriterOf t w
-    → WriterCloses (written_as w) (Err said.NoSuchWriter) t (written_as w)
+    → WriterCloses (written_as w) (Err refusal.NoSuchWriter) t (written_as w)
 writer_stays t w own = record { seals = tt; rested = inl (record { put = refl; gathered = refl; cuts = refl }); writer = writer_as t w own }
 
 -- ---- what is told of the rest

@@ -17,8 +17,8 @@ use Rattle.call_laws.specs.Serves.{ServesTold}
 use Rattle.call_laws.proofs.Grown.{one_spends}
 use Rattle.call_laws.proofs.Joined.{state_behind}
 use Rattle.piece_answers.specs.declared.answer.Placed.{Placed}
-use Rattle.stripe_answers.specs.declared.refusal.Refusal.{Refusal}
-use Rattle.stripe_answers.specs.declared.refusal.Refusal.TheVariants as refusal
+use Rattle.cache_answers.specs.declared.answers.Refusal.{Refusal}
+use Rattle.cache_answers.specs.declared.answers.Refusal.TheVariants as refusal
 use Rattle.piece_answers.specs.declared.answer.Stop.{Stop}
 use Rattle.piece_answers.specs.declared.answer.Stop.TheVariants as stop
 use Rattle.piece_answers.specs.Covers.{SpendsFirst}
@@ -32,14 +32,15 @@ use Rattle.stripe_write.specs.Writes.{CutsNextAsAsked, IsTakingInStripe, SameWri
 use Rattle.stripe_write.proofs.Cutting.{next_no_vector}
 use Rattle.stripe_write.proofs.Faulted.{alone, covers_alone, cut_recorded}
 use Rattle.stripe_write.proofs.Spending.{nothing_more}
-use Rattle.cache_calls.specs.Adds.{AddsSoundly, IsOfPut}
+use Rattle.cache_model.specs.Subjects.{IsOfPut}
+use Rattle.cache_calls.specs.Adds.{AddsSoundly}
 use Rattle.cache_calls.specs.Asked.{cuts_next, fed_asks, progress_at, write_asks}
 use Rattle.cache_calls.specs.Standing.{IsToldWritten}
-use Rattle.cache_calls.specs.Writers.{CutsAs, IsCutting, LiveBefore, StopsAs, WriterGoesOn, Writes, fragment_records}
-use Rattle.stripe_calls.specs.Answers.{answer_as, same_as}
+use Rattle.cache_model.specs.Live.{LiveBefore}
+use Rattle.cache_calls.specs.Writers.{CutsAs, IsCutting, StopsAs, WriterGoesOn, Writes, fragment_records}
 use Rattle.stripe_calls.specs.Seen.{at_by, written_as}
 use Rattle.stripe_calls.proofs.Serving.{all_left, one_done, one_fails, serves_by}
-use Rattle.stripe_calls.proofs.Words.{flush_records, live_before, put_records, writer_as}
+use Rattle.stripe_calls.proofs.Words.{writer_as}
 
 -- ---- what is asked
 
@@ -127,7 +128,7 @@ module _ (packed : Bool) (k l : Kept) (d e : Device) (now : ℕ) (w : Writer) (b
   left added adds none = all_left accounted own_asks IsToldAt (subst (λ recs. l ≡ with_records k recs) none adds ∙ nothing_more k) (λ later. tt)
 
   pub write_serves : (result : Result ℕ Refusal) → WritesWhere (state_of k) w bytes result → WritesAsAsked packed now k l d.past e w bytes result
-      → Served own_asks (progress_at w.put own_asks (answer_as same_as result))
+      → Served own_asks (progress_at w.put own_asks result)
   write_serves (Ok n) is h =
       subst (λ them. Served them AllDone)
       (sym (taken_asks (state_of k) w bytes is.0 is.2
@@ -163,9 +164,9 @@ module _ (packed : Bool) (k l : Kept) (d e : Device) (w : Writer) where
   cuts payload added placed adds h = record {
     room = h.room;
     displaced = h.are.displaced;
-    kinds = flush_records h.room h.kinds;
+    kinds = h.kinds;
     none = h.none;
-    live = live_before (state_of k) (after_all (state_of k) h.room) h.live;
+    live = h.live;
     pushed = h.are.pushed;
     adds = adds
         ∙ ap (with_records k) (h.is ∙ ap (λ recs. h.room ++ recs) (h.are.is ∙ pieces_are (after_all (state_of k) h.room) payload h.are.displaced));
@@ -174,9 +175,9 @@ module _ (packed : Bool) (k l : Kept) (d e : Device) (w : Writer) where
   stops : (payload : List ℕ) (added : List Rec) (why : Stop) → l ≡ with_records k added → IsStoppedAs (state_of k) e.faults payload added why
       → StopsAs (at_by packed k d) (at_by packed l e)
   stops payload added why adds h = record {
-    flush = record { added = added; adds = adds; own = flush_records added h.kinds };
+    flush = record { added = added; adds = adds; own = h.kinds };
     live = subst (LiveBefore (state_of k)) (sym (state_behind k l added adds))
-        (live_before (state_of k) (after_all (state_of k) added) h.live);
+        h.live;
   }
 
   module _ (now : ℕ) (bytes : List ℕ) where
@@ -191,7 +192,7 @@ module _ (packed : Bool) (k l : Kept) (d e : Device) (w : Writer) where
 
     pub write_gives : (result : Result ℕ Refusal) → WritesWhere (state_of k) w bytes result
         → IfErr result (numbers.StopsExhausted (state_of l) (state_of k).geometry.fragment) → WritesAsAsked packed now k l d.past e w bytes result
-        → Writes (at_by packed k d) (at_by packed l e) (written_as w) bytes (answer_as same_as result)
+        → Writes (at_by packed k d) (at_by packed l e) (written_as w) bytes result
     write_gives (Ok n) is number h =
         record
         { taking = is.0; count = is.1; few = is.2; cuts = taken n h.added h.adds (completes_fragment (state_of k).geometry w n) h.does }
@@ -221,7 +222,7 @@ module _ (packed : Bool) (k l : Kept) (d e : Device) (w : Writer) where
     write_gives (Err _) is number h = absurd is
 
     pub write_owns : (result : Result ℕ Refusal) → WritesAsAsked packed now k l d.past e w bytes result → AddsSoundly (IsOfPut w.put) (at_by packed k d) (at_by packed l e)
-    write_owns result h = record { added = h.added; adds = h.adds; own = put_records w.put h.added h.own; undamaged = h.unharmed }
+    write_owns result h = record { added = h.added; adds = h.adds; own = h.own; undamaged = h.unharmed }
 
 -- ---- the writer
 
@@ -239,7 +240,7 @@ same_writer old new h =
 
 pub write_goes : (s t : State) (old new : Writer) (bytes : List ℕ) (result : Result ℕ Refusal) → writers.IsStripeWriterOf t new
     → IfOk result (λ n. writes.GathersAsAsked s.geometry old bytes n new) → OnErr result (SameWriter old new)
-    → WriterGoesOn (written_as old) bytes (answer_as same_as result) s t (written_as new)
+    → WriterGoesOn (written_as old) bytes result s t (written_as new)
 write_goes s t old new bytes (Ok n) own gathers same = record {
   goes = record { put = gathers.put; gathered = gathers.gathered; sealed = gathers.sealed };
   writer = writer_as t new own;
@@ -250,6 +251,6 @@ write_goes s t old new bytes (Err why) own gathers same = record { goes = same_w
 
 -- a caller tells it of the writer that it sees
 pub told_written : (s : State) (w : Writer) (bytes : List ℕ) (result : Result ℕ Refusal) (contents : Contents)
-    → IsToldWritten s (written_as w) bytes (answer_as same_as result) contents → writes.IsToldWrittenInStripe s w bytes result contents
+    → IsToldWritten s (written_as w) bytes result contents → writes.IsToldWrittenInStripe s w bytes result contents
 told_written s w bytes (Ok n) contents h = h
 told_written s w bytes (Err why) contents h = tt

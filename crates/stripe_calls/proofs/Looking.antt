@@ -22,8 +22,8 @@ use Rattle.call_laws.specs.Progress.{AllDone}
 use Rattle.call_laws.specs.Serves.{ServesFrom, ServesTold}
 use Rattle.call_laws.proofs.Grown.{one_spends}
 use Rattle.piece_answers.specs.Faults.{IsAccounted}
-use Rattle.stripe_read.specs.declared.opening.Opened.{Opened}
-use Rattle.stripe_read.specs.declared.opening.Opened.TheVariants as opened
+use Rattle.cache_answers.specs.declared.answers.Opened.{Opened}
+use Rattle.cache_answers.specs.declared.answers.Opened.TheVariants as opened
 use Rattle.stripe_read.specs.declared.reader.Reader.{Reader}
 use Rattle.stripe_read.specs.Lookups as lookups
 use Rattle.stripe_read.specs.Lookups.{IfOpened, Opens, TellsOpened, answer_of_opened}
@@ -34,10 +34,9 @@ use Rattle.cache_calls.specs.Adds.{AddsAll}
 use Rattle.cache_calls.specs.Asked.{unless_wanting}
 use Rattle.cache_calls.specs.Readers as seam
 use Rattle.cache_calls.specs.Readers.{ClosesReader, HasItsTable, IsCountedMiss, OpensReader, TellsReader, open_adds, vector_trouble}
-use Rattle.stripe_calls.specs.Answers.{given_as, opened_in_calls}
 use Rattle.stripe_calls.specs.Seen.{at_by, reading_as}
 use Rattle.stripe_calls.proofs.Serving.{all_left, group_serves, serves_by, shows_asked}
-use Rattle.stripe_calls.proofs.Words.{are_seen, cause_same, counted_cause, reader_as, table_as}
+use Rattle.stripe_calls.proofs.Words.{are_seen, counted_cause, reader_as, table_as}
 
 -- ---- the records of a lookup
 
@@ -45,23 +44,23 @@ trouble_same : (o : Option Row) (answer : ReadAnswer) → lookups.lookup_trouble
 trouble_same None answer = refl
 trouble_same (Some row) (read.Hit put) = refl
 trouble_same (Some row) (read.Follow put) = refl
-trouble_same (Some row) (read.Miss why) = sym (cause_same row why)
+trouble_same (Some row) (read.Miss why) = refl
 
-answer_same : (given : Opened) → answer_of_opened given ≡ seam.answer_in (opened_in_calls given)
+answer_same : (given : Opened Reader) → answer_of_opened given ≡ seam.answer_in given
 answer_same (opened.Hit reader put size) = refl
 answer_same (opened.Follow reader put) = refl
 answer_same (opened.Miss why) = refl
 
-adds_same : (s : State) (who : Actor) (key : Key) (request : List Field) (given : Opened)
-    → lookups.opening_adds s who key request (answer_of_opened given) ≡ open_adds s who key request (seam.answer_in (opened_in_calls given))
+adds_same : (s : State) (who : Actor) (key : Key) (request : List Field) (given : Opened Reader)
+    → lookups.opening_adds s who key request (answer_of_opened given) ≡ open_adds s who key request (seam.answer_in given)
 adds_same s who key request given =
     ap (λ recs. recs ++ rec.ReadOpened s.next_reader who key request (answer_of_opened given) ∷ []) (trouble_same (live_vector_of s key) (answer_of_opened given))
     ∙ ap (open_adds s who key request) (answer_same given)
 
 -- ---- what it tells
 
-if_reader : (P : Reader → Type 0) (Q : Reader → Type 0) → ((r : Reader) → P r → Q r) → (given : Opened) → IfOpened P given
-    → seam.IfReader Q (opened_in_calls given)
+if_reader : (P : Reader → Type 0) (Q : Reader → Type 0) → ((r : Reader) → P r → Q r) → (given : Opened Reader) → IfOpened P given
+    → seam.IfReader Q given
 if_reader P Q f (opened.Hit reader put size) h = f reader h
 if_reader P Q f (opened.Follow reader put) h = f reader h
 if_reader P Q f (opened.Miss why) h = tt
@@ -70,7 +69,7 @@ length_same : (table : Option Table) → option_map (λ (t : Table). total_lengt
 length_same None = refl
 length_same (Some table) = refl
 
-tells_as : (number : ℕ) (given : Opened) → TellsOpened number given → TellsReader reading_as number (opened_in_calls given)
+tells_as : (number : ℕ) (given : Opened Reader) → TellsOpened number given → TellsReader reading_as number given
 tells_as number (opened.Hit reader put size) h = (h.0, h.1, sym (length_same reader.table) ∙ h.2)
 tells_as number (opened.Follow reader put) h = h
 tells_as number (opened.Miss why) h = tt
@@ -81,10 +80,10 @@ vector_among : (o : Option Row) (rest : List Rec) (count : ℕ) → IsSome o
 vector_among None rest count live = cc
 vector_among (Some row) rest count live = inl refl
 
-counted_as : (packed : Bool) (k l : Kept) (d e : Device) (who : Actor) (key : Key) (request : List Field) (given : Opened)
+counted_as : (packed : Bool) (k l : Kept) (d e : Device) (who : Actor) (key : Key) (request : List Field) (given : Opened Reader)
     → lookups.MissIsCounted e.faults (state_of k) key (answer_of_opened given)
-    → AddsAll (open_adds (state_of k) who key request (seam.answer_in (opened_in_calls given))) (at_by packed k d) (at_by packed l e)
-    → IsCountedMiss (at_by packed k d) (at_by packed l e) key (seam.answer_in (opened_in_calls given))
+    → AddsAll (open_adds (state_of k) who key request (seam.answer_in given)) (at_by packed k d) (at_by packed l e)
+    → IsCountedMiss (at_by packed k d) (at_by packed l e) key (seam.answer_in given)
 counted_as packed k l d e who key request (opened.Hit reader put size) h adds = tt
 counted_as packed k l d e who key request (opened.Follow reader put) h adds = tt
 counted_as packed k l d e who key request (opened.Miss why) h adds =
@@ -100,15 +99,15 @@ module _ (packed : Bool) (k l : Kept) (d e : Device) (who : Actor) (key : Key) (
   abbrev asked : List Intent
   asked = Look who.0 key request ∷ []
 
-  abbrev Added : Result Opened AllocError → Type 0
+  abbrev Added : Result (Opened Reader) AllocError → Type 0
   Added result = IfOk result (λ given. l ≡ with_records k (lookups.opening_adds (state_of k) who key request (answer_of_opened given)))
 
-  abbrev Found : Result Opened AllocError → Type 0
+  abbrev Found : Result (Opened Reader) AllocError → Type 0
   Found result = IfOk result (Opens (state_of k) (state_of l) d e who key request)
 
-  pub look_serves : (now : ℕ) → IsAccounted d.past e.past k l → (result : Result Opened AllocError) → Added result → Found result → OnErr result (l ≡ k)
-      → ServesFrom (Untold e IsVectorAs) now (at_by packed k d) (at_by packed l e) asked (unless_wanting asked (given_as opened_in_calls result)) IsToldAt
-      (HasItsTable reading_as (given_as opened_in_calls result))
+  pub look_serves : (now : ℕ) → IsAccounted d.past e.past k l → (result : Result (Opened Reader) AllocError) → Added result → Found result → OnErr result (l ≡ k)
+      → ServesFrom (Untold e IsVectorAs) now (at_by packed k d) (at_by packed l e) asked (unless_wanting asked result) IsToldAt
+      (HasItsTable reading_as result)
   look_serves now accounted (Ok given) adds h same =
       let added : List Rec = lookups.opening_adds (state_of k) who key request (answer_of_opened given) in
       serves_by accounted asked AllDone IsToldAt added adds
@@ -121,9 +120,9 @@ module _ (packed : Bool) (k l : Kept) (d e : Device) (who : Actor) (key : Key) (
       ])
   look_serves now accounted (Err error) adds h same = all_left accounted asked IsToldAt same (λ later. tt)
 
-  pub look_gives : (result : Result Opened AllocError) → Added result → Found result → IfOk result (IfOpened (readers.IsOpenStripeReader (state_of l)))
+  pub look_gives : (result : Result (Opened Reader) AllocError) → Added result → Found result → IfOk result (IfOpened (readers.IsOpenStripeReader (state_of l)))
       → IfOk result (TellsOpened (state_of k).next_reader) → OnErr result (l ≡ k)
-      → OpensReader reading_as (at_by packed k d) (at_by packed l e) who key request (given_as opened_in_calls result)
+      → OpensReader reading_as (at_by packed k d) (at_by packed l e) who key request result
   look_gives (Ok given) adds h reader tells same =
       let added = adds ∙ ap (with_records k) (adds_same (state_of k) who key request given) in
       record {

@@ -14,19 +14,19 @@ use Rattle.cache_model.specs.Legal.{Does, DoesWrite}
 use Rattle.cache_model.specs.Room.{limit}
 use Rattle.call_laws.specs.Moments.{IsToldAt, permit_of}
 use Rattle.call_laws.specs.Serves.{ServesTold}
-use Rattle.stripe_answers.specs.declared.refusal.Refusal.{Refusal}
-use Rattle.stripe_answers.specs.declared.refusal.Refusal.TheVariants as refusal
+use Rattle.cache_answers.specs.declared.answers.Refusal.{Refusal}
+use Rattle.cache_answers.specs.declared.answers.Refusal.TheVariants as refusal
 use Rattle.stripe_answers.specs.Acts.{OpensAsAsked, write_opened_record}
 use Rattle.piece_answers.specs.Faults.{IsAccounted}
 use Rattle.stripe_write.specs.declared.writer.Writer.{Writer}
 use Rattle.stripe_write.specs.Writers as writers
 use Rattle.stripe_write.specs.Writes.{AbortsAsAsked, AbortsWhere, abort_adds, number_of_opened}
 use Rattle.stripe_write.proofs.Spending.{nothing_more}
-use Rattle.cache_calls.specs.Adds.{AddsOnly, IsOfPut}
+use Rattle.cache_model.specs.Subjects.{IsOfPut}
+use Rattle.cache_calls.specs.Adds.{AddsOnly}
 use Rattle.cache_calls.specs.Asked.{given_up_at, progress_at}
 use Rattle.cache_calls.specs.Keeping.{unsynced_setting}
 use Rattle.cache_calls.specs.Writers.{GivesUp, HasNumber, OpensWriter}
-use Rattle.stripe_calls.specs.Answers.{answer_as, same_as}
 use Rattle.stripe_calls.specs.Seen.{at_by, written_as}
 use Rattle.stripe_calls.proofs.Serving.{adds_none, all_left, group_serves}
 use Rattle.stripe_calls.proofs.Words.{writer_as}
@@ -51,7 +51,7 @@ module _ (packed : Bool) (k l : Kept) (d e : Device) (who : Actor) (key : Key) (
 
   module _ (now : ℕ) (accounted : IsAccounted d.past e.past k l) where
     pub open_serves : (result : Result Writer Refusal) → OnOk result (l ≡ with_records k (opened ∷ [])) → OnErr result (l ≡ k) → Opens result
-        → ServesTold now (at_by packed k d) (at_by packed l e) asked (progress_at (state_of k).next_put asked (answer_as same_as result))
+        → ServesTold now (at_by packed k d) (at_by packed l e) asked (progress_at (state_of k).next_put asked result)
     open_serves (Ok w) adds same does =
         group_serves accounted (Write who.0 key request response pin) Done IsToldAt (opened ∷ []) adds (λ p packs moment step. does.1 p)
     open_serves (Err refusal.TooManyWriters) adds same does =
@@ -66,7 +66,7 @@ module _ (packed : Bool) (k l : Kept) (d e : Device) (who : Actor) (key : Key) (
 
   pub open_gives : (result : Result Writer Refusal) → OnOk result (l ≡ with_records k (opened ∷ [])) → OnErr result (l ≡ k) → Opens result
       → IfOk result (writers.IsStripeWriterOf (state_of l)) → IfOk result (λ w. w.gathered.items ≡ []) → IfOk result (λ w. w.sealed ≡ false) → e ≡ d
-      → OpensWriter written_as (at_by packed k d) (at_by packed l e) opened (answer_as same_as result)
+      → OpensWriter written_as (at_by packed k d) (at_by packed l e) opened result
   open_gives (Ok w) adds same does writer empty unsealed still = record {
     answers = record { adds = adds; put = does.0; empty = empty; unsealed = unsealed; writer = writer_as (state_of l) w writer };
     still = still;
@@ -96,7 +96,7 @@ module _ (packed : Bool) (k l : Kept) (d e : Device) (w : Writer) where
   module _ (now : ℕ) (accounted : IsAccounted d.past e.past k l) where
     pub abort_serves : (result : Result ℕ Refusal) → l ≡ with_records k (abort_adds w.key result) → AbortsWhere (state_of k) w.put result
         → AbortsAsAsked (state_of k) w.put w.key result
-        → ServesTold now (at_by packed k d) (at_by packed l e) (GiveUp w.put ∷ []) (given_up_at w.put (answer_as same_as result))
+        → ServesTold now (at_by packed k d) (at_by packed l e) (GiveUp w.put ∷ []) (given_up_at w.put result)
     abort_serves (Ok n) adds is does =
         group_serves accounted (GiveUp w.put) Done IsToldAt (rec.Aborted w.put w.key ∷ []) (given_up n is.0 adds)
         (λ p packs moment step. subst (λ put. Does p (state_of k) (GiveUp w.put) (rec.Aborted put w.key ∷ []) Done) is.0 (does p))
@@ -105,7 +105,7 @@ module _ (packed : Bool) (k l : Kept) (d e : Device) (w : Writer) where
     abort_serves (Err _) adds is does = absurd is
 
   pub abort_gives : (result : Result ℕ Refusal) → l ≡ with_records k (abort_adds w.key result) → AbortsWhere (state_of k) w.put result
-      → GivesUp (at_by packed k d) (at_by packed l e) (written_as w) (answer_as same_as result)
+      → GivesUp (at_by packed k d) (at_by packed l e) (written_as w) result
   abort_gives (Ok n) adds is = (is.0, is.1, given_up n is.0 adds)
   abort_gives (Err refusal.NoSuchWriter) adds is = (is, as_it_was adds)
   abort_gives (Err (refusal.Memory error)) adds is = (is, as_it_was adds)

@@ -13,28 +13,28 @@ use Rattle.cache_model.specs.Room.{is_flush_exhausted}
 use Rattle.call_laws.specs.Moments.{IsToldAt}
 use Rattle.call_laws.specs.Serves.{ServesTold}
 use Rattle.call_laws.proofs.Joined.{state_behind}
-use Rattle.piece_answers.specs.declared.answer.Flushed.{Flushed}
-use Rattle.stripe_answers.specs.declared.refusal.Refusal.{Refusal}
-use Rattle.stripe_answers.specs.declared.refusal.Refusal.TheVariants as refusal
+use Rattle.cache_answers.specs.declared.answers.Flushed.{Flushed}
+use Rattle.cache_answers.specs.declared.answers.Refusal.{Refusal}
+use Rattle.cache_answers.specs.declared.answers.Refusal.TheVariants as refusal
 use Rattle.piece_answers.specs.declared.answer.Stop.{Stop}
 use Rattle.piece_answers.specs.Faults.{IsAccounted}
 use Rattle.piece_answers.specs.Flush as flush
 use Rattle.piece_answers.specs.Flush.{AreOfFlush, FlushesAsAsked, StopsWith}
 use Rattle.held_pieces.specs.Still.{IsStill}
 use Rattle.stripe_core.specs.Stripe.{AnswersOrWants, Wanting}
-use Rattle.stripe_write.specs.declared.removal.Removal.{Removal}
-use Rattle.stripe_write.specs.declared.removal.Removal.TheVariants as removal
+use Rattle.cache_answers.specs.declared.answers.Removal.{Removal}
+use Rattle.cache_answers.specs.declared.answers.Removal.TheVariants as removal
 use Rattle.stripe_write.specs.Removals.{RemovesAsIsAsked, RemovesWhere, removal_adds}
 use Rattle.stripe_write.proofs.Faulted.{alone, covers_alone, flush_recorded}
 use Rattle.stripe_write.proofs.Flushed.{flush_leaves}
 use Rattle.stripe_write.proofs.Spending.{nothing_more}
-use Rattle.cache_calls.specs.Adds.{AddsSoundly, IsOfFlush}
+use Rattle.cache_model.specs.Subjects.{IsOfFlush}
+use Rattle.cache_calls.specs.Adds.{AddsSoundly}
 use Rattle.cache_calls.specs.Asked.{progress_at, unless_wanting}
 use Rattle.cache_calls.specs.Plain.{Flushes, FlushesAs, Removes}
-use Rattle.stripe_calls.specs.Answers.{answer_as, flushed_as, given_as, removal_as}
 use Rattle.stripe_calls.specs.Seen.{at_by}
 use Rattle.stripe_calls.proofs.Serving.{adds_none, all_left, group_serves}
-use Rattle.stripe_calls.proofs.Words.{flush_records, is_idle, live_before}
+use Rattle.stripe_calls.proofs.Words.{is_idle}
 
 -- ---- an object is removed
 
@@ -44,13 +44,13 @@ module _ (packed : Bool) (k l : Kept) (d e : Device) (key : Key) where
 
   pub remove_serves : (now : ℕ) → IsAccounted d.past e.past k l → (result : Result Removal AllocError) → Added result
       → IfOk result (RemovesAsIsAsked (state_of k) key) → OnErr result (l ≡ k)
-      → ServesTold now (at_by packed k d) (at_by packed l e) (Remove key ∷ []) (unless_wanting (Remove key ∷ []) (given_as removal_as result))
+      → ServesTold now (at_by packed k d) (at_by packed l e) (Remove key ∷ []) (unless_wanting (Remove key ∷ []) result)
   remove_serves now accounted (Ok answer) adds does same =
       group_serves accounted (Remove key) Done IsToldAt (removal_adds key answer) adds (λ p packs moment step. does p)
   remove_serves now accounted (Err error) adds does same = all_left accounted (Remove key ∷ []) IsToldAt same (λ later. tt)
 
   pub remove_gives : (result : Result Removal AllocError) → Added result → IfOk result (RemovesWhere (state_of k) key) → OnErr result (l ≡ k)
-      → Removes (at_by packed k d) (at_by packed l e) key (given_as removal_as result)
+      → Removes (at_by packed k d) (at_by packed l e) key result
   remove_gives (Ok (removal.Removed put)) adds is same = (is, adds)
   remove_gives (Ok (removal.Absent why)) adds is same = (is.0, is.1, adds ∙ nothing_more k)
   remove_gives (Err error) adds is same = same
@@ -65,7 +65,7 @@ module _ (packed : Bool) (k l : Kept) (d e : Device) (now : ℕ) where
   Stops result = AnswersOrWants result (λ r. IfErr r (StopsWith (state_of k) e.faults)) (Unit {0})
 
   pub flush_serves : IsAccounted d.past e.past k l → (result : Result Flushed Refusal) → Does result
-      → ServesTold now (at_by packed k d) (at_by packed l e) (Flush ∷ []) (progress_at 0 (Flush ∷ []) (answer_as flushed_as result))
+      → ServesTold now (at_by packed k d) (at_by packed l e) (Flush ∷ []) (progress_at 0 (Flush ∷ []) result)
   flush_serves accounted (Ok flushed) h = group_serves accounted Flush Done IsToldAt h.added h.adds (λ p packs. h.does p)
   flush_serves accounted (Err (refusal.DeviceFault count)) h = group_serves accounted Flush (Fails (Faulted count)) IsToldAt h.added h.adds (λ p packs. h.does p)
   flush_serves accounted (Err (refusal.Exhausted number)) h = group_serves accounted Flush (Fails Exhausted) IsToldAt h.added h.adds (λ p packs. h.does p)
@@ -73,7 +73,7 @@ module _ (packed : Bool) (k l : Kept) (d e : Device) (now : ℕ) where
   flush_serves accounted (Err _) h = absurd h
 
   sound : (r : Result Flushed Stop) → FlushesAsAsked now k l d.past e r → AddsSoundly IsOfFlush (at_by packed k d) (at_by packed l e)
-  sound r h = record { added = h.added; adds = h.adds; own = flush_records h.added h.kinds; undamaged = h.unharmed }
+  sound r h = record { added = h.added; adds = h.adds; own = h.kinds; undamaged = h.unharmed }
 
   pub flush_owns : (result : Result Flushed Refusal) → Does result → AddsSoundly IsOfFlush (at_by packed k d) (at_by packed l e)
   flush_owns (Ok flushed) h = sound _ h
@@ -84,9 +84,9 @@ module _ (packed : Bool) (k l : Kept) (d e : Device) (now : ℕ) where
 
   answers : (result : Result Flushed Refusal) → Does result → IfOk result (flush.TellsFlush (state_of k) (state_of l))
       → OnOk result ((state_of l).filled ≤ budget_of (state_of l).geometry) → Stops result → Wanting result (IsStill d e)
-      → FlushesAs (at_by packed k d) (at_by packed l e) (answer_as flushed_as result)
+      → FlushesAs (at_by packed k d) (at_by packed l e) result
   answers (Ok flushed) h tells room stops still =
-      (record { blocks = tells.blocks; cursor = tells.cursor; floor = tells.floor; room = room }, live_before (state_of k) (state_of l) h.live)
+      (record { blocks = tells.blocks; cursor = tells.cursor; floor = tells.floor; room = room }, h.live)
   answers (Err (refusal.DeviceFault count)) h tells room stops still = record {
     count_is = stops;
     told = record {
@@ -96,18 +96,18 @@ module _ (packed : Bool) (k l : Kept) (d e : Device) (now : ℕ) where
       among = flush_recorded count refl refl (h.does (alone packed now d.past e.past) refl (covers_alone packed now d.past e.past));
     };
     stops = record {
-      flush = record { added = h.added; adds = h.adds; own = flush_records h.added h.kinds };
-      live = live_before (state_of k) (state_of l) h.live;
+      flush = record { added = h.added; adds = h.adds; own = h.kinds };
+      live = h.live;
     };
   }
-  answers (Err (refusal.Exhausted number)) h tells room stops still = (stops.0, stops.1, live_before (state_of k) (state_of l) h.live)
+  answers (Err (refusal.Exhausted number)) h tells room stops still = (stops.0, stops.1, h.live)
   answers (Err (refusal.Memory error)) h tells room stops still = (h, is_idle still)
   answers (Err _) h tells room stops still = absurd h
 
   pub flush_gives : (result : Result Flushed Refusal) → Does result → IfOk result (flush.TellsFlush (state_of k) (state_of l))
       → OnOk result ((state_of l).filled ≤ budget_of (state_of l).geometry) → Stops result → Wanting result (IsStill d e)
       → ((state_of k).filled ≡ 0 → IsStill d e) → (is_flush_exhausted (state_of k) ≡ true → IsStill d e)
-      → Flushes (at_by packed k d) (at_by packed l e) (answer_as flushed_as result)
+      → Flushes (at_by packed k d) (at_by packed l e) result
   flush_gives result h tells room stops wanting still ended = record {
     answers = answers result h tells room stops wanting;
     still = λ empty. is_idle (still empty);

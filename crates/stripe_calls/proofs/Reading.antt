@@ -1,5 +1,5 @@
 -- A reader reads on.
-use Rattle.std.proofs.Common.{◌≡◌, ℕ, Bool, List, [], ◌∷◌, ◌++◌, refl, sym, ◌∙◌, ap, Result, Ok, Err, inl, inr, ◌⊎◌}
+use Rattle.std.proofs.Common.{◌≡◌, ℕ, Bool, List, [], ◌∷◌, ◌++◌, refl, ◌∙◌, ap, Result, Ok, Err, inl, inr, ◌⊎◌}
 use Rattle.std.specs.Prelude.{IfOk, IsSome, OnErr, Option, Some, None, option_map}
 use Rattle.std.specs.declared.alloc.AllocError.{AllocError}
 use Rattle.fragment_table.specs.Table.{Table}
@@ -24,8 +24,8 @@ use Rattle.stripe_core.specs.Between.{IsBetween}
 use Rattle.piece_answers.specs.Faults.{IsAccounted}
 use Rattle.piece_answers.specs.Standing.{AreStanding}
 use Rattle.stripe_read.specs.declared.reader.Reader.{Reader}
-use Rattle.stripe_read.specs.declared.reading.NextPiece.{NextPiece}
-use Rattle.stripe_read.specs.declared.reading.NextPiece.TheVariants as piece
+use Rattle.cache_answers.specs.declared.answers.NextPiece.{NextPiece}
+use Rattle.cache_answers.specs.declared.answers.NextPiece.TheVariants as piece
 use Rattle.stripe_read.specs.Nexts as nexts
 use Rattle.stripe_read.specs.Nexts.{ReadsOn}
 use Rattle.stripe_read.specs.Readers as readers
@@ -34,32 +34,31 @@ use Rattle.cache_calls.specs.Asked.{unless_wanting}
 use Rattle.cache_calls.specs.Keeping.{StaysUnharmed}
 use Rattle.cache_calls.specs.Readers.{IsCountedBreak, IsFragment, IsGivenAs, IsGivenInEachStep, IsOtherNext, IsToldTo, ReaderGoesOn, ReadsNext, next_behind, next_trouble, noted, read_adds}
 use Rattle.cache_calls.specs.Standing.{GivesPayload}
-use Rattle.stripe_calls.specs.Answers.{given_as, piece_as}
 use Rattle.stripe_calls.specs.Seen.{at_by, reading_as}
 use Rattle.stripe_calls.proofs.Serving.{all_left, covers_in, serves_by}
-use Rattle.stripe_calls.proofs.Words.{are_seen, cause_same, counted_cause, reader_as, stays_unharmed, table_as, table_is}
+use Rattle.stripe_calls.proofs.Words.{are_seen, counted_cause, reader_as, stays_unharmed, table_as, table_is}
 
 -- ---- its records
 
-trouble_same : (o : Option Row) (given : NextPiece) → nexts.piece_trouble o given ≡ next_trouble o (piece_as given)
+trouble_same : (o : Option Row) (given : NextPiece) → nexts.piece_trouble o given ≡ next_trouble o given
 trouble_same None given = refl
 trouble_same (Some row) (piece.Piece index size) = refl
 trouble_same (Some row) (piece.End size) = refl
 trouble_same (Some row) (piece.NotYet cut) = refl
-trouble_same (Some row) (piece.Broken why) = sym (cause_same row why)
+trouble_same (Some row) (piece.Broken why) = refl
 
-noted_same : (listed : ℕ) (given : NextPiece) → nexts.answer_noted listed given ≡ noted listed (piece_as given)
+noted_same : (listed : ℕ) (given : NextPiece) → nexts.answer_noted listed given ≡ noted listed given
 noted_same listed (piece.Piece index size) = refl
 noted_same listed (piece.End size) = refl
 noted_same listed (piece.NotYet cut) = refl
 noted_same listed (piece.Broken why) = refl
 
-adds_same : (s : State) (r : Reader) (given : NextPiece) → nexts.reading_adds s r given ≡ read_adds s (reading_as r) (piece_as given)
+adds_same : (s : State) (r : Reader) (given : NextPiece) → nexts.reading_adds s r given ≡ read_adds s (reading_as r) given
 adds_same s r given =
     let listed : ℕ = nexts.next_listed_length s r in
     ap (λ recs. recs ++ answer_record r.reader (nexts.answer_noted listed given) ∷ [])
     (trouble_same (live_next s (readers.row_of_reader r)) given)
-    ∙ ap (λ answer. next_trouble (live_next s (readers.row_of_reader r)) (piece_as given) ++ answer_record r.reader answer ∷ []) (noted_same listed given)
+    ∙ ap (λ answer. next_trouble (live_next s (readers.row_of_reader r)) given ++ answer_record r.reader answer ∷ []) (noted_same listed given)
 
 -- ---- what it is given
 
@@ -76,7 +75,7 @@ given_as_fragment p s r index size into h = record {
 }
 
 given_so : (p : Permit) (s : State) (r : Reader) (given : NextPiece) (into : List ℕ) → nexts.GivesFragment p s r given into
-    → IsGivenAs p s (reading_as r) (piece_as given) into
+    → IsGivenAs p s (reading_as r) given into
 given_so p s r (piece.Piece index size) into h = given_as_fragment p s r index size into h
 given_so p s r (piece.End size) into h = tt
 given_so p s r (piece.NotYet cut) into h = tt
@@ -84,13 +83,13 @@ given_so p s r (piece.Broken why) into h = tt
 
 -- the fault that kept a live fragment from being read is recorded
 next_among : (o : Option Row) (rest : List Rec) (count : ℕ) → IsSome o
-    → IsAmong (rec.Fault count) (next_trouble o (piece_as (piece.Broken (cause.DeviceFault count))) ++ rest)
+    → IsAmong (rec.Fault count) (next_trouble o (piece.Broken (cause.DeviceFault count)) ++ rest)
 next_among None rest count live = cc
 next_among (Some row) rest count live = inl refl
 
 counted_as : (packed : Bool) (k l : Kept) (d e : Device) (r : Reader) (given : NextPiece) → nexts.BreakIsCounted e.faults (state_of k) r given
-    → AddsAll (read_adds (state_of k) (reading_as r) (piece_as given)) (at_by packed k d) (at_by packed l e)
-    → IsCountedBreak (at_by packed k d) (at_by packed l e) (reading_as r) (piece_as given)
+    → AddsAll (read_adds (state_of k) (reading_as r) given) (at_by packed k d) (at_by packed l e)
+    → IsCountedBreak (at_by packed k d) (at_by packed l e) (reading_as r) given
 counted_as packed k l d e r (piece.Piece index size) h adds = tt
 counted_as packed k l d e r (piece.End size) h adds = tt
 counted_as packed k l d e r (piece.NotYet cut) h adds = tt
@@ -98,12 +97,12 @@ counted_as packed k l d e r (piece.Broken why) h adds =
     let o : Option Row = live_next (state_of k) (readers.row_of_reader r) in
     elim h [
       | inl is ↦ inl is
-      | inr counted ↦ inr (counted_cause (at_by packed k d) (at_by packed l e) o why (λ c. read_adds (state_of k) (reading_as r) (piece_as (piece.Broken c))) counted adds (λ count. next_among o (answer_record r.reader (next.Broke (cause.DeviceFault count)) ∷ []) count))
+      | inr counted ↦ inr (counted_cause (at_by packed k d) (at_by packed l e) o why (λ c. read_adds (state_of k) (reading_as r) (piece.Broken c)) counted adds (λ count. next_among o (answer_record r.reader (next.Broke (cause.DeviceFault count)) ∷ []) count))
     ]
 
 -- the payload that is told of the fragment
 exact_as : (contents : Contents) (o : Option Row) (given : NextPiece) (into : List ℕ) → nexts.GivesToldPayload contents o given into
-    → GivesPayload contents o (Ok (piece_as given)) into
+    → GivesPayload contents o (Ok given) into
 exact_as contents None given into h = tt
 exact_as contents (Some row) (piece.Piece index size) into h = h
 exact_as contents (Some row) (piece.End size) into h = tt
@@ -134,7 +133,7 @@ module _ (packed : Bool) (k l : Kept) (old new : Seen) (r : Reader) where
 
   pub next_serves : (now : ℕ) (into : List ℕ) → IsAccounted d.past e.past k l → (result : Result NextPiece AllocError) → Added result → Read result into
       → OnErr result (l ≡ k)
-      → ServesFrom (Untold e IsVectorAs) now (at_by packed k d) (at_by packed l e) asked (unless_wanting asked (given_as piece_as result))
+      → ServesFrom (Untold e IsVectorAs) now (at_by packed k d) (at_by packed l e) asked (unless_wanting asked result)
       (IsToldTo (reading_as r)) NothingKnown
   next_serves now into accounted (Ok given) adds h same =
       let added : List Rec = nexts.reading_adds (state_of k) r given in
@@ -142,11 +141,11 @@ module _ (packed : Bool) (k l : Kept) (old new : Seen) (r : Reader) where
       (λ p past packs moment step told. inl (one_spends p (state_of k) (ReadOn r.reader) added Done (h.does p step (table_is (state_of k) r told.1)), λ later. tt))
   next_serves now into accounted (Err error) adds h same = all_left accounted asked (IsToldTo (reading_as r)) same (λ later. tt)
 
-  is_given : (given : NextPiece) (into : List ℕ) → ReadsOn (state_of k) old new r given into → IsGivenInEachStep (at_by packed k d) (at_by packed l e) (reading_as r) (piece_as given) into
+  is_given : (given : NextPiece) (into : List ℕ) → ReadsOn (state_of k) old new r given into → IsGivenInEachStep (at_by packed k d) (at_by packed l e) (reading_as r) given into
   is_given given into h = λ now p earlier calls past step. given_so p (state_of k) r given into (h.gives p (covers_in d.past e.past past step))
 
   pub next_gives : (into : List ℕ) (result : Result NextPiece AllocError) → Added result → Read result into → OnErr result (l ≡ k)
-      → ReadsNext (at_by packed k d) (at_by packed l e) (reading_as r) (given_as piece_as result) into
+      → ReadsNext (at_by packed k d) (at_by packed l e) (reading_as r) result into
   next_gives into (Ok given) adds h same =
       let added = adds ∙ ap (with_records k) (adds_same (state_of k) r given) in
       record {
@@ -158,7 +157,7 @@ module _ (packed : Bool) (k l : Kept) (old new : Seen) (r : Reader) where
   next_gives into (Err error) adds h same = same
 
   pub next_exact : (into : List ℕ) (result : Result NextPiece AllocError) → Read result into → TellsAll e → (contents : Contents)
-      → AreStanding contents (state_of k) old → GivesPayload contents (live_next (state_of k) (readers.row_of_reader r)) (given_as piece_as result) into
+      → AreStanding contents (state_of k) old → GivesPayload contents (live_next (state_of k) (readers.row_of_reader r)) result into
   next_exact into (Ok given) h tells contents stands = exact_as contents _ given into (h.contents tells contents stands)
   next_exact into (Err error) h tells contents stands = none_given contents _ error into
 
@@ -171,7 +170,7 @@ module _ (packed : Bool) (k l : Kept) (old new : Seen) (r : Reader) where
 
 -- ---- the reader
 
-next_same : (index : ℕ) (given : NextPiece) → nexts.index_behind index given ≡ next_behind index (piece_as given)
+next_same : (index : ℕ) (given : NextPiece) → nexts.index_behind index given ≡ next_behind index given
 next_same index (piece.Piece given size) = refl
 next_same index (piece.End size) = refl
 next_same index (piece.NotYet cut) = refl
@@ -180,7 +179,7 @@ next_same index (piece.Broken why) = refl
 pub next_goes : (s t : State) (old new : Reader) (result : Result NextPiece AllocError)
     → IfOk result (λ given. nexts.IsBehindPiece old given new)
     → OnErr result (new ≡ old) → readers.IsOpenStripeReader t new → (readers.IsStripeReaderOf s old → readers.IsStripeReaderOf t new)
-    → ReaderGoesOn (reading_as old) (given_as piece_as result) s t (reading_as new)
+    → ReaderGoesOn (reading_as old) result s t (reading_as new)
 next_goes s t old new (Ok given) goes same own keeps = record {
   goes = record {
     reader = goes.reader;

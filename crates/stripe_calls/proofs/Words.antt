@@ -1,7 +1,6 @@
 -- The words of a stripe, as those of a cache.
 use Rattle.std.proofs.Common.{◌≡◌, ℕ, Bool, List, refl, sym, ◌∙◌, inl, inr}
 use Rattle.std.specs.Prelude.{IsSome, Option, Some, None, is_some, option_map}
-use Rattle.std.specs.List.{AllByRecursion}
 use Rattle.device_log.specs.Calls.{Call, Read}
 use Rattle.fragment_table.specs.Table.{Table}
 use Rattle.logged_disk.specs.Device.{DeviceState as Device}
@@ -15,8 +14,6 @@ use Rattle.cache_model.specs.Permit.{IsAmong}
 use Rattle.cache_model.proofs.Steps.{all_as}
 use Rattle.stripe_core.specs.Between.{IsBetween}
 use Rattle.piece_answers.specs.Covers as covers
-use Rattle.piece_answers.specs.Find as find
-use Rattle.piece_answers.specs.Flush as flush
 use Rattle.held_pieces.specs.Still.{IsStill}
 use Rattle.stripe_answers.specs.Unharmed as unharmed
 use Rattle.stripe_write.specs.declared.writer.Writer.{Writer}
@@ -28,10 +25,10 @@ use Rattle.stripe_read.specs.Readers as readers
 use Rattle.stripe_read.specs.Troubles.{TroubleIsCounted}
 use Rattle.call_laws.specs.Moments.{At}
 use Rattle.cache_calls.specs.Actors.{IsAllCut, IsAtHand, IsOpenReader, IsReaderOf, IsWriterOf}
-use Rattle.cache_calls.specs.Adds.{AddsAll, AddsOnly, IsOfFlush, IsOfPut, IsOfReader}
+use Rattle.cache_model.specs.Subjects.{IsOfPut, IsOfReader}
+use Rattle.cache_calls.specs.Adds.{AddsAll, AddsOnly}
 use Rattle.cache_calls.specs.Keeping.{AreSeen, IsIdle, IsSeenOn, IsUnharmed, StaysUnharmed}
-use Rattle.cache_calls.specs.Readers.{IsCountedCause, cause_records}
-use Rattle.cache_calls.specs.Writers.{LiveBefore}
+use Rattle.cache_calls.specs.Readers.{IsCountedCause}
 use Rattle.stripe_calls.specs.Seen.{at_by, reading_as, written_as}
 
 -- ---- writers
@@ -106,32 +103,14 @@ table_is s r h = record { actor = h.actor; found = h.found }
 
 -- ---- whose records there are
 
-put_record : (put : ℕ) (r : Rec) → puts.IsRecordOfPut put r → IsOfPut put r
-put_record put (rec.Formatted geometry) h = h
-put_record put _ h = h
-
-reader_record : (reader : ℕ) (r : Rec) → others.IsRecordOfReader reader r → IsOfReader reader r
-reader_record reader (rec.Formatted geometry) h = h
-reader_record reader _ h = h
-
-flush_record : (r : Rec) → flush.IsRecordOfFlush r → IsOfFlush r
-flush_record (rec.Formatted geometry) h = h
-flush_record _ h = h
-
-pub put_records : (put : ℕ) (recs : List Rec) → AllByRecursion (puts.IsRecordOfPut put) recs → AllByRecursion (IsOfPut put) recs
-put_records put recs each = all_as (puts.IsRecordOfPut put) (IsOfPut put) (put_record put) recs each
-
-pub flush_records : (recs : List Rec) → flush.AreOfFlush recs → AllByRecursion IsOfFlush recs
-flush_records recs each = all_as flush.IsRecordOfFlush IsOfFlush flush_record recs each
-
 pub put_adds : {packed : Bool} {k l : Kept} {d e : Device} (put : ℕ) → puts.AddsOfPut put k l → AddsOnly (IsOfPut put) (at_by packed k d) (at_by packed l e)
-put_adds put h = record { added = h.added; adds = h.adds; own = put_records put h.added h.own }
+put_adds put h = record { added = h.added; adds = h.adds; own = h.own }
 
 pub reader_adds : {packed : Bool} {k l : Kept} {d e : Device} (reader : ℕ) → others.AddsOfReader reader k l → AddsOnly (IsOfReader reader) (at_by packed k d) (at_by packed l e)
 reader_adds reader h = record {
   added = h.added;
   adds = h.adds;
-  own = all_as (others.IsRecordOfReader reader) (IsOfReader reader) (reader_record reader) h.added h.own;
+  own = h.own;
 }
 
 -- ---- the frame
@@ -148,12 +127,7 @@ stays_unharmed {packed} {k} {l} {d} {e} h = λ (u : IsUnharmed (at_by packed k d
 pub is_idle : {packed : Bool} {k l : Kept} {d e : Device} → IsStill d e → IsIdle (at_by packed k d) (at_by packed l e)
 is_idle h = record { past = h.past; faults = h.faults }
 
--- ---- what is live, and what is seen
-
-pub live_before : (s t : State) → flush.EachWasLive s t → LiveBefore s t
-live_before s t h = λ id row live.
-    let was = h id row live in
-    (was.0, was.1, record { id = was.2.id; blocks = was.2.blocks; payload = was.2.payload; pin = was.2.pin; alternates = was.2.alternates })
+-- ---- what is seen
 
 seen_on : (device : Device) (call : Call) → covers.ReadIsSeen device call → IsSeenOn device call
 seen_on device (Read at bytes) h = h
@@ -163,10 +137,6 @@ pub are_seen : (packed : Bool) (k l : Kept) (d e : Device) → covers.AllReadIsS
 are_seen packed k l d e h = λ made past trusted. all_as (covers.ReadIsSeen e) (IsSeenOn e) (seen_on e) made (h made past trusted)
 
 -- ---- causes
-
-pub cause_same : (row : Row) (why : Cause) → cause_records row why ≡ find.records_of_trouble row why
-cause_same row (cause.DeviceFault count) = refl
-cause_same row _ = refl
 
 -- a fault with a live piece is told, where these records were added, and it stands among them
 pub counted_cause : (old new : At) (o : Option Row) (why : Cause) (added : Cause → List Rec) → TroubleIsCounted new.device.faults o why

@@ -1,4 +1,3 @@
 pub mod Seen
-pub mod Answers
 pub mod Cache
 pub mod Resting

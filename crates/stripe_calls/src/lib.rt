@@ -1,7 +1,6 @@
 //! A stripe is called as a cache is.
 #![tactic(auto)]
 
-mod answers;
 mod begins;
 mod cache;
 mod seam;

@@ -3,7 +3,6 @@ ghost use Rattle.std.specs.Prelude.{◌≡◌};
 ghost use Rattle.cache_model.specs.Legal.{is_writing};
 ghost use Rattle.stripe_core.specs.Stripe.{IsStripe, state_in};
 
-use crate::answers::{closed, flushed, given, opened, removed, unchanged};
 use crate::cache::StripeCache;
 use alternate_vector::Fields;
 use cache_calls::{Calls, Flushed, NextPiece, Opened, Receipt, Refusal, Removal};
@@ -56,11 +55,11 @@ impl<D: Disk, R: Directory + Drop, C: Chronicle> Calls for StripeCache<D, R, C> 
         response: Fields,
         pin: u64,
     ) -> Result<Writer, Refusal> {
-        unchanged(open_write(&mut self.stripe, actor, key, request, response, pin))
+        open_write(&mut self.stripe, actor, key, request, response, pin)
     }
 
     fn write(&mut self, writer: &mut Writer, bytes: &[u8], now: u64) -> Result<usize, Refusal> {
-        unchanged(write(&mut self.stripe, writer, bytes, now))
+        write(&mut self.stripe, writer, bytes, now)
     }
 
     fn close_write(&mut self, writer: &mut Writer, now: u64) -> Result<Receipt, Refusal> {
@@ -68,19 +67,19 @@ impl<D: Disk, R: Directory + Drop, C: Chronicle> Calls for StripeCache<D, R, C> 
         if !is_open(&self.stripe, writer) {
             return Err(Refusal::NoSuchWriter);
         }
-        closed(close_write(&mut self.stripe, writer, now))
+        close_write(&mut self.stripe, writer, now)
     }
 
     fn abort_write(&mut self, writer: &mut Writer) -> Result<u64, Refusal> {
-        unchanged(abort_write(&mut self.stripe, writer))
+        abort_write(&mut self.stripe, writer)
     }
 
     fn remove(&mut self, key: Key) -> Result<Removal, AllocError> {
-        removed(remove(&mut self.stripe, key))
+        remove(&mut self.stripe, key)
     }
 
     fn flush(&mut self, now: u64) -> Result<Flushed, Refusal> {
-        flushed(self.stripe.flush(now))
+        self.stripe.flush(now)
     }
 
     fn open_read(
@@ -89,11 +88,11 @@ impl<D: Disk, R: Directory + Drop, C: Chronicle> Calls for StripeCache<D, R, C> 
         key: Key,
         request: Fields,
     ) -> Result<Opened<Reader>, AllocError> {
-        opened(open_read(&mut self.stripe, actor, key, request))
+        open_read(&mut self.stripe, actor, key, request)
     }
 
     fn read_next(&mut self, reader: &mut Reader, into: &mut [u8]) -> Result<NextPiece, AllocError> {
-        given(read_next(&mut self.stripe, reader, into))
+        read_next(&mut self.stripe, reader, into)
     }
 
     fn close_read(&mut self, reader: Reader) -> Result<(), (AllocError, Reader)> {

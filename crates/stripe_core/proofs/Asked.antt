@@ -4,9 +4,9 @@ use Rattle.device_log.specs.Calls.{Call}
 use Rattle.cache_model.specs.Kept.{Kept}
 use Rattle.piece_answers.specs.declared.answer.Stop.{Stop}
 use Rattle.piece_answers.specs.declared.answer.Stop.TheVariants as stop
-use Rattle.stripe_answers.specs.declared.refusal.Refusal.{Refusal}
-use Rattle.stripe_answers.specs.declared.refusal.Refusal.TheVariants as refusal
-use Rattle.stripe_answers.specs.Refusals.{refusal_of}
+use Rattle.cache_answers.specs.declared.answers.Refusal.{Refusal}
+use Rattle.cache_answers.specs.declared.answers.Refusal.TheVariants as refusal
+use Rattle.piece_answers.specs.Refusals.{refusal_of}
 use Rattle.stripe_core.specs.Stripe.{AnswersOrWants, HasMemory, Wanting}
 
 -- a unit that is taken leaves the records, and asks no device

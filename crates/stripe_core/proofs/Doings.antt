@@ -29,8 +29,8 @@ use Rattle.cache_model.proofs.Lists.{own_piece}
 use Rattle.cache_model.proofs.Found.{cuts_found, number_of}
 use Rattle.cache_model.specs.Contents.{AnyContents, Contents}
 use Rattle.stripe_actors.specs.Actors.{ActorsSeen, AreActors, IsKeptAs}
-use Rattle.stripe_answers.specs.declared.refusal.Refusal.{Refusal}
-use Rattle.stripe_answers.specs.declared.refusal.Refusal.TheVariants as refusal
+use Rattle.cache_answers.specs.declared.answers.Refusal.{Refusal}
+use Rattle.cache_answers.specs.declared.answers.Refusal.TheVariants as refusal
 use Rattle.stripe_answers.specs.Acts.{EndsReadAsAsked, IsCommitting, IsGivingUp, IsRefusedPut, LooksAsAsked, MarksAsAsked, NotesAsAsked, OpensAsAsked, RefusesAsAsked, committed_record, write_opened_record}
 use Rattle.piece_answers.specs.Covers.{Uses}
 use Rattle.held_pieces.specs.Held.{IsHeld}

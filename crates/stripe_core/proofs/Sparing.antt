@@ -30,18 +30,20 @@ use Rattle.piece_answers.specs.declared.ahead.Ahead.{Ahead}
 use Rattle.piece_answers.specs.declared.answer.Found.{Found}
 use Rattle.piece_answers.specs.declared.answer.Found.TheVariants as found
 use Rattle.piece_answers.specs.declared.answer.Placed.{Placed}
-use Rattle.stripe_answers.specs.declared.refusal.Refusal.{Refusal}
-use Rattle.stripe_answers.specs.declared.refusal.Refusal.TheVariants as refusal
+use Rattle.cache_answers.specs.declared.answers.Refusal.{Refusal}
+use Rattle.cache_answers.specs.declared.answers.Refusal.TheVariants as refusal
 use Rattle.piece_answers.specs.declared.answer.Stop.{Stop}
 use Rattle.piece_answers.specs.declared.answer.Stop.TheVariants as stop
 use Rattle.piece_answers.specs.Ahead.{IsMadeFor}
 use Rattle.piece_answers.specs.Covers.{Uses}
 use Rattle.cache_model.specs.Displacing.{AreOfDisplacement}
-use Rattle.piece_answers.specs.Find.{find_adds, found_records, records_of_trouble}
-use Rattle.piece_answers.specs.Flush.{AreOfFlush, IsRecordOfFlush}
+use Rattle.cache_model.specs.Troubles.{cause_records}
+use Rattle.piece_answers.specs.Find.{find_adds, found_records}
+use Rattle.cache_model.specs.Subjects.{IsOfFlush}
+use Rattle.piece_answers.specs.Flush.{AreOfFlush}
 use Rattle.piece_answers.specs.Place.{AreOfPlace, IsFragmentOf, PlaceAdds}
 use Rattle.stripe_pieces.specs.Units.{entries_of_unit, records_of_unit}
-use Rattle.stripe_answers.specs.Refusals.{refusal_of}
+use Rattle.piece_answers.specs.Refusals.{refusal_of}
 use Rattle.stripe_core.specs.Stripe.{AnswersOrWants, IsSpared}
 use Rattle.piece_answers.proofs.RecordsAdded.{state_of-with_records}
 use Rattle.piece_answers.proofs.Displacing.{pushed_kinds}
@@ -94,7 +96,7 @@ actors_with k new a recs is all h =
 
 -- ---- which these are
 
-causes_are_others : (row : Row) (why : Rattle.cache_model.specs.declared.cause.Cause.Cause) → AllOthers (records_of_trouble row why)
+causes_are_others : (row : Row) (why : Rattle.cache_model.specs.declared.cause.Cause.Cause) → AllOthers (cause_records row why)
 causes_are_others row (cause.DeviceFault count) = (refl, tt)
 causes_are_others row (cause.Damaged place kept other) = (refl, tt)
 causes_are_others row _ = tt
@@ -107,7 +109,7 @@ found_are_others (Some row) (found.Missing why) = causes_are_others row why
 pub find_are_others : (s : State) (id : PieceId) (answer : Found) → AllOthers (find_adds s id answer)
 find_are_others s id answer = found_are_others (live_row_of s id) answer
 
-other : (r : Rec) → IsRecordOfFlush r → speaks_of_actors r ≡ false
+other : (r : Rec) → IsOfFlush r → speaks_of_actors r ≡ false
 other (rec.Began cursor floor) h = refl
 other (rec.Moved piece from place digest) h = refl
 other (rec.Unsaved piece place fault) h = refl

@@ -22,7 +22,7 @@ use Rattle.cache_chronicle.specs.declared.chronicle.Chronicle.{Ghosts as Chronic
 use Rattle.cache_model.specs.Contents.{AnyContents, Contents}
 use Rattle.stripe_actors.specs.Actors.{reader_room_of}
 use Rattle.stripe_actors.specs.Calls.{with_room_of_readers}
-use Rattle.piece_answers.specs.declared.answer.Flushed.{Flushed}
+use Rattle.cache_answers.specs.declared.answers.Flushed.{Flushed}
 use Rattle.piece_answers.specs.declared.answer.Found.{Found}
 use Rattle.piece_answers.specs.declared.answer.Placed.{Placed}
 use Rattle.piece_answers.specs.Find.{Finds, find_adds}
@@ -31,7 +31,7 @@ use Rattle.held_pieces.specs.Whereabouts.{live_place_of}
 use Rattle.piece_answers.specs.Place.{CutsAsAsked, PlacesAsAsked, PlacesVector, RoomsAsAsked}
 use Rattle.piece_answers.specs.Standing.{IsToldPlaced}
 use Rattle.held_pieces.specs.Still.{IsStill, IsUnwritten}
-use Rattle.stripe_answers.specs.declared.refusal.Refusal.{Refusal}
+use Rattle.cache_answers.specs.declared.answers.Refusal.{Refusal}
 use Rattle.stripe_core.specs.declared.stripe.Stripe.{Stripe}
 use Rattle.stripe_answers.specs.Acts.{LooksAsAsked, MarksAsAsked, OpensAsAsked, write_opened_record}
 use Rattle.stripe_core.specs.Between.{Continues, ContinuesWith, StandIn, StayStanding}

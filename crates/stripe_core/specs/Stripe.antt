@@ -11,8 +11,8 @@ use Rattle.cache_model.specs.Kept.{Kept, count_of}
 use Rattle.cache_chronicle.specs.declared.chronicle.Chronicle.{Ghosts as ChronicleGhosts}
 use Rattle.open_directory.specs.Directory.{room_for_fragments}
 use Rattle.stripe_actors.specs.Actors.{AreActors, reader_room_of, ActorsSeen as Actors}
-use Rattle.stripe_answers.specs.declared.refusal.Refusal.{Refusal}
-use Rattle.stripe_answers.specs.declared.refusal.Refusal.TheVariants as refusal
+use Rattle.cache_answers.specs.declared.answers.Refusal.{Refusal}
+use Rattle.cache_answers.specs.declared.answers.Refusal.TheVariants as refusal
 use Rattle.piece_answers.specs.declared.answer.Stop.{Stop}
 use Rattle.piece_answers.specs.declared.answer.Stop.TheVariants as stop
 use Rattle.stripe_core.specs.declared.stripe.Stripe.{Stripe}

@@ -10,13 +10,13 @@ ghost use Rattle.stripe_answers.specs.Acts.{AnswersLookup, CommitsAsAsked, EndsR
 
 use crate::Stripe;
 use alternate_vector::{Fields, Vector};
+use cache_answers::Refusal;
 use cache_chronicle::Chronicle;
 use cache_model::{NextAnswer, ReadAnswer};
 use dir_table::Directory;
 use logged_disk::Disk;
 use std::alloc::AllocError;
 use stripe_actors::{Actors, OpenPutRefusal};
-use stripe_answers::Refusal;
 use stripe_pieces::{records, records_of};
 use tape_base::{Actor, Digest, Key, LIMIT, MAX_WRITERS, PieceId};
 

@@ -4,6 +4,5 @@
 mod acting;
 mod stripe;
 
-pub use piece_answers::{Flushed, Found, Placed, Stop};
+pub use piece_answers::{Found, Placed, Stop};
 pub use stripe::Stripe;
-pub use stripe_answers::Refusal;

@@ -12,14 +12,14 @@ ghost use Rattle.cache_model.specs.Contents.{contents_of_vectors};
 ghost use Rattle.piece_answers.specs.Standing.{IsToldPlaced};
 ghost use Rattle.piece_answers.specs.Place.{IsFragmentOf, IsPlacing, IsVectorFor};
 
+use cache_answers::{Flushed, Refusal};
 use cache_chronicle::Chronicle;
 use dir_table::Directory;
 use logged_disk::Disk;
 use open_directory::OpenDirectory;
-use piece_answers::{Ahead, Flushed, Found, Placed};
+use piece_answers::{Ahead, Found, Placed};
 use std::alloc::{AllocError, Global};
 use stripe_actors::Actors;
-use stripe_answers::Refusal;
 use stripe_pieces::Pieces;
 use tape_base::{Digest, Geometry, PieceId, blocks_of};
 

@@ -32,7 +32,8 @@ use Rattle.piece_answers.specs.Covers.{AllReadIsSeen, Covers, ReadIsSeen}
 use Rattle.piece_answers.specs.Faults.{HasEffects}
 use Rattle.cache_model.specs.Contents.{Contents}
 use Rattle.piece_answers.specs.Standing.{AreStanding}
-use Rattle.piece_answers.specs.Find.{Finds, HasPayload, IsFoundAs, IsJudged, IsRecorded, TellsCount, find_adds, found_records, judged_records, records_of_trouble}
+use Rattle.cache_model.specs.Troubles.{cause_records}
+use Rattle.piece_answers.specs.Find.{Finds, HasPayload, IsFoundAs, IsJudged, IsRecorded, TellsCount, find_adds, found_records, judged_records}
 use Rattle.piece_answers.proofs.Effects.{effects_none}
 use Rattle.piece_answers.proofs.Covering.{block_is, made_is}
 use Rattle.held_pieces.proofs.Candidates.{live_is}
@@ -141,7 +142,7 @@ module _ (s : State) (c new : Seen) (id : PieceId) (row : Row) (bytes into : Lis
     payload = j.2;
   }
   told_by p (found.Missing why) below covers j =
-      subst (λ (y : Cause). Trouble p s row (records_of_trouble row y) y) (sym j.0)
+      subst (λ (y : Cause). Trouble p s row (cause_records row y) y) (sym j.0)
       (Trouble.damaged (document_digest bytes) (record {
         bytes = bytes;
         given = given_read p s c new row bytes held.geometry (from_device below) below read covers;

@@ -23,7 +23,9 @@ use Rattle.cache_model.proofs.Rows.{apart-part, each_part}
 use Rattle.cache_model.proofs.Sound.{AllLeaveTape, buffer_left, least_left}
 use Rattle.cache_model.proofs.SoundFlush.{copies_part, copies_ready, due_part, front_leaves, part_ready}
 use Rattle.cache_model.proofs.Steps.{after_all-append, all_append}
-use Rattle.piece_answers.specs.Flush.{AreOfFlush, EachWasLive, IsRecordOfFlush, IsStillPiece}
+use Rattle.cache_model.specs.Subjects.{IsOfFlush}
+use Rattle.cache_model.specs.Live.{IsSamePiece, LiveBefore}
+use Rattle.piece_answers.specs.Flush.{AreOfFlush}
 use Rattle.held_pieces.proofs.Candidates.{live_is}
 
 -- ---- records beside the pieces that are copied
@@ -65,7 +67,7 @@ stopped_beside rows outcomes count = all_append IsBeside (stopped_front_of rows 
 
 -- ---- they are records of a flush
 
-beside_is : (r : Rec) → IsBeside r → IsRecordOfFlush r
+beside_is : (r : Rec) → IsBeside r → IsOfFlush r
 beside_is (rec.Unsaved piece place fault) h = tt
 beside_is (rec.Damaged piece place kept found) h = tt
 beside_is (rec.Fault count) h = tt
@@ -93,7 +95,7 @@ stopped_kinds rows outcomes count = only_beside (stopped_records rows outcomes c
 
 -- ---- what was live
 
-pub live_same : (s : State) → EachWasLive s s
+pub live_same : (s : State) → LiveBefore s s
 live_same s = λ id row live. (row, live, record { id = refl; blocks = refl; payload = refl; pin = refl; alternates = refl })
 
 -- a row that is found, above the floor, is live
@@ -108,18 +110,18 @@ damaged_before : (t : State) (piece : PieceId) (place : ℕ) (kept found : Diges
 damaged_before t piece place kept found id row h =
     out_by t (same_piece piece id) (row_in t.rows id) row (ap (option_and_then (only_live t)) (sym (row_in-without piece id t.rows)) ∙ h)
 
-before_beside : (s t : State) (r : Rec) → IsBeside r → EachWasLive s t → EachWasLive s (state_after t r)
+before_beside : (s t : State) (r : Rec) → IsBeside r → LiveBefore s t → LiveBefore s (state_after t r)
 before_beside s t (rec.Unsaved piece place fault) h live = live
 before_beside s t (rec.Damaged piece place kept found) h live = λ id row there. live id row (damaged_before t piece place kept found id row there)
 before_beside s t (rec.Fault count) h live = live
 before_beside s t _ h live = absurd h
 
-all_beside : (s t : State) (recs : List Rec) → AreBeside recs → EachWasLive s t → EachWasLive s (after_all t recs)
+all_beside : (s t : State) (recs : List Rec) → AreBeside recs → LiveBefore s t → LiveBefore s (after_all t recs)
 all_beside s t [] h live = live
 all_beside s t (r ∷ recs) h live = all_beside s (state_after t r) recs h.1 (before_beside s t r h.0 live)
 
 -- the floor does not fall where the next buffer begins
-begun_before : (s t : State) (cursor floor : ℕ) → floor_now t ≤ floor_now (state_after t (rec.Began cursor floor)) → EachWasLive s t → EachWasLive s (state_after t (rec.Began cursor floor))
+begun_before : (s t : State) (cursor floor : ℕ) → floor_now t ≤ floor_now (state_after t (rec.Began cursor floor)) → LiveBefore s t → LiveBefore s (state_after t (rec.Began cursor floor))
 begun_before s t cursor floor up live = λ id row there.
     let u : State = state_after t (rec.Began cursor floor) in
     let found = live_is u (row_in t.rows id) row there in
@@ -128,7 +130,7 @@ begun_before s t cursor floor up live = λ id row there.
 
 -- ---- a copy
 
-module _ (s u : State) (c : Copy) (ready : IsReady u.rows c.row) (due : IsFound s c.row) (live : EachWasLive s u) where
+module _ (s u : State) (c : Copy) (ready : IsReady u.rows c.row) (due : IsFound s c.row) (live : LiveBefore s u) where
   abbrev t : State
   t = state_after u (moved_record u c)
 
@@ -136,26 +138,26 @@ module _ (s u : State) (c : Copy) (ready : IsReady u.rows c.row) (due : IsFound 
   digest = document_digest (moved_to (place_now u) c.bytes)
 
   its_own : (x : PieceId) (y : Row) → same_piece c.row.id x ≡ true → option_map (moved_row (place_now u) digest) (row_in u.rows x) ≡ Some y
-      → (before : Row) × (live_row_of s x ≡ Some before) × IsStillPiece before y
+      → (before : Row) × (live_row_of s x ≡ Some before) × IsSamePiece before y
   its_own x y same h =
       let id : c.row.id ≡ x = same_piece-true c.row.id x same in
       let moved : Some (moved_row (place_now u) digest c.row) ≡ Some y = sym (ap (option_map (moved_row (place_now u) digest)) (ap (row_in u.rows) (sym id) ∙ ready.0)) ∙ h in
       let is : moved_row (place_now u) digest c.row ≡ y = cc in
-      (c.row, ap (live_row_of s) (sym id) ∙ due, subst (λ z. IsStillPiece c.row z) is (record { id = refl; blocks = refl; payload = refl; pin = refl; alternates = refl }))
+      (c.row, ap (live_row_of s) (sym id) ∙ due, subst (λ z. IsSamePiece c.row z) is (record { id = refl; blocks = refl; payload = refl; pin = refl; alternates = refl }))
 
   by_piece : (x : PieceId) (y : Row) (b : Bool) → same_piece c.row.id x ≡ b → floor_now u ≤ y.place
       → (if b then option_map (moved_row (place_now u) digest) (row_in u.rows x) else row_in u.rows x) ≡ Some y
-      → (before : Row) × (live_row_of s x ≡ Some before) × IsStillPiece before y
+      → (before : Row) × (live_row_of s x ≡ Some before) × IsSamePiece before y
   by_piece x y true same above h = its_own x y same h
   by_piece x y false other above h = live x y (found_is_live u x y h above)
 
-  moved_before : EachWasLive s t
+  moved_before : LiveBefore s t
   moved_before x y there =
       let found = live_is t (row_in t.rows x) y there in
       by_piece x y (same_piece c.row.id x) refl (leb-true (floor_now t) y.place found.1) (sym (row_in-copied c.row.id x u.rows (place_now u) digest) ∙ found.0)
 
-all_moved : (s u : State) (copies : List Copy) → AreApart (rows_of copies) → AreReady u.rows (rows_of copies) → AllByRecursion (IsFound s) (rows_of copies) → EachWasLive s u
-    → EachWasLive s (after_all u (moved_records u copies))
+all_moved : (s u : State) (copies : List Copy) → AreApart (rows_of copies) → AreReady u.rows (rows_of copies) → AllByRecursion (IsFound s) (rows_of copies) → LiveBefore s u
+    → LiveBefore s (after_all u (moved_records u copies))
 all_moved s u [] apart ready due live = live
 all_moved s u (c ∷ copies) apart ready due live =
     let t : State = state_after u (moved_record u c) in
@@ -163,7 +165,7 @@ all_moved s u (c ∷ copies) apart ready due live =
 
 -- ---- a flush
 
-pub flush_before : (s : State) (now : ℕ) (outcomes : List Outcome) → IsSound s → floor_now s ≤ floor_next s → EachWasLive s (after_all s (flush_records s (due_pieces s now) outcomes))
+pub flush_before : (s : State) (now : ℕ) (outcomes : List Outcome) → IsSound s → floor_now s ≤ floor_next s → LiveBefore s (after_all s (flush_records s (due_pieces s now) outcomes))
 flush_before s now outcomes sound up =
     let rows : List Row = due_pieces s now in
     let front : List Rec = front_of rows outcomes in
@@ -171,9 +173,9 @@ flush_before s now outcomes sound up =
     let m : State = after_all s front in
     let u : State = state_after m (began_record s) in
     let apart : AreApart rows = apart-part (due_part s now) sound.apart in
-    let first : EachWasLive s m = all_beside s s front (front_beside rows outcomes) (live_same s) in
+    let first : LiveBefore s m = all_beside s s front (front_beside rows outcomes) (live_same s) in
     let floor : (floor_now m ≡ floor_now s) × (floor_now u ≡ floor_next s) = floors s front (front_leaves rows outcomes) in
-    let begun : EachWasLive s u = begun_before s m (cursor_next s) (floor_next s) (omega (arith, up, floor.0, floor.1)) first in
+    let begun : LiveBefore s u = begun_before s m (cursor_next s) (floor_next s) (omega (arith, up, floor.0, floor.1)) first in
     rw (after_all-append s front (began_record s ∷ moved_records u copies))
     (all_moved s u copies (apart-part (copies_part rows outcomes) apart) (copies_ready s rows outcomes apart (part_ready s rows sound (due_part s now)))
     (each_part (IsFound s) (copies_part rows outcomes) (due_are_live s now sound)) begun)
@@ -185,5 +187,5 @@ flush_before s now outcomes sound up =
         let least = least_left s front leave in
         (rw (buffer.0, buffer.1, least) refl, rw (buffer.0, least) refl)
 
-pub stopped_before : (s : State) (rows : List Row) (outcomes : List Outcome) (count : ℕ) → EachWasLive s (after_all s (stopped_records rows outcomes count))
+pub stopped_before : (s : State) (rows : List Row) (outcomes : List Outcome) (count : ℕ) → LiveBefore s (after_all s (stopped_records rows outcomes count))
 stopped_before s rows outcomes count = all_beside s s (stopped_records rows outcomes count) (stopped_beside rows outcomes count) (live_same s)

@@ -38,7 +38,7 @@ use Rattle.cache_model.proofs.Written.{passes}
 use Rattle.cache_model.proofs.Steps.{all_append, all_parts}
 use Rattle.cache_model.specs.Due.{most_passed}
 use Rattle.piece_answers.specs.declared.ahead.Ahead.{Ahead}
-use Rattle.piece_answers.specs.declared.answer.Flushed.{Flushed}
+use Rattle.cache_answers.specs.declared.answers.Flushed.{Flushed}
 use Rattle.piece_answers.specs.declared.answer.Stop.TheVariants as stop
 use Rattle.piece_answers.specs.Ahead.{LooksAhead}
 use Rattle.stripe_pieces.specs.Copying.{AreCopyable, AreTellable, AreToldCopied, begun_behind, copied_of, copies_among, done_records, told_of_pieces}
@@ -53,7 +53,8 @@ use Rattle.piece_answers.proofs.Covering.{block_is, covers_first, own_covers, ow
 use Rattle.stripe_pieces.proofs.Findings.{lower_rose}
 use Rattle.piece_answers.proofs.OneMore.{counted_later}
 use Rattle.cache_model.specs.Damage.{TellNoDamage, tells_damage}
-use Rattle.piece_answers.specs.Flush.{EachWasLive, FlushesAsAsked}
+use Rattle.cache_model.specs.Live.{LiveBefore}
+use Rattle.piece_answers.specs.Flush.{FlushesAsAsked}
 use Rattle.piece_answers.proofs.RecordsAdded.{state_of-with_records}
 use Rattle.stripe_pieces.proofs.LiveBehind.{flush_before, flush_kinds, stopped_before, stopped_kinds}
 use Rattle.stripe_pieces.proofs.Readied.{IsPassed, are_copyable, copied_is, copies_within, few_copies}
@@ -307,7 +308,7 @@ flush_asked now old new before mid after a flushed sound able looks taken is =
       added = added;
       adds = adds;
       kinds = flush_kinds s (due_pieces s now) looks.outcomes;
-      live = subst (EachWasLive s) (sym (ap state_of adds ∙ state_of-with_records old added)) (flush_before s now looks.outcomes sound (later_began s sound).floor);
+      live = subst (LiveBefore s) (sym (ap state_of adds ∙ state_of-with_records old added)) (flush_before s now looks.outcomes sound (later_began s sound).floor);
       unharmed = λ told. flush_unharmed s (due_pieces s now) looks.outcomes (looks.unharmed (told_before mid after taken.goes told));
       faults = subst (HasEffects before.past after.past) (sym (flush_counts now s before mid a sound looks))
           (effects_then before.past mid.past after.past (effects_among looks.outcomes) (Took ∷ []) looks.faults one);
@@ -364,7 +365,7 @@ stop_asked now old new before mid after a sound able low first looks left rose i
       added = added;
       adds = adds;
       kinds = stopped_kinds (due_pieces s now) looks.outcomes count;
-      live = subst (EachWasLive s) (sym (ap state_of adds ∙ state_of-with_records old added)) (stopped_before s (due_pieces s now) looks.outcomes count);
+      live = subst (LiveBefore s) (sym (ap state_of adds ∙ state_of-with_records old added)) (stopped_before s (due_pieces s now) looks.outcomes count);
       unharmed = λ told. stopped_unharmed (due_pieces s now) looks.outcomes count (looks.unharmed (told_before mid after left.goes told));
       faults = subst (HasEffects before.past after.past) (sym (stopped_counts now s before mid a sound looks count))
           (effects_then before.past mid.past after.past (effects_among looks.outcomes) (Denied count ∷ []) looks.faults one);

@@ -11,10 +11,11 @@ ghost use Rattle.piece_answers.specs.Flush.{AnswersFlush, FlushesAsAsked, Writes
 ghost use Rattle.piece_answers.specs.Place.{AnswersRoom, RoomsAsAsked};
 
 use crate::{Pieces, records};
+use cache_answers::Flushed;
 use cache_chronicle::Chronicle;
 use dir_table::Directory;
 use logged_disk::Disk;
-use piece_answers::{Ahead, Flushed, Stop};
+use piece_answers::{Ahead, Stop};
 use stripe_actors::Actors;
 use tape_base::{LIMIT, blocks_of};
 

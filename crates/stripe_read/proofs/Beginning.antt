@@ -25,7 +25,8 @@ use Rattle.held_pieces.specs.Still.{IsStill}
 use Rattle.stripe_answers.proofs.Seeing.{seen_before, still_seen}
 use Rattle.stripe_read.specs.declared.opening.Looked.{Looked}
 use Rattle.stripe_read.specs.declared.opening.Looked.TheVariants as looked
-use Rattle.stripe_read.specs.declared.opening.Opened.{Opened}
+use Rattle.cache_answers.specs.declared.answers.Opened.{Opened}
+use Rattle.stripe_read.specs.declared.reader.Reader.{Reader}
 use Rattle.stripe_read.specs.Readers.{IsOpenStripeReader, IsStripeReaderOf}
 use Rattle.stripe_read.specs.Lookups.{IfOpened, IsFound, LooksUp, MissIsCounted, Opens, TellsOpened, answer_of_looked, answer_of_opened, lookup_adds, lookup_trouble, opened_as, opening_adds}
 use Rattle.stripe_read.proofs.Looking.{hit_adds, key_pair_wider, nothing_recorded}
@@ -113,7 +114,7 @@ tells_as number key (looked.Miss why) = tt
 
 -- ---- the call
 
-module _ (k k0 k1 k2 : Kept) (who : Actor) (key : Key) (request : List Field) (found : Looked) (opened : Opened) (same : k0 ≡ k) (looks : k1 ≡ with_records k0 (lookup_adds (state_of k0) key (answer_of_looked found)))
+module _ (k k0 k1 k2 : Kept) (who : Actor) (key : Key) (request : List Field) (found : Looked) (opened : Opened Reader) (same : k0 ≡ k) (looks : k1 ≡ with_records k0 (lookup_adds (state_of k0) key (answer_of_looked found)))
     (opens : k2 ≡ with_records k1 (rec.ReadOpened (state_of k1).next_reader who key request (answer_of_looked found) ∷ [])) (is : opened ≡ opened_as (state_of k1).next_reader key found) where
   looks_first : k1 ≡ with_records k (lookup_adds (state_of k) key (answer_of_looked found))
   looks_first = looks ∙ ap (λ x. with_records x (lookup_adds (state_of x) key (answer_of_looked found))) same
@@ -174,34 +175,34 @@ module _ (k k0 k1 k2 : Kept) (who : Actor) (key : Key) (request : List Field) (f
 -- ---- by what the call came to
 
 module _ (k k0 k1 k2 : Kept) (who : Actor) (key : Key) (request : List Field) (found : Looked) (same : k0 ≡ k) (looks : k1 ≡ with_records k0 (lookup_adds (state_of k0) key (answer_of_looked found))) where
-  abbrev AddsIt : Result Opened AllocError → Type 0
-  AddsIt r = IfOk r (λ (opened : Opened). k2 ≡ with_records k1 (rec.ReadOpened (state_of k1).next_reader who key request (answer_of_looked found) ∷ []))
+  abbrev AddsIt : Result (Opened Reader) AllocError → Type 0
+  AddsIt r = IfOk r (λ (opened : Opened Reader). k2 ≡ with_records k1 (rec.ReadOpened (state_of k1).next_reader who key request (answer_of_looked found) ∷ []))
 
-  abbrev OpensIt : Result Opened AllocError → Type 0
+  abbrev OpensIt : Result (Opened Reader) AllocError → Type 0
   OpensIt r = IfOk r (λ opened. opened ≡ opened_as (state_of k1).next_reader key found)
 
-  pub quiet_then : (r : Result Opened AllocError) → AddsIt r → OpensIt r → IsOk r → IsQuiet (state_of k) → IsQuiet (state_of k2)
+  pub quiet_then : (r : Result (Opened Reader) AllocError) → AddsIt r → OpensIt r → IsOk r → IsQuiet (state_of k) → IsQuiet (state_of k2)
   quiet_then (Ok opened) adds opens ok quiet = begun_quiet k k0 k1 k2 who key request found opened same looks adds opens quiet
   quiet_then (Err e) adds opens ok quiet = cc
 
-  pub adds_then : (r : Result Opened AllocError) → AddsIt r → OpensIt r → IfOk r (λ opened. k2 ≡ with_records k (opening_adds (state_of k) who key request (answer_of_opened opened)))
+  pub adds_then : (r : Result (Opened Reader) AllocError) → AddsIt r → OpensIt r → IfOk r (λ opened. k2 ≡ with_records k (opening_adds (state_of k) who key request (answer_of_opened opened)))
   adds_then (Ok opened) adds opens = begun_adds k k0 k1 k2 who key request found opened same looks adds opens
   adds_then (Err e) adds opens = tt
 
-  pub reader_then : (r : Result Opened AllocError) → AddsIt r → OpensIt r → IfOk r (IfOpened (IsOpenStripeReader (state_of k2)))
+  pub reader_then : (r : Result (Opened Reader) AllocError) → AddsIt r → OpensIt r → IfOk r (IfOpened (IsOpenStripeReader (state_of k2)))
   reader_then (Ok opened) adds opens = begun_reader k k0 k1 k2 who key request found opened same looks adds opens
   reader_then (Err e) adds opens = tt
 
-  pub opens_then : (old older new newer : Device) (r : Result Opened AllocError) → AddsIt r → OpensIt r → older.past ≡ old.past → IsStill new newer → IsQuiet (state_of k) → LooksUp (state_of k0) older new key request found
+  pub opens_then : (old older new newer : Device) (r : Result (Opened Reader) AllocError) → AddsIt r → OpensIt r → older.past ≡ old.past → IsStill new newer → IsQuiet (state_of k) → LooksUp (state_of k0) older new key request found
       → IfOk r (Opens (state_of k) (state_of k2) old newer who key request)
   opens_then old older new newer (Ok opened) adds opens from still quiet l = begun_opens k k0 k1 k2 who key request found opened same looks adds opens old older new newer from still quiet l
   opens_then old older new newer (Err e) adds opens from still quiet l = tt
 
-  pub tells_then : (r : Result Opened AllocError) → AddsIt r → OpensIt r → IfOk r (TellsOpened (state_of k).next_reader)
+  pub tells_then : (r : Result (Opened Reader) AllocError) → AddsIt r → OpensIt r → IfOk r (TellsOpened (state_of k).next_reader)
   tells_then (Ok opened) adds opens = begun_tells k k0 k1 k2 who key request found opened same looks adds opens
   tells_then (Err e) adds opens = tt
 
 -- memory is not wanting
-pub never_fails : (r : Result Opened AllocError) (P : Type 0) → IsOk r → OnErr r P
+pub never_fails : (r : Result (Opened Reader) AllocError) (P : Type 0) → IsOk r → OnErr r P
 never_fails (Ok opened) P ok = tt
 never_fails (Err e) P ok = cc

@@ -19,7 +19,8 @@ use Rattle.cache_model.specs.Contents.{Contents}
 use Rattle.piece_answers.specs.declared.answer.Found.{Found}
 use Rattle.piece_answers.specs.declared.answer.Found.TheVariants as found
 use Rattle.piece_answers.specs.Covers.{AllReadIsSeen, Covers}
-use Rattle.piece_answers.specs.Find.{Finds, HasPayload, IsFoundAs, find_adds, found_records, records_of_trouble}
+use Rattle.cache_model.specs.Troubles.{cause_records}
+use Rattle.piece_answers.specs.Find.{Finds, HasPayload, IsFoundAs, find_adds, found_records}
 use Rattle.held_pieces.proofs.Candidates.{live_is}
 use Rattle.stripe_read.specs.declared.fetching.Unlike.{Unlike}
 use Rattle.stripe_read.specs.Fetches.{Fetches, IsCompared, IsFetched, IsOtherPiece, IsPieceAsListed, IsUnlikePiece}
@@ -83,12 +84,12 @@ is_read p s row size into h = by (either s.cursor row.place)
     by (inr below) = IsRead.given h.bytes (h.given below) h.digest
 
 mismatched : (p : Permit) (s : State) (id : PieceId) (listed : Digest) (row : Row) (entry : TableRow) (why : Cause) (u : Unlike) → live_row_of s id ≡ Some row → digest_in entry ≡ listed → IsRead p s row
-    → why ≡ cause.Damaged u.place listed u.found → IsUnlikePiece s id listed u → ReadTrouble p s row entry (records_of_trouble row why) why
+    → why ≡ cause.Damaged u.place listed u.found → IsUnlikePiece s id listed u → ReadTrouble p s row entry (cause_records row why) why
 mismatched p s id listed row entry why u live lists read is h =
     let at : row.place ≡ u.place = place_is (live_row_of s id) row u.place live h.place in
     let same : why ≡ damage_cause row (digest_in entry) u.found =
     is ∙ (ap (λ n. cause.Damaged n listed u.found) (sym at) ∙ ap (λ d. cause.Damaged row.place d u.found) (sym lists)) in
-    subst (λ (y : Cause). ReadTrouble p s row entry (records_of_trouble row y) y) (sym same)
+    subst (λ (y : Cause). ReadTrouble p s row entry (cause_records row y) y) (sym same)
     (ReadTrouble.mismatched u.found read (unlike_row s id listed u.found row entry live h.payload h.differ lists))
 
 compared_by : (p : Permit) (s : State) (id : PieceId) (o : Option Row) (listed : Digest) (entry : TableRow) (size : ℕ) (into : List ℕ) (answer : Found) → live_row_of s id ≡ o → digest_in entry ≡ listed
@@ -121,7 +122,7 @@ compared s old new newer id listed size into answer still f c = record {
 missing_by : (p : Permit) (s : State) (id : PieceId) (o : Option Row) (entry : TableRow) (why : Cause) (into : List ℕ)
     → IsFoundAs p s id o (found.Missing why) into → IsFetched p s id o entry (found.Missing why) into
 missing_by p s id None entry why into h = h
-missing_by p s id (Some row) entry why into h = ReadTrouble.troubled (records_of_trouble row why) why h
+missing_by p s id (Some row) entry why into h = ReadTrouble.troubled (cause_records row why) why h
 
 missing_payload : (contents : Contents) (o : Option Row) (why : Cause) (into : List ℕ) → HasPayload contents o (found.Missing why) into
 missing_payload contents None why into = tt

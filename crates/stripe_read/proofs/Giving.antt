@@ -24,11 +24,12 @@ use Rattle.piece_answers.specs.declared.answer.Found.TheVariants as found
 use Rattle.stripe_answers.specs.Acts.{NotesAsAsked}
 use Rattle.piece_answers.specs.Covers.{AllReadIsSeen, Covers}
 use Rattle.piece_answers.proofs.Covering.{own_covers, own_permit}
-use Rattle.piece_answers.specs.Find.{HasPayload, find_adds, found_records, records_of_trouble}
+use Rattle.cache_model.specs.Troubles.{cause_records}
+use Rattle.piece_answers.specs.Find.{HasPayload, find_adds, found_records}
 use Rattle.piece_answers.specs.Standing.{AreStanding}
 use Rattle.stripe_read.specs.declared.reader.Reader.{Reader}
-use Rattle.stripe_read.specs.declared.reading.NextPiece.{NextPiece}
-use Rattle.stripe_read.specs.declared.reading.NextPiece.TheVariants as piece
+use Rattle.cache_answers.specs.declared.answers.NextPiece.{NextPiece}
+use Rattle.cache_answers.specs.declared.answers.NextPiece.TheVariants as piece
 use Rattle.stripe_read.specs.Readers.{IsStripeReaderOf, row_of_reader, row_of_reader_by, rows_hit}
 use Rattle.stripe_read.specs.Fetches.{Fetches, IsFetched, IsOtherPiece}
 use Rattle.stripe_read.specs.Nexts.{BreakIsCounted, GivesFragment, GivesToldPayload, HasNext, IsBehindPiece, IsNextPayload, NextIsOther, ReadsOn, answer_noted, index_behind, next_listed_length, piece_trouble, reading_adds}
@@ -135,7 +136,7 @@ module _ (p : Permit) (s : State) (r : Reader) (entry : TableRow) (why : Cause) 
       let is : cause_of_piece s (next_piece mine) ≡ why = cc in
       subst (IsReading p s mine []) (verdict_lost s mine entry cut gone ∙ ap next.Broke is)
       (IsReading.verdict (subst (IsReadWhereLive p s) (sym (next_live s mine entry cut ∙ gone)) tt) (lost_as_listed s mine gone))
-  broken_reading own (Some row) live h = IsReading.trouble entry row (records_of_trouble row why) why cut live h
+  broken_reading own (Some row) live h = IsReading.trouble entry row (cause_records row why) why cut live h
 
   broken_does : NotesAsAsked r.reader (next.Broke why) → (own : IsStripeReaderOf s r) → IsQuiet s → IsFetched p s (next_piece (row_of_reader r)) (live_row_of s (next_piece (row_of_reader r))) entry (found.Missing why) into
       → Does p s (ReadOn r.reader) (reading_adds s r (piece.Broken why)) Done

@@ -230,7 +230,7 @@ module _ (s : State) (old new : Device) (key : Key) (request : List Field) where
       → IsFound p s key request (looked.Miss why) ⊎ IsKeyPair (Untold new IsVectorAs) p s key
   trouble_in p why None live h = absurd h
   trouble_in p why (Some row) live h = inl (record {
-    right = subst (λ o. IsLookup p s key request (lookup_trouble o (read.Miss why)) (read.Miss why)) (sym live) (IsLookup.trouble row (Rattle.piece_answers.specs.Find.records_of_trouble row why) why live h);
+    right = subst (λ o. IsLookup p s key request (lookup_trouble o (read.Miss why)) (read.Miss why)) (sym live) (IsLookup.trouble row (Rattle.cache_model.specs.Troubles.cause_records row why) why live h);
     table = tt;
   })
 

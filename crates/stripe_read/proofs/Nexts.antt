@@ -14,7 +14,7 @@ use Rattle.stripe_core.specs.Stripe.{IsStripe, kept_in, seen_in, state_in}
 use Rattle.stripe_core.proofs.Continuing.{continues_proceeds, proceeds_then, still_resting}
 use Rattle.stripe_core.proofs.Stills.{still_then}
 use Rattle.stripe_read.specs.declared.reader.Reader.{Reader}
-use Rattle.stripe_read.specs.declared.reading.NextPiece.{NextPiece}
+use Rattle.cache_answers.specs.declared.answers.NextPiece.{NextPiece}
 use Rattle.stripe_read.specs.Readers.{HasOpenReader, IsOpenStripeReader, IsStripeReaderOf}
 use Rattle.stripe_read.specs.Nexts.{NextIsOther, ReadsNextInStripe, reading_adds}
 use Rattle.stripe_read.proofs.Giving.{given_prepared}

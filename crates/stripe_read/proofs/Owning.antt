@@ -22,15 +22,16 @@ use Rattle.cache_model.specs.Kept.{Kept, state_of, with_records}
 use Rattle.cache_model.specs.Legal.{answer_record, live_next}
 use Rattle.cache_model.specs.Verdict.{live_vector_of}
 use Rattle.cache_model.proofs.ByNumber.{find-changed, find-without}
-use Rattle.piece_answers.specs.Find.{records_of_trouble}
-use Rattle.stripe_read.specs.declared.opening.Opened.{Opened}
+use Rattle.cache_model.specs.Troubles.{cause_records}
+use Rattle.cache_answers.specs.declared.answers.Opened.{Opened}
 use Rattle.stripe_read.specs.declared.reader.Reader.{Reader}
-use Rattle.stripe_read.specs.declared.reading.NextPiece.{NextPiece}
-use Rattle.stripe_read.specs.declared.reading.NextPiece.TheVariants as piece
+use Rattle.cache_answers.specs.declared.answers.NextPiece.{NextPiece}
+use Rattle.cache_answers.specs.declared.answers.NextPiece.TheVariants as piece
 use Rattle.stripe_read.specs.Readers.{IsOpenStripeReader, IsStripeReaderOf, row_of_reader}
 use Rattle.stripe_read.specs.Lookups as lookups
 use Rattle.stripe_read.specs.Nexts as nexts
-use Rattle.stripe_read.specs.Others.{AddsOfReader, IsRecordOfReader, LeavesReadersBut, ReadersAddOwn}
+use Rattle.cache_model.specs.Subjects.{IsOfReader}
+use Rattle.stripe_read.specs.Others.{AddsOfReader, LeavesReadersBut, ReadersAddOwn}
 use Rattle.stripe_read.proofs.Staying.{state_behind}
 
 -- ---- one record, and several
@@ -66,7 +67,7 @@ module _ (reader : ℕ) (s : State) where
   all_stay : LeavesReadersBut reader s s
   all_stay = record { readers = λ n other. refl; puts = refl; geometry = refl }
 
-  one_record : (r : Rec) → IsRecordOfReader reader r → LeavesReadersBut reader s (state_after s r)
+  one_record : (r : Rec) → IsOfReader reader r → LeavesReadersBut reader s (state_after s r)
   one_record (rec.Formatted geometry) h = absurd h
   one_record (rec.Opened geometry serial cursor floor next_put clean list) h = absurd h
   one_record (rec.SyncBegun serial cursor clean in_parts) h = absurd h
@@ -94,7 +95,7 @@ module _ (reader : ℕ) (s : State) where
 then_others : (reader : ℕ) (s t u : State) → LeavesReadersBut reader s t → LeavesReadersBut reader t u → LeavesReadersBut reader s u
 then_others reader s t u a b = record { readers = λ n other. b.readers n other ∙ a.readers n other; puts = b.puts ∙ a.puts; geometry = b.geometry ∙ a.geometry }
 
-all_records : (reader : ℕ) (s : State) (recs : List Rec) → AllByRecursion (IsRecordOfReader reader) recs → LeavesReadersBut reader s (after_all s recs)
+all_records : (reader : ℕ) (s : State) (recs : List Rec) → AllByRecursion (IsOfReader reader) recs → LeavesReadersBut reader s (after_all s recs)
 all_records reader s [] own = all_stay reader s
 all_records reader s (r ∷ recs) own = then_others reader s (state_after s r) _ (one_record reader s r own.0) (all_records reader (state_after s r) recs own.1)
 
@@ -121,11 +122,11 @@ readers_stay s t r same = (
 owns_none : (reader : ℕ) (old new : Kept) → new ≡ old → AddsOfReader reader old new
 owns_none reader old new h = record { added = []; adds = h ∙ sym (ap (λ recs. let k : Kept = record { told = old.told; base = old.base; since = recs } in k) (append-nil old.since)); own = tt }
 
-owns : (reader : ℕ) (old new : Kept) (added : List Rec) → new ≡ with_records old added → AllByRecursion (IsRecordOfReader reader) added
+owns : (reader : ℕ) (old new : Kept) (added : List Rec) → new ≡ with_records old added → AllByRecursion (IsOfReader reader) added
     → AddsOfReader reader old new
 owns reader old new added adds own = record { added = added; adds = adds; own = own }
 
-own_cause : (reader : ℕ) (row : Row) (why : Cause) → AllByRecursion (IsRecordOfReader reader) (records_of_trouble row why)
+own_cause : (reader : ℕ) (row : Row) (why : Cause) → AllByRecursion (IsOfReader reader) (cause_records row why)
 own_cause reader row cause.NeverPut = tt
 own_cause reader row cause.Removed = tt
 own_cause reader row (cause.Passed place floor unsaved) = tt
@@ -138,7 +139,7 @@ own_cause reader row (cause.DeviceFault count) = (tt, tt)
 own_cause reader row (cause.Damaged place kept other) = (tt, tt)
 
 own_next_trouble : (reader : ℕ) (o : Option Row) (answer : NextPiece)
-    → AllByRecursion (IsRecordOfReader reader) (nexts.piece_trouble o answer)
+    → AllByRecursion (IsOfReader reader) (nexts.piece_trouble o answer)
 own_next_trouble reader None answer = tt
 own_next_trouble reader (Some row) (piece.Piece index size) = tt
 own_next_trouble reader (Some row) (piece.End size) = tt
@@ -146,26 +147,26 @@ own_next_trouble reader (Some row) (piece.NotYet cut) = tt
 own_next_trouble reader (Some row) (piece.Broken why) = own_cause reader row why
 
 own_look_trouble : (reader : ℕ) (o : Option Row) (answer : ReadAnswer)
-    → AllByRecursion (IsRecordOfReader reader) (lookups.lookup_trouble o answer)
+    → AllByRecursion (IsOfReader reader) (lookups.lookup_trouble o answer)
 own_look_trouble reader None answer = tt
 own_look_trouble reader (Some row) (read.Hit put) = tt
 own_look_trouble reader (Some row) (read.Follow put) = tt
 own_look_trouble reader (Some row) (read.Miss why) = own_cause reader row why
 
-own_answer : (reader : ℕ) (answer : NextAnswer) → IsRecordOfReader reader (answer_record reader answer)
+own_answer : (reader : ℕ) (answer : NextAnswer) → IsOfReader reader (answer_record reader answer)
 own_answer reader (next.Gave index size) = refl
 own_answer reader (next.Ended size) = refl
 own_answer reader (next.Waited cut) = refl
 own_answer reader (next.Broke why) = refl
 
 -- a reader that opens
-pub owns_open : (old new : Kept) (who : Actor) (key : Key) (request : List Field) (result : Result Opened AllocError)
+pub owns_open : (old new : Kept) (who : Actor) (key : Key) (request : List Field) (result : Result (Opened Reader) AllocError)
     → IfOk result (λ opened. new ≡ with_records old (lookups.opening_adds (state_of old) who key request (lookups.answer_of_opened opened)))
     → OnErr result (new ≡ old) → AddsOfReader (state_of old).next_reader old new
 owns_open old new who key request (Ok opened) adds err =
     let answer = lookups.answer_of_opened opened in
     owns (state_of old).next_reader old new _ adds
-    (each_push (IsRecordOfReader (state_of old).next_reader) (lookups.lookup_adds (state_of old) key answer) (rec.ReadOpened (state_of old).next_reader who key request answer)
+    (each_push (IsOfReader (state_of old).next_reader) (lookups.lookup_adds (state_of old) key answer) (rec.ReadOpened (state_of old).next_reader who key request answer)
     (own_look_trouble (state_of old).next_reader (live_vector_of (state_of old) key) answer) refl)
 owns_open old new who key request (Err e) adds err = owns_none (state_of old).next_reader old new err
 
@@ -175,7 +176,7 @@ owns_read : (old new : Kept) (r : Reader) (answer : NextPiece) → new ≡ with_
 owns_read old new r answer adds =
     let noted = nexts.answer_noted (nexts.next_listed_length (state_of old) r) answer in
     owns r.reader old new _ adds
-    (each_push (IsRecordOfReader r.reader) (nexts.piece_trouble (live_next (state_of old) (row_of_reader r)) answer)
+    (each_push (IsOfReader r.reader) (nexts.piece_trouble (live_next (state_of old) (row_of_reader r)) answer)
     (answer_record r.reader noted)
     (own_next_trouble r.reader (live_next (state_of old) (row_of_reader r)) answer) (own_answer r.reader noted))
 

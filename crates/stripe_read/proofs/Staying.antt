@@ -17,7 +17,8 @@ use Rattle.cache_model.proofs.Steps.{after_all-append}
 use Rattle.cache_model.proofs.ByNumber.{find-changed}
 use Rattle.piece_answers.specs.declared.answer.Found.{Found}
 use Rattle.piece_answers.specs.declared.answer.Found.TheVariants as found
-use Rattle.piece_answers.specs.Find.{found_records, records_of_trouble}
+use Rattle.cache_model.specs.Troubles.{cause_records}
+use Rattle.piece_answers.specs.Find.{found_records}
 use Rattle.stripe_vectors.proofs.Finding.{found_same}
 use Rattle.stripe_read.specs.declared.reader.Reader.{Reader}
 use Rattle.stripe_read.specs.Readers.{IsOpenStripeReader, IsStripeReaderOf, row_of_reader_by}
@@ -38,7 +39,7 @@ pub record LeavesReaders (s t : State) : Type 0 where
   pub pending : t.pending ≡ s.pending
   pub number : t.next_reader ≡ s.next_reader
 
-pub cause_leaves : (s : State) (row : Row) (why : Cause) → LeavesReaders s (after_all s (records_of_trouble row why))
+pub cause_leaves : (s : State) (row : Row) (why : Cause) → LeavesReaders s (after_all s (cause_records row why))
 cause_leaves s row cause.NeverPut = record { readers = refl; pending = refl; number = refl }
 cause_leaves s row cause.Removed = record { readers = refl; pending = refl; number = refl }
 cause_leaves s row (cause.Passed place floor unsaved) = record { readers = refl; pending = refl; number = refl }

@@ -20,7 +20,8 @@ use Rattle.cache_model.specs.Contents.{Contents}
 use Rattle.piece_answers.specs.declared.answer.Found.{Found}
 use Rattle.piece_answers.specs.declared.answer.Found.TheVariants as found
 use Rattle.piece_answers.specs.Covers.{AllReadIsSeen, Covers}
-use Rattle.piece_answers.specs.Find.{HasPayload, find_adds, records_of_trouble}
+use Rattle.cache_model.specs.Troubles.{cause_records}
+use Rattle.piece_answers.specs.Find.{HasPayload, find_adds}
 use Rattle.piece_answers.specs.Standing.{AreStanding}
 use Rattle.held_pieces.specs.Still.{IsStill}
 use Rattle.held_pieces.specs.Whereabouts.{live_place_of}
@@ -55,7 +56,7 @@ IsCompared s id listed size (found.Missing why) = (u : Unlike) × (why ≡ cause
 abbrev pub IsFetched : Permit → State → PieceId → Option Row → TableRow → Found → List ℕ → Type 0
 IsFetched p s id None entry answer into = answer ≡ found.Missing (cause_of_piece s id)
 IsFetched p s id (Some row) entry (found.Found size) into = IsDocumentOf p s row size into × IsAsListed row entry
-IsFetched p s id (Some row) entry (found.Missing why) into = ReadTrouble p s row entry (records_of_trouble row why) why
+IsFetched p s id (Some row) entry (found.Missing why) into = ReadTrouble p s row entry (cause_records row why) why
 
 -- what was read is what is seen, and what came of it in any step that covers the call, for each row of a table that
 -- lists this digest; where the device tells its content a payload is the one that is told

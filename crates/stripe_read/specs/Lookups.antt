@@ -23,7 +23,7 @@ use Rattle.cache_model.specs.Pair.{IsKeyPair}
 use Rattle.cache_model.specs.Vectors.{AreVectors, IsVectorAs}
 use Rattle.call_laws.specs.Untold.{Untold}
 use Rattle.piece_answers.specs.Covers.{AllReadIsSeen, Covers}
-use Rattle.piece_answers.specs.Find.{records_of_trouble}
+use Rattle.cache_model.specs.Troubles.{cause_records}
 use Rattle.held_pieces.specs.Still.{IsStill, IsUnwritten}
 use Rattle.stripe_core.specs.declared.stripe.Stripe.{Stripe}
 use Rattle.stripe_answers.specs.Acts.{IsFollowable}
@@ -33,8 +33,8 @@ use Rattle.stripe_read.specs.declared.reader.Reader.{Reader}
 use Rattle.stripe_read.specs.declared.opening.Chosen.{Chosen}
 use Rattle.stripe_read.specs.declared.opening.Looked.{Looked}
 use Rattle.stripe_read.specs.declared.opening.Looked.TheVariants as looked
-use Rattle.stripe_read.specs.declared.opening.Opened.{Opened}
-use Rattle.stripe_read.specs.declared.opening.Opened.TheVariants as opened
+use Rattle.cache_answers.specs.declared.answers.Opened.{Opened}
+use Rattle.cache_answers.specs.declared.answers.Opened.TheVariants as opened
 use Rattle.stripe_read.specs.Readers.{IsOpenStripeReader, IsStripeReaderOf, rows_hit}
 use Rattle.stripe_read.specs.Troubles.{TroubleIsCounted}
 
@@ -62,7 +62,7 @@ abbrev pub lookup_trouble : Option Row → ReadAnswer → List Rec
 lookup_trouble None answer = []
 lookup_trouble (Some row) (read.Hit put) = []
 lookup_trouble (Some row) (read.Follow put) = []
-lookup_trouble (Some row) (read.Miss why) = records_of_trouble row why
+lookup_trouble (Some row) (read.Miss why) = cause_records row why
 
 -- the same by the key, whose vector is live or not
 abbrev pub lookup_adds : State → Key → ReadAnswer → List Rec
@@ -95,7 +95,7 @@ pub record LooksUp (s : State) (old new : Device) (key : Key) (request : List Fi
 -- ---- what opens
 
 -- with the number of its reader
-abbrev pub opened_as : ℕ → Key → Looked → Opened
+abbrev pub opened_as : ℕ → Key → Looked → Opened Reader
 opened_as number key (looked.Hit chosen) =
     opened.Hit (record { reader = number; key = key; put = chosen.put; table = Some chosen.table; next = 1 }) chosen.put (total_length chosen.table.rows)
 opened_as number key (looked.Follow put) =
@@ -103,7 +103,7 @@ opened_as number key (looked.Follow put) =
 opened_as number key (looked.Miss why) = opened.Miss why
 
 -- the answer by which what was opened is recorded
-abbrev pub answer_of_opened : Opened → ReadAnswer
+abbrev pub answer_of_opened : Opened Reader → ReadAnswer
 answer_of_opened (opened.Hit reader put length) = read.Hit put
 answer_of_opened (opened.Follow reader put) = read.Follow put
 answer_of_opened (opened.Miss why) = read.Miss why
@@ -113,7 +113,7 @@ abbrev pub opening_adds : State → Actor → Key → List Field → ReadAnswer 
 opening_adds s who key request answer = lookup_adds s key answer ++ rec.ReadOpened s.next_reader who key request answer ∷ []
 
 -- something holds of the reader that was opened
-abbrev pub IfOpened : (Reader → Type 0) → Opened → Type 0
+abbrev pub IfOpened : (Reader → Type 0) → Opened Reader → Type 0
 IfOpened P (opened.Hit reader put length) = P reader
 IfOpened P (opened.Follow reader put) = P reader
 IfOpened P (opened.Miss why) = Unit {0}
@@ -123,14 +123,14 @@ abbrev pub length_hit : Reader → Option ℕ
 length_hit r = option_map (λ (t : Table). total_length t.rows) r.table
 
 -- the reader has the next number; the put and the length are those that it has
-abbrev pub TellsOpened : ℕ → Opened → Type 0
+abbrev pub TellsOpened : ℕ → Opened Reader → Type 0
 TellsOpened number (opened.Hit reader put length) = (reader.reader ≡ number) × (put ≡ reader.put) × (length_hit reader ≡ Some length)
 TellsOpened number (opened.Follow reader put) = (reader.reader ≡ number) × (put ≡ reader.put) × (rows_hit reader ≡ None)
 TellsOpened number (opened.Miss why) = Unit {0}
 
 -- what was read is what is seen, and in any step that covers the call: it was looked up as asked, and the
 -- reader has the fragments of the alternate; or two documents of one SHA-256 are shown, on a device that did not tell its content
-pub record Opens (s t : State) (old new : Device) (who : Actor) (key : Key) (request : List Field) (answer : Opened) : Type 0 where
+pub record Opens (s t : State) (old new : Device) (who : Actor) (key : Key) (request : List Field) (answer : Opened Reader) : Type 0 where
   pub seen : AllReadIsSeen old new
   pub does : (p : Permit) → Covers p old.past new.past → AreVectors s
       → (Does p s (Look who.0 key request) (opening_adds s who key request (answer_of_opened answer)) Done
@@ -152,7 +152,7 @@ module _ {D R C : Type 0} {d : DiskGhosts D} {r : DirectoryGhosts R} {c : Chroni
     pub unit : units_in old ≤ units_in new + 1
 
   -- what recording what was found comes to, and opening its reader; memory for it is there
-  pub record BeginsReading (who : Actor) (key : Key) (request : List Field) (found : Looked) (old new : Stripe D R C d r c) (result : Result Opened AllocError) : Type 0 where
+  pub record BeginsReading (who : Actor) (key : Key) (request : List Field) (found : Looked) (old new : Stripe D R C d r c) (result : Result (Opened Reader) AllocError) : Type 0 where
     pub continues : Continues old new
     pub adds : IfOk result (λ answer. kept_in new
         ≡ with_records (kept_in old) (rec.ReadOpened (state_in old).next_reader who key request (answer_of_looked found) ∷ []))
@@ -161,7 +161,7 @@ module _ {D R C : Type 0} {d : DiskGhosts D} {r : DirectoryGhosts R} {c : Chroni
     pub still : IsStill (seen_in old).device (seen_in new).device
 
   -- what opening a reader comes to
-  pub record OpensReaderInStripe (who : Actor) (key : Key) (request : List Field) (old new : Stripe D R C d r c) (result : Result Opened AllocError) : Type 0 where
+  pub record OpensReaderInStripe (who : Actor) (key : Key) (request : List Field) (old new : Stripe D R C d r c) (result : Result (Opened Reader) AllocError) : Type 0 where
     pub rests : Rests old new
     pub adds : IfOk result (λ answer. kept_in new
         ≡ with_records (kept_in old) (opening_adds (state_in old) who key request (answer_of_opened answer)))

@@ -19,15 +19,15 @@ use Rattle.cache_model.specs.Legal.{Does, IsAsListed, IsUnlike, answer_record, l
 use Rattle.cache_model.specs.Contents.{Contents}
 use Rattle.piece_answers.specs.Covers.{AllReadIsSeen, Covers}
 use Rattle.cache_model.specs.Given.{IsDocumentOf}
-use Rattle.piece_answers.specs.Find.{records_of_trouble}
+use Rattle.cache_model.specs.Troubles.{cause_records}
 use Rattle.piece_answers.specs.Standing.{AreStanding}
 use Rattle.held_pieces.specs.Still.{IsStill}
 use Rattle.stripe_core.specs.declared.stripe.Stripe.{Stripe}
 use Rattle.stripe_core.specs.Between.{Between, IsResting, Proceeds}
 use Rattle.stripe_core.specs.Stripe.{kept_in, seen_in, state_in}
 use Rattle.stripe_read.specs.declared.reader.Reader.{Reader}
-use Rattle.stripe_read.specs.declared.reading.NextPiece.{NextPiece}
-use Rattle.stripe_read.specs.declared.reading.NextPiece.TheVariants as piece
+use Rattle.cache_answers.specs.declared.answers.NextPiece.{NextPiece}
+use Rattle.cache_answers.specs.declared.answers.NextPiece.TheVariants as piece
 use Rattle.stripe_read.specs.Readers.{IsOpenStripeReader, IsStripeReaderOf, row_of_reader}
 use Rattle.stripe_read.specs.Troubles.{TroubleIsCounted}
 
@@ -54,7 +54,7 @@ next_listed_length s r = unwrap_or (option_map (λ (row : TableRow). row.length)
 -- the record of what kept the next fragment, where it is live, from being given
 abbrev pub piece_trouble : Option Row → NextPiece → List Rec
 piece_trouble None answer = []
-piece_trouble (Some row) (piece.Broken why) = records_of_trouble row why
+piece_trouble (Some row) (piece.Broken why) = cause_records row why
 piece_trouble (Some row) _ = []
 
 -- the trouble with that fragment, where that is the cause, and the answer

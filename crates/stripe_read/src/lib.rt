@@ -10,6 +10,6 @@ mod reading;
 
 pub use closing::close_read;
 pub use laws::{readers_add_own, readers_stay, reads_leave_others};
-pub use opening::{Opened, open_read};
+pub use opening::open_read;
 pub use reader::Reader;
-pub use reading::{NextPiece, read_next};
+pub use reading::read_next;

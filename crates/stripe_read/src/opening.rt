@@ -8,6 +8,7 @@ ghost use Rattle.stripe_read.specs.Lookups.{BeginsReading, IsChosen, LooksUpKey,
 
 use crate::Reader;
 use alternate_vector::{Fields, Vector};
+use cache_answers::Opened;
 use cache_chronicle::Chronicle;
 use cache_model::{Cause, ReadAnswer};
 use dir_table::Directory;
@@ -17,24 +18,6 @@ use std::alloc::AllocError;
 use stripe_core::Stripe;
 use stripe_vectors::{KeyVector, read_is_listed, read_vector};
 use tape_base::{Actor, Key};
-
-/// What came of a lookup.
-#[derive(Debug, Drop)]
-pub enum Opened {
-    /// A stored alternate, whose body has so many bytes.
-    Hit {
-        reader: Reader,
-        put: u64,
-        length: u64,
-    },
-    /// An open writer, which the reader follows.
-    Follow {
-        reader: Reader,
-        put: u64,
-    },
-    /// There is nothing to read, for this cause.
-    Miss(Cause),
-}
 
 // What is found for a request, before its reader is open.
 #[derive(Debug, Drop)]
@@ -59,7 +42,7 @@ pub fn open_read<D: Disk, R: Directory + Drop, C: Chronicle>(
     actor: Actor,
     key: Key,
     request: Fields,
-) -> Result<Opened, AllocError>
+) -> Result<Opened<Reader>, AllocError>
     requires { IsResting stripe.old }
     ensures { OpensReaderInStripe actor key request stripe.old stripe.new result }
 {
@@ -129,7 +112,7 @@ fn begin<D: Disk, R: Directory + Drop, C: Chronicle>(
     key: Key,
     request: Fields,
     looked: Looked,
-) -> Result<Opened, AllocError>
+) -> Result<Opened<Reader>, AllocError>
     requires stripe { IsStripe stripe.old }
     requires unit { 1 ≤ units_in stripe.old }
     requires follows { IsFollowable (state_in stripe.old) (answer_of_looked looked) }
@@ -152,7 +135,7 @@ impl Looked {
     }
 
     // With the number of its reader.
-    fn opened(self, reader: u64, key: Key) -> Opened
+    fn opened(self, reader: u64, key: Key) -> Opened<Reader>
         ensures { result ≡ opened_as reader key self }
     {
         match self {

@@ -9,6 +9,7 @@ ghost use Rattle.stripe_read.specs.Nexts.{HasNext, ReadsNextInStripe, answer_not
 
 use crate::Reader;
 use crate::fetching::{fetch, next_row};
+use cache_answers::NextPiece;
 use cache_chronicle::Chronicle;
 use cache_model::{Cause, NextAnswer};
 use dir_table::Directory;
@@ -17,18 +18,6 @@ use open_directory::PutState;
 use std::alloc::AllocError;
 use stripe_core::{Found, Stripe};
 use tape_base::{Digest, PieceId};
-
-/// What a reader is given.
-#[derive(Clone, Copy, Debug, PartialEq, Eq)]
-pub enum NextPiece {
-    /// A fragment, by its index from 1, of so many bytes.
-    Piece { index: u32, length: u32 },
-    /// All was given; the body has so many bytes.
-    End { length: u64 },
-    /// All of the fragments cut so far were given, and the writer is open.
-    NotYet { cut: u32 },
-    Broken(Cause),
-}
 
 /// Reads the next fragment to the front of `into`, or says why there is none.
 pub fn read_next<D: Disk, R: Directory + Drop, C: Chronicle>(
@@ -92,7 +81,7 @@ fn stop<D: Disk, R: Directory + Drop, C: Chronicle>(
     ensures still { (seen_in stripe.new).device ≡ (seen_in stripe.old).device }
 {
     let answer = at_end(stripe, reader);
-    stripe.note(reader.reader, answer.noted(0));
+    stripe.note(reader.reader, noted(&answer, 0));
     answer
 }
 
@@ -149,19 +138,17 @@ impl Reader {
     }
 }
 
-impl NextPiece {
-    // As it is recorded, where the fragment is listed with that length.
-    fn noted(&self, listed: u32) -> NextAnswer
-        ensures { result ≡ answer_noted listed self.now }
-    {
-        match self {
-            NextPiece::Piece { index, .. } => NextAnswer::Gave {
-                index: *index,
-                length: listed,
-            },
-            NextPiece::End { length } => NextAnswer::Ended { length: *length },
-            NextPiece::NotYet { cut } => NextAnswer::Waited { cut: *cut },
-            NextPiece::Broken(why) => NextAnswer::Broke(*why),
-        }
+// An answer as it is recorded, where the fragment is listed with that length.
+fn noted(answer: &NextPiece, listed: u32) -> NextAnswer
+    ensures { result ≡ answer_noted listed answer.now }
+{
+    match answer {
+        NextPiece::Piece { index, .. } => NextAnswer::Gave {
+            index: *index,
+            length: listed,
+        },
+        NextPiece::End { length } => NextAnswer::Ended { length: *length },
+        NextPiece::NotYet { cut } => NextAnswer::Waited { cut: *cut },
+        NextPiece::Broken(why) => NextAnswer::Broke(*why),
     }
 }

@@ -5,12 +5,13 @@ ghost use Rattle.stripe_read.specs.Readers.{IsOpenStripeReader};
 ghost use Rattle.stripe_write.specs.Writers.{IsStripeWriterOf};
 
 use alternate_vector::Fields;
+use cache_answers::{NextPiece, Opened};
 use cache_chronicle::Chronicle;
 use dir_table::Directory;
 use logged_disk::Disk;
 use std::alloc::AllocError;
 use stripe_core::Stripe;
-use stripe_read::{NextPiece, Opened, Reader, close_read, open_read, read_next};
+use stripe_read::{Reader, close_read, open_read, read_next};
 use stripe_write::{Writer, close_write, open_write, write};
 use tape_base::{Actor, Key};
 

@@ -10,12 +10,12 @@ use Rattle.cache_model.specs.Kept.{Kept, state_of, with_records}
 use Rattle.cache_model.specs.Verdict.{live_vector_of}
 use Rattle.cache_model.proofs.Steps.{after_all-append}
 use Rattle.stripe_answers.specs.Counts.{CauseIsCounted}
-use Rattle.piece_answers.specs.Find.{records_of_trouble}
+use Rattle.cache_model.specs.Troubles.{cause_records}
 use Rattle.piece_answers.proofs.Covering.{own_covers, own_permit}
 use Rattle.stripe_vectors.specs.declared.reading.KeyVector.TheVariants as answer
 use Rattle.stripe_vectors.specs.Reading.{FindsVector, IsVectorFound, trouble_records, vector_adds}
 
-pub cause_counted : (s : State) (row : Row) (why : Cause) (faults : ℕ) → (after_all s (records_of_trouble row why)).fault ≤ faults → CauseIsCounted faults why
+pub cause_counted : (s : State) (row : Row) (why : Cause) (faults : ℕ) → (after_all s (cause_records row why)).fault ≤ faults → CauseIsCounted faults why
 cause_counted s row (cause.DeviceFault count) faults reached = reached
 cause_counted s row _ faults reached = tt
 

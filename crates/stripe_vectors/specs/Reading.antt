@@ -21,7 +21,7 @@ use Rattle.cache_model.specs.Given.{IsGiven, IsWritten, Trouble}
 use Rattle.cache_model.specs.Pair.{IsKeyPair}
 use Rattle.cache_model.specs.Vectors.{AreVectors, IsVectorAs}
 use Rattle.piece_answers.specs.Covers.{AllReadIsSeen, Covers}
-use Rattle.piece_answers.specs.Find.{records_of_trouble}
+use Rattle.cache_model.specs.Troubles.{cause_records}
 use Rattle.held_pieces.specs.Still.{IsUnwritten}
 use Rattle.stripe_core.specs.declared.stripe.Stripe.{Stripe}
 use Rattle.stripe_core.specs.Stripe.{kept_in, room_for, seen_in, state_in, units_in}
@@ -54,7 +54,7 @@ IsVectorFound p s None (found.Read list) = ⊥
 IsVectorFound p s None (found.Trouble why) = ⊥
 IsVectorFound p s (Some row) found.Absent = ⊥
 IsVectorFound p s (Some row) (found.Read list) = VectorIsReadAs p s row list
-IsVectorFound p s (Some row) (found.Trouble why) = Trouble p s row (records_of_trouble row why) why
+IsVectorFound p s (Some row) (found.Trouble why) = Trouble p s row (cause_records row why) why
 
 -- what was read are the key's alternates
 abbrev pub HasAlternates : State → Key → KeyVector → Type 0
@@ -73,7 +73,7 @@ abbrev pub trouble_records : Option Row → KeyVector → List Rec
 trouble_records None answer = []
 trouble_records (Some row) found.Absent = []
 trouble_records (Some row) (found.Read list) = []
-trouble_records (Some row) (found.Trouble why) = records_of_trouble row why
+trouble_records (Some row) (found.Trouble why) = cause_records row why
 
 -- the same by the key, whose vector is live or not
 abbrev pub vector_adds : State → Key → KeyVector → List Rec

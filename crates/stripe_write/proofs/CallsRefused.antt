@@ -10,8 +10,8 @@ use Rattle.alternate_vector.specs.Field.{Field}
 use Rattle.cache_model.specs.Kept.{state_of}
 use Rattle.cache_model.specs.State.{State, most_fragments}
 use Rattle.held_pieces.specs.Still.{IsStill}
-use Rattle.stripe_answers.specs.declared.refusal.Refusal.{Refusal}
-use Rattle.stripe_answers.specs.declared.refusal.Refusal.TheVariants as refusal
+use Rattle.cache_answers.specs.declared.answers.Refusal.{Refusal}
+use Rattle.cache_answers.specs.declared.answers.Refusal.TheVariants as refusal
 use Rattle.stripe_core.specs.declared.stripe.Stripe.{Stripe}
 use Rattle.stripe_answers.specs.Acts.{OpensAsAsked}
 use Rattle.stripe_core.specs.Between.{Continues, Rests}

@@ -27,14 +27,15 @@ use Rattle.cache_model.proofs.Found.{cuts_found}
 use Rattle.cache_model.proofs.Lists.{row_in-placed}
 use Rattle.cache_model.proofs.Steps.{after_all-append}
 use Rattle.piece_answers.specs.declared.answer.Placed.{Placed}
-use Rattle.stripe_answers.specs.declared.refusal.Refusal.{Refusal}
-use Rattle.stripe_answers.specs.declared.refusal.Refusal.TheVariants as refusal
+use Rattle.cache_answers.specs.declared.answers.Refusal.{Refusal}
+use Rattle.cache_answers.specs.declared.answers.Refusal.TheVariants as refusal
 use Rattle.piece_answers.specs.declared.answer.Stop.{Stop}
 use Rattle.piece_answers.specs.declared.answer.Stop.TheVariants as stop
 use Rattle.stripe_answers.specs.Acts.{CommitsAsAsked, committed_record}
 use Rattle.stripe_core.specs.Stripe.{AnswersOrWants, HasMemory}
 use Rattle.piece_answers.specs.Covers.{Covers}
-use Rattle.piece_answers.specs.Place.{AreOfPlace, IsExhaustedAt, IsVectorFor, IsVectorOf, PlacesAt, PlacesIn, PlacesVector}
+use Rattle.cache_model.specs.Limits.{ReachesLimit}
+use Rattle.piece_answers.specs.Place.{AreOfPlace, IsVectorFor, IsVectorOf, PlacesAt, PlacesIn, PlacesVector}
 use Rattle.piece_answers.proofs.Displacing.{displaced_list}
 use Rattle.stripe_vectors.specs.declared.spelling.Spelled.{Spelled}
 use Rattle.stripe_vectors.specs.Spelled.{IsSpelled, listed_with}
@@ -43,7 +44,7 @@ use Rattle.stripe_write.specs.declared.writer.Writer.{Writer}
 use Rattle.stripe_write.specs.Writers.{IsAtHandInStripe, IsStripeWriterOf}
 use Rattle.stripe_write.specs.Closing.{AreSpelled, IsReadFor, closing_alternate, closing_rows, closing_size, row_of_rest}
 use Rattle.stripe_write.specs.Finishing.{AreLive, FinishesAsRead, FinishesWhere, IsCurrent, VectorStops, bytes_now, picked, vector_now}
-use Rattle.stripe_write.specs.declared.finishing.Receipt.{Receipt}
+use Rattle.cache_answers.specs.declared.answers.Receipt.{Receipt}
 use Rattle.stripe_write.proofs.Pushed.{pushed_by}
 use Rattle.stripe_write.proofs.Spending.{last_done, nothing_more, one_group, state_behind, then_all, then_more}
 use Rattle.stripe_write.proofs.Ended.{open_put, own_number}
@@ -255,7 +256,7 @@ module _ (packed : Bool) (now : ℕ) (old new : Kept) (before after : List Call)
   id = vector_piece w.key w.put
 
   vector_at : (number : ℕ) → IsVectorOf s id pin 0 payload → PlacesAt s payload (Err (stop.Exhausted number)) → VectorStops s w (refusal.Exhausted number)
-  vector_at number v at = (cuts_at_hand s w c, subst (λ n. IsExhaustedAt s n number) v.length_is (place_reaches s payload number v.room at))
+  vector_at number v at = (cuts_at_hand s w c, subst (λ n. ReachesLimit s n number) v.length_is (place_reaches s payload number v.room at))
 
   -- the vector that has no place
   no_place : (number : ℕ) → PlacesVector packed old new before after id pin 0 payload (Err (stop.Exhausted number)) → FinishesAsRead packed now before after old new w v (Err (refusal.Exhausted number))

@@ -22,8 +22,8 @@ use Rattle.cache_model.proofs.SoundFlush.{front_aside, stopped_aside}
 use Rattle.cache_model.proofs.Steps.{all_append}
 use Rattle.cache_model.proofs.Syncing.{unmark_aside}
 use Rattle.piece_answers.proofs.Covering.{never_syncs}
-use Rattle.stripe_write.specs.declared.finishing.Receipt.{Receipt}
-use Rattle.stripe_answers.specs.declared.refusal.Refusal.{Refusal}
+use Rattle.cache_answers.specs.declared.answers.Receipt.{Receipt}
+use Rattle.cache_answers.specs.declared.answers.Refusal.{Refusal}
 use Rattle.stripe_write.specs.declared.weighing.Vectors.{Vectors}
 use Rattle.stripe_write.specs.declared.writer.Writer.{Writer}
 use Rattle.stripe_write.specs.Closing.{IsReadFor}

@@ -23,9 +23,10 @@ use Rattle.cache_model.specs.Room.{placed_record}
 use Rattle.cache_model.proofs.Steps.{after_all-append, all_append}
 use Rattle.cache_model.proofs.ByNumber.{find-changed}
 use Rattle.piece_answers.specs.declared.answer.Placed.{Placed}
-use Rattle.stripe_answers.specs.declared.refusal.Refusal.{Refusal}
-use Rattle.stripe_answers.specs.declared.refusal.Refusal.TheVariants as refusal
-use Rattle.piece_answers.specs.Place.{AreOfPlace, CutsAsAsked, IsCutAs, IsExhaustedAt, IsFragmentOf, PlacesAsAsked, PlacesVector}
+use Rattle.cache_answers.specs.declared.answers.Refusal.{Refusal}
+use Rattle.cache_answers.specs.declared.answers.Refusal.TheVariants as refusal
+use Rattle.cache_model.specs.Limits.{ReachesLimit}
+use Rattle.piece_answers.specs.Place.{AreOfPlace, CutsAsAsked, IsCutAs, IsFragmentOf, PlacesAsAsked, PlacesVector}
 use Rattle.cache_model.specs.Displacing.{AreOfDisplacement}
 use Rattle.stripe_core.specs.Stripe.{AnswersOrWants}
 use Rattle.piece_answers.proofs.Displacing.{displaced_puts}
@@ -37,7 +38,7 @@ use Rattle.stripe_write.proofs.Spending.{state_behind}
 use Rattle.stripe_write.specs.Writers.{IsAllCutInStripe, IsAtHandInStripe, IsStripeWriterOf}
 use Rattle.stripe_write.specs.Writes.{IsReady, next_id, next_start}
 use Rattle.stripe_answers.specs.Numbers.{StopsExhausted}
-use Rattle.stripe_write.specs.Others.{IsRecordOfPut}
+use Rattle.cache_model.specs.Subjects.{IsOfPut}
 
 -- ---- it is the next fragment of its put
 
@@ -190,17 +191,17 @@ module _ (w : Writer) (n t : ℕ) (p : List ℕ) (n_is : n ≡ length w.table.ro
 -- a cut that stops at the limit tells the number
 pub cut_stops : (packed : Bool) (now : ℕ) (old new : Kept) (first : List Call) (after : Device) (piece : PieceId) (pin start : ℕ) (payload : List ℕ) (why : Refusal)
     → AnswersOrWants {X = Placed} (Err why) (CutsAsAsked packed now old new first after piece pin start payload) (new ≡ old) → StopsExhausted (state_of new) (length payload) why
-cut_stops packed now old new first after piece pin start payload (refusal.Exhausted number) h = subst (λ t. IsExhaustedAt t (length payload) number) (sym (state_behind old new h.added h.adds)) h.shape.why_is
+cut_stops packed now old new first after piece pin start payload (refusal.Exhausted number) h = subst (λ t. ReachesLimit t (length payload) number) (sym (state_behind old new h.added h.adds)) h.shape.why_is
 cut_stops packed now old new first after piece pin start payload _ h = tt
 
 -- the records of a cut are its put's own
-pub cut_is_own : {packed : Bool} (s : State) (piece : PieceId) (pin start : ℕ) (payload : List ℕ) (added : List Rec) (placed : Placed) → is_vector piece ≡ false → IsCutAs packed s piece pin start payload added placed → AllByRecursion (IsRecordOfPut piece.put) added
+pub cut_is_own : {packed : Bool} (s : State) (piece : PieceId) (pin start : ℕ) (payload : List ℕ) (added : List Rec) (placed : Placed) → is_vector piece ≡ false → IsCutAs packed s piece pin start payload added placed → AllByRecursion (IsOfPut piece.put) added
 cut_is_own s piece pin start payload added placed kind c =
     let room : State = after_all s c.room in
     let pushed = pushed_is_own piece.put c.are.displaced (cut_pushed s piece pin start payload added placed c) in
-    let two : AllByRecursion (IsRecordOfPut piece.put) c.piece =
-    subst (AllByRecursion (IsRecordOfPut piece.put)) (sym (cut_two room piece pin start payload c.piece kind c.are)) (refl, all_append (IsRecordOfPut piece.put) c.are.displaced _ pushed (tt, tt)) in
-    subst (AllByRecursion (IsRecordOfPut piece.put)) (sym c.is) (all_append (IsRecordOfPut piece.put) c.room c.piece (flush_is_own piece.put c.room c.kinds) two)
+    let two : AllByRecursion (IsOfPut piece.put) c.piece =
+    subst (AllByRecursion (IsOfPut piece.put)) (sym (cut_two room piece pin start payload c.piece kind c.are)) (refl, all_append (IsOfPut piece.put) c.are.displaced _ pushed (tt, tt)) in
+    subst (AllByRecursion (IsOfPut piece.put)) (sym c.is) (all_append (IsOfPut piece.put) c.room c.piece (flush_is_own piece.put c.room c.kinds) two)
 
 pub rows_behind : (r : Result (Unit {0}) AllocError) (u : Unit {0}) (before after : List TableRow) (size : ℕ) (digest : Digest) (bytes : List ℕ) → r ≡ Ok u → OnOk r (after ≡ before ++ made_row size digest.0 ∷ [])
     → size ≡ length bytes → digest ≡ digest_of bytes → after ≡ before ++ made_row (length bytes) (digest_of bytes).0 ∷ []

@@ -19,8 +19,8 @@ use Rattle.piece_answers.specs.Covers.{Covers, SpendsFirst, calls_since}
 use Rattle.piece_answers.specs.Place.{PlacesVector, RoomsAsAsked}
 use Rattle.piece_answers.proofs.Covering.{never_syncs, own_covers}
 use Rattle.piece_answers.proofs.Groups.{never_unmarks}
-use Rattle.stripe_answers.specs.declared.refusal.Refusal.{Refusal}
-use Rattle.stripe_answers.specs.declared.refusal.Refusal.TheVariants as refusal
+use Rattle.cache_answers.specs.declared.answers.Refusal.{Refusal}
+use Rattle.cache_answers.specs.declared.answers.Refusal.TheVariants as refusal
 use Rattle.stripe_core.specs.Stripe.{AnswersOrWants}
 use Rattle.stripe_write.specs.declared.writer.Writer.{Writer}
 use Rattle.stripe_write.specs.Closing.{SpendsAll, WeighsAsAsked, asked_of_rest}

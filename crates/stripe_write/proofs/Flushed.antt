@@ -10,13 +10,14 @@ use Rattle.cache_model.specs.declared.record.Rec.{Rec}
 use Rattle.cache_model.specs.declared.record.Rec.TheVariants as rec
 use Rattle.cache_model.specs.State.{LastVector, Row, State, after_all, last_vector, live_row_of, state_after}
 use Rattle.cache_model.specs.Verdict.{live_vector_of, vector_of_last}
-use Rattle.stripe_answers.specs.declared.refusal.Refusal.{Refusal}
-use Rattle.stripe_answers.specs.declared.refusal.Refusal.TheVariants as refusal
+use Rattle.cache_answers.specs.declared.answers.Refusal.{Refusal}
+use Rattle.cache_answers.specs.declared.answers.Refusal.TheVariants as refusal
 use Rattle.piece_answers.specs.declared.answer.Stop.{Stop}
 use Rattle.piece_answers.specs.declared.answer.Stop.TheVariants as stop
 use Rattle.stripe_core.specs.Stripe.{AnswersOrWants, HasMemory}
-use Rattle.piece_answers.specs.Flush.{AreOfFlush, EachWasLive, IsRecordOfFlush, IsStillPiece}
-use Rattle.stripe_write.specs.Others.{IsRecordOfPut}
+use Rattle.cache_model.specs.Subjects.{IsOfFlush, IsOfPut}
+use Rattle.cache_model.specs.Live.{IsSamePiece, LiveBefore}
+use Rattle.piece_answers.specs.Flush.{AreOfFlush}
 
 -- puts, readers, vectors and inserts are as they were
 pub record LeavesActors (s t : State) : Type 0 where
@@ -44,7 +45,7 @@ leaves_then s t u a b = record {
   next_reader = b.next_reader ∙ a.next_reader;
 }
 
-one_leaves : (s : State) (r : Rec) → IsRecordOfFlush r → LeavesActors s (state_after s r)
+one_leaves : (s : State) (r : Rec) → IsOfFlush r → LeavesActors s (state_after s r)
 one_leaves s (rec.Began cursor floor) h = record { geometry = refl; puts = refl; readers = refl; pending = refl; displaced = refl; vectors = refl; next_put = refl; next_reader = refl }
 one_leaves s (rec.Moved piece from place digest) h = record { geometry = refl; puts = refl; readers = refl; pending = refl; displaced = refl; vectors = refl; next_put = refl; next_reader = refl }
 one_leaves s (rec.Unsaved piece place fault) h = record { geometry = refl; puts = refl; readers = refl; pending = refl; displaced = refl; vectors = refl; next_put = refl; next_reader = refl }
@@ -58,7 +59,7 @@ flush_leaves s (r ∷ recs) h = leaves_then s (state_after s r) _ (one_leaves s 
 
 -- ---- they are of any put
 
-one_of_put : (put : ℕ) (r : Rec) → IsRecordOfFlush r → IsRecordOfPut put r
+one_of_put : (put : ℕ) (r : Rec) → IsOfFlush r → IsOfPut put r
 one_of_put put (rec.Began cursor floor) h = tt
 one_of_put put (rec.Moved piece from place digest) h = tt
 one_of_put put (rec.Unsaved piece place fault) h = tt
@@ -66,7 +67,7 @@ one_of_put put (rec.Damaged piece place kept found) h = tt
 one_of_put put (rec.Fault count) h = tt
 one_of_put put _ h = absurd h
 
-pub flush_is_own : (put : ℕ) (recs : List Rec) → AreOfFlush recs → AllByRecursion (IsRecordOfPut put) recs
+pub flush_is_own : (put : ℕ) (recs : List Rec) → AreOfFlush recs → AllByRecursion (IsOfPut put) recs
 flush_is_own put [] h = tt
 flush_is_own put (r ∷ recs) h = (one_of_put put r h.0, flush_is_own put recs h.1)
 
@@ -76,14 +77,14 @@ flush_is_own put (r ∷ recs) h = (one_of_put put r h.0, flush_is_own put recs h
 pub record WasLive (s : State) (key : Key) (row : Row) : Type 0 where
   pub before : Row
   pub live : live_vector_of s key ≡ Some before
-  pub same : IsStillPiece before row
+  pub same : IsSamePiece before row
 
-live_found : (s t : State) (o : Option PieceId) (row : Row) → EachWasLive s t → option_and_then (live_row_of t) o ≡ Some row
-    → (before : Row) × (option_and_then (live_row_of s) o ≡ Some before) × IsStillPiece before row
+live_found : (s t : State) (o : Option PieceId) (row : Row) → LiveBefore s t → option_and_then (live_row_of t) o ≡ Some row
+    → (before : Row) × (option_and_then (live_row_of s) o ≡ Some before) × IsSamePiece before row
 live_found s t None row live h = cc
 live_found s t (Some id) row live h = live id row h
 
-pub vector_before : (s t : State) (key : Key) (row : Row) → t.vectors ≡ s.vectors → EachWasLive s t → live_vector_of t key ≡ Some row → WasLive s key row
+pub vector_before : (s t : State) (key : Key) (row : Row) → t.vectors ≡ s.vectors → LiveBefore s t → live_vector_of t key ≡ Some row → WasLive s key row
 vector_before s t key row same live h =
     let there : option_and_then (live_row_of t) (option_and_then (vector_of_last key) (last_vector s key)) ≡ Some row =
     subst (λ (vs : List (Key × LastVector)). option_and_then (live_row_of t) (option_and_then (vector_of_last key) (lookup (λ k. same_key k key) vs)) ≡ Some row) same h in

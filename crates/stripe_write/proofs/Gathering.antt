@@ -16,8 +16,8 @@ use Rattle.device_log.specs.Calls.{Call}
 use Rattle.logged_disk.specs.Device.{DeviceState as Device}
 use Rattle.cache_model.specs.Legal.{is_writing}
 use Rattle.piece_answers.specs.declared.answer.Placed.{Placed}
-use Rattle.stripe_answers.specs.declared.refusal.Refusal.{Refusal}
-use Rattle.stripe_answers.specs.declared.refusal.Refusal.TheVariants as refusal
+use Rattle.cache_answers.specs.declared.answers.Refusal.{Refusal}
+use Rattle.cache_answers.specs.declared.answers.Refusal.TheVariants as refusal
 use Rattle.piece_answers.specs.declared.answer.Stop.{Stop}
 use Rattle.piece_answers.specs.declared.answer.Stop.TheVariants as stop
 use Rattle.piece_answers.specs.Flush.{AreOfFlush}
@@ -26,7 +26,7 @@ use Rattle.stripe_core.specs.Stripe.{AnswersOrWants}
 use Rattle.stripe_write.specs.declared.writer.Writer.{Writer}
 use Rattle.stripe_write.specs.Writers.{IsAllCutInStripe, IsAtHandInStripe, IsStripeWriterOf}
 use Rattle.stripe_write.specs.Writes.{CutsNextAsAsked, IsCuttingInStripe, IsOverflow, IsReady, OverflowsAsAsked, SameWriter, WritesAs, WritesAsAsked, WritesWhere, completes_fragment, gathered_behind, left_gathered, next_id, next_start, overflow_adds, payload_cut_next, taken_up_to_cut}
-use Rattle.stripe_write.specs.Others.{IsRecordOfPut}
+use Rattle.cache_model.specs.Subjects.{IsOfPut}
 use Rattle.stripe_write.proofs.Ended.{open_put}
 use Rattle.stripe_write.proofs.Flushed.{LeavesActors, flush_is_own, flush_leaves, leaves_all}
 use Rattle.stripe_write.proofs.Spending.{nothing_more, state_behind}
@@ -204,7 +204,7 @@ writes_cut {packed} now old old1 new before before1 after w w' bytes n placed e 
 
 -- a fragment that could not be cut
 stopped_own : {packed : Bool} (now : ℕ) (old new : Kept) (before : List Call) (after : Device) (w : Writer) (payload : List ℕ) (why : Stop) → (h : CutsAsAsked packed now old new before after (next_id w) w.pin (next_start w) payload (Err why))
-    → AllByRecursion (IsRecordOfPut w.put) h.added
+    → AllByRecursion (IsOfPut w.put) h.added
 stopped_own now old new before after w payload why h = flush_is_own w.put h.added h.shape.kinds
 
 pub writes_refused : {packed : Bool} (now : ℕ) (old old1 new : Kept) (before before1 : List Call) (after : Device) (w w' : Writer) (bytes : List ℕ) (why : Refusal) → old1 ≡ old → before1 ≡ before → SameButGathered w w'

@@ -16,7 +16,8 @@ use Rattle.cache_model.specs.Kept.{Kept, state_of}
 use Rattle.cache_model.specs.Room.{doc_at, placed_record}
 use Rattle.cache_model.specs.Verdict.{live_vector_of, vector_of_last}
 use Rattle.cache_model.specs.Displacing.{AreOfDisplacement}
-use Rattle.piece_answers.specs.Flush.{AreOfFlush, EachWasLive, IsStillPiece}
+use Rattle.cache_model.specs.Live.{IsSamePiece, LiveBefore}
+use Rattle.piece_answers.specs.Flush.{AreOfFlush}
 use Rattle.piece_answers.proofs.Displacing.{displaced_puts}
 use Rattle.stripe_vectors.specs.Spelled.{IsSpelled}
 use Rattle.stripe_write.specs.declared.weighing.Vectors.{Vectors}
@@ -57,7 +58,7 @@ pub record KeepsVectors (s t : State) : Type 0 where
   pub vectors : (key : Key) (row : Row) → live_vector_of t key ≡ Some row → WasLive s key row
   pub displaced : s.displaced ≡ [] → t.displaced ≡ []
 
-itself : (row : Row) → IsStillPiece row row
+itself : (row : Row) → IsSamePiece row row
 itself row = record { id = refl; blocks = refl; payload = refl; pin = refl; alternates = refl }
 
 pub keeps_self : (s : State) → KeepsVectors s s
@@ -82,7 +83,7 @@ keeps_then : (s t u : State) → KeepsVectors s t → KeepsVectors t u → Keeps
 keeps_then s t u a b = record { geometry = b.geometry ∙ a.geometry; vectors = λ key row h. was_then s t key row a (b.vectors key row h); displaced = λ h. b.displaced (a.displaced h) }
 
 -- behind the records of a flush
-pub keeps_flush : (s : State) (recs : List Rec) → AreOfFlush recs → EachWasLive s (after_all s recs) → KeepsVectors s (after_all s recs)
+pub keeps_flush : (s : State) (recs : List Rec) → AreOfFlush recs → LiveBefore s (after_all s recs) → KeepsVectors s (after_all s recs)
 keeps_flush s recs kinds live =
     let leaves : LeavesActors s (after_all s recs) = flush_leaves s recs kinds in
     record {

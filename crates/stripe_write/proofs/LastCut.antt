@@ -14,8 +14,8 @@ use Rattle.cache_model.specs.Permit.{Done, Exhausted, Fails, Faulted, Permit, Re
 use Rattle.cache_model.specs.Verdict.{is_open}
 use Rattle.cache_model.specs.Legal.{MayGrow, is_writing}
 use Rattle.piece_answers.specs.declared.answer.Placed.{Placed}
-use Rattle.stripe_answers.specs.declared.refusal.Refusal.{Refusal}
-use Rattle.stripe_answers.specs.declared.refusal.Refusal.TheVariants as refusal
+use Rattle.cache_answers.specs.declared.answers.Refusal.{Refusal}
+use Rattle.cache_answers.specs.declared.answers.Refusal.TheVariants as refusal
 use Rattle.piece_answers.specs.declared.answer.Stop.{Stop}
 use Rattle.piece_answers.specs.declared.answer.Stop.TheVariants as stop
 use Rattle.piece_answers.specs.Covers.{SpendsFirst}
@@ -25,7 +25,8 @@ use Rattle.stripe_core.specs.Stripe.{AnswersOrWants, HasMemory}
 use Rattle.stripe_write.specs.declared.writer.Writer.{Writer}
 use Rattle.stripe_write.specs.Closing.{SpendsAll, asked_of_rest, closing_rows, row_of_rest}
 use Rattle.stripe_write.specs.Resting.{IsRestAs, RestsAsAsked}
-use Rattle.stripe_write.specs.Others.{AddsOfPut, IsRecordOfPut}
+use Rattle.cache_model.specs.Subjects.{IsOfPut}
+use Rattle.stripe_write.specs.Others.{AddsOfPut}
 use Rattle.stripe_write.specs.Writers.{IsAllCutInStripe, IsAtHandInStripe, IsStripeWriterOf}
 use Rattle.stripe_write.specs.Writes.{IsReady, cuts_fragment, next_id, next_start}
 use Rattle.stripe_write.proofs.Flushed.{flush_is_own, flush_leaves}
@@ -110,8 +111,8 @@ rest_puts {packed} now old new before after w why h =
     ap (λ (x : State). x.puts) (state_behind old new h.added h.adds) ∙ (flush_leaves (state_of old) h.added (stopped_kinds packed (state_of old) after.faults w w.gathered.items h.added why h.shape)).puts
 
 -- they are its put's own
-rest_is_own : (packed : Bool) (s : State) (faults : ℕ) (w : Writer) (payload : List ℕ) (added : List Rec) (u : Unit {0}) → IsRestAs packed s faults w payload added (Ok u) → AllByRecursion (IsRecordOfPut w.put) added
-rest_is_own packed s faults w [] added u none = subst (AllByRecursion (IsRecordOfPut w.put)) (sym none) tt
+rest_is_own : (packed : Bool) (s : State) (faults : ℕ) (w : Writer) (payload : List ℕ) (added : List Rec) (u : Unit {0}) → IsRestAs packed s faults w payload added (Ok u) → AllByRecursion (IsOfPut w.put) added
+rest_is_own packed s faults w [] added u none = subst (AllByRecursion (IsOfPut w.put)) (sym none) tt
 rest_is_own packed s faults w (byte ∷ bytes) added u h = cut_is_own s (next_id w) w.pin (next_start w) (byte ∷ bytes) added h.0 (next_no_vector w) h.1
 
 pub rest_own : {packed : Bool} (now : ℕ) (old new : Kept) (before : List Call) (after : Device) (w : Writer) (result : Result (Unit {0}) Stop) → RestsAsAsked packed now old new before after w result → AddsOfPut w.put old new

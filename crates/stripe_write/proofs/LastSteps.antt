@@ -14,20 +14,20 @@ use Rattle.cache_model.specs.Permit.{Commit, Done, End, Exhausted, Fails, Faulte
 use Rattle.cache_model.specs.Legal.{MayGrow, is_writing, vector_length}
 use Rattle.cache_model.specs.Vectors.{AreTold, IsVectorAs}
 use Rattle.cache_model.proofs.Steps.{grows_on}
-use Rattle.stripe_answers.specs.declared.refusal.Refusal.{Refusal}
-use Rattle.stripe_answers.specs.declared.refusal.Refusal.TheVariants as refusal
+use Rattle.cache_answers.specs.declared.answers.Refusal.{Refusal}
+use Rattle.cache_answers.specs.declared.answers.Refusal.TheVariants as refusal
 use Rattle.piece_answers.specs.declared.answer.Stop.{Stop}
 use Rattle.piece_answers.specs.declared.answer.Stop.TheVariants as stop
 use Rattle.piece_answers.specs.Covers.{Covers, SpendsFirst}
 use Rattle.piece_answers.specs.Flush.{stop_end}
-use Rattle.piece_answers.specs.Place.{IsExhaustedAt}
+use Rattle.cache_model.specs.Limits.{ReachesLimit}
 use Rattle.held_pieces.specs.Still.{IsStill, IsUnwritten}
 use Rattle.stripe_core.specs.Stripe.{AnswersOrWants, Wanting}
 use Rattle.piece_answers.proofs.Covering.{covers_first, covers_last}
 use Rattle.stripe_core.proofs.Stills.{still_shows, still_then, unwritten_then}
 use Rattle.cache_model.specs.Pair.{IsKeyPair}
 use Rattle.call_laws.specs.Untold.{Untold}
-use Rattle.stripe_write.specs.declared.finishing.Receipt.{Receipt}
+use Rattle.cache_answers.specs.declared.answers.Receipt.{Receipt}
 use Rattle.stripe_write.specs.declared.weighing.Vectors.{Vectors}
 use Rattle.stripe_write.specs.declared.writer.Writer.{Writer}
 use Rattle.stripe_write.specs.Writers.{IsStripeWriterOf}
@@ -133,10 +133,10 @@ still_cut now old new before after w sealed why writing own rests =
     ap (λ (x : Option PutRow). unwrap_or (option_map (λ (q : PutRow). q.cuts) x) []) (same ∙ o.1) ∙ (own o.0 o.1 o.2).cuts_are
 
 rest_stops_at : {packed : Bool} (now : ℕ) (old new : Kept) (before : List Call) (after : Device) (w sealed : Writer) (why : Stop) (number : ℕ) → IsSealed w sealed → is_writing (state_of old) w.put ≡ true → IsStripeWriterOf (state_of old) w → 0 < length sealed.gathered.items
-    → RestsAsAsked packed now old new before after sealed (Err why) → IsExhaustedAt (state_of new) (length sealed.gathered.items) number → IsExhaustedAt (state_of new) (bytes_placed_next (state_of new) w) number
+    → RestsAsAsked packed now old new before after sealed (Err why) → ReachesLimit (state_of new) (length sealed.gathered.items) number → ReachesLimit (state_of new) (bytes_placed_next (state_of new) w) number
 rest_stops_at now old new before after w sealed why number is writing own some rests reaches =
     let gathered = ap length is.gathered in
-    rest_stops (state_of new) w number (still_cut now old new before after w sealed why writing own rests) (subst (λ n. 0 < n) gathered some) (subst (λ n. IsExhaustedAt (state_of new) n number) gathered reaches)
+    rest_stops (state_of new) w number (still_cut now old new before after w sealed why writing own rests) (subst (λ n. 0 < n) gathered some) (subst (λ n. ReachesLimit (state_of new) n number) gathered reaches)
 
 -- the rest that was refused is what was asked of the writer before it was sealed
 rest_fails : {packed : Bool} (now : ℕ) (old new : Kept) (before : List Call) (after : Device) (w sealed : Writer) (why : Stop) (reason : Reason) → IsSealed w sealed → (rests : RestsAsAsked packed now old new before after sealed (Err why)) → stop_end why ≡ Fails reason

@@ -16,10 +16,10 @@ use Rattle.cache_model.specs.Verdict.{live_vector_of}
 use Rattle.cache_model.proofs.Steps.{all_append}
 use Rattle.cache_model.proofs.ByNumber.{find-changed}
 use Rattle.piece_answers.specs.declared.answer.Placed.{Placed}
-use Rattle.stripe_answers.specs.declared.refusal.Refusal.{Refusal}
-use Rattle.stripe_answers.specs.declared.refusal.Refusal.TheVariants as refusal
+use Rattle.cache_answers.specs.declared.answers.Refusal.{Refusal}
+use Rattle.cache_answers.specs.declared.answers.Refusal.TheVariants as refusal
 use Rattle.piece_answers.specs.declared.answer.Stop.{Stop}
-use Rattle.piece_answers.specs.Find.{records_of_trouble}
+use Rattle.cache_model.specs.Troubles.{cause_records}
 use Rattle.piece_answers.specs.Place.{PlacesIn, RoomsAsAsked}
 use Rattle.stripe_vectors.specs.declared.reading.KeyVector.{KeyVector}
 use Rattle.stripe_vectors.specs.declared.reading.KeyVector.TheVariants as found
@@ -28,7 +28,8 @@ use Rattle.stripe_write.specs.declared.weighing.Vectors.{Vectors}
 use Rattle.stripe_write.specs.declared.writer.Writer.{Writer}
 use Rattle.stripe_write.specs.Writers.{IsAtHandInStripe, IsStripeWriterOf}
 use Rattle.stripe_write.specs.Weighing.{fit_adds}
-use Rattle.stripe_write.specs.Others.{AddsOfPut, IsRecordOfPut, LeavesPutsBut}
+use Rattle.cache_model.specs.Subjects.{IsOfPut}
+use Rattle.stripe_write.specs.Others.{AddsOfPut, LeavesPutsBut}
 use Rattle.stripe_write.proofs.Pushed.{pushed_by, pushed_is_own}
 use Rattle.stripe_write.proofs.Spending.{nothing_more, state_behind, then_more}
 use Rattle.stripe_write.proofs.Flushed.{flush_is_own}
@@ -53,7 +54,7 @@ changed_other put q f puts keeps other = find-changed (λ (p : PutRow). p.put) f
 same_others : (put : ℕ) (s t : State) → t.puts ≡ s.puts → t.readers ≡ s.readers → t.geometry ≡ s.geometry → LeavesPutsBut put s t
 same_others put s t p r g = record { puts = λ q other. ap (find (λ (x : PutRow). x.put == q)) p; readers = r; geometry = g }
 
-one_record : (put : ℕ) (s : State) (r : Rec) → IsRecordOfPut put r → LeavesPutsBut put s (state_after s r)
+one_record : (put : ℕ) (s : State) (r : Rec) → IsOfPut put r → LeavesPutsBut put s (state_after s r)
 one_record put s (rec.Formatted geometry) h = absurd h
 one_record put s (rec.Opened geometry serial cursor floor next_put clean list) h = absurd h
 one_record put s (rec.WriteOpened actor q key request response pin) h = record { puts = λ n other. find_other put n _ s.puts h other; readers = refl; geometry = refl }
@@ -71,7 +72,7 @@ one_record put s _ h = same_others put s _ refl refl refl
 then_others : (put : ℕ) (s t u : State) → LeavesPutsBut put s t → LeavesPutsBut put t u → LeavesPutsBut put s u
 then_others put s t u a b = record { puts = λ q other. b.puts q other ∙ a.puts q other; readers = b.readers ∙ a.readers; geometry = b.geometry ∙ a.geometry }
 
-all_records : (put : ℕ) (s : State) (recs : List Rec) → AllByRecursion (IsRecordOfPut put) recs → LeavesPutsBut put s (after_all s recs)
+all_records : (put : ℕ) (s : State) (recs : List Rec) → AllByRecursion (IsOfPut put) recs → LeavesPutsBut put s (after_all s recs)
 all_records put s [] own = same_others put s s refl refl refl
 all_records put s (r ∷ recs) own = then_others put s (state_after s r) _ (one_record put s r own.0) (all_records put (state_after s r) recs own.1)
 
@@ -87,24 +88,24 @@ writers_stay put s t w leaves other own = λ row found o. subst (λ g. IsAtHandI
 pub owns_none : (put : ℕ) (old new : Kept) → new ≡ old → AddsOfPut put old new
 owns_none put old new h = record { added = []; adds = h ∙ sym (nothing_more old); own = tt }
 
-pub owns : (put : ℕ) (old new : Kept) (added : List Rec) → new ≡ with_records old added → AllByRecursion (IsRecordOfPut put) added → AddsOfPut put old new
+pub owns : (put : ℕ) (old new : Kept) (added : List Rec) → new ≡ with_records old added → AllByRecursion (IsOfPut put) added → AddsOfPut put old new
 owns put old new added adds own = record { added = added; adds = adds; own = own }
 
 pub then_owns : (put : ℕ) (old mid new : Kept) → AddsOfPut put old mid → AddsOfPut put mid new → AddsOfPut put old new
 then_owns put old mid new a b = record {
   added = a.added ++ b.added;
   adds = then_more old mid new a.added b.added a.adds b.adds;
-  own = all_append (IsRecordOfPut put) a.added b.added a.own b.own;
+  own = all_append (IsOfPut put) a.added b.added a.own b.own;
 }
 
 -- ---- the records of each
 
-own_cause : (put : ℕ) (row : Row) (why : Cause) → AllByRecursion (IsRecordOfPut put) (records_of_trouble row why)
+own_cause : (put : ℕ) (row : Row) (why : Cause) → AllByRecursion (IsOfPut put) (cause_records row why)
 own_cause put row (cause.DeviceFault count) = (tt, tt)
 own_cause put row (cause.Damaged place kept other) = (tt, tt)
 own_cause put row _ = tt
 
-own_trouble : (put : ℕ) (o : Option Row) (answer : KeyVector) → AllByRecursion (IsRecordOfPut put) (trouble_records o answer)
+own_trouble : (put : ℕ) (o : Option Row) (answer : KeyVector) → AllByRecursion (IsOfPut put) (trouble_records o answer)
 own_trouble put None answer = tt
 own_trouble put (Some row) found.Absent = tt
 own_trouble put (Some row) (found.Read list) = tt
@@ -121,10 +122,10 @@ owns_room put now old new before after bytes result h = owns put old new h.added
 pub owns_vector : {packed : Bool} (put : ℕ) (old new : Kept) (key : Key) (pin : ℕ) (payload : List ℕ) (placed : Placed) → PlacesIn packed old new (vector_piece key put) pin 0 payload (Ok placed) → AddsOfPut put old new
 owns_vector put old new key pin payload placed h =
     let pushed = pushed_is_own put h.are.displaced (pushed_by (state_of old) (vector_piece key put) pin 0 payload h.added h.are) in
-    owns put old new h.added h.adds (subst (AllByRecursion (IsRecordOfPut put)) (sym h.are.is) (all_append (IsRecordOfPut put) h.are.displaced _ pushed (tt, tt)))
+    owns put old new h.added h.adds (subst (AllByRecursion (IsOfPut put)) (sym h.are.is) (all_append (IsOfPut put) h.are.displaced _ pushed (tt, tt)))
 
 -- a put that is weighed
-own_fit : (w : Writer) (result : Result Vectors Refusal) → AllByRecursion (IsRecordOfPut w.put) (fit_adds w result)
+own_fit : (w : Writer) (result : Result Vectors Refusal) → AllByRecursion (IsOfPut w.put) (fit_adds w result)
 own_fit w (Ok vectors) = tt
 own_fit w (Err (refusal.VectorTooLarge size)) = (refl, tt)
 own_fit w (Err (refusal.DeviceFault count)) = tt

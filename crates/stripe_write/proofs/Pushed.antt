@@ -13,7 +13,7 @@ use Rattle.cache_model.proofs.Lists.{row_in-without}
 use Rattle.cache_model.specs.Displacing.{AreOfDisplacement, IsOfDisplacement}
 use Rattle.piece_answers.specs.Place.{AreOfPlace}
 use Rattle.piece_answers.proofs.Displacing.{pushed_kinds}
-use Rattle.stripe_write.specs.Others.{IsRecordOfPut}
+use Rattle.cache_model.specs.Subjects.{IsOfPut}
 
 -- all that the entry of a piece displaces is recorded as displaced
 pub pushed_by : {packed : Bool} (s : State) (id : PieceId) (pin start : ℕ) (payload : List ℕ) (added : List Rec) → (a : AreOfPlace packed s id pin start payload added) → AreOfDisplacement a.displaced
@@ -21,11 +21,11 @@ pushed_by {packed} s id pin start payload added a = pushed_kinds packed s id a.d
 
 -- ---- they are of any put
 
-one_of_put : (put : ℕ) (r : Rec) → IsOfDisplacement r → IsRecordOfPut put r
+one_of_put : (put : ℕ) (r : Rec) → IsOfDisplacement r → IsOfPut put r
 one_of_put put (rec.Displaced piece segment live) h = tt
 one_of_put put _ h = absurd h
 
-pub pushed_is_own : (put : ℕ) (recs : List Rec) → AreOfDisplacement recs → AllByRecursion (IsRecordOfPut put) recs
+pub pushed_is_own : (put : ℕ) (recs : List Rec) → AreOfDisplacement recs → AllByRecursion (IsOfPut put) recs
 pushed_is_own put [] h = tt
 pushed_is_own put (r ∷ recs) h = (one_of_put put r h.0, pushed_is_own put recs h.1)
 

@@ -9,12 +9,13 @@ use Rattle.cache_model.specs.State.{State, place_now}
 use Rattle.cache_model.specs.Verdict.{cuts_of}
 use Rattle.cache_model.specs.Legal.{vector_length}
 use Rattle.cache_model.specs.Room.{copies_end, has_room}
-use Rattle.stripe_answers.specs.declared.refusal.Refusal.{Refusal}
-use Rattle.stripe_answers.specs.declared.refusal.Refusal.TheVariants as refusal
+use Rattle.cache_answers.specs.declared.answers.Refusal.{Refusal}
+use Rattle.cache_answers.specs.declared.answers.Refusal.TheVariants as refusal
 use Rattle.piece_answers.specs.declared.answer.Stop.TheVariants as stop
 use Rattle.piece_answers.specs.Flush.{StopsWith}
-use Rattle.piece_answers.specs.Place.{IsExhaustedAt, PlacesAt, exhausted_number}
-use Rattle.stripe_write.specs.declared.finishing.Receipt.{Receipt}
+use Rattle.cache_model.specs.Limits.{ReachesLimit, number_over}
+use Rattle.piece_answers.specs.Place.{PlacesAt}
+use Rattle.cache_answers.specs.declared.answers.Receipt.{Receipt}
 use Rattle.stripe_write.specs.declared.writer.Writer.{Writer}
 use Rattle.stripe_write.specs.Closing.{closing_rows, row_of_rest}
 use Rattle.stripe_write.specs.Closes.{bytes_placed_next}
@@ -23,16 +24,16 @@ use Rattle.stripe_answers.specs.Numbers.{StopsExhausted}
 
 -- ---- a piece with room, and one without
 
-over_place : (s : State) (bytes : ℕ) → has_room s bytes ≡ true → exhausted_number s bytes ≡ place_now s + blocks_of bytes
+over_place : (s : State) (bytes : ℕ) → has_room s bytes ≡ true → number_over s bytes ≡ place_now s + blocks_of bytes
 over_place s bytes room = ap (λ b. if b then place_now s + blocks_of bytes else copies_end s) room
 
-over_flush : (s : State) (bytes : ℕ) → has_room s bytes ≡ false → exhausted_number s bytes ≡ copies_end s
+over_flush : (s : State) (bytes : ℕ) → has_room s bytes ≡ false → number_over s bytes ≡ copies_end s
 over_flush s bytes full = ap (λ b. if b then place_now s + blocks_of bytes else copies_end s) full
 
-pub place_reaches : (s : State) (payload : List ℕ) (number : ℕ) → has_room s (length payload) ≡ true → PlacesAt s payload (Err (stop.Exhausted number)) → IsExhaustedAt s (length payload) number
+pub place_reaches : (s : State) (payload : List ℕ) (number : ℕ) → has_room s (length payload) ≡ true → PlacesAt s payload (Err (stop.Exhausted number)) → ReachesLimit s (length payload) number
 place_reaches s payload number room at = (at.0 ∙ sym (over_place s (length payload) room), at.1)
 
-pub flush_reaches : (s : State) (bytes faults number : ℕ) → has_room s bytes ≡ false → StopsWith s faults (stop.Exhausted number) → IsExhaustedAt s bytes number
+pub flush_reaches : (s : State) (bytes faults number : ℕ) → has_room s bytes ≡ false → StopsWith s faults (stop.Exhausted number) → ReachesLimit s bytes number
 flush_reaches s bytes faults number full stops = (stops.0 ∙ sym (over_flush s bytes full), stops.1)
 
 -- ---- the piece that is placed next when a put closes
@@ -55,14 +56,14 @@ rest_next t w cut some =
     ap (λ (rows : List TableRow). if length rows == length (closing_rows w) then vector_length t w.put else length w.gathered.items) cut
     ∙ ap (λ b. if b then vector_length t w.put else length w.gathered.items) (rest_by t w w.gathered.items (length w.table.rows == length (closing_rows w)) refl some)
 
-pub rest_stops : (t : State) (w : Writer) (number : ℕ) → cuts_of t w.put ≡ w.table.rows → 0 < length w.gathered.items → IsExhaustedAt t (length w.gathered.items) number → IsExhaustedAt t (bytes_placed_next t w) number
-rest_stops t w number cut some reaches = subst (λ n. IsExhaustedAt t n number) (sym (rest_next t w cut some)) reaches
+pub rest_stops : (t : State) (w : Writer) (number : ℕ) → cuts_of t w.put ≡ w.table.rows → 0 < length w.gathered.items → ReachesLimit t (length w.gathered.items) number → ReachesLimit t (bytes_placed_next t w) number
+rest_stops t w number cut some reaches = subst (λ n. ReachesLimit t n number) (sym (rest_next t w cut some)) reaches
 
 -- what is told of the vector of the writer that cut its rest is told of the one that closes
 vector_stops : (t : State) (w cut : Writer) (why : Refusal) → cut.put ≡ w.put → cut.table.rows ≡ closing_rows w → VectorStops t cut why → StopsExhausted t (bytes_placed_next t w) why
 vector_stops t w cut (refusal.Exhausted number) put rows stops =
     let whole : cuts_of t w.put ≡ closing_rows w = ap (cuts_of t) (sym put) ∙ (stops.0 ∙ rows) in
-    subst (λ n. IsExhaustedAt t n number) (sym (vector_next t w (ap length whole))) (subst (λ n. IsExhaustedAt t (vector_length t n) number) put stops.1)
+    subst (λ n. ReachesLimit t n number) (sym (vector_next t w (ap length whole))) (subst (λ n. ReachesLimit t (vector_length t n) number) put stops.1)
 vector_stops t w cut _ put rows stops = tt
 
 pub finished_stops : (t : State) (w cut : Writer) (result : Result Receipt Refusal) → cut.put ≡ w.put → cut.table.rows ≡ closing_rows w → IfErr result (VectorStops t cut) → IfErr result (StopsExhausted t (bytes_placed_next t w))

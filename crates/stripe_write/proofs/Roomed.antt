@@ -19,15 +19,17 @@ use Rattle.cache_model.specs.Legal.{Does, DoesFinish, IsCut, MakesRoom, vector_l
 use Rattle.cache_model.specs.Room.{has_room}
 use Rattle.cache_model.proofs.SoundFlush.{flush_is_sound}
 use Rattle.cache_model.proofs.Steps.{grows_on}
-use Rattle.stripe_answers.specs.declared.refusal.Refusal.{Refusal}
-use Rattle.stripe_answers.specs.declared.refusal.Refusal.TheVariants as refusal
+use Rattle.cache_answers.specs.declared.answers.Refusal.{Refusal}
+use Rattle.cache_answers.specs.declared.answers.Refusal.TheVariants as refusal
 use Rattle.piece_answers.specs.declared.answer.Stop.{Stop}
 use Rattle.piece_answers.specs.declared.answer.Stop.TheVariants as stop
-use Rattle.piece_answers.specs.Flush.{EachWasLive, StopsWith}
-use Rattle.piece_answers.specs.Place.{IsExhaustedAt, RoomsAsAsked}
+use Rattle.cache_model.specs.Live.{LiveBefore}
+use Rattle.piece_answers.specs.Flush.{StopsWith}
+use Rattle.cache_model.specs.Limits.{ReachesLimit}
+use Rattle.piece_answers.specs.Place.{RoomsAsAsked}
 use Rattle.stripe_core.specs.Stripe.{AnswersOrWants}
 use Rattle.piece_answers.proofs.Covering.{covers_first, covers_last, never_syncs, own_covers, own_permit}
-use Rattle.stripe_write.specs.declared.finishing.Receipt.{Receipt}
+use Rattle.cache_answers.specs.declared.answers.Receipt.{Receipt}
 use Rattle.stripe_write.specs.declared.weighing.Vectors.{Vectors}
 use Rattle.stripe_write.specs.declared.writer.Writer.{Writer}
 use Rattle.stripe_write.specs.Closing.{AreSpelled, IsReadFor, SpendsAll}
@@ -88,7 +90,7 @@ pub room_keeps : (now : ℕ) (old new : Kept) (before : List Call) (after : Devi
 room_keeps now old new before after bytes r room =
     let s : State = state_of old in
     let there : state_of new ≡ after_all s room.added = state_behind old new room.added room.adds in
-    subst (KeepsVectors s) (sym there) (keeps_flush s room.added room.kinds (subst (EachWasLive s) there room.live))
+    subst (KeepsVectors s) (sym there) (keeps_flush s room.added room.kinds (subst (LiveBefore s) there room.live))
 
 module _ (packed : Bool) (now : ℕ) (old mid new : Kept) (first between last : Device) (w : Writer) (v : Vectors) (c : IsClosing (state_of old) w) (spelled : AreSpelled (state_of old).geometry w v) where
   abbrev s : State
@@ -133,7 +135,7 @@ module _ (packed : Bool) (now : ℕ) (old new : Kept) (before : List Call) (afte
   limit_at : (number : ℕ) → t.displaced ≡ [] → IsReadFor t w v → has_room t (bytes_now t w v) ≡ false → StopsWith t after.faults (stop.Exhausted number) → VectorStops t w (refusal.Exhausted number)
   limit_at number none read full stops =
       let here = is_current t w v c none spelled read in
-      (cuts_at_hand t w c, subst (λ n. IsExhaustedAt t n number) here.size (flush_reaches t (bytes_now t w v) after.faults number full stops))
+      (cuts_at_hand t w c, subst (λ n. ReachesLimit t n number) here.size (flush_reaches t (bytes_now t w v) after.faults number full stops))
 
   pub no_room_ends : (why : Refusal) → AnswersOrWants {X = Unit {0}} (Err why) (RoomsAsAsked now old new before after (bytes_now t w v)) ⊥ → has_room t (bytes_now t w v) ≡ false
       → AnswersOrWants {X = Unit {0}} (Err why) (λ r. IfErr r (StopsWith t after.faults)) ⊥ → FinishesAsRead packed now before after.past old new w v (Err why)

@@ -27,8 +27,8 @@ use Rattle.cache_model.specs.Vectors.{AreVectors, IsVectorAs}
 use Rattle.cache_model.proofs.Steps.{grows_by, grows_on}
 use Rattle.call_laws.specs.Untold.{Untold}
 use Rattle.call_laws.proofs.Kept.{tells_or_not}
-use Rattle.stripe_answers.specs.declared.refusal.Refusal.{Refusal}
-use Rattle.stripe_answers.specs.declared.refusal.Refusal.TheVariants as refusal
+use Rattle.cache_answers.specs.declared.answers.Refusal.{Refusal}
+use Rattle.cache_answers.specs.declared.answers.Refusal.TheVariants as refusal
 use Rattle.piece_answers.specs.Covers.{AllReadIsSeen, Covers, SpendsFirst}
 use Rattle.held_pieces.specs.Still.{IsUnwritten}
 use Rattle.stripe_core.specs.declared.stripe.Stripe.{Stripe}

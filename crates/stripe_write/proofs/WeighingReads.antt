@@ -20,7 +20,7 @@ use Rattle.cache_model.specs.Legal.{DoesWeigh, IsWriting, is_writing}
 use Rattle.cache_model.specs.Pair.{IsKeyPair}
 use Rattle.cache_model.specs.Vectors.{AreVectors, IsVectorAs}
 use Rattle.cache_chronicle.proofs.RowLemmas.{row_in-named, row_in-without}
-use Rattle.piece_answers.specs.Find.{records_of_trouble}
+use Rattle.cache_model.specs.Troubles.{cause_records}
 use Rattle.stripe_vectors.specs.declared.reading.KeyVector.{KeyVector}
 use Rattle.stripe_vectors.specs.declared.reading.KeyVector.TheVariants as found
 use Rattle.stripe_vectors.specs.Reading.{HasAlternates, IsVectorFound, ReadIsListed, VectorIsReadAs, trouble_records, vector_adds}
@@ -30,7 +30,7 @@ use Rattle.stripe_write.proofs.Spending.{state_behind}
 
 -- ---- the puts stay
 
-cause_leaves : (s : State) (row : Row) (why : Cause) → SamePuts s (after_all s (records_of_trouble row why))
+cause_leaves : (s : State) (row : Row) (why : Cause) → SamePuts s (after_all s (cause_records row why))
 cause_leaves s row cause.NeverPut = record { puts = refl; geometry = refl }
 cause_leaves s row cause.Removed = record { puts = refl; geometry = refl }
 cause_leaves s row (cause.Passed place floor unsaved) = record { puts = refl; geometry = refl }
@@ -52,7 +52,7 @@ pub same_puts : (kept new : Kept) (key : Key) (answer : KeyVector) → new ≡ w
 same_puts kept new key answer is =
     subst (SamePuts (state_of kept)) (sym (state_behind kept new (vector_adds (state_of kept) key answer) is)) (read_leaves (state_of kept) (live_vector_of (state_of kept) key) answer)
 
-none_pending : (s : State) (row : Row) (why : Cause) → (after_all s (records_of_trouble row why)).pending ≡ s.pending
+none_pending : (s : State) (row : Row) (why : Cause) → (after_all s (cause_records row why)).pending ≡ s.pending
 none_pending s row cause.NeverPut = refl
 none_pending s row cause.Removed = refl
 none_pending s row (cause.Passed place floor unsaved) = refl
@@ -74,7 +74,7 @@ pub same_pending : (kept new : Kept) (key : Key) (answer : KeyVector) → new �
 same_pending kept new key answer is =
     ap (λ (t : State). t.pending) (state_behind kept new (vector_adds (state_of kept) key answer) is) ∙ read_pending (state_of kept) (live_vector_of (state_of kept) key) answer
 
-none_displaced : (s : State) (row : Row) (why : Cause) → (after_all s (records_of_trouble row why)).displaced ≡ s.displaced
+none_displaced : (s : State) (row : Row) (why : Cause) → (after_all s (cause_records row why)).displaced ≡ s.displaced
 none_displaced s row cause.NeverPut = refl
 none_displaced s row cause.Removed = refl
 none_displaced s row (cause.Passed place floor unsaved) = refl
@@ -160,7 +160,7 @@ fault_does p s put rest w (Some row) (found.Trouble why) count writing live h e 
   | inl f ↦
       let told : Some f.count ≡ Some count = ap (λ y. fault_in (found.Trouble y)) (sym f.why_is) ∙ e in
       let same : f.count ≡ count = cc in
-      subst (λ n. DoesWeigh p s put rest (records_of_trouble row why) (Fails (Faulted n))) same (DoesWeigh.faulted w row f.count writing live f.written f.counts f.recs_are)
+      subst (λ n. DoesWeigh p s put rest (cause_records row why) (Fails (Faulted n))) same (DoesWeigh.faulted w row f.count writing live f.written f.counts f.recs_are)
   | inr d ↦ let told : None ≡ Some count = ap (λ y. fault_in (found.Trouble y)) (sym d.why_is) ∙ e in cc
 ]
 
@@ -201,6 +201,6 @@ read_so_far law p s put rest w (Some row) (found.Read list) writing live h e = r
 read_so_far law p s put rest w (Some row) (found.Trouble why) writing live h e = elim (which h) [
   | inl f ↦ let told : Some f.count ≡ None = ap (λ y. fault_in (found.Trouble y)) (sym f.why_is) ∙ e in cc
   | inr d ↦
-      none_live p s (state_after s (damage_record row row.digest d.other)) put rest w.key (records_of_trouble row why) (found.Trouble why) (ap (after_all s) d.recs_are) (gone s w.key row row.digest d.other live)
+      none_live p s (state_after s (damage_record row row.digest d.other)) put rest w.key (cause_records row why) (found.Trouble why) (ap (after_all s) d.recs_are) (gone s w.key row row.digest d.other live)
       (inr (DoesWeigh.damaged w row d.other writing live d.damaged d.recs_are))
 ]

@@ -19,8 +19,8 @@ use Rattle.cache_model.specs.Vectors.{AreTold, IsVectorAs}
 use Rattle.cache_chronicle.specs.declared.chronicle.Chronicle.{Ghosts as ChronicleGhosts}
 use Rattle.call_laws.specs.Untold.{Untold}
 use Rattle.cache_model.specs.Contents.{Contents, TellsVectors}
-use Rattle.stripe_answers.specs.declared.refusal.Refusal.{Refusal}
-use Rattle.stripe_answers.specs.declared.refusal.Refusal.TheVariants as refusal
+use Rattle.cache_answers.specs.declared.answers.Refusal.{Refusal}
+use Rattle.cache_answers.specs.declared.answers.Refusal.TheVariants as refusal
 use Rattle.stripe_core.specs.declared.stripe.Stripe.{Stripe}
 use Rattle.stripe_core.specs.Between.{Continues, RestsWith}
 use Rattle.stripe_answers.specs.Counts.{IsCounted}
@@ -28,7 +28,7 @@ use Rattle.stripe_core.specs.Stripe.{Wanting, kept_in, room_for, seen_in, state_
 use Rattle.piece_answers.specs.Covers.{Covers, SpendsFirst}
 use Rattle.held_pieces.specs.Still.{IsStill, IsUnwritten}
 use Rattle.cache_model.specs.Pair.{IsKeyPair}
-use Rattle.stripe_write.specs.declared.finishing.Receipt.{Receipt}
+use Rattle.cache_answers.specs.declared.answers.Receipt.{Receipt}
 use Rattle.stripe_write.specs.declared.weighing.Vectors.{Vectors}
 use Rattle.stripe_write.specs.declared.writer.Writer.{Writer}
 use Rattle.stripe_answers.specs.Faults.{RefusalHasRecord}

@@ -18,8 +18,8 @@ use Rattle.cache_model.specs.Vectors.{AreVectors, IsVectorAs}
 use Rattle.cache_model.specs.Legal.{MayGrow}
 use Rattle.cache_chronicle.specs.declared.chronicle.Chronicle.{Ghosts as ChronicleGhosts}
 use Rattle.call_laws.specs.Untold.{Untold}
-use Rattle.stripe_answers.specs.declared.refusal.Refusal.{Refusal}
-use Rattle.stripe_answers.specs.declared.refusal.Refusal.TheVariants as refusal
+use Rattle.cache_answers.specs.declared.answers.Refusal.{Refusal}
+use Rattle.cache_answers.specs.declared.answers.Refusal.TheVariants as refusal
 use Rattle.stripe_core.specs.declared.stripe.Stripe.{Stripe}
 use Rattle.stripe_core.specs.Between.{Rests}
 use Rattle.stripe_answers.specs.Counts.{IsCounted}

@@ -16,8 +16,8 @@ use Rattle.cache_model.specs.Legal.{vector_length, vector_payload}
 use Rattle.cache_model.specs.Room.{greatest_pin, has_room, limit}
 use Rattle.cache_chronicle.specs.declared.chronicle.Chronicle.{Ghosts as ChronicleGhosts}
 use Rattle.cache_model.specs.Contents.{TellsVectors}
-use Rattle.stripe_answers.specs.declared.refusal.Refusal.{Refusal}
-use Rattle.stripe_answers.specs.declared.refusal.Refusal.TheVariants as refusal
+use Rattle.cache_answers.specs.declared.answers.Refusal.{Refusal}
+use Rattle.cache_answers.specs.declared.answers.Refusal.TheVariants as refusal
 use Rattle.stripe_core.specs.declared.stripe.Stripe.{Stripe}
 use Rattle.stripe_answers.specs.Acts.{CommitsAsAsked, committed_record}
 use Rattle.stripe_core.specs.Between.{Continues, Rests, RestsWith}
@@ -25,9 +25,10 @@ use Rattle.stripe_answers.specs.Counts.{IsCounted}
 use Rattle.stripe_core.specs.Stripe.{AnswersOrWants, kept_in, seen_in, state_in, units_in}
 use Rattle.piece_answers.specs.Covers.{Covers}
 use Rattle.piece_answers.specs.Flush.{StopsWith}
-use Rattle.piece_answers.specs.Place.{IsExhaustedAt, RoomsAsAsked}
+use Rattle.cache_model.specs.Limits.{ReachesLimit}
+use Rattle.piece_answers.specs.Place.{RoomsAsAsked}
 use Rattle.stripe_vectors.specs.declared.spelling.Spelled.{Spelled}
-use Rattle.stripe_write.specs.declared.finishing.Receipt.{Receipt}
+use Rattle.cache_answers.specs.declared.answers.Receipt.{Receipt}
 use Rattle.stripe_write.specs.declared.weighing.Vectors.{Vectors}
 use Rattle.stripe_write.specs.declared.writer.Writer.{Writer}
 use Rattle.stripe_answers.specs.Faults.{RefusalHasRecord}
@@ -99,7 +100,7 @@ FinishesWhere s w (Err _) = ⊥
 
 -- all that the put has is cut, and its vector has no place
 abbrev pub VectorStops : State → Writer → Refusal → Type 0
-VectorStops t w (refusal.Exhausted number) = (cuts_of t w.put ≡ w.table.rows) × IsExhaustedAt t (vector_length t w.put) number
+VectorStops t w (refusal.Exhausted number) = (cuts_of t w.put ≡ w.table.rows) × ReachesLimit t (vector_length t w.put) number
 VectorStops t w _ = Unit {0}
 
 -- what it makes of the records, and the number that it tells at the end of the tape

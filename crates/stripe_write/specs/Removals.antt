@@ -16,8 +16,8 @@ use Rattle.held_pieces.specs.Still.{IsStill}
 use Rattle.stripe_core.specs.declared.stripe.Stripe.{Stripe}
 use Rattle.stripe_core.specs.Between.{Rests}
 use Rattle.stripe_core.specs.Stripe.{kept_in, seen_in, state_in}
-use Rattle.stripe_write.specs.declared.removal.Removal.{Removal}
-use Rattle.stripe_write.specs.declared.removal.Removal.TheVariants as removal
+use Rattle.cache_answers.specs.declared.answers.Removal.{Removal}
+use Rattle.cache_answers.specs.declared.answers.Removal.TheVariants as removal
 
 -- the record of a removal; none where there was no object
 abbrev pub removal_adds : Key → Removal → List Rec

@@ -15,7 +15,7 @@ use Rattle.piece_answers.specs.declared.answer.Stop.{Stop}
 use Rattle.piece_answers.specs.Covers.{Covers}
 use Rattle.piece_answers.specs.Flush.{stop_end}
 use Rattle.piece_answers.specs.Place.{IsCutAs, IsStoppedAs}
-use Rattle.stripe_answers.specs.declared.refusal.Refusal.{Refusal}
+use Rattle.cache_answers.specs.declared.answers.Refusal.{Refusal}
 use Rattle.stripe_core.specs.declared.stripe.Stripe.{Stripe}
 use Rattle.stripe_core.specs.Between.{RestsWith}
 use Rattle.stripe_answers.specs.Counts.{IsCounted}

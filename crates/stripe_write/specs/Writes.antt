@@ -21,8 +21,8 @@ use Rattle.dir_table.specs.declared.directory.Directory.{Ghosts as DirectoryGhos
 use Rattle.cache_chronicle.specs.declared.chronicle.Chronicle.{Ghosts as ChronicleGhosts}
 use Rattle.cache_model.specs.Contents.{Contents}
 use Rattle.piece_answers.specs.declared.answer.Placed.{Placed}
-use Rattle.stripe_answers.specs.declared.refusal.Refusal.{Refusal}
-use Rattle.stripe_answers.specs.declared.refusal.Refusal.TheVariants as refusal
+use Rattle.cache_answers.specs.declared.answers.Refusal.{Refusal}
+use Rattle.cache_answers.specs.declared.answers.Refusal.TheVariants as refusal
 use Rattle.piece_answers.specs.declared.answer.Stop.{Stop}
 use Rattle.piece_answers.specs.declared.answer.Stop.TheVariants as stop
 use Rattle.piece_answers.specs.Covers.{Covers, SpendsFirst}
@@ -36,7 +36,7 @@ use Rattle.stripe_answers.specs.Counts.{IsCounted}
 use Rattle.stripe_core.specs.Stripe.{AnswersOrWants, HasMemory, Unstopped, kept_in, room_for, seen_in, state_in, units_in}
 use Rattle.stripe_write.specs.declared.writer.Writer.{Writer}
 use Rattle.stripe_answers.specs.Numbers.{StopsExhausted}
-use Rattle.stripe_write.specs.Others.{IsRecordOfPut}
+use Rattle.cache_model.specs.Subjects.{IsOfPut}
 use Rattle.stripe_write.specs.Writers.{IsStripeWriterOf}
 
 -- ---- a writer opens
@@ -159,7 +159,7 @@ WritesAs packed now s before after w bytes (Err _) added = added ≡ []
 pub record WritesAsAsked (packed : Bool) (now : ℕ) (old new : Kept) (before : List Call) (after : Device) (w : Writer) (bytes : List ℕ) (result : Result ℕ Refusal) : Type 0 where
   pub added : List Rec
   pub adds : new ≡ with_records old added
-  pub own : AllByRecursion (IsRecordOfPut w.put) added
+  pub own : AllByRecursion (IsOfPut w.put) added
   -- a device that tells its content shows each piece as it was placed
   pub unharmed : TellsAll after → TellNoDamage added
   pub does : WritesAs packed now (state_of old) before after w bytes result added

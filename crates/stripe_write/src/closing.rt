@@ -9,15 +9,16 @@ ghost use Rattle.stripe_write.specs.Finishing.{AreWeighed};
 ghost use Rattle.stripe_write.specs.Closes.{ClosesWriterInStripe, EndsWriterInStripe, MakesMemoryToClose, is_sealed_by};
 
 use crate::Writer;
-use crate::finishing::{Receipt, finish};
+use crate::finishing::finish;
 use crate::resting::cut_rest;
 use crate::weighing::{Vectors, weigh};
 use crate::writing::is_open;
+use cache_answers::{Receipt, Refusal};
 use cache_chronicle::Chronicle;
 use dir_table::Directory;
 use logged_disk::Disk;
 use std::alloc::AllocError;
-use stripe_core::{Refusal, Stripe};
+use stripe_core::Stripe;
 use tape_base::Digest;
 
 // The calls that closing makes at most: a vector is read, the rest is cut, there is a flush, the put's

@@ -13,21 +13,13 @@ ghost use Rattle.stripe_write.specs.Finishing.{AreLive, AreWeighed, CommitsInStr
 use crate::Writer;
 use crate::weighing::Vectors;
 use alternate_vector::Vector;
+use cache_answers::{Receipt, Refusal};
 use cache_chronicle::Chronicle;
 use dir_table::Directory;
 use logged_disk::Disk;
-use stripe_core::{Refusal, Stripe};
+use stripe_core::Stripe;
 use stripe_vectors::{Spelled, live_vector};
 use tape_base::{Digest, PieceId};
-
-/// What came of a put that was closed.
-#[derive(Clone, Copy, Debug, PartialEq, Eq)]
-pub struct Receipt {
-    pub put: u64,
-    /// The bytes of its body.
-    pub length: u64,
-    pub fragments: u32,
-}
 
 impl Vectors {
     // The one with what the key's vector lists, while that is live.

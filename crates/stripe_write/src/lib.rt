@@ -11,8 +11,7 @@ mod writer;
 mod writing;
 
 pub use closing::close_write;
-pub use finishing::Receipt;
 pub use laws::{others_stay, writers_stay};
-pub use removal::{Removal, remove};
+pub use removal::remove;
 pub use writer::Writer;
 pub use writing::{abort_write, open_write, write};

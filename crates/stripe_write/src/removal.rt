@@ -5,22 +5,13 @@ ghost use Rattle.stripe_core.specs.Stripe.{IsStripe, state_in};
 ghost use Rattle.stripe_core.specs.Between.{IsResting};
 ghost use Rattle.stripe_write.specs.Removals.{RemovesInStripe};
 
+use cache_answers::Removal;
 use cache_chronicle::Chronicle;
-use cache_model::Cause;
 use dir_table::Directory;
 use logged_disk::Disk;
 use std::alloc::AllocError;
 use stripe_core::Stripe;
 use tape_base::Key;
-
-/// What came of a removal.
-#[derive(Clone, Copy, Debug, PartialEq, Eq)]
-pub enum Removal {
-    /// The object of this put was removed.
-    Removed { put: u64 },
-    /// There was none, for this cause.
-    Absent(Cause),
-}
 
 /// Removes an object, where its vector is live.
 pub fn remove<D: Disk, R: Directory + Drop, C: Chronicle>(

@@ -6,10 +6,11 @@ ghost use Rattle.stripe_write.specs.Writers.{HasMemoryToClose, HasOpenWriter};
 
 use crate::Writer;
 use crate::writing::cut;
+use cache_answers::Refusal;
 use cache_chronicle::Chronicle;
 use dir_table::Directory;
 use logged_disk::Disk;
-use stripe_core::{Refusal, Stripe};
+use stripe_core::Stripe;
 use tape_base::Digest;
 
 /// Cuts what a sealed writer has gathered, with this digest, where there is some. Memory for it is

@@ -13,13 +13,14 @@ ghost use Rattle.stripe_write.specs.Weighing.{FitsInStripe, IsOwnAlternateOf, Is
 
 use crate::Writer;
 use alternate_vector::{Alternate, Vector};
+use cache_answers::Refusal;
 use cache_chronicle::Chronicle;
 use cache_model::Cause;
 use dir_table::Directory;
 use fragment_table::FragTable;
 use logged_disk::Disk;
 use std::alloc::{AllocError, Global};
-use stripe_core::{Refusal, Stripe};
+use stripe_core::Stripe;
 use stripe_vectors::{KeyVector, Spelled, read_is_listed, read_vector, spell};
 use tape_base::{BLOCK, Digest, Geometry, HEADER};
 

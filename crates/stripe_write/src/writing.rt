@@ -11,12 +11,13 @@ ghost use Rattle.stripe_write.specs.Writes.{AbortsInStripe, CutsNextInStripe, Is
 
 use crate::Writer;
 use alternate_vector::Fields;
+use cache_answers::Refusal;
 use cache_chronicle::Chronicle;
 use dir_table::Directory;
 use fragment_table::FragTable;
 use logged_disk::Disk;
 use open_directory::PutState;
-use stripe_core::{Placed, Refusal, Stripe};
+use stripe_core::{Placed, Stripe};
 use tape_base::{Actor, Digest, Key, PieceId};
 
 // How many fragments a put may have.

@@ -1,5 +1,5 @@
 use Rattle.std.proofs.Common.{◌≤◌, [], ℕ, arith}
-use Rattle.cache_calls.specs.declared.calls.Opened.TheVariants as opened
+use Rattle.cache_answers.specs.declared.answers.Opened.TheVariants as opened
 use Rattle.cache_calls.specs.Keeping.{state_at}
 use Rattle.script_run.specs.Asked.{get_intents}
 use Rattle.script_run.specs.Losses.{NoLossIsAFault}

@@ -1,5 +1,5 @@
 use Rattle.std.proofs.Common.{rules, ◌≡◌, ◌++◌, refl, sym, subst, take, arith}
-use Rattle.cache_calls.specs.declared.calls.NextPiece.TheVariants as piece
+use Rattle.cache_answers.specs.declared.answers.NextPiece.TheVariants as piece
 use Rattle.cache_replay.specs.Getting.{IsUnderway}
 use Rattle.cache_replay.proofs.Counts.{piece_counts}
 use Rattle.cache_replay.proofs.OtherNext.{next_stays}

@@ -1,7 +1,8 @@
 use Rattle.std.proofs.Common.{◌≤◌, refl, sym, subst}
 use Rattle.logged_disk.proofs.GoingOn.{told_before}
 use Rattle.tape_base.specs.declared.actors.Actor.{Actor}
-use Rattle.cache_calls.specs.Adds.{AddsOnly, IsOfPut}
+use Rattle.cache_model.specs.Subjects.{IsOfPut}
+use Rattle.cache_calls.specs.Adds.{AddsOnly}
 use Rattle.cache_calls.specs.Keeping.{state_at}
 use Rattle.cache_calls.proofs.Keeping.{keeps_then}
 use Rattle.cache_replay.specs.Replies.{count_of_refusal}

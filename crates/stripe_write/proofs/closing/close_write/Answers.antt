@@ -3,7 +3,7 @@ use Rattle.std.specs.Prelude.{IfErr}
 use Rattle.cache_model.specs.Kept.{Kept, state_of}
 use Rattle.cache_model.specs.Legal.{is_writing}
 use Rattle.logged_disk.proofs.GoingOn.{stays_put}
-use Rattle.stripe_answers.specs.declared.refusal.Refusal.TheVariants as refusal
+use Rattle.cache_answers.specs.declared.answers.Refusal.TheVariants as refusal
 use Rattle.stripe_core.specs.Stripe.{kept_in, room_for, seen_in, state_in}
 use Rattle.stripe_core.proofs.Stills.{still_shows}
 use Rattle.stripe_write.specs.Writers.{IsStripeWriterOf}

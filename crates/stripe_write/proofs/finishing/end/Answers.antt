@@ -1,5 +1,5 @@
 use Rattle.std.proofs.Common.{Err, refl, sym, subst}
-use Rattle.stripe_answers.specs.declared.refusal.Refusal.{Refusal}
+use Rattle.cache_answers.specs.declared.answers.Refusal.{Refusal}
 use Rattle.stripe_answers.specs.Counts.{IsCounted}
 use Rattle.stripe_core.specs.Stripe.{kept_in, seen_in, state_in}
 use Rattle.stripe_answers.specs.Faults.{RefusalHasRecord}

@@ -4,7 +4,7 @@ use Rattle.cache_model.specs.Kept.{Kept, state_of}
 use Rattle.cache_model.specs.State.{State, fragment_piece}
 use Rattle.cache_model.specs.Verdict.{cause_of_piece}
 use Rattle.cache_model.proofs.Steps.{after_all-append}
-use Rattle.stripe_answers.specs.declared.refusal.Refusal.TheVariants as refusal
+use Rattle.cache_answers.specs.declared.answers.Refusal.TheVariants as refusal
 use Rattle.stripe_core.specs.Stripe.{kept_in, state_in}
 use Rattle.stripe_write.specs.Writers.{IsStripeWriterOf}
 use Rattle.stripe_write.proofs.Ended.{giving_up, no_writer}

@@ -3,7 +3,7 @@ use Rattle.std.proofs.lemmas.Result.{err_from_is_err_and}
 use Rattle.tape_base.specs.declared.geometries.Geometry.{Geometry}
 use Rattle.cache_model.specs.Kept.{state_of}
 use Rattle.cache_model.specs.Legal.{is_writing}
-use Rattle.stripe_answers.specs.declared.refusal.Refusal.{Refusal}
+use Rattle.cache_answers.specs.declared.answers.Refusal.{Refusal}
 use Rattle.stripe_core.specs.Stripe.{kept_in, state_in}
 use Rattle.stripe_core.proofs.Continuing.{continues_still, rests_with, still_resting, then_rests}
 use Rattle.stripe_core.proofs.Stills.{still_then, unstopped_map}

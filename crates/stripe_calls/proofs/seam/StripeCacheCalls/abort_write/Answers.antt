@@ -8,16 +8,16 @@ pub abort_write-requires-clause-writer : goal.abort_write-requires-clause-writer
 abort_write-requires-clause-writer g c = writer_is (state_in c.args.self.now.stripe) c.args.writer.now c.requires.writer
 
 pub returns-clause-serves : goal.returns-clause-serves
-returns-clause-serves g c = λ now. rw c.unchanged.ensures
-    (abort_serves g.R.Directory.purges (kept_in c.args.self.now.stripe) (kept_in c.abort_write.new.stripe)
+returns-clause-serves g c = λ now.
+    abort_serves g.R.Directory.purges (kept_in c.args.self.now.stripe) (kept_in c.abort_write.new.stripe)
     (seen_in c.args.self.now.stripe).device (seen_in c.abort_write.new.stripe).device
-    c.args.writer.now now c.abort_write.ensures.rests.between.accounted c.abort_write.result c.abort_write.ensures.adds c.abort_write.ensures.aborts c.abort_write.ensures.does)
+    c.args.writer.now now c.abort_write.ensures.rests.between.accounted c.abort_write.result c.abort_write.ensures.adds c.abort_write.ensures.aborts c.abort_write.ensures.does
 
 pub returns-clause-gives : goal.returns-clause-gives
-returns-clause-gives g c = rw c.unchanged.ensures
-    (abort_gives g.R.Directory.purges (kept_in c.args.self.now.stripe) (kept_in c.abort_write.new.stripe)
+returns-clause-gives g c =
+    abort_gives g.R.Directory.purges (kept_in c.args.self.now.stripe) (kept_in c.abort_write.new.stripe)
     (seen_in c.args.self.now.stripe).device (seen_in c.abort_write.new.stripe).device
-    c.args.writer.now c.abort_write.result c.abort_write.ensures.adds c.abort_write.ensures.aborts)
+    c.args.writer.now c.abort_write.result c.abort_write.ensures.adds c.abort_write.ensures.aborts
 
 pub returns-clause-own : goal.returns-clause-own
 returns-clause-own g c =

@@ -30,19 +30,19 @@ pub returns-then-not-is_open-clause-keeps : goal.returns-then-not-is_open-clause
 returns-then-not-is_open-clause-keeps g c = keeps_still c.args.self.now c.requires.holds
 
 pub returns-clause-serves : goal.returns-clause-serves
-returns-clause-serves g c = rw c.closed.ensures
-    (close_serves g.R.Directory.purges (kept_in c.args.self.now.stripe) (kept_in c.close_write.new.stripe)
+returns-clause-serves g c =
+    close_serves g.R.Directory.purges (kept_in c.args.self.now.stripe) (kept_in c.close_write.new.stripe)
     (seen_in c.args.self.now.stripe).device (seen_in c.close_write.new.stripe).device
     c.args.now c.args.writer.now c.close_write.ensures.rests.between.accounted c.close_write.result
     (writer_is (state_in c.args.self.now.stripe) c.args.writer.now c.requires.writer) (sym c.is_open.ensures ∙ c.if-not-is_open.false)
-    c.close_write.ensures.closes c.close_write.ensures.does)
+    c.close_write.ensures.closes c.close_write.ensures.does
 
 pub returns-clause-gives : goal.returns-clause-gives
-returns-clause-gives g c = rw c.closed.ensures
-    (close_gives g.R.Directory.purges (kept_in c.args.self.now.stripe) (kept_in c.close_write.new.stripe)
+returns-clause-gives g c =
+    close_gives g.R.Directory.purges (kept_in c.args.self.now.stripe) (kept_in c.close_write.new.stripe)
     (seen_in c.args.self.now.stripe).device (seen_in c.close_write.new.stripe).device
     c.args.writer.now c.close_write.result (sym c.is_open.ensures ∙ c.if-not-is_open.false) c.close_write.ensures.closes c.close_write.ensures.counts
-    c.close_write.ensures.recorded)
+    c.close_write.ensures.recorded
 
 pub returns-clause-stands : goal.returns-clause-stands
 returns-clause-stands g c = λ contents told stands.
@@ -52,9 +52,9 @@ pub returns-clause-own : goal.returns-clause-own
 returns-clause-own g c = put_adds c.args.writer.now.put c.close_write.ensures.own
 
 pub returns-clause-writer : goal.returns-clause-writer
-returns-clause-writer g c = rw c.closed.ensures
-    (writer_closes (state_in c.close_write.new.stripe) c.args.writer.now c.close_write.new.writer c.close_write.result
-    c.close_write.ensures.writer c.close_write.ensures.seals c.close_write.ensures.rested)
+returns-clause-writer g c =
+    writer_closes (state_in c.close_write.new.stripe) c.args.writer.now c.close_write.new.writer c.close_write.result
+    c.close_write.ensures.writer c.close_write.ensures.seals c.close_write.ensures.rested
 
 pub returns-clause-keeps : goal.returns-clause-keeps
 returns-clause-keeps g c = cache_keeps _ _ c.close_write.ensures.rests

@@ -6,16 +6,16 @@ use Rattle.stripe_calls.proofs.Words.{reader_adds}
 use Rattle.stripe_calls.proofs.seam.StripeCacheCalls.open_read.Goals as goal
 
 pub returns-clause-serves : goal.returns-clause-serves
-returns-clause-serves g c = λ now. rw c.opened.ensures
-    (look_serves g.R.Directory.purges (kept_in c.args.self.now.stripe) (kept_in c.open_read.new.stripe)
+returns-clause-serves g c = λ now.
+    look_serves g.R.Directory.purges (kept_in c.args.self.now.stripe) (kept_in c.open_read.new.stripe)
     (seen_in c.args.self.now.stripe).device (seen_in c.open_read.new.stripe).device
-    c.args.actor c.args.key c.args.request now c.open_read.ensures.rests.between.accounted c.open_read.result c.open_read.ensures.adds c.open_read.ensures.opens c.open_read.ensures.err)
+    c.args.actor c.args.key c.args.request now c.open_read.ensures.rests.between.accounted c.open_read.result c.open_read.ensures.adds c.open_read.ensures.opens c.open_read.ensures.err
 
 pub returns-clause-gives : goal.returns-clause-gives
-returns-clause-gives g c = rw c.opened.ensures
-    (look_gives g.R.Directory.purges (kept_in c.args.self.now.stripe) (kept_in c.open_read.new.stripe)
+returns-clause-gives g c =
+    look_gives g.R.Directory.purges (kept_in c.args.self.now.stripe) (kept_in c.open_read.new.stripe)
     (seen_in c.args.self.now.stripe).device (seen_in c.open_read.new.stripe).device
-    c.args.actor c.args.key c.args.request c.open_read.result c.open_read.ensures.adds c.open_read.ensures.opens c.open_read.ensures.reader c.open_read.ensures.tells c.open_read.ensures.err)
+    c.args.actor c.args.key c.args.request c.open_read.result c.open_read.ensures.adds c.open_read.ensures.opens c.open_read.ensures.reader c.open_read.ensures.tells c.open_read.ensures.err
 
 pub returns-clause-own : goal.returns-clause-own
 returns-clause-own g c =

@@ -10,22 +10,22 @@ read_next-requires-clause-open g c =
     record { resting = c.requires.holds; reader = reader_is (state_in c.args.self.now.stripe) c.args.reader.now c.requires.reader }
 
 pub returns-clause-serves : goal.returns-clause-serves
-returns-clause-serves g c = λ now. rw c.given.ensures
-    (next_serves g.R.Directory.purges (kept_in c.args.self.now.stripe) (kept_in c.read_next.new.stripe)
+returns-clause-serves g c = λ now.
+    next_serves g.R.Directory.purges (kept_in c.args.self.now.stripe) (kept_in c.read_next.new.stripe)
     (seen_in c.args.self.now.stripe) (seen_in c.read_next.new.stripe)
-    c.args.reader.now now c.read_next.new.into c.read_next.ensures.proceeds.accounted c.read_next.result c.read_next.ensures.adds c.read_next.ensures.reads c.read_next.ensures.err)
+    c.args.reader.now now c.read_next.new.into c.read_next.ensures.proceeds.accounted c.read_next.result c.read_next.ensures.adds c.read_next.ensures.reads c.read_next.ensures.err
 
 pub returns-clause-gives : goal.returns-clause-gives
-returns-clause-gives g c = rw c.given.ensures
-    (next_gives g.R.Directory.purges (kept_in c.args.self.now.stripe) (kept_in c.read_next.new.stripe)
+returns-clause-gives g c =
+    next_gives g.R.Directory.purges (kept_in c.args.self.now.stripe) (kept_in c.read_next.new.stripe)
     (seen_in c.args.self.now.stripe) (seen_in c.read_next.new.stripe)
-    c.args.reader.now c.read_next.new.into c.read_next.result c.read_next.ensures.adds c.read_next.ensures.reads c.read_next.ensures.err)
+    c.args.reader.now c.read_next.new.into c.read_next.result c.read_next.ensures.adds c.read_next.ensures.reads c.read_next.ensures.err
 
 pub returns-clause-exact : goal.returns-clause-exact
-returns-clause-exact g c = rw c.given.ensures
-    (next_exact g.R.Directory.purges (kept_in c.args.self.now.stripe) (kept_in c.read_next.new.stripe)
+returns-clause-exact g c =
+    next_exact g.R.Directory.purges (kept_in c.args.self.now.stripe) (kept_in c.read_next.new.stripe)
     (seen_in c.args.self.now.stripe) (seen_in c.read_next.new.stripe)
-    c.args.reader.now c.read_next.new.into c.read_next.result c.read_next.ensures.reads)
+    c.args.reader.now c.read_next.new.into c.read_next.result c.read_next.ensures.reads
 
 pub returns-clause-keeps : goal.returns-clause-keeps
 returns-clause-keeps g c = cache_goes _ _ c.read_next.ensures.resting c.read_next.ensures.proceeds
@@ -47,6 +47,6 @@ pub returns-clause-stands : goal.returns-clause-stands
 returns-clause-stands g c = c.read_next.ensures.proceeds.contents
 
 pub returns-clause-reader : goal.returns-clause-reader
-returns-clause-reader g c = rw c.given.ensures
-    (next_goes (state_in c.args.self.now.stripe) (state_in c.read_next.new.stripe) c.args.reader.now c.read_next.new.reader
-    c.read_next.result c.read_next.ensures.goes c.read_next.ensures.same c.read_next.ensures.reader c.read_next.ensures.keeps)
+returns-clause-reader g c =
+    next_goes (state_in c.args.self.now.stripe) (state_in c.read_next.new.stripe) c.args.reader.now c.read_next.new.reader
+    c.read_next.result c.read_next.ensures.goes c.read_next.ensures.same c.read_next.ensures.reader c.read_next.ensures.keeps

@@ -4,16 +4,16 @@ use Rattle.stripe_calls.proofs.Resting.{cache_keeps}
 use Rattle.stripe_calls.proofs.seam.StripeCacheCalls.remove.Goals as goal
 
 pub returns-clause-serves : goal.returns-clause-serves
-returns-clause-serves g c = λ now. rw c.removed.ensures
-    (remove_serves g.R.Directory.purges (kept_in c.args.self.now.stripe) (kept_in c.remove.new.stripe)
+returns-clause-serves g c = λ now.
+    remove_serves g.R.Directory.purges (kept_in c.args.self.now.stripe) (kept_in c.remove.new.stripe)
     (seen_in c.args.self.now.stripe).device (seen_in c.remove.new.stripe).device
-    c.args.key now c.remove.ensures.rests.between.accounted c.remove.result c.remove.ensures.adds c.remove.ensures.does c.remove.ensures.err)
+    c.args.key now c.remove.ensures.rests.between.accounted c.remove.result c.remove.ensures.adds c.remove.ensures.does c.remove.ensures.err
 
 pub returns-clause-gives : goal.returns-clause-gives
-returns-clause-gives g c = rw c.removed.ensures
-    (remove_gives g.R.Directory.purges (kept_in c.args.self.now.stripe) (kept_in c.remove.new.stripe)
+returns-clause-gives g c =
+    remove_gives g.R.Directory.purges (kept_in c.args.self.now.stripe) (kept_in c.remove.new.stripe)
     (seen_in c.args.self.now.stripe).device (seen_in c.remove.new.stripe).device
-    c.args.key c.remove.result c.remove.ensures.adds c.remove.ensures.removes c.remove.ensures.err)
+    c.args.key c.remove.result c.remove.ensures.adds c.remove.ensures.removes c.remove.ensures.err
 
 pub returns-clause-keeps : goal.returns-clause-keeps
 returns-clause-keeps g c = cache_keeps _ _ c.remove.ensures.rests

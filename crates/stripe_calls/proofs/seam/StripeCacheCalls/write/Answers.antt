@@ -8,21 +8,21 @@ pub write-requires-clause-writer : goal.write-requires-clause-writer
 write-requires-clause-writer g c = writer_is (state_in c.args.self.now.stripe) c.args.writer.now c.requires.writer
 
 pub returns-clause-serves : goal.returns-clause-serves
-returns-clause-serves g c = rw c.unchanged.ensures
-    (write_serves g.R.Directory.purges (kept_in c.args.self.now.stripe) (kept_in c.write.new.stripe)
+returns-clause-serves g c =
+    write_serves g.R.Directory.purges (kept_in c.args.self.now.stripe) (kept_in c.write.new.stripe)
     (seen_in c.args.self.now.stripe).device (seen_in c.write.new.stripe).device
-    c.args.now c.args.writer.now c.args.bytes.now c.write.ensures.rests.between.accounted c.write.result c.write.ensures.writes c.write.ensures.does)
+    c.args.now c.args.writer.now c.args.bytes.now c.write.ensures.rests.between.accounted c.write.result c.write.ensures.writes c.write.ensures.does
 
 pub returns-clause-gives : goal.returns-clause-gives
-returns-clause-gives g c = rw c.unchanged.ensures
-    (write_gives g.R.Directory.purges (kept_in c.args.self.now.stripe) (kept_in c.write.new.stripe)
+returns-clause-gives g c =
+    write_gives g.R.Directory.purges (kept_in c.args.self.now.stripe) (kept_in c.write.new.stripe)
     (seen_in c.args.self.now.stripe).device (seen_in c.write.new.stripe).device
-    c.args.writer.now c.args.now c.args.bytes.now c.write.result c.write.ensures.writes c.write.ensures.number c.write.ensures.does)
+    c.args.writer.now c.args.now c.args.bytes.now c.write.result c.write.ensures.writes c.write.ensures.number c.write.ensures.does
 
 pub returns-clause-stands : goal.returns-clause-stands
-returns-clause-stands g c = rw c.unchanged.ensures
-    (λ contents told stands. c.write.ensures.rests.contents contents
-    (told_written (state_in c.args.self.now.stripe) c.args.writer.now c.args.bytes.now c.write.result contents told) stands)
+returns-clause-stands g c =
+    λ contents told stands. c.write.ensures.rests.contents contents
+    (told_written (state_in c.args.self.now.stripe) c.args.writer.now c.args.bytes.now c.write.result contents told) stands
 
 pub returns-clause-own : goal.returns-clause-own
 returns-clause-own g c =
@@ -31,9 +31,9 @@ returns-clause-own g c =
     c.args.writer.now c.args.now c.args.bytes.now c.write.result c.write.ensures.does
 
 pub returns-clause-writer : goal.returns-clause-writer
-returns-clause-writer g c = rw c.unchanged.ensures
-    (write_goes (state_in c.args.self.now.stripe) (state_in c.write.new.stripe) c.args.writer.now c.write.new.writer c.args.bytes.now
-    c.write.result c.write.ensures.writer c.write.ensures.gathers c.write.ensures.same)
+returns-clause-writer g c =
+    write_goes (state_in c.args.self.now.stripe) (state_in c.write.new.stripe) c.args.writer.now c.write.new.writer c.args.bytes.now
+    c.write.result c.write.ensures.writer c.write.ensures.gathers c.write.ensures.same
 
 pub returns-clause-keeps : goal.returns-clause-keeps
 returns-clause-keeps g c = cache_keeps _ _ c.write.ensures.rests

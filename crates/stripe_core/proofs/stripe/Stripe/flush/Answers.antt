@@ -4,7 +4,7 @@ use Rattle.std.proofs.lemmas.Result.{err_from_is_err_and}
 use Rattle.cache_model.specs.Kept.{Kept, state_of}
 use Rattle.cache_model.specs.Room.{is_flush_exhausted}
 use Rattle.cache_model.specs.Contents.{contents_of_vectors}
-use Rattle.piece_answers.specs.declared.answer.Flushed.{Flushed}
+use Rattle.cache_answers.specs.declared.answers.Flushed.{Flushed}
 use Rattle.piece_answers.specs.Flush.{FlushesAsAsked, StopsWith, TellsFlush, WritesNothing}
 use Rattle.stripe_pieces.specs.Pieces.{kept_now, seen_now, state_now}
 use Rattle.held_pieces.specs.Still.{IsStill}

@@ -11,8 +11,8 @@ use Rattle.cache_model.specs.Contents.{contents_of_vectors}
 use Rattle.stripe_answers.specs.Named.{IsNamed}
 use Rattle.stripe_actors.specs.Actors.{AreActors}
 use Rattle.stripe_actors.specs.Calls.{IsExhausted, OpensWhere}
-use Rattle.stripe_answers.specs.declared.refusal.Refusal.{Refusal}
-use Rattle.stripe_answers.specs.declared.refusal.Refusal.TheVariants as refusal
+use Rattle.cache_answers.specs.declared.answers.Refusal.{Refusal}
+use Rattle.cache_answers.specs.declared.answers.Refusal.TheVariants as refusal
 use Rattle.stripe_answers.specs.Acts.{OpensAsAsked}
 use Rattle.stripe_core.specs.Calls.{OpensPutInStripe}
 use Rattle.stripe_core.specs.Stripe.{kept_in, seen_in, state_in}

@@ -1,7 +1,7 @@
 use Rattle.std.proofs.Common.{refl, sym, subst}
 use Rattle.cache_model.specs.Kept.{state_of}
 use Rattle.cache_model.specs.Legal.{IsQuiet}
-use Rattle.stripe_calls.proofs.begins.StripeCachePackedDirectoryFormats.format.Goals as goal
+use Rattle.stripe_calls.proofs.begins.StripeCachePackedDirectoryFullChronicleFormats.format.Goals as goal
 
 pub returns-in-Ok-clause-begins : goal.returns-in-Ok-clause-begins
 returns-in-Ok-clause-begins g c = record {

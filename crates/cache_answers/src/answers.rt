@@ -1,0 +1,89 @@
+// What the calls of a cache answer, and why they do less.
+
+use cache_model::Cause;
+use std::alloc::AllocError;
+
+/// Why a call did less than it was asked.
+#[derive(Clone, Copy, Debug, PartialEq, Eq)]
+pub enum Refusal {
+    /// As many writers are open as may be.
+    TooManyWriters,
+    /// A put would have more fragments than may be.
+    TooManyFragments,
+    /// The vector of the new alternate alone would have so many bytes.
+    VectorTooLarge { bytes: u64 },
+    /// The fragment of this index is not live any more.
+    Lost { index: u32, cause: Cause },
+    /// The device refused a call, and its count of faults then stood at `count`.
+    DeviceFault { count: u64 },
+    /// The writer was closed in vain, and takes no more bytes.
+    Sealed,
+    /// This place or number would reach the limit.
+    Exhausted { number: u64 },
+    /// No writer of that put is open.
+    NoSuchWriter,
+    Memory(AllocError),
+}
+
+impl From<AllocError> for Refusal {
+    ghost use Rattle.std.specs.Prelude.{◌≡◌};
+    ghost use Rattle.cache_answers.specs.declared.answers.Refusal.TheVariants.{Memory};
+
+    ghost from_gives = { λ e refusal. refusal ≡ Memory e };
+
+    fn from(e: AllocError) -> Refusal {
+        Refusal::Memory(e)
+    }
+}
+
+/// What came of a put that was closed.
+#[derive(Clone, Copy, Debug, PartialEq, Eq)]
+pub struct Receipt {
+    pub put: u64,
+    /// The bytes of its body.
+    pub length: u64,
+    pub fragments: u32,
+}
+
+/// What came of a removal.
+#[derive(Clone, Copy, Debug, PartialEq, Eq)]
+pub enum Removal {
+    /// The object of this put was removed.
+    Removed { put: u64 },
+    /// There was none, for this cause.
+    Absent(Cause),
+}
+
+/// The buffer that was written out, and the one that began.
+#[derive(Clone, Copy, Debug, PartialEq, Eq)]
+pub struct Flushed {
+    /// How many blocks were written.
+    pub blocks: u32,
+    /// Where the buffer begins now.
+    pub cursor: u64,
+    /// The least place that may be read now.
+    pub floor: u64,
+}
+
+/// What came of a lookup, with a reader of this type.
+#[derive(Debug, Drop)]
+pub enum Opened<R> {
+    /// A stored alternate, whose body has so many bytes.
+    Hit { reader: R, put: u64, length: u64 },
+    /// An open writer, which the reader follows.
+    Follow { reader: R, put: u64 },
+    /// There is nothing to read, for this cause.
+    Miss(Cause),
+}
+
+/// What a reader is given.
+#[derive(Clone, Copy, Debug, PartialEq, Eq)]
+pub enum NextPiece {
+    /// A fragment, by its index from 1, of so many bytes.
+    Piece { index: u32, length: u32 },
+    /// All was given; the body has so many bytes.
+    End { length: u64 },
+    /// All of the fragments cut so far were given, and the writer is open.
+    NotYet { cut: u32 },
+    Broken(Cause),
+}
