@@ -7,7 +7,7 @@ use std::fmt::{Display, Formatter};
 use std::fs::{File, Files, Metadata, OpenOptions, TryLockError};
 use std::io::ErrorKind;
 use std::os::fd::AsRawFd;
-use std::os::unix::fs::{FileExt, FileTypeExt, OpenOptionsExt};
+use std::os::unix::fs::{FileExt, FileTypeExt, MetadataExt, OpenOptionsExt};
 use std::{fmt, io};
 use stripe_header::{SpanFault, read_span};
 use thiserror::Error;
@@ -34,6 +34,8 @@ pub enum NoDevice {
     },
     #[error("a standard stream is closed, and nothing could be opened in its place")]
     Stream,
+    #[error("a standard stream goes there, and would be mixed with the device")]
+    Mixed,
     #[error("{0}")]
     System(#[from] io::Error),
 }
@@ -153,6 +155,29 @@ fn open<R: Files<File = File>>(files: &R, path: &str, formats: bool) -> Result<O
     }
 }
 
+// Whether two names are of one file, or of one block device.
+fn is_same(one: &Metadata, other: &Metadata) -> bool {
+    if one.file_type().is_block_device() && other.file_type().is_block_device() {
+        return one.rdev() == other.rdev();
+    }
+    one.dev() == other.dev() && one.ino() == other.ino()
+}
+
+// Whether the path is still that of this file.
+fn is_at<R: Files<File = File>>(files: &R, path: &str, told: &Metadata) -> bool {
+    match files.metadata(path) {
+        Ok(there) => is_same(&there, told),
+        Err(_) => false,
+    }
+}
+
+// Whether a standard stream reads or writes this file.
+fn is_stream<R: Files<File = File>>(files: &R, told: &Metadata) -> bool {
+    is_at(files, "/dev/fd/0", told)
+        || is_at(files, "/dev/fd/1", told)
+        || is_at(files, "/dev/fd/2", told)
+}
+
 // Takes the lock, which ends with the open: the only one, or of a file that is read alone one that
 // others may have too.
 fn lock(opened: &Opened) -> Result<(), NoDevice> {
@@ -162,10 +187,15 @@ fn lock(opened: &Opened) -> Result<(), NoDevice> {
         opened.file.try_lock()
     };
     match answer {
-        Ok(()) => Ok(()),
-        Err(TryLockError::WouldBlock) => Err(NoDevice::InUse),
-        Err(TryLockError::Error(error)) => Err(NoDevice::System(error)),
+        Ok(()) => {}
+        Err(TryLockError::WouldBlock) => return Err(NoDevice::InUse),
+        Err(TryLockError::Error(error)) => return Err(NoDevice::System(error)),
     }
+    // (another that made the file, and failed, has removed it meanwhile)
+    if opened.file.metadata()?.nlink() == 0 {
+        return Err(NoDevice::InUse);
+    }
+    Ok(())
 }
 
 // A block of a file, with zeros for what is behind the file's end.
@@ -216,8 +246,16 @@ fn make_long(file: &File, bytes: u64) -> Result<(), NoDevice> {
     }
 }
 
+// Has nothing of the file pending. One that is read alone may stand where nothing can be synced.
+fn settle(opened: &Opened) -> io::Result<()> {
+    match opened.file.sync_all() {
+        Err(_) if opened.is_fixed => Ok(()),
+        answer => answer,
+    }
+}
+
 // Takes the lock, looks at what stands in the file, and makes it long enough.
-fn claim(opened: &Opened, bytes: u64) -> Result<(), NoDevice>
+fn claim<R: Files<File = File>>(files: &R, opened: &Opened, bytes: u64) -> Result<(), NoDevice>
     ensures apart { OnOk result (pos 2 <ℤ file_raw_fd opened.now.file) }
 {
     lock(opened)?;
@@ -225,16 +263,25 @@ fn claim(opened: &Opened, bytes: u64) -> Result<(), NoDevice>
     if file.as_raw_fd() <= LAST_STREAM {
         return Err(NoDevice::Stream);
     }
+    let told = file.metadata()?;
+    if is_stream(files, &told) {
+        return Err(NoDevice::Mixed);
+    }
     if bytes > 0 {
-        let front = if file.metadata()?.is_file() {
-            1
-        } else {
-            FRONT_BLOCKS
-        };
+        let front = if told.is_file() { 1 } else { FRONT_BLOCKS };
         refuse_used(file, front)?;
         make_long(file, bytes)?;
     }
-    Ok(file.sync_all()?)
+    Ok(settle(opened)?)
+}
+
+// Removes a file, if the path is still its own.
+fn remove<R: Files<File = File>>(files: &R, path: &str, file: &File) {
+    if let Ok(told) = file.metadata() {
+        if is_at(files, path, &told) {
+            let _ = files.remove_file(path);
+        }
+    }
 }
 
 /// Opens the file of a path as a device of at least so many bytes, with nothing of it pending. It is
@@ -245,12 +292,12 @@ pub fn open_file<R: Files<File = File>>(files: &R, path: &str, bytes: u64) -> Re
     ensures apart { IfOk result (λ file. pos 2 <ℤ file_raw_fd file) }
 {
     let opened = open(files, path, bytes > 0)?;
-    match claim(&opened, bytes) {
+    match claim(files, &opened, bytes) {
         Ok(()) => Ok(opened.file),
         Err(why) => {
             // (a file that another has locked is theirs by now)
             if opened.is_new && !matches!(why, NoDevice::InUse) {
-                let _ = files.remove_file(path);
+                remove(files, path, &opened.file);
             }
             Err(why)
         }
