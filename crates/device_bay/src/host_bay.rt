@@ -153,6 +153,7 @@ impl<R: Files<File = File>, S: FileStart> Bay for HostBay<R, S> {
             → (count : ℕ) × IsErrOf result (BayFault.Failed count) }
         ensures of_kind { has_kind name.now ≡ true → is_memory_name name.now ≡ false
             → (count : ℕ) × IsErrOf result (BayFault.Failed count) }
+        ensures of_path { is_memory_name name.now ≡ false → IfOk result (λ device. (host_state S.first device).has_switch ≡ false) }
         ensures of_memory { is_memory_name name.now ≡ true → IsOk result }
         ensures fresh { is_memory_name name.now ≡ true
             → IfOk result (λ device. IsNewMemory (size_for blocks) (host_state S.first device)) }
