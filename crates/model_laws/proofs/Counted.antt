@@ -39,95 +39,95 @@ use Rattle.cache_model.specs.Legal.{Advances, Course, Does, IsLegal, IsStep, May
 use Rattle.cache_model.proofs.Found.{no_truth, none_is}
 use Rattle.cache_model.proofs.Steps.{after_all-append, all_append}
 use Rattle.step_laws.specs.VectorLaws.{IsOver, IsUnanswered, VectorIsCounted, VectorsAreCounted}
-use Rattle.model_laws.proofs.CountedRecords.{AllLeaveCounts, KeepsCounts, LeavesCounts, counted_committed, counted_kept, counted_opened, keeps_all, keeps_placed, keeps_trans}
+use Rattle.model_laws.proofs.CountedRecords.{AllLeaveCounts, AllLeaveVectors, KeepsCounts, LeavesVectors, leave_counts, counted_committed, counted_kept, counted_opened, keeps_all, keeps_placed, keeps_trans}
 
--- ---- records that leave it
+-- ---- records that leave last vectors
 
-where_leave : (b : Bool) (recs : List Rec) → AllLeaveCounts recs → AllLeaveCounts (if b then recs else [])
+where_leave : (b : Bool) (recs : List Rec) → AllLeaveVectors recs → AllLeaveVectors (if b then recs else [])
 where_leave true recs h = h
 where_leave false recs h = tt
 
-front_one : (row : Row) (o : Outcome) → AllLeaveCounts (records_of row o)
+front_one : (row : Row) (o : Outcome) → AllLeaveVectors (records_of row o)
 front_one row NoRoom = (tt, tt)
 front_one row (Copied bytes) = tt
 front_one row (Spoiled found) = (tt, tt)
 front_one row (ReadRefused count) = (tt, (tt, tt))
 
-front_leaves : (rows : List Row) (outcomes : List Outcome) → AllLeaveCounts (front_of rows outcomes)
+front_leaves : (rows : List Row) (outcomes : List Outcome) → AllLeaveVectors (front_of rows outcomes)
 front_leaves [] outcomes = tt
 front_leaves (row ∷ rows) [] = tt
-front_leaves (row ∷ rows) (o ∷ outcomes) = all_append LeavesCounts (records_of row o) (front_of rows outcomes) (front_one row o) (front_leaves rows outcomes)
+front_leaves (row ∷ rows) (o ∷ outcomes) = all_append LeavesVectors (records_of row o) (front_of rows outcomes) (front_one row o) (front_leaves rows outcomes)
 
-stopped_one : (row : Row) (o : Outcome) → AllLeaveCounts (stopped_records_of row o)
+stopped_one : (row : Row) (o : Outcome) → AllLeaveVectors (stopped_records_of row o)
 stopped_one row NoRoom = tt
 stopped_one row (Copied bytes) = tt
 stopped_one row (Spoiled found) = (tt, tt)
 stopped_one row (ReadRefused count) = (tt, tt)
 
-stopped_leaves : (rows : List Row) (outcomes : List Outcome) → AllLeaveCounts (stopped_front_of rows outcomes)
+stopped_leaves : (rows : List Row) (outcomes : List Outcome) → AllLeaveVectors (stopped_front_of rows outcomes)
 stopped_leaves [] outcomes = tt
 stopped_leaves (row ∷ rows) [] = tt
 stopped_leaves (row ∷ rows) (o ∷ outcomes) =
-    all_append LeavesCounts (stopped_records_of row o) (stopped_front_of rows outcomes) (stopped_one row o) (stopped_leaves rows outcomes)
+    all_append LeavesVectors (stopped_records_of row o) (stopped_front_of rows outcomes) (stopped_one row o) (stopped_leaves rows outcomes)
 
-moved_leave : (s : State) (copies : List Copy) → AllLeaveCounts (moved_records s copies)
+moved_leave : (s : State) (copies : List Copy) → AllLeaveVectors (moved_records s copies)
 moved_leave s [] = tt
 moved_leave s (c ∷ copies) = (tt, moved_leave (state_after s (moved_record s c)) copies)
 
-tail_leaves : (s : State) (rows : List Row) (outcomes : List Outcome) → AllLeaveCounts (flush_tail s rows outcomes)
+tail_leaves : (s : State) (rows : List Row) (outcomes : List Outcome) → AllLeaveVectors (flush_tail s rows outcomes)
 tail_leaves s rows outcomes = (tt, moved_leave (state_after (after_all s (front_of rows outcomes)) (began_record s)) (copies_of rows outcomes))
 
-done_leaves : (r : Option ℕ) → AllLeaveCounts (option_to_list (option_map rec.SyncDone r))
+done_leaves : (r : Option ℕ) → AllLeaveVectors (option_to_list (option_map rec.SyncDone r))
 done_leaves None = tt
 done_leaves (Some serial) = (tt, tt)
 
-ended_leaves : (s : State) → AllLeaveCounts (ended_records s)
+ended_leaves : (s : State) → AllLeaveVectors (ended_records s)
 ended_leaves s = done_leaves s.running
 
 -- behind the end of the sync in parts
-ended_then : (s : State) (recs : List Rec) → AllLeaveCounts recs → AllLeaveCounts (ended_records s ++ recs)
-ended_then s recs h = all_append LeavesCounts (ended_records s) recs (ended_leaves s) h
+ended_then : (s : State) (recs : List Rec) → AllLeaveVectors recs → AllLeaveVectors (ended_records s ++ recs)
+ended_then s recs h = all_append LeavesVectors (ended_records s) recs (ended_leaves s) h
 
-begins_leaves : (b : Bool) (serial : ℕ) → AllLeaveCounts (if b then [] else rec.SyncDone serial ∷ [])
+begins_leaves : (b : Bool) (serial : ℕ) → AllLeaveVectors (if b then [] else rec.SyncDone serial ∷ [])
 begins_leaves true serial = tt
 begins_leaves false serial = (tt, tt)
 
-sync_leaves : (k : Syncing) (s : State) (cursor : ℕ) → AllLeaveCounts (sync_records k s cursor)
+sync_leaves : (k : Syncing) (s : State) (cursor : ℕ) → AllLeaveVectors (sync_records k s cursor)
 sync_leaves k s cursor = (tt, begins_leaves (is_in_parts k) (next_serial s))
 
-behind_leaves : (k : Syncing) (s : State) → AllLeaveCounts (behind_records k s)
+behind_leaves : (k : Syncing) (s : State) → AllLeaveVectors (behind_records k s)
 behind_leaves k s =
-    all_append LeavesCounts (if needs_sync k s then ended_records s else []) _ (where_leave (needs_sync k s) (ended_records s) (ended_leaves s))
+    all_append LeavesVectors (if needs_sync k s then ended_records s else []) _ (where_leave (needs_sync k s) (ended_records s) (ended_leaves s))
     (where_leave (needs_whole k s) (sync_records k s (cursor_next s)) (sync_leaves k s (cursor_next s)))
 
-first_leaves : (k : Syncing) (s : State) → AllLeaveCounts (first_records k s)
+first_leaves : (k : Syncing) (s : State) → AllLeaveVectors (first_records k s)
 first_leaves k s = where_leave (ends_first k s) (ended_records s) (ended_leaves s)
 
-leave_as : (added other : List Rec) → added ≡ other → AllLeaveCounts other → AllLeaveCounts added
-leave_as added other is h = subst AllLeaveCounts (sym is) h
+leave_as : (added other : List Rec) → added ≡ other → AllLeaveVectors other → AllLeaveVectors added
+leave_as added other is h = subst AllLeaveVectors (sym is) h
 
-goes_leave : (p : Permit) (k : Syncing) (s : State) (added : List Rec) → MaySyncBehind p k s added → AllLeaveCounts added
+goes_leave : (p : Permit) (k : Syncing) (s : State) (added : List Rec) → MaySyncBehind p k s added → AllLeaveVectors added
 goes_leave p k s added m =
     let rows : List Row = due_pieces s p.now in
     leave_as added _ m.is
-    (all_append LeavesCounts (first_records k s) _ (first_leaves k s)
-    (all_append LeavesCounts (front_of rows m.outcomes) _ (front_leaves rows m.outcomes)
-    (all_append LeavesCounts (behind_records k (at_first k s)) _ (behind_leaves k (at_first k s)) (tail_leaves s rows m.outcomes))))
+    (all_append LeavesVectors (first_records k s) _ (first_leaves k s)
+    (all_append LeavesVectors (front_of rows m.outcomes) _ (front_leaves rows m.outcomes)
+    (all_append LeavesVectors (behind_records k (at_first k s)) _ (behind_leaves k (at_first k s)) (tail_leaves s rows m.outcomes))))
 
-begun_leave : (p : Permit) (k : Syncing) (s : State) (front : List Rec) (count : ℕ) (begun : List Rec) → StopsBehind p k s front count begun → AllLeaveCounts begun
+begun_leave : (p : Permit) (k : Syncing) (s : State) (front : List Rec) (count : ℕ) (begun : List Rec) → StopsBehind p k s front count begun → AllLeaveVectors begun
 begun_leave p k s front count begun (Syncing.StopsBehind.buffer c) = tt
 begun_leave p k s front count begun (Syncing.StopsBehind.ended t n r c) = tt
 begun_leave p k s front count begun (Syncing.StopsBehind.whole t n c) = ended_then s _ (tt, tt)
 
-stops_leave : (p : Permit) (k : Syncing) (s : State) (count : ℕ) (added : List Rec) → MayStopSync p k s count added → AllLeaveCounts added
+stops_leave : (p : Permit) (k : Syncing) (s : State) (count : ℕ) (added : List Rec) → MayStopSync p k s count added → AllLeaveVectors added
 stops_leave p k s count added m =
     let rows : List Row = due_pieces s p.now in
     leave_as added _ m.is
-    (all_append LeavesCounts (first_records k s) _ (first_leaves k s)
-    (all_append LeavesCounts (stopped_front_of rows m.outcomes) _ (stopped_leaves rows m.outcomes)
-    (all_append LeavesCounts m.begun _ (begun_leave p k (at_first k s) _ count m.begun m.stops) (tt, tt))))
+    (all_append LeavesVectors (first_records k s) _ (first_leaves k s)
+    (all_append LeavesVectors (stopped_front_of rows m.outcomes) _ (stopped_leaves rows m.outcomes)
+    (all_append LeavesVectors m.begun _ (begun_leave p k (at_first k s) _ count m.begun m.stops) (tt, tt))))
 
-syncs_leave : (p : Permit) (k : Syncing) (s : State) (added : List Rec) (f : End) → DoesSync p k s added f → AllLeaveCounts added
+syncs_leave : (p : Permit) (k : Syncing) (s : State) (added : List Rec) (f : End) → DoesSync p k s added f → AllLeaveVectors added
 syncs_leave p k s added f (Syncing.DoesSync.goes m) = goes_leave p k s added m
 syncs_leave p k s added f (Syncing.DoesSync.stops count m) = stops_leave p k s count added m
 syncs_leave p k s added f (Syncing.DoesSync.empty m) = leave_as added _ m.is (ended_then s _ (sync_leaves k s s.cursor))
@@ -136,80 +136,83 @@ syncs_leave p k s added f (Syncing.DoesSync.stays count can first c) = leave_as 
 syncs_leave p k s added f (Syncing.DoesSync.exhausted may high is) = leave_as added [] is tt
 syncs_leave p k s added f (Syncing.DoesSync.runs serial on quiet parts runs is) = leave_as added [] is tt
 
-step_leaves : (p : Permit) (s : State) (last : Bool) (added : List Rec) (e : End) → DoesSyncStep p s last added e → AllLeaveCounts added
+step_leaves : (p : Permit) (s : State) (last : Bool) (added : List Rec) (e : End) → DoesSyncStep p s last added e → AllLeaveVectors added
 step_leaves p s last added e (Syncing.DoesSyncStep.none on quiet none is) = leave_as added [] is tt
 step_leaves p s last added e (Syncing.DoesSyncStep.part on quiet runs front is) = leave_as added [] is tt
 step_leaves p s last added e (Syncing.DoesSyncStep.ends on quiet runs end is) = leave_as added _ is (ended_leaves s)
 step_leaves p s last added e (Syncing.DoesSyncStep.stays count on quiet c) = leave_as added _ c.is (tt, tt)
 
-drain_leaves : (p : Permit) (s : State) (added : List Rec) (e : End) → Legal.DoesDrain p s added e → AllLeaveCounts added
+drain_leaves : (p : Permit) (s : State) (added : List Rec) (e : End) → Legal.DoesDrain p s added e → AllLeaveVectors added
 drain_leaves p s added e (Legal.DoesDrain.still_open on quiet some is) = leave_as added [] is tt
 drain_leaves p s added e (Legal.DoesDrain.empty on quiet none filled is) = leave_as added _ is (ended_leaves s)
 drain_leaves p s added e (Legal.DoesDrain.stays count on quiet none filled c) = leave_as added _ c.is (tt, tt)
 drain_leaves p s added e (Legal.DoesDrain.syncs none some d) = syncs_leave p AtOnce s added e d
 
-clean_leaves : (p : Permit) (s : State) (added : List Rec) (e : End) → DoesCleanSync p s added e → AllLeaveCounts added
+clean_leaves : (p : Permit) (s : State) (added : List Rec) (e : End) → DoesCleanSync p s added e → AllLeaveVectors added
 clean_leaves p s added e (Syncing.DoesCleanSync.moving on quiet some is) = leave_as added [] is tt
 clean_leaves p s added e (Syncing.DoesCleanSync.runs serial on quiet none running is) = leave_as added [] is tt
 clean_leaves p s added e (Syncing.DoesCleanSync.syncs on quiet empty rests below is) = leave_as added _ is (tt, (tt, tt))
 clean_leaves p s added e (Syncing.DoesCleanSync.stops count on quiet empty rests below c is) = leave_as added _ is (tt, (tt, tt))
 clean_leaves p s added e (Syncing.DoesCleanSync.exhausted on quiet empty rests high is) = leave_as added [] is tt
 
-unmark_leaves : (p : Permit) (s : State) (added : List Rec) (e : End) → Unmarks p s added e → AllLeaveCounts added
+unmark_leaves : (p : Permit) (s : State) (added : List Rec) (e : End) → Unmarks p s added e → AllLeaveVectors added
 unmark_leaves p s added e (Syncing.Unmarks.unmarks must below is) =
     leave_as added _ is (ended_then s _ (where_leave (once_ended s).marked (sync_records AtOnce s s.cursor) (sync_leaves AtOnce s s.cursor)))
 unmark_leaves p s added e (Syncing.Unmarks.stays count must below c) = leave_as added _ c.is (tt, tt)
 unmark_leaves p s added e (Syncing.Unmarks.stops count must below marked c is) = leave_as added _ is (ended_then s _ (tt, (tt, tt)))
 unmark_leaves p s added e (Syncing.Unmarks.exhausted must high is) = leave_as added [] is tt
 
-flush_leaves : (p : Permit) (s : State) (added : List Rec) → Legal.MayFlush p s added → AllLeaveCounts added
+flush_leaves : (p : Permit) (s : State) (added : List Rec) → Legal.MayFlush p s added → AllLeaveVectors added
 flush_leaves p s added m =
     let rows : List Row = due_pieces s p.now in
-    leave_as added _ m.is (all_append LeavesCounts (front_of rows m.outcomes) (flush_tail s rows m.outcomes) (front_leaves rows m.outcomes) (tail_leaves s rows m.outcomes))
+    leave_as added _ m.is (all_append LeavesVectors (front_of rows m.outcomes) (flush_tail s rows m.outcomes) (front_leaves rows m.outcomes) (tail_leaves s rows m.outcomes))
 
-stop_leaves : (p : Permit) (s : State) (count : ℕ) (added : List Rec) → Legal.MayStop p s count added → AllLeaveCounts added
+stop_leaves : (p : Permit) (s : State) (count : ℕ) (added : List Rec) → Legal.MayStop p s count added → AllLeaveVectors added
 stop_leaves p s count added m =
     let rows : List Row = due_pieces s p.now in
-    leave_as added _ m.is (all_append LeavesCounts (stopped_front_of rows m.outcomes) (rec.Fault count ∷ []) (stopped_leaves rows m.outcomes) (tt, tt))
+    leave_as added _ m.is (all_append LeavesVectors (stopped_front_of rows m.outcomes) (rec.Fault count ∷ []) (stopped_leaves rows m.outcomes) (tt, tt))
 
-room_leaves : (p : Permit) (s : State) (bytes : ℕ) (added : List Rec) (e : End) → Legal.MakesRoom p s bytes added e → AllLeaveCounts added
+room_leaves : (p : Permit) (s : State) (bytes : ℕ) (added : List Rec) (e : End) → Legal.MakesRoom p s bytes added e → AllLeaveVectors added
 room_leaves p s bytes added e (Legal.MakesRoom.flushes x m) = flush_leaves p s added m
 room_leaves p s bytes added e (Legal.MakesRoom.stops count x m) = stop_leaves p s count added m
 room_leaves p s bytes added e (Legal.MakesRoom.exhausted x q is) = leave_as added [] is tt
 room_leaves p s bytes added e (Legal.MakesRoom.syncs f x d is) = syncs_leave p Syncing.WhereDue s added f d
 
-trouble_leaves : (p : Permit) (s : State) (row : Row) (before : List Rec) (why : Cause) → Given.Trouble p s row before why → AllLeaveCounts before
+trouble_leaves : (p : Permit) (s : State) (row : Row) (before : List Rec) (why : Cause) → Given.Trouble p s row before why → AllLeaveVectors before
 trouble_leaves p s row before why (Given.Trouble.faulted count w m) = (tt, tt)
 trouble_leaves p s row before why (Given.Trouble.damaged found d) = (tt, tt)
 
-lookup_leaves : (p : Permit) (s : State) (key : Key) (request : List Field) (before : List Rec) (answer : ReadAnswer) → Legal.IsLookup p s key request before answer → AllLeaveCounts before
+lookup_leaves : (p : Permit) (s : State) (key : Key) (request : List Field) (before : List Rec) (answer : ReadAnswer) → Legal.IsLookup p s key request before answer → AllLeaveVectors before
 lookup_leaves p s key request before answer (Legal.IsLookup.verdict r) = tt
 lookup_leaves p s key request before answer (Legal.IsLookup.trouble row b why live t) = trouble_leaves p s row before why t
 
-fragment_leaves : (p : Permit) (s : State) (row : Row) (entry : TableRow) (before : List Rec) (why : Cause) → Legal.ReadTrouble p s row entry before why → AllLeaveCounts before
+fragment_leaves : (p : Permit) (s : State) (row : Row) (entry : TableRow) (before : List Rec) (why : Cause) → Legal.ReadTrouble p s row entry before why → AllLeaveVectors before
 fragment_leaves p s row entry before why (Legal.ReadTrouble.troubled b c t) = trouble_leaves p s row before why t
 fragment_leaves p s row entry before why (Legal.ReadTrouble.mismatched found read unlike) = (tt, tt)
 
-reading_leaves : (p : Permit) (s : State) (r : ReaderRow) (before : List Rec) (answer : NextAnswer) → Legal.IsReading p s r before answer → AllLeaveCounts before
+reading_leaves : (p : Permit) (s : State) (r : ReaderRow) (before : List Rec) (answer : NextAnswer) → Legal.IsReading p s r before answer → AllLeaveVectors before
 reading_leaves p s r before answer (Legal.IsReading.verdict x listed) = tt
 reading_leaves p s r before answer (Legal.IsReading.trouble entry row b why n live t) = fragment_leaves p s row entry before why t
 
-answer_leaves : (reader : ℕ) (answer : NextAnswer) → LeavesCounts (answer_record reader answer)
+answer_leaves : (reader : ℕ) (answer : NextAnswer) → LeavesVectors (answer_record reader answer)
 answer_leaves reader (next.Gave index length) = tt
 answer_leaves reader (next.Ended length) = tt
 answer_leaves reader (next.Waited cut) = tt
 answer_leaves reader (next.Broke why) = tt
 
-read_leaves : (p : Permit) (s : State) (reader : ℕ) (answer : NextAnswer) (added : List Rec) → Legal.MayReadOn p s reader answer added → AllLeaveCounts added
+read_leaves : (p : Permit) (s : State) (reader : ℕ) (answer : NextAnswer) (added : List Rec) → Legal.MayReadOn p s reader answer added → AllLeaveVectors added
 read_leaves p s reader answer added m =
-    leave_as added _ m.is (all_append LeavesCounts m.before _ (reading_leaves p s m.r m.before answer m.right) (answer_leaves reader answer, tt))
+    leave_as added _ m.is (all_append LeavesVectors m.before _ (reading_leaves p s m.r m.before answer m.right) (answer_leaves reader answer, tt))
 
-displacements : (segment live : ℕ) (rows : List Row) → AllLeaveCounts (map (displaced_record segment live) rows)
+displacements : (segment live : ℕ) (rows : List Row) → AllLeaveVectors (map (displaced_record segment live) rows)
 displacements segment live [] = tt
 displacements segment live (row ∷ rows) = (tt, displacements segment live rows)
 
+pub displaced_leave_vectors : (p : Permit) (s : State) (piece : PieceId) (added : List Rec) → MayDisplace p s piece added → AllLeaveVectors added
+displaced_leave_vectors p s piece added m = leave_as added _ m.is (displacements _ _ m.purged)
+
 pub displaced_leaves : (p : Permit) (s : State) (piece : PieceId) (added : List Rec) → MayDisplace p s piece added → AllLeaveCounts added
-displaced_leaves p s piece added m = leave_as added _ m.is (displacements _ _ m.purged)
+displaced_leaves p s piece added m = leave_counts added (displaced_leave_vectors p s piece added m)
 
 -- ---- each group
 
@@ -263,7 +266,62 @@ committed s put added e (Legal.DoesCommit.commits w found still pending is) h =
 opened : (s : State) (actor : ℕ) (key : Key) (request response : List Field) (pin : ℕ) (added : List Rec) → Legal.MayOpenWrite s actor key request response pin added → VectorsAreCounted s → VectorsAreCounted (after_all s added)
 opened s actor key request response pin added m h = subst (λ xs. VectorsAreCounted (after_all s xs)) (sym m.is) (counted_opened s m.who.0 key request response pin _ refl h)
 
--- what a group is: it leaves what is told, or it begins a put, places a piece or commits
+-- what a group is: it leaves last vectors, or it takes one out, begins a put, places a piece or commits
+pub data Groups (p : Permit) (s : State) (added : List Rec) (e : End) : Type 0 where
+  beside : AllLeaveVectors added → Groups p s added e
+  removes : (key : Key) → Legal.DoesRemove s key added e → Groups p s added e
+  begins : {actor : ℕ} {key : Key} {request response : List Field} {pin : ℕ} → Legal.MayOpenWrite s actor key request response pin added → Groups p s added e
+  places_fragment : (put index : ℕ) (payload : List ℕ) → Legal.MayPlaceFragment p s put index payload added → Groups p s added e
+  places_vector : (put fragments : ℕ) → Legal.MayPlaceVector p s put fragments added → Groups p s added e
+  commits_vector : (put : ℕ) → Legal.DoesCommit s put added e → Groups p s added e
+
+no_record : {p : Permit} {s : State} {added : List Rec} {e : End} → added ≡ [] → Groups p s added e
+no_record {added = added} is = beside (leave_as added [] is tt)
+
+one_record : {p : Permit} {s : State} {added : List Rec} {e : End} (r : Rec) → added ≡ r ∷ [] → LeavesVectors r → Groups p s added e
+one_record {added = added} r is one = beside (leave_as added (r ∷ []) is (one, tt))
+
+pub groups : (p : Permit) (s : State) (i : Intent) (added : List Rec) (e : End) → Does p s i added e → Groups p s added e
+groups p s Flush added e (Legal.DoesFlush.empty q f is) = no_record is
+groups p s Flush added e (Legal.DoesFlush.flushes m) = beside (flush_leaves p s added m)
+groups p s Flush added e (Legal.DoesFlush.stops count m) = beside (stop_leaves p s count added m)
+groups p s Flush added e (Legal.DoesFlush.exhausted q f b is) = no_record is
+groups p s Flush added e (Legal.DoesFlush.syncs d) = beside (syncs_leave p _ s added e d)
+groups p s Sync added e d = beside (syncs_leave p _ s added e d)
+groups p s SyncBegin added e d = beside (syncs_leave p _ s added e d)
+groups p s (SyncStep last) added e d = beside (step_leaves p s last added e d)
+groups p s Drain added e d = beside (drain_leaves p s added e d)
+groups p s CleanSync added e d = beside (clean_leaves p s added e d)
+groups p s (Write actor key request response pin) added e (Legal.DoesWrite.opens m) = begins m
+groups p s (Write actor key request response pin) added e (Legal.DoesWrite.many q m is) = no_record is
+groups p s (Write actor key request response pin) added e (Legal.DoesWrite.exhausted q m l is) = no_record is
+groups p s (Fragment put index payload) added e (Legal.DoesFragment.places d m) = places_fragment put index payload m
+groups p s (Fragment put index payload) added e (Legal.DoesFragment.unmarks w n q u) = beside (unmark_leaves p s added e u)
+groups p s (Fragment put index payload) added e (Legal.DoesFragment.rooms w n m) = beside (room_leaves p s _ added e m)
+groups p s (Fragment put index payload) added e (Legal.DoesFragment.exhausted w x n q) = no_record q.is
+groups p s (Overflow put) added e (Legal.DoesOverflow.aborts w q l is) = one_record _ is tt
+groups p s (Weigh put rest) added e (Legal.DoesWeigh.weighs w q r f is) = no_record is
+groups p s (Weigh put rest) added e (Legal.DoesWeigh.too_large w q r f is) = one_record _ is tt
+groups p s (Weigh put rest) added e (Legal.DoesWeigh.damaged w row found q live d is) = one_record _ is tt
+groups p s (Weigh put rest) added e (Legal.DoesWeigh.faulted w row count q live r m is) = one_record _ is tt
+groups p s (Finish put fragments) added e (Legal.DoesFinish.places d m) = places_vector put fragments m
+groups p s (Finish put fragments) added e (Legal.DoesFinish.unmarks w c l q u) = beside (unmark_leaves p s added e u)
+groups p s (Finish put fragments) added e (Legal.DoesFinish.rooms w c m) = beside (room_leaves p s _ added e m)
+groups p s (Finish put fragments) added e (Legal.DoesFinish.exhausted w x c l q) = no_record q.is
+groups p s (Finish put fragments) added e (Legal.DoesFinish.loses w index d m is) = one_record _ is tt
+groups p s (Commit put) added e d = commits_vector put d
+groups p s (GiveUp put) added e (Legal.DoesGiveUp.aborts w q is) = one_record _ is tt
+groups p s (GiveUp put) added e (Legal.DoesGiveUp.over q o is) = no_record is
+groups p s (Remove key) added e d = removes key d
+groups p s (Look actor key request) added e (Legal.DoesLook.looks m) =
+    beside (leave_as added _ m.is (all_append LeavesVectors m.before _ (lookup_leaves p s key request m.before m.answer m.right) (tt, tt)))
+groups p s (ReadOn reader) added e (Legal.DoesReadOn.reads_on answer m) = beside (read_leaves p s reader answer added m)
+groups p s (ReadAll reader) added e (Legal.DoesReadAll.reads_on answer x m y) = beside (read_leaves p s reader answer added m)
+groups p s (ReadAll reader) added e (Legal.DoesReadAll.has_none q x is y) = no_record is
+groups p s (StopReading reader) added e (Legal.DoesStopReading.closes r q l is) = one_record _ is tt
+groups p s (StopReading reader) added e (Legal.DoesStopReading.closed q l is) = no_record is
+
+-- it leaves what is told, also where it takes a vector out
 pub data Parts (p : Permit) (s : State) (added : List Rec) (e : End) : Type 0 where
   left : AllLeaveCounts added → Parts p s added e
   opens : {actor : ℕ} {key : Key} {request response : List Field} {pin : ℕ} → Legal.MayOpenWrite s actor key request response pin added → Parts p s added e
@@ -271,52 +329,20 @@ pub data Parts (p : Permit) (s : State) (added : List Rec) (e : End) : Type 0 wh
   lists : (put fragments : ℕ) → Legal.MayPlaceVector p s put fragments added → Parts p s added e
   commits : (put : ℕ) → Legal.DoesCommit s put added e → Parts p s added e
 
-none_added : {p : Permit} {s : State} {added : List Rec} {e : End} → added ≡ [] → Parts p s added e
-none_added {added = added} is = left (leave_as added [] is tt)
+removal_leaves : (s : State) (key : Key) (added : List Rec) (e : End) → Legal.DoesRemove s key added e → AllLeaveCounts added
+removal_leaves s key added e (Legal.DoesRemove.removes row q l is) = subst AllLeaveCounts (sym is) (tt, tt)
+removal_leaves s key added e (Legal.DoesRemove.absent q l is) = subst AllLeaveCounts (sym is) tt
 
-one_added : {p : Permit} {s : State} {added : List Rec} {e : End} (r : Rec) → added ≡ r ∷ [] → LeavesCounts r → Parts p s added e
-one_added {added = added} r is one = left (leave_as added (r ∷ []) is (one, tt))
+part_of : (p : Permit) (s : State) (added : List Rec) (e : End) → Groups p s added e → Parts p s added e
+part_of p s added e (beside all) = left (leave_counts added all)
+part_of p s added e (removes key d) = left (removal_leaves s key added e d)
+part_of p s added e (begins m) = opens m
+part_of p s added e (places_fragment put index payload m) = cuts put index payload m
+part_of p s added e (places_vector put fragments m) = lists put fragments m
+part_of p s added e (commits_vector put d) = commits put d
 
 pub parts : (p : Permit) (s : State) (i : Intent) (added : List Rec) (e : End) → Does p s i added e → Parts p s added e
-parts p s Flush added e (Legal.DoesFlush.empty q f is) = none_added is
-parts p s Flush added e (Legal.DoesFlush.flushes m) = left (flush_leaves p s added m)
-parts p s Flush added e (Legal.DoesFlush.stops count m) = left (stop_leaves p s count added m)
-parts p s Flush added e (Legal.DoesFlush.exhausted q f b is) = none_added is
-parts p s Flush added e (Legal.DoesFlush.syncs d) = left (syncs_leave p _ s added e d)
-parts p s Sync added e d = left (syncs_leave p _ s added e d)
-parts p s SyncBegin added e d = left (syncs_leave p _ s added e d)
-parts p s (SyncStep last) added e d = left (step_leaves p s last added e d)
-parts p s Drain added e d = left (drain_leaves p s added e d)
-parts p s CleanSync added e d = left (clean_leaves p s added e d)
-parts p s (Write actor key request response pin) added e (Legal.DoesWrite.opens m) = opens m
-parts p s (Write actor key request response pin) added e (Legal.DoesWrite.many q m is) = none_added is
-parts p s (Write actor key request response pin) added e (Legal.DoesWrite.exhausted q m l is) = none_added is
-parts p s (Fragment put index payload) added e (Legal.DoesFragment.places d m) = cuts put index payload m
-parts p s (Fragment put index payload) added e (Legal.DoesFragment.unmarks w n q u) = left (unmark_leaves p s added e u)
-parts p s (Fragment put index payload) added e (Legal.DoesFragment.rooms w n m) = left (room_leaves p s _ added e m)
-parts p s (Fragment put index payload) added e (Legal.DoesFragment.exhausted w x n q) = none_added q.is
-parts p s (Overflow put) added e (Legal.DoesOverflow.aborts w q l is) = one_added _ is tt
-parts p s (Weigh put rest) added e (Legal.DoesWeigh.weighs w q r f is) = none_added is
-parts p s (Weigh put rest) added e (Legal.DoesWeigh.too_large w q r f is) = one_added _ is tt
-parts p s (Weigh put rest) added e (Legal.DoesWeigh.damaged w row found q live d is) = one_added _ is tt
-parts p s (Weigh put rest) added e (Legal.DoesWeigh.faulted w row count q live r m is) = one_added _ is tt
-parts p s (Finish put fragments) added e (Legal.DoesFinish.places d m) = lists put fragments m
-parts p s (Finish put fragments) added e (Legal.DoesFinish.unmarks w c l q u) = left (unmark_leaves p s added e u)
-parts p s (Finish put fragments) added e (Legal.DoesFinish.rooms w c m) = left (room_leaves p s _ added e m)
-parts p s (Finish put fragments) added e (Legal.DoesFinish.exhausted w x c l q) = none_added q.is
-parts p s (Finish put fragments) added e (Legal.DoesFinish.loses w index d m is) = one_added _ is tt
-parts p s (Commit put) added e d = commits put d
-parts p s (GiveUp put) added e (Legal.DoesGiveUp.aborts w q is) = one_added _ is tt
-parts p s (GiveUp put) added e (Legal.DoesGiveUp.over q o is) = none_added is
-parts p s (Remove key) added e (Legal.DoesRemove.removes row q l is) = one_added _ is tt
-parts p s (Remove key) added e (Legal.DoesRemove.absent q l is) = none_added is
-parts p s (Look actor key request) added e (Legal.DoesLook.looks m) =
-    left (leave_as added _ m.is (all_append LeavesCounts m.before _ (lookup_leaves p s key request m.before m.answer m.right) (tt, tt)))
-parts p s (ReadOn reader) added e (Legal.DoesReadOn.reads_on answer m) = left (read_leaves p s reader answer added m)
-parts p s (ReadAll reader) added e (Legal.DoesReadAll.reads_on answer x m y) = left (read_leaves p s reader answer added m)
-parts p s (ReadAll reader) added e (Legal.DoesReadAll.has_none q x is y) = none_added is
-parts p s (StopReading reader) added e (Legal.DoesStopReading.closes r q l is) = one_added _ is tt
-parts p s (StopReading reader) added e (Legal.DoesStopReading.closed q l is) = none_added is
+parts p s i added e d = part_of p s added e (groups p s i added e d)
 
 counted_part : (p : Permit) (s : State) (added : List Rec) (e : End) → VectorsAreCounted s → Parts p s added e
     → VectorsAreCounted (after_all s added)

@@ -17,6 +17,7 @@ use Rattle.cache_model.specs.declared.record.Rec.TheVariants as rec
 use Rattle.cache_model.specs.State.{State, Row, PutRow, LastVector, Complete, TakenOut, Closed, GivenUp, after_all, change_put, count_of_vector, last_vector, list_of_piece, moved_row, opened_put, placed_row, put_of, row_in, row_of, state_after, vector_piece, with_cut, with_writing, without, without_earlier}
 use Rattle.cache_model.specs.Verdict.{is_open}
 use Rattle.cache_model.specs.Legal.{is_writing}
+use Rattle.cache_model.proofs.Steps.{all_as}
 use Rattle.cache_model.proofs.Found.{no_truth, none_is, number_of, same_some}
 use Rattle.cache_model.proofs.Lists.{row_in-without, row_in-placed, row_in-copied}
 use Rattle.step_laws.specs.VectorLaws.{IsOver, VectorsAreCounted}
@@ -132,6 +133,30 @@ LeavesCounts _ = Unit {0}
 
 abbrev pub AllLeaveCounts : List Rec → Type 0
 AllLeaveCounts recs = AllByRecursion LeavesCounts recs
+
+-- nor is it a removal
+abbrev pub LeavesVectors : Rec → Type 0
+LeavesVectors (rec.Formatted geometry) = ⊥
+LeavesVectors (rec.Opened geometry serial cursor floor next_put clean list) = ⊥
+LeavesVectors (rec.Placed piece place blocks digest pin) = ⊥
+LeavesVectors (rec.WriteOpened actor put key request response pin) = ⊥
+LeavesVectors (rec.Committed put key bytes list) = ⊥
+LeavesVectors (rec.Removed put key) = ⊥
+LeavesVectors _ = Unit {0}
+
+abbrev pub AllLeaveVectors : List Rec → Type 0
+AllLeaveVectors recs = AllByRecursion LeavesVectors recs
+
+counts_one : (r : Rec) → LeavesVectors r → LeavesCounts r
+counts_one (rec.Formatted geometry) h = h
+counts_one (rec.Opened geometry serial cursor floor next_put clean list) h = h
+counts_one (rec.Placed piece place blocks digest pin) h = h
+counts_one (rec.WriteOpened actor put key request response pin) h = h
+counts_one (rec.Committed put key bytes list) h = h
+counts_one _ h = tt
+
+pub leave_counts : (recs : List Rec) → AllLeaveVectors recs → AllLeaveCounts recs
+leave_counts recs h = all_as LeavesVectors LeavesCounts counts_one recs h
 
 taken_by : (key : Key) (put gone : ℕ) (o : Option LastVector) (b : Bool) → (if b then Some (TakenOut gone) else o) ≡ Some (Complete put) → o ≡ Some (Complete put)
 taken_by key put gone o true h = cc

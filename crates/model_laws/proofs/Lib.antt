@@ -8,6 +8,7 @@ mod Possible
 mod Tried
 pub mod CountedRecords
 pub mod Counted
+pub mod Quiet
 pub mod Digests
 pub mod DigestSteps
 mod Calm

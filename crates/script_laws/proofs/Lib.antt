@@ -15,6 +15,5 @@ pub mod Devices
 mod Alike
 pub mod Parting
 mod Agreeing
-mod Quiet
 mod Recorded
 mod Vectors

@@ -29,7 +29,7 @@ use Rattle.model_laws.proofs.Counted
 use Rattle.model_laws.proofs.Counted.{Parts, displaced_leaves, parts}
 use Rattle.model_laws.proofs.CountedRecords.{AllLeaveCounts, LeavesCounts}
 use Rattle.script_laws.specs.Vectors.{AreOnRecord, IsOnRecord}
-use Rattle.script_laws.proofs.Quiet.{quiet_or_commits}
+use Rattle.model_laws.proofs.Quiet.{quiet_or_commits}
 
 -- ---- states
 
