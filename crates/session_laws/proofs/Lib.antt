@@ -10,6 +10,9 @@ mod Tenths
 mod Fits
 mod Payloads
 mod Syncs
+mod Begun
+mod OneVector
+mod Lengths
 mod Forgetting
 mod ForgetAnswers
 mod CountedForgetting

@@ -45,10 +45,10 @@ get_last (x ∷ xs) e = get_last xs e
 -- ---- puts that grow
 
 -- what one has cut the other has cut too
-abbrev Extends : PutRow → PutRow → Type 0
+abbrev pub Extends : PutRow → PutRow → Type 0
 Extends w v = (i : ℕ) (e : TableRow) → slice_get w.cuts i ≡ Some e → slice_get v.cuts i ≡ Some e
 
-abbrev Grows : Option PutRow → Option PutRow → Type 0
+abbrev pub Grows : Option PutRow → Option PutRow → Type 0
 Grows None None = Unit {0}
 Grows None (Some v) = ⊥
 Grows (Some w) None = ⊥
@@ -86,7 +86,7 @@ is_put w (Some v) g = (v, refl)
 -- ---- states
 
 -- the fragments of t are such of s, with their payloads, and no put begins
-record KeepsCuts (s t : State) : Type 0 where
+pub record KeepsCuts (s t : State) : Type 0 where
   pub rows : (id : PieceId) (row : Row) → is_vector id ≡ false → row_of t id ≡ Some row → (old : Row) × (row_of s id ≡ Some old) × (row.payload ≡ old.payload)
   pub puts : (n : ℕ) → Grows (put_of s n) (put_of t n)
   pub next : t.next_put ≡ s.next_put
@@ -106,7 +106,7 @@ keeps_trans {s} {t} {u} a b = record {
   opened = b.opened ∙ a.opened;
 }
 
-cut_kept : {s t : State} → KeepsCuts s t → AreCut s → AreCut t
+pub cut_kept : {s t : State} → KeepsCuts s t → AreCut s → AreCut t
 cut_kept {s} {t} k h = record {
   own = (λ id row v fragment few found is.
       let old = k.rows id row fragment found in
@@ -162,7 +162,7 @@ keeps_one s (rec.Cut put index length digest) h =
 keeps_one s (rec.Aborted put key) h = puts_alone s _ put (with_writing GivenUp) (λ p. refl) (λ p i e k. k) refl refl refl (λ id row found. found)
 keeps_one s _ h = rows_alone s _ refl refl refl (λ id row found. (row, found, refl))
 
-keeps_all : (s : State) (recs : List Rec) → AllLeaveCounts recs → KeepsCuts s (after_all s recs)
+pub keeps_all : (s : State) (recs : List Rec) → AllLeaveCounts recs → KeepsCuts s (after_all s recs)
 keeps_all s [] h = keeps_self s
 keeps_all s (r ∷ recs) h = keeps_trans (keeps_one s r h.0) (keeps_all (state_after s r) recs h.1)
 
@@ -198,7 +198,7 @@ displaced_leave : (s : State) (segment live : ℕ) (rows : List Row) → ((after
 displaced_leave s segment live [] = (refl, refl)
 displaced_leave s segment live (row ∷ rows) = displaced_leave (state_after s (displaced_record segment live row)) segment live rows
 
-displaced_left : (p : Permit) (s t : State) (piece : PieceId) (added : List Rec) → MayDisplace p s piece added
+pub displaced_left : (p : Permit) (s t : State) (piece : PieceId) (added : List Rec) → MayDisplace p s piece added
     → ((after_all t added).puts ≡ t.puts) × ((after_all t added).last_cut ≡ t.last_cut)
 displaced_left p s t piece added m = subst (λ recs. ((after_all t recs).puts ≡ t.puts) × ((after_all t recs).last_cut ≡ t.last_cut)) (sym m.is) (displaced_leave t _ _ m.purged)
 
@@ -306,7 +306,7 @@ cut_fragment p s put index payload added counted m h =
 
 -- ---- groups and steps
 
-cut_part : (p : Permit) (s : State) (added : List Rec) (e : End) → VectorsAreCounted s → Parts p s added e → AreCut s
+pub cut_part : (p : Permit) (s : State) (added : List Rec) (e : End) → VectorsAreCounted s → Parts p s added e → AreCut s
     → AreCut (after_all s added)
 cut_part p s added e counted (Counted.Parts.left all) h = cut_kept (keeps_all s added all) h
 cut_part p s added e counted (Counted.Parts.opens {key = key} {request = request} {response = response} {pin = pin} m) h =

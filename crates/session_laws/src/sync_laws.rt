@@ -1,5 +1,6 @@
 // Laws of syncs and of clean marks. These functions do nothing when they run.
 ghost use Rattle.step_laws.specs.AskLaws.{AskedIsSynced, DueIsEnded, DueIsSynced, EndedFirst, FlushBegins, LegalSerialsRise, MarkIsTakenBack, MarkedIsEmpty, MarkedPlacesNothing, MarkedStaysEmpty, NoSyncIsRecorded, RoomBegins, SerialsFollow, SerialsRise, StepsTellNoSync, SyncEndsWhereDue, SyncIsDueOrAsked};
+ghost use Rattle.session_laws.specs.MarkLaws.{MarksAreOpenable};
 ghost use Rattle.session_laws.specs.SyncLaws.{FinishedIsLast, FollowerAllowsSync, FollowerHasSync, MarksStay, OnlyLaterAreAllowed, SyncIsHeld};
 
 /// What a sync holds is how things stood when it began.
@@ -10,6 +11,11 @@ pub fn sync_is_held()
 /// Nothing that is recorded later changes what a sync holds.
 pub fn marks_stay()
     ensures { MarksStay }
+{}
+
+/// What a sync names passes the tests of an opening.
+pub fn marks_are_openable()
+    ensures { MarksAreOpenable }
 {}
 
 /// The sync that finished last is the last of which that is recorded.
