@@ -1,8 +1,8 @@
 -- No piece that is kept is another one, and no two are vectors of one object.
 use Rattle.std.proofs.Common.{◌≡◌, Bool, true, false, List, [], ◌∷◌, map, refl, ap, subst, ◌∙◌, arith}
-use Rattle.std.specs.Prelude.{◌&&◌, ◌||◌, if◌then◌else◌, All, AllPairs}
+use Rattle.std.specs.Prelude.{◌&&◌, if◌then◌else◌, All, AllPairs}
 use Rattle.std.specs.List.{list_any}
-use Rattle.std.proofs.lemmas.Bool.{false_from_ne_true, or_parts}
+use Rattle.std.proofs.lemmas.Bool.{false_from_ne_true, or_from, or_parts}
 use Rattle.std.proofs.lemmas.List.Elements.{All-nil, All-cons}
 use Rattle.std.proofs.lemmas.List.Kept.{AllPairs-cons}
 use Rattle.tape_base.specs.declared.keys.Key.{Key}
@@ -20,17 +20,14 @@ use Rattle.reopening.specs.Kept.{AreAlone}
 
 -- ---- those behind a piece that are kept do not replace it
 
-or_none : (x y : Bool) → x ≡ false → y ≡ false → (x || y) ≡ false
-or_none x y p q = ap (λ b. b || y) p ∙ q
-
 module _ (test : FoundRow → Bool) where
   none_by : (b : Bool) (x : FoundRow) (rest : List FoundRow) → test x ≡ false → list_any test rest ≡ false → list_any test (if b then x ∷ rest else rest) ≡ false
-  none_by true x rest here none = or_none (test x) (list_any test rest) here none
+  none_by true x rest here none = or_from (test x) (list_any test rest) here none
   none_by false x rest here none = none
 
   none_but : (b : Bool) (x : FoundRow) (rest : List FoundRow) → test x ≡ false → list_any test rest ≡ false → list_any test (if b then rest else x ∷ rest) ≡ false
   none_but true x rest here none = none
-  none_but false x rest here none = or_none (test x) (list_any test rest) here none
+  none_but false x rest here none = or_from (test x) (list_any test rest) here none
 
   none_latest : (all : List FoundRow) → list_any test all ≡ false → list_any test (latest all) ≡ false
   unfolding latest
@@ -55,7 +52,7 @@ alone_by : (b : Bool) (x : FoundRow) (rest : List FoundRow) → list_any (λ y. 
 alone_by true x rest here alone = (here, alone)
 alone_by false x rest here alone = alone
 
-latest_alone : (all : List FoundRow) → AreAlone (latest all)
+pub latest_alone : (all : List FoundRow) → AreAlone (latest all)
 unfolding latest
 latest_alone [] = tt
 latest_alone (x ∷ later) =
@@ -73,7 +70,7 @@ kept_alone all = alone_kept (map measure_of (latest all)) (latest all) (latest_a
 
 -- ---- so they are apart
 
-key_back : (a b : Key) → same_key b a ≡ false → same_key a b ≡ false
+pub key_back : (a b : Key) → same_key b a ≡ false → same_key a b ≡ false
 key_back a b h = false_from_ne_true (same_key a b) (λ e.
     let same : same_key b a ≡ true = ap (same_key b) (same_key-true a b e) ∙ same_key-same b in
     not_both (same_key b a) same h) where
@@ -81,7 +78,7 @@ key_back a b h = false_from_ne_true (same_key a b) (λ e.
       not_both true p q = absurd cc
       not_both false p q = absurd cc
 
-piece_back : (a b : PieceId) → same_piece b a ≡ false → same_piece a b ≡ false
+pub piece_back : (a b : PieceId) → same_piece b a ≡ false → same_piece a b ≡ false
 piece_back a b h = false_from_ne_true (same_piece a b) (λ e.
     let same : same_piece b a ≡ true = ap (same_piece b) (same_piece-true a b e) ∙ same_piece-same b in
     not_both (same_piece b a) same h) where

@@ -2,9 +2,8 @@
 use Rattle.std.proofs.Common.{◌≡◌, ◌≤◌, ◌<◌, ◌+◌, ℕ, zero, suc, Bool, true, false, List, [], ◌∷◌, map, Some, None, refl, arith}
 use Rattle.std.specs.Prelude.{max, if◌then◌else◌}
 use Rattle.std.specs.List.{list_any, cons_option}
-use Rattle.device_log.specs.Image.{Image}
 use Rattle.tape_base.specs.Blocks.{blocks_of}
-use Rattle.stripe_header.specs.declared.area.Area.{Area}
+use Rattle.tape_base.specs.declared.geometries.Geometry.{Geometry}
 use Rattle.stripe_header.specs.declared.states.CopyState.{CopyState}
 use Rattle.doc_header.specs.Reading.{length_of}
 use Rattle.dir_table.specs.declared.rows.StoredRow.{StoredRow}
@@ -12,8 +11,9 @@ use Rattle.cache_model.specs.declared.findings.FoundRow.{FoundRow}
 use Rattle.cache_model.specs.State.{row_of_found}
 use Rattle.cache_model.specs.Tape.{AreRising}
 use Rattle.reopening.specs.declared.later.Measure.{Measure}
-use Rattle.reopening.specs.Documents.{document_at, standing_of}
-use Rattle.reopening.specs.Tests.{judged, passes_tests, standing_from}
+use Rattle.reopening.specs.Documents.{standing_of}
+use Rattle.reopening.specs.Tests.{judged, passes_tests}
+use Rattle.reopening.specs.Given.{all_given}
 use Rattle.reopening.specs.Later.{has_lengths, kept_rows, latest, measure_of, replaces, with_lengths}
 use Rattle.reopening.proofs.Pieces.{ends_by, passed_all}
 
@@ -24,28 +24,28 @@ lower : (low from high : ℕ) (all : List FoundRow) → low ≤ from → Rise fr
 lower low from high [] le rise = omega (arith, le, rise)
 lower low from high (x ∷ rest) le rise = (omega (arith, le, rise.0), rise.1, rise.2, rise.3)
 
-module _ (a : Area) (told : CopyState) (rows : List StoredRow) (c : Image) where
-  one_judged : (p : ℕ) (bytes : List ℕ) (rest : List FoundRow) → p < told.cursor → Rise (max a.geometry.content (p + 1)) rest told.cursor
-      → Rise (max a.geometry.content p) (cons_option (judged a.geometry told rows p bytes) rest) told.cursor
+module _ (g : Geometry) (told : CopyState) (rows : List StoredRow) (docs : ℕ → List ℕ) where
+  one_judged : (p : ℕ) (bytes : List ℕ) (rest : List FoundRow) → p < told.cursor → Rise (max g.content (p + 1)) rest told.cursor
+      → Rise (max g.content p) (cons_option (judged g told rows p bytes) rest) told.cursor
   unfolding judged
-  one_judged p bytes rest lt rise = by (passes_tests a.geometry told rows p bytes) refl where
-    by : (b : Bool) → passes_tests a.geometry told rows p bytes ≡ b
-        → Rise (max a.geometry.content p) (cons_option (if b then Some (standing_of p bytes) else None) rest) told.cursor
+  one_judged p bytes rest lt rise = by (passes_tests g told rows p bytes) refl where
+    by : (b : Bool) → passes_tests g told rows p bytes ≡ b
+        → Rise (max g.content p) (cons_option (if b then Some (standing_of p bytes) else None) rest) told.cursor
     by true is =
-        let e = passed_all a.geometry told rows p bytes is in (
+        let e = passed_all g told rows p bytes is in (
           omega (arith, e.first),
           omega arith,
-          ends_by a.geometry told.cursor p (blocks_of (length_of bytes)) lt e.lap e.inside,
-          lower (p + 1) (max a.geometry.content (p + 1)) told.cursor rest (omega arith) rise,
+          ends_by g told.cursor p (blocks_of (length_of bytes)) lt e.lap e.inside,
+          lower (p + 1) (max g.content (p + 1)) told.cursor rest (omega arith) rise,
         )
-    by false is = lower (max a.geometry.content p) (max a.geometry.content (p + 1)) told.cursor rest (omega arith) rise
+    by false is = lower (max g.content p) (max g.content (p + 1)) told.cursor rest (omega arith) rise
 
   -- what stands at places one by one
-  pub rising_standing : (low n : ℕ) → low + n ≡ told.cursor → a.geometry.content ≤ told.cursor
-      → Rise (max a.geometry.content low) (standing_from a told rows c low n) told.cursor
+  pub rising_standing : (low n : ℕ) → low + n ≡ told.cursor → g.content ≤ told.cursor
+      → Rise (max g.content low) (all_given g told rows docs low n) told.cursor
   rising_standing low zero is some = omega (arith, is, some)
   rising_standing low (suc n) is some =
-      one_judged low (document_at a c low) (standing_from a told rows c (low + 1) n) (omega (arith, is))
+      one_judged low (docs low) (all_given g told rows docs (low + 1) n) (omega (arith, is))
       (rising_standing (low + 1) n (omega (arith, is)) some)
 
 module _ (high : ℕ) where

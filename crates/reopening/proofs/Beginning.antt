@@ -1,5 +1,5 @@
 -- What an image opens to may begin a session.
-use Rattle.std.proofs.Common.{◌≡◌, ◌≤◌, ◌<◌, ◌+◌, ◌-◌, ℕ, Bool, true, false, List, [], ◌∷◌, map, Option, Some, None, refl, subst, arith, inl, inr}
+use Rattle.std.proofs.Common.{◌≡◌, ◌≤◌, ◌<◌, ◌+◌, ◌-◌, ℕ, Bool, true, false, List, [], ◌∷◌, map, Option, Some, None, refl, sym, subst, ◌∙◌, arith, inl, inr}
 use Rattle.std.specs.Prelude.{◌==◌, ◌&&◌, max, length, filter, if◌then◌else◌, IsTrue}
 use Rattle.std.specs.List.{AllByRecursion, list_any}
 use Rattle.std.proofs.Math.Nat.{mod-lt}
@@ -27,9 +27,9 @@ use Rattle.cache_model.specs.Vectors.{IsListed}
 use Rattle.reopening.specs.declared.newest.Newest.{Newest}
 use Rattle.reopening.specs.Newest.{bound_of, directory_at, newest_of}
 use Rattle.reopening.specs.Documents.{blocks_read, document_at, standing_of}
-use Rattle.reopening.specs.Tests.{standing_from}
 use Rattle.reopening.specs.Later.{kept_rows, latest, measure_of}
-use Rattle.reopening.specs.Opens.{found_of, is_sound, opened, opening_at, opening_with, opens_to, rows_at, rows_told}
+use Rattle.reopening.specs.Opens.{found_of, is_sound, opened, opening_at, opening_with, opens_to, rows_told}
+use Rattle.reopening.specs.Given.{ImagesGive, OpeningsGivenBegin, all_given}
 use Rattle.reopening.specs.Begins.{OpeningsMayBegin}
 use Rattle.reopening.proofs.Alone.{apart, kept_alone, of_two_keys}
 use Rattle.reopening.proofs.Ascent.{kept_rise, rising_standing}
@@ -51,7 +51,7 @@ each_weaker : (P Q : Row → Type 0) → ((row : Row) → P row → Q row) → (
 each_weaker P Q step [] each = tt
 each_weaker P Q step (x ∷ all) each = (step x each.0, each_weaker P Q step all each.1)
 
-document_bytes : (a : Area) (c : Image) (p : ℕ) → ((j : ℕ) → IsBytes (c j)) → IsBytes (document_at a c p)
+pub document_bytes : (a : Area) (c : Image) (p : ℕ) → ((j : ℕ) → IsBytes (c j)) → IsBytes (document_at a c p)
 unfolding document_at
 document_bytes a c p bytes = span_bytes c (block_of_place a p) (blocks_read a c p) bytes
 
@@ -60,24 +60,19 @@ told_stored : (g : Geometry) (told : CopyState) (bytes : List ℕ) (test : Store
 unfolding rows_told
 told_stored g told bytes test h = any_stored g told.cursor test (bound_of g told) bytes h
 
--- ---- one copy
+-- ---- one copy, with the documents that were given
 
-module _ (a : Area) (c : Image) (bytes : (j : ℕ) → IsBytes (c j)) (n : Newest) (newest : newest_of a c ≡ Some n) (sound : is_sound a.geometry (directory_at a c n.side) ≡ true) where
-  abbrev g : Geometry
-  g = a.geometry
-
-  abbrev told : CopyState
-  told = n.told
-
+module _ (g : Geometry) (told : CopyState) (directory : List ℕ) (docs : ℕ → List ℕ)
+    (says : IsTrue (may_say g told)) (sound : is_sound g directory ≡ true) (bytes : (p : ℕ) → IsBytes (docs p)) where
   abbrev rows : List StoredRow
-  rows = rows_at a c n
+  rows = rows_told g told directory
 
   abbrev bound : ℕ
   bound = bound_of g told
 
   -- what passes by itself, and what is kept of it
   abbrev all : List FoundRow
-  all = standing_from a told rows c bound (told.cursor - bound)
+  all = all_given g told rows docs bound (told.cursor - bound)
 
   abbrev found : List FoundRow
   found = kept_rows all
@@ -88,26 +83,23 @@ module _ (a : Area) (c : Image) (bytes : (j : ℕ) → IsBytes (c j)) (n : Newes
   abbrev s : State
   s = state_of_opening g o
 
-  says : IsTrue (may_say g told)
-  says = newest_says a c n newest
-
-  each_found : (P : FoundRow → Type 0) → ((p : ℕ) → Passed g told rows p (document_at a c p) → P (standing_of p (document_at a c p))) → AllByRecursion P found
+  each_found : (P : FoundRow → Type 0) → ((p : ℕ) → Passed g told rows p (docs p) → P (standing_of p (docs p))) → AllByRecursion P found
   each_found P passed =
       each_kept P (map measure_of (latest all)) (latest all) (each_latest P all
-      (each_standing P a told rows c bound (told.cursor - bound) (λ p low high h. passed p (passed_all g told rows p (document_at a c p) h))))
+      (each_standing P g told rows docs bound (told.cursor - bound) (λ p low high h. passed p (passed_all g told rows p (docs p) h))))
 
   rising : AreRising (max g.content bound) (map row_of_found found) told.cursor
   rising =
       let end : bound + (told.cursor - bound) ≡ told.cursor = omega (arith, (bound_fits g told says).1) in
-      kept_rise told.cursor (max g.content bound) all (rising_standing a told rows c bound (told.cursor - bound) end (cursor_fits g told says).0)
+      kept_rise told.cursor (max g.content bound) all (rising_standing g told rows docs bound (told.cursor - bound) end (cursor_fits g told says).0)
 
   vectors : AllByRecursion (IsListed s) (map row_of_found found)
   vectors =
       each_map (IsListed s) found (each_found (λ (f : FoundRow). IsListed s (row_of_found f))
-      (λ p passed. listed_row g told rows p (document_at a c p) (document_bytes a c p bytes) passed o))
+      (λ p passed. listed_row g told rows p (docs p) (bytes p) passed o))
 
   abbrev stored : List StoredRow
-  stored = rows_of_segments g told.cursor 0 (image_segments g (directory_at a c n.side))
+  stored = rows_of_segments g told.cursor 0 (image_segments g directory)
 
   -- a row has an entry at its place, under the key of its piece
   abbrev IsEntered : Row → Type 0
@@ -116,7 +108,7 @@ module _ (a : Area) (c : Image) (bytes : (j : ℕ) → IsBytes (c j)) (n : Newes
   entered : AllByRecursion IsEntered (map row_of_found found)
   entered =
       each_map IsEntered found (each_found (λ (f : FoundRow). IsEntered (row_of_found f))
-      (λ p passed. told_stored g told (directory_at a c n.side) (λ r. r.place == p && is_under g (key_of_piece (standing_of p (document_at a c p)).id) r) passed.entered))
+      (λ p passed. told_stored g told directory (λ r. r.place == p && is_under g (key_of_piece (standing_of p (docs p)).id) r) passed.entered))
 
   module _ (segment : ℕ) where
     abbrev of_segment : Row → Bool
@@ -145,7 +137,7 @@ module _ (a : Area) (c : Image) (bytes : (j : ℕ) → IsBytes (c j)) (n : Newes
     fits_segment : FitsSegment s segment
     fits_segment = elim (cases_lt segment g.segments) [
       | inl within ↦ rows_fit g stored segment (max g.content bound) told.cursor (rows_of_segment s segment) rows_rise told_rows
-          (entries_fit g told.cursor (directory_at a c n.side) sound segment within)
+          (entries_fit g told.cursor directory sound segment within)
       | inr behind ↦ omega (arith, none_behind (rows_of_segment s segment) behind told_rows)
     ]
 
@@ -155,20 +147,23 @@ module _ (a : Area) (c : Image) (bytes : (j : ℕ) → IsBytes (c j)) (n : Newes
     rising = rising;
     apart = apart found (kept_alone all);
     keys = of_two_keys found (kept_alone all);
-    each = each_found (IsFoundPiece g o) (λ p passed. found_piece g told rows p (document_at a c p) found passed (found_document g told rows p (document_at a c p) (document_bytes a c p bytes) passed o));
-    puts = each_found (AreEarlierPuts o) (λ p passed. earlier_puts g told rows p (document_at a c p) found passed);
+    each = each_found (IsFoundPiece g o) (λ p passed. found_piece g told rows p (docs p) found passed (found_document g told rows p (docs p) (bytes p) passed o));
+    puts = each_found (AreEarlierPuts o) (λ p passed. earlier_puts g told rows p (docs p) found passed);
     lengths = kept_state all;
     vectors = vectors;
     fits = λ is segment. fits_segment segment;
   }
 
-  pub may_begin : (packed : Bool) → IsOpening packed g (opening_at a c n)
-  unfolding found_of
-  may_begin packed = is_opening packed
+pub given_begin : OpeningsGivenBegin
+given_begin packed g told directory docs says sound bytes = is_opening g told directory docs says sound bytes packed
+
+pub images_give : ImagesGive
+unfolding found_of
+images_give a c n = refl
 
 -- ---- all of it
 
-opened_is : (sound : Bool) (x o : Opening) → (if sound then Some x else None) ≡ Some o → (sound ≡ true) × (x ≡ o)
+pub opened_is : (sound : Bool) (x o : Opening) → (if sound then Some x else None) ≡ Some o → (sound ≡ true) × (x ≡ o)
 opened_is true x o h = (refl, cc h)
 opened_is false x o h = absurd cc
 
@@ -176,7 +171,9 @@ by_newest : (packed : Bool) (a : Area) (c : Image) (o : Opening) → ((j : ℕ) 
 by_newest packed a c o bytes None newest h = absurd cc
 by_newest packed a c o bytes (Some n) newest h =
     let e = opened_is (is_sound a.geometry (directory_at a c n.side)) (opening_at a c n) o h in
-    subst (λ (x : Opening). IsOpening packed a.geometry x) e.1 (may_begin a c bytes n newest e.0 packed)
+    subst (λ (x : Opening). IsOpening packed a.geometry x) (sym (images_give a c n) ∙ e.1)
+    (given_begin packed a.geometry n.told (directory_at a c n.side) (document_at a c) (newest_says a c n newest) e.0
+    (λ p. document_bytes a c p bytes))
 
 pub openings_begin : OpeningsMayBegin
 unfolding opens_to

@@ -2,15 +2,14 @@
 use Rattle.std.proofs.Common.{◌≡◌, ◌≤◌, ◌<◌, ◌+◌, ℕ, zero, suc, Bool, true, false, List, [], ◌∷◌, Some, None, refl, arith}
 use Rattle.std.specs.Prelude.{if◌then◌else◌}
 use Rattle.std.specs.List.{AllByRecursion, list_any, cons_option}
-use Rattle.device_log.specs.Image.{Image}
 use Rattle.tape_base.specs.declared.geometries.Geometry.{Geometry}
-use Rattle.stripe_header.specs.declared.area.Area.{Area}
 use Rattle.stripe_header.specs.declared.states.CopyState.{CopyState}
 use Rattle.dir_table.specs.declared.rows.StoredRow.{StoredRow}
 use Rattle.cache_model.specs.declared.findings.FoundRow.{FoundRow}
 use Rattle.reopening.specs.declared.later.Measure.{Measure}
-use Rattle.reopening.specs.Documents.{document_at, standing_of}
-use Rattle.reopening.specs.Tests.{judged, passes_tests, standing_from}
+use Rattle.reopening.specs.Documents.{standing_of}
+use Rattle.reopening.specs.Tests.{judged, passes_tests}
+use Rattle.reopening.specs.Given.{all_given}
 use Rattle.reopening.specs.Later.{has_lengths, latest, replaces, with_lengths}
 
 module _ (P : FoundRow → Type 0) where
@@ -26,15 +25,14 @@ module _ (P : FoundRow → Type 0) where
   judged_one g told rows p bytes rest = one_more (passes_tests g told rows p bytes) (standing_of p bytes) rest
 
   -- what holds of each that passes
-  pub each_standing : (a : Area) (told : CopyState) (rows : List StoredRow) (c : Image) (low n : ℕ)
-      → ((p : ℕ) → low ≤ p → p < low + n → passes_tests a.geometry told rows p (document_at a c p) ≡ true
-      → P (standing_of p (document_at a c p)))
-      → AllByRecursion P (standing_from a told rows c low n)
-  each_standing a told rows c low zero each = tt
-  each_standing a told rows c low (suc n) each =
-      judged_one a.geometry told rows low (document_at a c low) (standing_from a told rows c (low + 1) n)
+  pub each_standing : (g : Geometry) (told : CopyState) (rows : List StoredRow) (docs : ℕ → List ℕ) (low n : ℕ)
+      → ((p : ℕ) → low ≤ p → p < low + n → passes_tests g told rows p (docs p) ≡ true → P (standing_of p (docs p)))
+      → AllByRecursion P (all_given g told rows docs low n)
+  each_standing g told rows docs low zero each = tt
+  each_standing g told rows docs low (suc n) each =
+      judged_one g told rows low (docs low) (all_given g told rows docs (low + 1) n)
       (each low (omega arith) (omega arith))
-      (each_standing a told rows c (low + 1) n (λ p from to. each p (omega (arith, from)) (omega (arith, to))))
+      (each_standing g told rows docs (low + 1) n (λ p from to. each p (omega (arith, from)) (omega (arith, to))))
 
   maybe_kept : (b : Bool) (x : FoundRow) (rest : List FoundRow) → P x → AllByRecursion P rest → AllByRecursion P (if b then x ∷ rest else rest)
   maybe_kept true x rest here all = (here, all)

@@ -86,7 +86,7 @@ all_kept : (all : List FoundRow) → AreAlone all → AllByRecursion (λ (x : Fo
 all_kept all alone lengths =
     ap (λ l. with_lengths (map measure_of l) l) (latest_alone all alone) ∙ lengths_hold (map measure_of all) all lengths
 
-all_found : (a : Area) (c : Image) (n : Newest) (all : List FoundRow) → StandAll a c n all → found_of a n.told (rows_at a c n) c ≡ all
+pub all_found : (a : Area) (c : Image) (n : Newest) (all : List FoundRow) → StandAll a c n all → found_of a n.told (rows_at a c n) c ≡ all
 unfolding found_of
 all_found a c n all is =
     let rows = rows_at a c n in

@@ -35,7 +35,7 @@ long_enough : (short : Bool) (fault : DocFault) (rest : Option DocFault) → con
 long_enough true fault rest h = absurd cc
 long_enough false fault rest h = refl
 
-field_small : (at n : ℕ) (bytes : List ℕ) → IsBytes bytes → IsBytes (slice_at at n bytes)
+pub field_small : (at n : ℕ) (bytes : List ℕ) → IsBytes bytes → IsBytes (slice_at at n bytes)
 unfolding slice_at
 field_small at n bytes fits = IsBytes-take n (drop at bytes) (IsBytes-drop at bytes fits)
 
@@ -47,7 +47,7 @@ is_document g p bytes fits sound =
 
 -- ---- a vector
 
-read_ok : (r : Result (List Stored) VectorFault) (list : List Stored) → result_ok r ≡ Some list → r ≡ Ok list
+pub read_ok : (r : Result (List Stored) VectorFault) (list : List Stored) → result_ok r ≡ Some list → r ≡ Ok list
 read_ok (Ok x) list is = let same : x ≡ list = cc is in ap Ok same
 read_ok (Err fault) list is = absurd cc
 

@@ -1,5 +1,5 @@
 -- Which blocks an opening rests on, and images that open alike.
-use Rattle.std.specs.Prelude.{◌≡◌, ℕ, ◌+◌, ◌≤◌, ◌<◌, ◌==◌, ◌⊎◌, Bool, false, true, List, Some}
+use Rattle.std.specs.Prelude.{◌≡◌, ℕ, ◌+◌, ◌≤◌, ◌<◌, ◌==◌, ◌⊎◌, Bool, false, true, List, Some, None}
 use Rattle.std.specs.List.{list_any}
 use Rattle.device_log.specs.Image.{Image, IsImage}
 use Rattle.device_log.specs.Calls.{Call}
@@ -7,20 +7,31 @@ use Rattle.device_log.specs.Seen.{MayLeave, is_pending, seen_of}
 use Rattle.tape_base.specs.Blocks.{blocks_of}
 use Rattle.stripe_header.specs.declared.area.Area.{Area}
 use Rattle.stripe_header.specs.declared.area.Side.{Side}
-use Rattle.stripe_header.specs.Layout.{block_of_place, body_blocks, body_of, gate_of}
+use Rattle.stripe_header.specs.Layout.{block_of_place, body_blocks, body_of, gate_of, other_side}
+use Rattle.dir_sync.specs.Moments.{IsShut}
 use Rattle.doc_header.specs.Reading.{length_of}
 use Rattle.dir_table.specs.declared.rows.StoredRow.{StoredRow}
 use Rattle.reopening.specs.declared.newest.Newest.{Newest}
-use Rattle.reopening.specs.Newest.{bound_of, newest_of}
+use Rattle.reopening.specs.Newest.{IsBeaten, bound_of, copy_at, newest_of}
 use Rattle.reopening.specs.Tests.{is_inside}
 use Rattle.reopening.specs.Opens.{opens_to, rows_at}
 
--- the block is that of a gate, or of a body, or of a place from the bound of this copy up to an end
+-- the block is one of a copy's body
+abbrev pub IsInBody : Area → Side → ℕ → Type 0
+IsInBody a side j = (body_of a side ≤ j) × (j < body_of a side + body_blocks a)
+
+-- it is that of a place from the bound of a copy up to an end
+abbrev pub IsBlockNamed : Area → Newest → ℕ → ℕ → Type 0
+IsBlockNamed a n end j = (p : ℕ) × (bound_of a.geometry n.told ≤ p) × (p < end) × (j ≡ block_of_place a p)
+
+-- a copy rests on the block: it is one of its body, or of what it names up to an end
+abbrev pub RestsOnOne : Area → Newest → ℕ → ℕ → Type 0
+RestsOnOne a n end j = IsInBody a n.side j ⊎ IsBlockNamed a n end j
+
+-- so does an opening: it is that of a gate, or of a body, or of what the copy names
 abbrev pub IsRestedOn : Area → Newest → ℕ → ℕ → Type 0
 IsRestedOn a n end j =
-    ((side : Side) × (j ≡ gate_of side))
-    ⊎ (((side : Side) × (body_of a side ≤ j) × (j < body_of a side + body_blocks a))
-    ⊎ ((p : ℕ) × (bound_of a.geometry n.told ≤ p) × (p < end) × (j ≡ block_of_place a p)))
+    ((side : Side) × (j ≡ gate_of side)) ⊎ (((side : Side) × IsInBody a side j) ⊎ IsBlockNamed a n end j)
 
 -- the blocks that the first one at a place tells
 abbrev pub blocks_told : Area → Image → ℕ → ℕ
@@ -50,3 +61,23 @@ OpensAlike = (a : Area) (n : Newest) (end : ℕ) (c d : Image) (settled : Bool) 
 -- all that a copy names stands below its cursor
 abbrev pub AllEndByCursor : Type 0
 AllEndByCursor = (a : Area) (c : Image) (n : Newest) → EndsBy a c n n.told.cursor
+
+-- an accepted copy is the newest where the other one does not count
+abbrev pub NewestWins : Type 0
+NewestWins = (a : Area) (c : Image) (n : Newest) → copy_at a c n.side ≡ Some n.told
+    → IsBeaten (copy_at a c (other_side n.side)) n.side n.told.serial → newest_of a c ≡ Some n
+
+-- and the newest copy is such a one
+abbrev pub NewestWon : Type 0
+NewestWon = (a : Area) (c : Image) (n : Newest) → newest_of a c ≡ Some n
+    → (copy_at a c n.side ≡ Some n.told) × IsBeaten (copy_at a c (other_side n.side)) n.side n.told.serial
+
+-- a copy behind a shut gate is refused
+abbrev pub ShutIsNoCopy : Type 0
+ShutIsNoCopy = (a : Area) (c : Image) (side : Side) → IsShut side c → copy_at a c side ≡ None
+
+-- images with one newest copy open alike where they have the same in the blocks of its body and in what it names
+abbrev pub OpensByOne : Type 0
+OpensByOne = (a : Area) (n : Newest) (end : ℕ) (c d : Image)
+    → IsImage c → newest_of a c ≡ Some n → newest_of a d ≡ Some n → EndsBy a c n end
+    → ((j : ℕ) → RestsOnOne a n end j → c j ≡ d j) → opens_to a d ≡ opens_to a c

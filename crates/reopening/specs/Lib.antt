@@ -8,5 +8,14 @@ pub mod Opens
 pub mod Faults
 pub mod Windows
 pub mod Alike
+pub mod Guards
+pub mod Lasting
+pub mod Stages
+pub mod Found
 pub mod Kept
+pub mod Named
+pub mod Given
+pub mod Heads
+pub mod Places
+pub mod ByName
 pub mod Begins

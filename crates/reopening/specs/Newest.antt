@@ -1,5 +1,5 @@
 -- Which copy of the directory an opening takes, and from which place on it looks.
-use Rattle.std.specs.Prelude.{ℕ, ◌+◌, ◌-◌, nat_lt, List, Option, Some, None, if◌then◌else◌}
+use Rattle.std.specs.Prelude.{ℕ, ◌+◌, ◌-◌, ◌≤◌, ◌<◌, nat_lt, List, Option, Some, None, if◌then◌else◌}
 use Rattle.device_log.specs.Image.{Image, span}
 use Rattle.tape_base.specs.declared.geometries.Geometry.{Geometry}
 use Rattle.tape_base.specs.Place.{reach_of}
@@ -41,6 +41,13 @@ newer (Some a) None = Some (record { side = sides.A; told = a })
 newer (Some a) (Some b) =
     if nat_lt a.serial b.serial then Some (record { side = sides.B; told = b })
     else Some (record { side = sides.A; told = a })
+
+-- what the other copy tells does not count beside a copy of this side and serial: it is refused, or of an earlier sync,
+-- or is copy B with the same serial
+abbrev pub IsBeaten : Option CopyState → Side → ℕ → Type 0
+IsBeaten None side serial = Unit {0}
+IsBeaten (Some told) sides.A serial = told.serial ≤ serial
+IsBeaten (Some told) sides.B serial = told.serial < serial
 
 -- the newest copy that is accepted
 abbrev pub newest_of : Area → Image → Option Newest

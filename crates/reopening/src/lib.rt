@@ -12,7 +12,10 @@ mod standing;
 
 pub use device::read_area;
 pub use laws::{
-    faults_open_nothing, images_open_alike, openings_may_begin, rows_are_kept, windows_are_apart,
+    areas_by_first_block, documents_may_be_given, faults_open_nothing, found_pieces_stand,
+    guarded_images_open, guards_pass_on, heads_decide, images_open_alike, it_lasts_on,
+    marks_are_taken_up, one_copy_decides, openings_may_begin, pieces_are_kept_by_name,
+    places_suffice, rows_are_kept, windows_are_apart,
 };
 pub use newest::Newest;
 pub use reader::{OpenFault, Opened, open_image};
