@@ -1,0 +1,4 @@
+pub mod Under
+pub mod Fronts
+pub mod Joining
+pub mod Hiring
