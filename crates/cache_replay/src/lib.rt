@@ -16,5 +16,5 @@ mod writer_lines;
 
 pub use beginning::{begin, close, plays_reach};
 pub use session::Session;
-pub use stepping::step;
+pub use stepping::{in_session, step, takes_actors};
 pub use stop::Stop;

@@ -1,5 +1,5 @@
 // The steps of a script, whatever they are.
-ghost use Rattle.std.specs.Prelude.{◌≡◌, ◌-◌, ◌^◌, ◌<◌, ◌≤◌, length};
+ghost use Rattle.std.specs.Prelude.{◌≡◌, ◌-◌, ◌^◌, ◌<◌, ◌≤◌, true, length};
 ghost use Rattle.device_bay.specs.Calls.{out_of};
 ghost use Rattle.script_grammar.specs.declared.answer.StepAnswer.TheVariants as answer;
 ghost use Rattle.script_grammar.specs.declared.step.Step.TheVariants as step;
@@ -77,8 +77,15 @@ fn now_line<S: Calls>(session: &mut Session<S>, moment: u64) -> StepAnswer
     StepAnswer::Now { moment }
 }
 
-// Does a step that works on a session.
-fn in_session<S: Calls>(session: &mut Session<S>, step: Step) -> Result<StepAnswer, Stop>
+/// Whether an actor more may have its first step.
+pub fn takes_actors<S: Calls>(session: &Session<S>) -> bool
+    ensures { result ≡ true → length (names_in session.entry.now) < 2 ^ 32 - 1 }
+{
+    session.actors.len() < u32::MAX as usize
+}
+
+/// Does a step that works on a session, with no bay at hand.
+pub fn in_session<S: Calls>(session: &mut Session<S>, step: Step) -> Result<StepAnswer, Stop>
     requires session { IsSession session.old }
     requires few { length (names_in session.old) < 2 ^ 32 - 1 }
     requires needs { NeedsSession step }

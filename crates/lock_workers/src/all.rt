@@ -14,6 +14,7 @@ use std::thread::Threads;
 use stripe_lock::{Job, KeptState, Pass, SharedStripe};
 
 /// What comes back of a state that workers shared.
+#[derive(Drop)]
 pub struct Worked<T> {
     pub state: T,
     /// There was no memory for some turn: its worker did no further job.

@@ -44,6 +44,7 @@ impl<X, S: TakesSteps<Step = X>> Job<SharedSteps<S>> for StepJob<X> {
 }
 
 /// What workers made of a state that takes steps: where it stands, and its turns in their order.
+#[derive(Drop)]
 pub struct Answered<S: TakesSteps> {
     pub state: S,
     pub rows: Vec<StepRow<S::Step, S::Answer, S::Stop>>,

@@ -1,0 +1,10 @@
+-- Which steps workers may take.
+use Rattle.std.specs.Prelude.{Bool, true, false}
+use Rattle.script_grammar.specs.declared.step.Step.{Step}
+use Rattle.script_grammar.specs.declared.step.Step.TheVariants as step
+
+-- a step works on a session: any but a format and a moment
+abbrev pub is_on_session : Step → Bool
+is_on_session (step.Format name segments buckets content agg reach fragment generation alternates) = false
+is_on_session (step.Now moment) = false
+is_on_session _ = true
