@@ -1,5 +1,5 @@
 // The steps of a script, whatever they are.
-ghost use Rattle.std.specs.Prelude.{◌≡◌, ◌-◌, ◌^◌, ◌<◌, ◌≤◌, true, length};
+ghost use Rattle.std.specs.Prelude.{◌≡◌, ◌-◌, ◌^◌, ◌<◌, ◌≤◌, ◌↔◌, true, length};
 ghost use Rattle.device_bay.specs.Calls.{out_of};
 ghost use Rattle.script_grammar.specs.declared.answer.StepAnswer.TheVariants as answer;
 ghost use Rattle.script_grammar.specs.declared.step.Step.TheVariants as step;
@@ -79,7 +79,7 @@ fn now_line<S: Calls>(session: &mut Session<S>, moment: u64) -> StepAnswer
 
 /// Whether an actor more may have its first step.
 pub fn takes_actors<S: Calls>(session: &Session<S>) -> bool
-    ensures { result ≡ true → length (names_in session.entry.now) < 2 ^ 32 - 1 }
+    ensures { (result ≡ true) ↔ (length (names_in session.entry.now) < 2 ^ 32 - 1) }
 {
     session.actors.len() < u32::MAX as usize
 }

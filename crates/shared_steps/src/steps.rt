@@ -1,5 +1,5 @@
 // What takes steps.
-ghost use Rattle.std.specs.Prelude.{◌≡◌, true, Result};
+ghost use Rattle.std.specs.Prelude.{◌≡◌, ◌↔◌, true, Result};
 
 /// Takes steps one after the other, each with its own answer, up to one that stops it.
 pub trait TakesSteps {
@@ -22,7 +22,7 @@ pub trait TakesSteps {
     /// Whether there is room for one step more.
     fn has_space(&self) -> bool
         requires { stands self.now }
-        ensures { result ≡ true → has_space self.now };
+        ensures { (result ≡ true) ↔ has_space self.now };
 
     /// Takes a step, of which nothing is left.
     fn take(&mut self, step: &mut Self::Step) -> Result<Self::Answer, Self::Stop>
