@@ -2,6 +2,7 @@
 #![tactic(auto)]
 
 mod fields;
+mod jobs;
 mod last;
 mod laws;
 mod left;
@@ -12,6 +13,7 @@ mod tokens;
 mod verbs;
 mod words;
 
+pub use jobs::{JobLine, read_job_line};
 pub use last::{last_line_text, usage_text};
 pub use laws::{answers_are_lines, last_lines_are_lines, spelled_is_read};
 pub use reader::read_line;

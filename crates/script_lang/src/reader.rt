@@ -26,7 +26,7 @@ fn step(alloc: Global, line: &[u8]) -> Result<Step, Refusal>
     }
 }
 
-fn is_passed_over(line: &[u8]) -> bool
+pub(crate) fn is_passed_over(line: &[u8]) -> bool
     ensures { result ≡ is_passed_over line.now }
 {
     line.is_empty() || line[0] == b'#'
