@@ -1,4 +1,6 @@
 // Workers that are held, and that run side by side.
+ghost use Rattle.std.specs.Prelude.{◌≡◌, IfOk, vec_len};
+
 use lock_trials::{Tally, Tick};
 use lock_workers::{Gate, Open, work};
 use std::alloc::{AllocError, Global};
@@ -46,15 +48,22 @@ impl Gate for Held {
     }
 }
 
+/// So many ticks.
+fn ticks(alloc: Global, each: u64) -> Result<Vec<Tick>, AllocError> {
+    let mut jobs = Vec::new(alloc);
+    for job in 0..each {
+        jobs.push(Tick { job })?;
+    }
+    Ok(jobs)
+}
+
 /// So many ticks for each of so many workers.
-fn ticks(alloc: Global, workers: u64, each: u64) -> Result<Vec<Vec<Tick>>, AllocError> {
+fn ticks_each(alloc: Global, workers: u64, each: u64) -> Result<Vec<Vec<Tick>>, AllocError>
+    ensures { IfOk result (λ all. vec_len all ≡ workers) }
+{
     let mut all = Vec::new(alloc);
     for _ in 0..workers {
-        let mut jobs = Vec::new(alloc);
-        for job in 0..each {
-            jobs.push(Tick { job })?;
-        }
-        all.push(jobs)?;
+        all.push(ticks(alloc, each)?)?;
     }
     Ok(all)
 }
@@ -63,7 +72,13 @@ fn ticks(alloc: Global, workers: u64, each: u64) -> Result<Vec<Vec<Tick>>, Alloc
 fn two_workers_run_side_by_side(rt: HostRuntime) -> Result<(), Fail> {
     let alloc = rt.alloc();
     let held = Held::new();
-    let Ok(worked) = work(&rt, alloc, Tally::new(alloc), ticks(alloc, 2, 3)?, &held) else {
+    let Ok(worked) = work(
+        &rt,
+        alloc,
+        Tally::new(alloc),
+        ticks_each(alloc, 2, 3)?,
+        &held,
+    ) else {
         return Err("no memory".into());
     };
     assert_eq!(rt; held.missed.load(Ordering::SeqCst), 0);
@@ -77,7 +92,13 @@ fn two_workers_run_side_by_side(rt: HostRuntime) -> Result<(), Fail> {
 #[test]
 fn sixteen_workers_do_all_their_jobs(rt: HostRuntime) -> Result<(), Fail> {
     let alloc = rt.alloc();
-    let Ok(worked) = work(&rt, alloc, Tally::new(alloc), ticks(alloc, 16, 100)?, &Open) else {
+    let Ok(worked) = work(
+        &rt,
+        alloc,
+        Tally::new(alloc),
+        ticks_each(alloc, 16, 100)?,
+        &Open,
+    ) else {
         return Err("no memory".into());
     };
     assert!(rt; !worked.short);
@@ -88,7 +109,13 @@ fn sixteen_workers_do_all_their_jobs(rt: HostRuntime) -> Result<(), Fail> {
 #[test]
 fn no_worker_is_none(rt: HostRuntime) -> Result<(), Fail> {
     let alloc = rt.alloc();
-    let Ok(worked) = work(&rt, alloc, Tally::new(alloc), ticks(alloc, 0, 0)?, &Open) else {
+    let Ok(worked) = work(
+        &rt,
+        alloc,
+        Tally::new(alloc),
+        ticks_each(alloc, 0, 0)?,
+        &Open,
+    ) else {
         return Err("no memory".into());
     };
     assert_eq!(rt; (worked.short, worked.state.rows.len()), (false, 0));
