@@ -32,9 +32,9 @@ impl From<AllocError> for ReadFault {
 pub fn read<D: Disk>(disk: &mut D, at: u64, into: &mut [u8]) -> Result<(), ReadFault>
     requires whole { IsWhole (length into.old) }
     requires within { at + length into.old / 512 ≤ (D.state disk.old).size }
-    ensures reads { OnOk result (Reads 1 (D.state disk.old) (D.state disk.new)
+    ensures reads { OnOk result (Reads at (at + length into.new / 512) 1 (D.state disk.old) (D.state disk.new)
         (λ c. into.new ≡ span c at (length into.new / 512))) }
-    ensures fails { IfErr result (Fails 1 (D.state disk.old) (D.state disk.new)) }
+    ensures fails { IfErr result (Fails at (at + length into.new / 512) 1 (D.state disk.old) (D.state disk.new)) }
     ensures len { length into.new ≡ length into.old }
 {
     match disk.read(at, into) {

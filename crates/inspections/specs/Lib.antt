@@ -1,0 +1,4 @@
+pub mod Head
+pub mod Copies
+pub mod Lines
+pub mod Inspect
