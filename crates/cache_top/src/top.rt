@@ -5,9 +5,9 @@ ghost use Rattle.edge_io.specs.Sink.{Grows};
 ghost use Rattle.device_bay.specs.Calls.{IsBayLog, gifts_of, out_of, refusals_of, returned_by};
 ghost use Rattle.script_run.specs.Ledger.{InOrder, ledger_of};
 ghost use Rattle.run_promise.specs.Story.{refusals_around};
-ghost use Rattle.run_promise.specs.Top.{ReadsFailed, AttachesRefused, ComeBackSteady};
+ghost use Rattle.run_promise.specs.Top.{ReadsFailed, ComeBackSteady};
 ghost use Rattle.command_words.specs.Words.{asked_in_words};
-ghost use Rattle.run_script.specs.Commands.{ConcludesAs, IsUsageBy};
+ghost use Rattle.run_script.specs.Commands.{ConcludesAs, IsUsageBy, RefusesAs};
 
 use cache_chronicle::FullChronicle;
 use device_bay::Bay;
@@ -21,7 +21,8 @@ use stripe_calls::StripeCache;
 // The cache of the program: its directory has packed entries, and its chronicle forgets nothing.
 type Cache<D> = StripeCache<D, PackedDirectory, FullChronicle>;
 
-/// Runs the command that the words give, by the cache of the program: `replay` runs the script that the source holds.
+/// Runs the command that the words give, by the cache of the program: `replay` runs the script that the source holds, and
+/// `inspect` reads a device.
 pub fn cache_main<S: Source, K: Sink, B: Bay>(
     alloc: Global,
     words: &[String],
@@ -47,7 +48,7 @@ pub fn cache_main<S: Source, K: Sink, B: Bay>(
     ensures log { IsBayLog (B.past bay.new) }
 
     // No attach was refused but the one that ended the run, if one did.
-    ensures refusals { AttachesRefused (refusals_of (B.past bay.old)) (refusals_of (B.past bay.new)) result }
+    ensures refusals { RefusesAs (asked_in_words words.now) (refusals_of (B.past bay.old)) (refusals_of (B.past bay.new)) result }
 
     // No switch was told anything, so each device that has one refused nothing and told its content to the end.
     ensures steady { ComeBackSteady (returned_by (B.past bay.old)) (returned_by (B.past bay.new)) }

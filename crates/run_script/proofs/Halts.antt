@@ -19,6 +19,7 @@ use Rattle.cache_replay.proofs.Unharming.{plays_reached}
 use Rattle.run_script.specs.declared.run.Halt.{Halt}
 use Rattle.run_script.specs.declared.run.Halt.TheVariants.{Stop, WriteFault, Memory}
 use Rattle.run_promise.specs.Story.{SendsFront, CutsLast, SinkTook}
+use Rattle.run_promise.specs.Top.{WentOut}
 use Rattle.run_script.specs.Halt.{AnswerIsUnwritten, StepHalts}
 
 pub OnOk-map : {T E : Type 0} (r : Result T E) (P Q : Type 0) → (P → Q) → OnOk r P → OnOk r Q
@@ -89,6 +90,11 @@ front_more a b c bs text p q = record {
   sent = record { taken = q.sent.taken ∙ (append-nil (taken_by b) ∙ p.taken); unfailed = q.sent.unfailed ∙ p.unfailed };
   failed = q.failed ∙ ap (λ failed. RefusedWrite q.front (next_count (min (length failed) (2 ^ 64 - 1))) ∷ q.older) p.unfailed;
 }
+
+-- the last line behind what went out
+pub went_out : (old mid new : List SinkWrite) (out text : List ℕ) → SinkTook old mid out → WentOut mid new [] text → WentOut old new out text
+went_out old mid new out text sent (inl all) = inl (Took-trans old mid new out text sent all)
+went_out old mid new out text sent (inr cut) = inr (front_more old mid new out text sent cut)
 
 pub cuts_last : (a b c : List SinkWrite) (bs : List ℕ) (said : StepAnswer) → SinkTook a b bs → SendsFront b c [] (answer_line said) → CutsLast a c bs (bs ++ answer_line said)
 cuts_last a b c bs said p q = record { said = said; split = refl; cut = front_more a b c bs (answer_line said) p q }

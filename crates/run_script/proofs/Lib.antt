@@ -6,3 +6,4 @@ pub mod Tops
 mod Witnesses
 pub mod Steady
 mod Commands
+pub mod Inspecting

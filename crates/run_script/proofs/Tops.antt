@@ -1,5 +1,5 @@
 -- What the last line makes of a run that ended early.
-use Rattle.std.proofs.Common.{◌≡◌, ℕ, List, [], false, refl, sym, subst, inl, inr, ◌⊎◌}
+use Rattle.std.proofs.Common.{◌≡◌, List, [], false, refl, sym, subst, inl, inr, ◌⊎◌}
 use Rattle.device_log.specs.Streams.{SourceRead, SinkWrite}
 use Rattle.script_grammar.specs.declared.last_line.LastLine.{LastLine}
 use Rattle.script_grammar.specs.declared.last_line.LastLine.TheVariants as last
@@ -8,17 +8,13 @@ use Rattle.script_run.specs.Ledger.{Ledger}
 use Rattle.run_promise.specs.declared.status.Status.{Status}
 use Rattle.run_promise.specs.declared.status.Status.TheVariants as status
 use Rattle.run_script.specs.declared.run.Ending.TheVariants as ending
-use Rattle.run_promise.specs.Story.{Because, MeetsBayFault, Refusals, SendsAll, StoryUpTo, SinkTook}
+use Rattle.run_promise.specs.Story.{Because, MeetsBayFault, Refusals, SendsAll, StoryUpTo}
 use Rattle.run_script.specs.Ending.{FailedReads, IsOfRun, is_bay_ending}
 use Rattle.run_promise.specs.Top.{WentOut, EachBack, ReadsFailed, AttachesRefused, RefusedOne, status_of, EndsEarly, Concludes}
-use Rattle.run_script.proofs.Halts.{Took-kept, Took-trans, front_more}
+use Rattle.run_script.proofs.Halts.{Took-kept, went_out}
 use Rattle.run_script.proofs.Stories.{story_with}
 
 module _ (first read : List SourceRead) (old mid new : List SinkWrite) (bay : Refusals) (before now : Ledger) where
-  went_out : (out text : List ℕ) → SinkTook old mid out → WentOut mid new [] text → WentOut old new out text
-  went_out out text sent (inl all) = inl (Took-trans old mid new out text sent all)
-  went_out out text sent (inr cut) = inr (front_more old mid new out text sent cut)
-
   abbrev Upto : LastLine → Type 0
   Upto why = StoryUpTo first read (SendsAll old mid) (λ held given. EachBack before now) (λ held given o. Because bay held given o why)
 
@@ -27,7 +23,7 @@ module _ (first read : List SourceRead) (old mid new : List SinkWrite) (bay : Re
     early s said out = record {
       why = why;
       said = said;
-      upto = record { held = upto.held; given = upto.given; story = story_with first read upto.held upto.given (SendsAll old mid) _ _ _ _ _ _ (λ before all sent. went_out all (last_line why) sent out) (λ t back. back) (λ o because. because) upto.story };
+      upto = record { held = upto.held; given = upto.given; story = story_with first read upto.held upto.given (SendsAll old mid) _ _ _ _ _ _ (λ before all sent. went_out old mid new all (last_line why) sent out) (λ t back. back) (λ o because. because) upto.story };
     }
 
     forgotten : new ≡ mid → Concludes first read old new bay before now status.OutOfMemory

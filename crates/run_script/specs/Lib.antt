@@ -1,4 +1,5 @@
 pub mod Lines
 pub mod Ending
 pub mod Halt
+pub mod Inspects
 pub mod Commands

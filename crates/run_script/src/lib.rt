@@ -1,6 +1,7 @@
 //! Runs the script that a source holds, over any cache: what each status says of the streams and the devices.
 #![tactic(auto)]
 
+mod inspect;
 mod lines;
 mod run;
 mod words;

@@ -8,10 +8,11 @@ ghost use Rattle.script_run.specs.Ledger.{InOrder, ledger_of};
 ghost use Rattle.cache_replay.specs.Stop.{RefusesNone};
 ghost use Rattle.run_promise.specs.Story.{refusals_around};
 ghost use Rattle.command_words.specs.Words.{asked_in_words, wish_of};
-ghost use Rattle.run_script.specs.Commands.{ConcludesAs, IsUsageBy, PrintsText};
+ghost use Rattle.run_script.specs.Commands.{ConcludesAs, IsUsageBy, PrintsText, RefusesAs};
 ghost use Rattle.run_script.specs.Ending.{EndsRun, FailedReads, IsOfRun, is_bay_ending};
 ghost use Rattle.run_promise.specs.Top.{WentOut, EachBack, EachBackOrMore, ReadsFailed, status_of, AttachesRefused, ComeBackSteady, Concludes};
 
+use crate::inspect::inspect_named;
 use crate::run::{Ending, run_lines};
 use cache_calls::Formats;
 use cache_replay::{Session, begin, close};
@@ -38,7 +39,7 @@ fn status_of(last: LastLine) -> Status
 }
 
 /// Writes bytes out; a fault in the last line of a run does not change its status.
-fn send<K: Sink>(sink: &mut K, text: &str)
+pub(crate) fn send<K: Sink>(sink: &mut K, text: &str)
     ensures out { WentOut (K.writes sink.old) (K.writes sink.new) [] text.now }
     ensures grows { Grows (K.writes sink.old) (K.writes sink.new) }
 {
@@ -46,7 +47,7 @@ fn send<K: Sink>(sink: &mut K, text: &str)
 }
 
 /// Writes the last line of a run that ends early.
-fn conclude<K: Sink>(alloc: Global, sink: &mut K, last: LastLine) -> Status
+pub(crate) fn conclude<K: Sink>(alloc: Global, sink: &mut K, last: LastLine) -> Status
     ensures said { ((result ≡ Status.OutOfMemory) × (K.writes sink.new ≡ K.writes sink.old))
         ⊎ ((result ≡ status_of last) × WentOut (K.writes sink.old) (K.writes sink.new) [] (last_line last)) }
     ensures grows { Grows (K.writes sink.old) (K.writes sink.new) }
@@ -152,19 +153,20 @@ fn run_command<S: Source, K: Sink, B: Bay, C: Formats<B::Dev>>(
     ensures source { Draws S.reads S.left source.old source.new }
     ensures sink { Grows (K.writes sink.old) (K.writes sink.new) }
     ensures order { InOrder (length (gifts_of (B.past bay.old))) [] (B.past bay.old) (B.past bay.new) }
-    ensures refusals { AttachesRefused (refusals_of (B.past bay.old)) (refusals_of (B.past bay.new)) result }
+    ensures refusals { RefusesAs (option_map wish_of command.entry) (refusals_of (B.past bay.old)) (refusals_of (B.past bay.new)) result }
     ensures steady { ComeBackSteady (returned_by (B.past bay.old)) (returned_by (B.past bay.new)) }
 {
     match command {
         Some(Command::Help) => print(sink, help_text()),
         Some(Command::Version) => print(sink, version_text()),
         Some(Command::Replay) => replay_through::<S, K, B, C>(alloc, source, sink, bay),
-        Some(Command::Inspect { name: _ }) => refuse(sink),
+        Some(Command::Inspect { name }) => inspect_named(alloc, name, sink, bay),
         None => refuse(sink),
     }
 }
 
-/// Runs the command that the words give, by a cache of the type `C`: `replay` runs the script that the source holds.
+/// Runs the command that the words give, by a cache of the type `C`: `replay` runs the script that the source holds,
+/// and `inspect` reads a device.
 pub fn run_words<S: Source, K: Sink, B: Bay, C: Formats<B::Dev>>(
     alloc: Global,
     words: &[String],
@@ -190,7 +192,7 @@ pub fn run_words<S: Source, K: Sink, B: Bay, C: Formats<B::Dev>>(
     ensures log { IsBayLog (B.past bay.new) }
 
     // No attach was refused but the one that ended the run, if one did.
-    ensures refusals { AttachesRefused (refusals_of (B.past bay.old)) (refusals_of (B.past bay.new)) result }
+    ensures refusals { RefusesAs (asked_in_words words.now) (refusals_of (B.past bay.old)) (refusals_of (B.past bay.new)) result }
 
     // No switch was told anything, so each device that has one refused nothing and told its content to the end.
     ensures steady { ComeBackSteady (returned_by (B.past bay.old)) (returned_by (B.past bay.new)) }

@@ -1,4 +1,5 @@
 use Rattle.edge_io.proofs.Draws.{draws_nothing}
+use Rattle.run_script.proofs.Inspecting.{can_be, none_failed}
 use Rattle.run_script.proofs.words.run_command.Goals as goal
 
 pub returns-in-Some-Help-clause-source : goal.returns-in-Some-Help-clause-source
@@ -12,3 +13,7 @@ returns-in-Some-Inspect-clause-source g c = draws_nothing g.S.Source.reads g.S.S
 
 pub returns-in-None-clause-source : goal.returns-in-None-clause-source
 returns-in-None-clause-source g c = draws_nothing g.S.Source.reads g.S.Source.left c.args.source.now
+
+pub returns-in-Some-Inspect-clause-reads : goal.returns-in-Some-Inspect-clause-reads
+returns-in-Some-Inspect-clause-reads g c =
+    none_failed (g.S.Source.reads c.args.source.now) c.inspect_named.result (can_be _ _ _ _ _ _ c.inspect_named.result c.inspect_named.ensures.concludes)

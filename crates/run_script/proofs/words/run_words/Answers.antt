@@ -4,8 +4,8 @@ use Rattle.device_bay.specs.Calls.{refusals_of}
 use Rattle.script_run.specs.Ledger.{ledger_of}
 use Rattle.run_promise.specs.Story.{refusals_around}
 use Rattle.edge_io.proofs.Draws.{draws_nothing}
-use Rattle.run_script.specs.Commands.{ConcludesAs, IsUsageBy}
-use Rattle.run_script.proofs.Commands.{unread_usage, unread_words}
+use Rattle.run_script.specs.Commands.{ConcludesAs, IsUsageBy, RefusesAs}
+use Rattle.run_script.proofs.Commands.{unread_refusals, unread_usage, unread_words}
 use Rattle.run_script.proofs.words.run_words.Goals as goal
 
 pub returns-in-Err-clause-concludes : goal.returns-in-Err-clause-concludes
@@ -27,3 +27,11 @@ returns-in-Ok-clause-concludes g c =
 
 pub returns-in-Ok-clause-usage : goal.returns-in-Ok-clause-usage
 returns-in-Ok-clause-usage g c = subst (λ (wish : Option Wish). IsUsageBy wish c.run_command.result) c.in-Ok.ensures.asked c.run_command.ensures.usage
+
+pub returns-in-Err-clause-refusals : goal.returns-in-Err-clause-refusals
+returns-in-Err-clause-refusals g c = unread_refusals _ (refusals_of (g.B.Bay.past c.args.bay.now))
+
+pub returns-in-Ok-clause-refusals : goal.returns-in-Ok-clause-refusals
+returns-in-Ok-clause-refusals g c =
+    subst (λ (wish : Option Wish). RefusesAs wish (refusals_of (g.B.Bay.past c.args.bay.now)) (refusals_of (g.B.Bay.past c.run_command.new.bay)) c.run_command.result)
+    c.in-Ok.ensures.asked c.run_command.ensures.refusals

@@ -1,0 +1,197 @@
+-- What comes of an inspection, by the calls of its bay and of its device.
+use Rattle.std.proofs.Common.{◌≡◌, ℕ, ◌+◌, Bool, List, [], ◌∷◌, ◌++◌, length, length-append, Result, Ok, Err, Some, refl, sym, ap, subst, ◌∙◌, inl, inr, ◌⊎◌, arith}
+use Rattle.std.specs.Prelude.{◌≢◌, IfErr, IfOk, string_bytes}
+use Rattle.device_log.specs.Image.{Image}
+use Rattle.device_log.specs.Calls.{Call}
+use Rattle.device_log.specs.Streams.{SinkWrite, SourceRead}
+use Rattle.logged_disk.specs.Device.{DeviceState as Device}
+use Rattle.device_bay.specs.Calls.{AttachRefusal, BayCall, Gave, Gift, RefusedAttach, TookBack, gifts_of, names_of, number_behind, out_of, refusals_of, returned_by}
+use Rattle.device_bay.specs.Bay.{IsNewDevice}
+use Rattle.command_words.specs.Words.{inspect}
+use Rattle.script_run.specs.Ledger.{InOrder, IsLeftAlone, Ledger, ledger_behind}
+use Rattle.device_reads.specs.declared.reads.ReadFault.{ReadFault}
+use Rattle.device_reads.specs.declared.reads.ReadFault.TheVariants.{DeviceFault, Memory}
+use Rattle.device_reads.specs.Reads.{AreReads, Fails, Reads, Tell}
+use Rattle.device_reads.proofs.Telling.{reads_as, reads_uncut, reads_unturned, reads_untold, whole_few, whole_reads, whole_tells}
+use Rattle.inspections.specs.declared.device.Inspection.{Inspection}
+use Rattle.inspections.specs.Inspect.{Says}
+use Rattle.run_promise.specs.declared.status.Status.{Status}
+use Rattle.run_promise.specs.declared.status.Status.TheVariants as status
+use Rattle.run_promise.specs.Story.{Refusals, refusals_around}
+use Rattle.run_promise.specs.Top.{ReadsFailed}
+use Rattle.run_script.specs.Commands.{RefusesAs}
+use Rattle.run_script.specs.Inspects.{FaultsInspection, Inspects, InspectsDevice, PrintsFault, PrintsInspection, PrintsLines, PrintsSaid, WantsInspection}
+
+-- a device that was read alone was left alone
+pub left_alone : (low high : ℕ) (made : List Call) → AreReads low high made → IsLeftAlone made
+left_alone low high made is = record { untold = reads_untold low high made is; uncut = reads_uncut low high made is; unturned = reads_unturned low high made is }
+
+-- a device was attached and came back
+module _ (name : List ℕ) (past later : List BayCall) (device : Device) (is : later ≡ TookBack device ∷ Gave name 0 ∷ past) where
+  pub names_are : names_of later ≡ names_of past ++ name ∷ []
+  names_are = ap names_of is
+
+  pub returned_are : returned_by later ≡ returned_by past ++ device ∷ []
+  returned_are = ap returned_by is
+
+  pub refusals_are : refusals_of later ≡ refusals_of past
+  refusals_are = ap refusals_of is
+
+  pub out_is : out_of later ≡ out_of past
+  out_is = let same = ap out_of is in omega (arith, same)
+
+  pub order_is : device.number ≡ number_behind (length (gifts_of past)) → IsLeftAlone device.past → InOrder (length (gifts_of past)) [] past later
+  order_is number alone =
+      let gift : Gift = record { name = name; blocks = 0 } in
+      let gifts : length (gifts_of later) ≡ length (gifts_of past ++ gift ∷ []) = ap (λ l. length (gifts_of l)) is in
+      let more : length (gifts_of past ++ gift ∷ []) ≡ length (gifts_of past) + 1 = length-append (gifts_of past) (gift ∷ []) in
+      record {
+        devices = device ∷ [];
+        returned = returned_are;
+        numbered = (number, tt);
+        alone = (alone, tt);
+        rest = record { numbered = tt; alone = tt; all = omega (arith, gifts, more) };
+      }
+
+-- the device was inspected, or it or memory failed
+module _ (name : List ℕ) (past later : List BayCall) (old new : List SinkWrite) (s : Status) (fresh device : Device) (begins : IsNewDevice 0 past fresh) (is : later ≡ TookBack device ∷ Gave name 0 ∷ past) where
+  abbrev Outcome : Type 0
+  Outcome = PrintsInspection device old new s ⊎ (FaultsInspection device old new s ⊎ WantsInspection old new s)
+
+  size_is : (P : Image → Type 0) → Reads 0 fresh.size 4 fresh device P → fresh.size ≡ device.size
+  size_is P reads = sym reads.keeps.size
+
+  came_back : (P : Image → Type 0) → Reads 0 fresh.size 4 fresh device P → Outcome → InspectsDevice name old new (refusals_around (refusals_of past) (refusals_of later)) (ledger_behind past) (ledger_behind later) s
+  came_back P reads out = record {
+    device = device;
+    attached = names_are name past later device is;
+    returned = returned_are name past later device is;
+    unrefused = refusals_are name past later device is;
+    reads = subst (λ (n : ℕ). AreReads 0 n device.past) (size_is P reads) (whole_reads 0 fresh.size 4 fresh device P begins.past_is reads);
+    few = whole_few 0 fresh.size 4 fresh device P begins.past_is reads;
+    out = out;
+  }
+
+  abbrev SaysOf : Inspection → Image → Type 0
+  SaysOf said c = Says fresh.size c (string_bytes said.text) said.opens
+
+  printed : (said : Inspection) → Reads 0 fresh.size 4 fresh device (SaysOf said) → PrintsLines (string_bytes said.text) said.opens old new s → PrintsInspection device old new s
+  printed said reads out = record {
+    text = string_bytes said.text;
+    opens = said.opens;
+    says = subst (λ (n : ℕ). Tell device.past (λ c. Says n c (string_bytes said.text) said.opens)) (size_is (SaysOf said) reads) (whole_tells 0 fresh.size 4 fresh device (SaysOf said) begins.past_is reads);
+    out = out;
+  }
+
+  faulted : (count : ℕ) → Fails 0 fresh.size 4 fresh device (DeviceFault count) → PrintsFault old new s ⊎ WantsInspection old new s → Outcome
+  faulted count fails (inl out) = inr (inl (record { count = count; last_call = fails.1; out = out }))
+  faulted count fails (inr wants) = inr (inr wants)
+
+  pub inspected : (said : Result Inspection ReadFault) → IfOk said (λ i. Reads 0 fresh.size 4 fresh device (SaysOf i)) → IfErr said (Fails 0 fresh.size 4 fresh device) → PrintsSaid said old new s
+      → Inspects name old new (refusals_around (refusals_of past) (refusals_of later)) (ledger_behind past) (ledger_behind later) s
+  inspected (Ok said) reads fails out = inl (came_back (SaysOf said) reads (inl (printed said reads out)))
+  inspected (Err (DeviceFault count)) reads fails out = inl (came_back (λ c. Unit {0}) fails.0 (faulted count fails out))
+  inspected (Err (Memory e)) reads fails out = inl (came_back (λ c. Unit {0}) fails.0 (inr (inr out)))
+
+  was_read : (said : Result Inspection ReadFault) → IfOk said (λ i. Reads 0 fresh.size 4 fresh device (SaysOf i)) → IfErr said (Fails 0 fresh.size 4 fresh device)
+      → Reads 0 fresh.size 4 fresh device (λ c. Unit {0})
+  was_read (Ok said) reads fails = reads_as 0 fresh.size fresh.size 4 4 fresh device (SaysOf said) (λ c. Unit {0}) (omega arith) (omega arith) (λ c image is. tt) reads
+  was_read (Err e) reads fails = fails.0
+
+  pub inspected_order : (said : Result Inspection ReadFault) → IfOk said (λ i. Reads 0 fresh.size 4 fresh device (SaysOf i)) → IfErr said (Fails 0 fresh.size 4 fresh device)
+      → InOrder (length (gifts_of past)) [] past later
+  inspected_order said reads fails =
+      let read = was_read said reads fails in
+      order_is name past later device is (read.keeps.number ∙ begins.number_is)
+      (left_alone 0 fresh.size device.past (whole_reads 0 fresh.size 4 fresh device (λ c. Unit {0}) begins.past_is read))
+
+-- the attach was refused
+module _ (name : List ℕ) (past later : List BayCall) (count : ℕ) (is : later ≡ RefusedAttach name 0 count ∷ past) where
+  unattached : ledger_behind later ≡ ledger_behind past
+  unattached = ap ledger_behind is
+
+  abbrev refusal : AttachRefusal
+  refusal = record { name = name; blocks = 0; count = count }
+
+  refused_is : refusals_of later ≡ refusals_of past ++ refusal ∷ []
+  refused_is = ap refusals_of is
+
+  module _ (old new : List SinkWrite) (s : Status) where
+    abbrev Concluded : Type 0
+    Concluded = WantsInspection old new s ⊎ PrintsFault old new s
+
+    pub unattached_concludes : Concluded → Inspects name old new (refusals_around (refusals_of past) (refusals_of later)) (ledger_behind past) (ledger_behind later) s
+    unattached_concludes (inl wants) = inr (inr (record { wants = wants; unattached = unattached }))
+    unattached_concludes (inr out) = inr (inl (record { count = count; refused = refused_is; unattached = unattached; out = out }))
+
+    pub one_refused : Concluded → RefusesAs (Some (inspect name)) (refusals_of past) (refusals_of later) s
+    one_refused (inl wants) = subst (λ (t : Status). RefusesAs (Some (inspect name)) (refusals_of past) (refusals_of later) t) (sym wants.0) (inr (refusal, refused_is))
+    one_refused (inr out) = subst (λ (t : Status). RefusesAs (Some (inspect name)) (refusals_of past) (refusals_of later) t) (sym out.0) (inr (refusal, refused_is))
+
+-- no attach was refused
+pub none_refused : (name : List ℕ) (before now : List AttachRefusal) (s : Status) → now ≡ before → RefusesAs (Some (inspect name)) before now s
+none_refused name before now status.Done is = is
+none_refused name before now status.Usage is = is
+none_refused name before now status.BadScript is = is
+none_refused name before now status.ReadFault is = is
+none_refused name before now status.WriteFault is = is
+none_refused name before now status.BayFault is = inl is
+none_refused name before now status.LineTooLong is = is
+none_refused name before now status.NoCache is = is
+none_refused name before now status.OutOfMemory is = inl is
+none_refused name before now status.TooManyLines is = is
+
+-- ---- the statuses of an inspection
+
+abbrev pub CanBe : Status → Type 0
+CanBe status.Done = Unit {0}
+CanBe status.WriteFault = Unit {0}
+CanBe status.BayFault = Unit {0}
+CanBe status.NoCache = Unit {0}
+CanBe status.OutOfMemory = Unit {0}
+CanBe s = ⊥
+
+lines_can_be : (text : List ℕ) (opens : Bool) (old new : List SinkWrite) (s : Status) → PrintsLines text opens old new s → CanBe s
+lines_can_be text opens old new status.Done out = tt
+lines_can_be text opens old new status.Usage out = out
+lines_can_be text opens old new status.BadScript out = out
+lines_can_be text opens old new status.ReadFault out = out
+lines_can_be text opens old new status.WriteFault out = tt
+lines_can_be text opens old new status.BayFault out = tt
+lines_can_be text opens old new status.LineTooLong out = out
+lines_can_be text opens old new status.NoCache out = tt
+lines_can_be text opens old new status.OutOfMemory out = tt
+lines_can_be text opens old new status.TooManyLines out = out
+
+module _ (name : List ℕ) (old new : List SinkWrite) (bay : Refusals) (before now : Ledger) (s : Status) where
+  is_bay_fault : s ≡ status.BayFault → CanBe s
+  is_bay_fault is = subst CanBe (sym is) tt
+
+  is_out_of_memory : s ≡ status.OutOfMemory → CanBe s
+  is_out_of_memory is = subst CanBe (sym is) tt
+
+  out_can_be : (device : Device) → PrintsInspection device old new s ⊎ (FaultsInspection device old new s ⊎ WantsInspection old new s) → CanBe s
+  out_can_be device (inl printed) = lines_can_be printed.text printed.opens old new s printed.out
+  out_can_be device (inr (inl fault)) = is_bay_fault fault.out.0
+  out_can_be device (inr (inr wants)) = is_out_of_memory wants.0
+
+  pub can_be : Inspects name old new bay before now s → CanBe s
+  can_be (inl device) = out_can_be device.device device.out
+  can_be (inr (inl refused)) = is_bay_fault refused.out.0
+  can_be (inr (inr wants)) = is_out_of_memory wants.wants.0
+
+pub is_no_usage : (s : Status) → CanBe s → s ≢ status.Usage
+is_no_usage s can is = subst CanBe is can
+
+-- no read of a source failed
+pub none_failed : (first : List SourceRead) (s : Status) → CanBe s → ReadsFailed first first s
+none_failed first status.Done can = refl
+none_failed first status.Usage can = absurd can
+none_failed first status.BadScript can = absurd can
+none_failed first status.ReadFault can = absurd can
+none_failed first status.WriteFault can = refl
+none_failed first status.BayFault can = refl
+none_failed first status.LineTooLong can = absurd can
+none_failed first status.NoCache can = refl
+none_failed first status.OutOfMemory can = inl refl
+none_failed first status.TooManyLines can = absurd can
