@@ -1,5 +1,5 @@
 -- What reads tell, one behind the other.
-use Rattle.std.proofs.Common.{◌≡◌, ℕ, ◌+◌, ◌/◌, ◌%◌, ◌≤◌, ◌<◌, true, false, List, [], ◌∷◌, ◌++◌, length, length-append, append_assoc, append-nil, subst, All, Result, Ok, Err, refl, sym, ap, ◌∙◌, arith}
+use Rattle.std.proofs.Common.{◌≡◌, ℕ, ◌+◌, ◌/◌, ◌≤◌, ◌<◌, true, false, List, [], ◌∷◌, ◌++◌, length, length-append, append_assoc, append-nil, subst, All, Result, Ok, Err, refl, sym, ap, ◌∙◌, arith}
 use Rattle.std.specs.Prelude.{OnOk, IfErr}
 use Rattle.std.proofs.lemmas.List.Elements.{All-head, All-tail}
 use Rattle.std.specs.declared.alloc.AllocError.{AllocError}
@@ -13,7 +13,7 @@ use Rattle.device_log.proofs.Spans.{span_same}
 use Rattle.logged_disk.specs.Device.{DeviceState as Device, Keeps, Logs, has_cut, has_flip}
 use Rattle.device_reads.specs.declared.reads.ReadFault.{ReadFault}
 use Rattle.device_reads.specs.declared.reads.ReadFault.TheVariants.{DeviceFault, Memory}
-use Rattle.device_reads.specs.Reads.{AreReads, Fails, IsCause, Reads, SomeImageAgrees, Tell, WasLast}
+use Rattle.device_reads.specs.Reads.{AreReads, Fails, Reads, SomeImageAgrees, Tell}
 
 -- the same reads lie within more blocks
 pub reads_wider : (low high top : ℕ) (made : List Call) → high ≤ top → AreReads low high made → AreReads low top made
