@@ -17,6 +17,8 @@ pub use digests::{Digest, digests_tell, sides_are_bytes};
 pub use geometries::{BadGeometry, Geometry, alternates_are_last};
 pub use keys::Key;
 pub use pieces::PieceId;
-pub use places::{floor_of, lap, lap_end, next_cursor, phase, slot};
+pub use places::{
+    block, device_blocks, directory_blocks, floor_of, lap, lap_end, next_cursor, phase, slot,
+};
 pub use probes::Steps;
 pub use sizes::{BLOCK, HEADER, LIMIT, MAX_WRITERS};

@@ -1,6 +1,6 @@
 // Places on the endless tape.
 ghost use Rattle.std.specs.Prelude.{◌≡◌, ◌<◌, ◌≤◌, ◌^◌};
-ghost use Rattle.tape_base.specs.Place.{lap_of, slot_of, phase_of, lap_end_of, floor_of, next_cursor_of};
+ghost use Rattle.tape_base.specs.Place.{lap_of, slot_of, block_of, content_block_of, device_blocks_of, directory_blocks_of, phase_of, lap_end_of, floor_of, next_cursor_of};
 
 use crate::geometries::Geometry;
 
@@ -16,6 +16,31 @@ pub fn slot(g: &Geometry, place: u64) -> u64
     ensures below { result < g.now.content }
 {
     place % g.content
+}
+
+/// The blocks of the directory, as it lies in each of its copies.
+#[tactic(auto, unfolding(crate::specs::Place::directory_blocks))]
+pub fn directory_blocks(g: &Geometry) -> u64
+    ensures value { result ≡ directory_blocks_of g.now }
+    ensures some { 1 ≤ result }
+    ensures few { result < 2 ^ 24 }
+{
+    (g.segments as u64 * (4 + 40 * g.buckets as u64)).div_ceil(512)
+}
+
+/// The block of the device on which a place lies.
+pub fn block(g: &Geometry, place: u64) -> u64
+    ensures value { result ≡ block_of g.now place }
+    ensures within { result < device_blocks_of g.now }
+{
+    7 + 2 * directory_blocks(g) + slot(g, place)
+}
+
+/// The blocks of a whole device.
+pub fn device_blocks(g: &Geometry) -> u64
+    ensures { result ≡ device_blocks_of g.now }
+{
+    7 + 2 * directory_blocks(g) + g.content
 }
 
 /// Whether a place is in a lap of odd number.
