@@ -7,7 +7,7 @@ use Rattle.device_log.specs.Causes.{Rose}
 use Rattle.device_log.specs.Calls.{Asked, ToRead, ToWrite, Call, Read, Wrote, RefusedCall, PowerCut}
 use Rattle.device_log.specs.Image.{in_range}
 use Rattle.tape_base.specs.declared.digests.Digest.{Digest}
-use Rattle.tape_base.specs.Place.{slot_of}
+use Rattle.tape_base.specs.Place.{block_of}
 use Rattle.doc_header.specs.Reading.{document_digest, payload_of}
 use Rattle.cache_model.specs.declared.cause.Cause.{Cause}
 use Rattle.cache_model.specs.declared.cause.Cause.TheVariants as cause
@@ -18,10 +18,6 @@ use Rattle.cache_model.specs.Permit.{Permit, IsAmong}
 
 -- ---- the calls of a step
 
--- the device's block for a place
-abbrev pub block_at : Permit → State → ℕ → ℕ
-block_at p s place = slot_of s.geometry place + p.area
-
 -- the device refused this in the step; its count behind it is above that of the last fault
 pub record MayCount (p : Permit) (s : State) (asked : Asked) (count : ℕ) : Type 0 where
   pub rose : Rose s.fault count
@@ -29,12 +25,12 @@ pub record MayCount (p : Permit) (s : State) (asked : Asked) (count : ℕ) : Typ
 
 -- it refused to give the blocks of a piece
 abbrev pub CountsRead : Permit → State → Row → ℕ → Type 0
-CountsRead p s row count = MayCount p s (ToRead (block_at p s row.place) row.blocks) count
+CountsRead p s row count = MayCount p s (ToRead (block_of s.geometry row.place) row.blocks) count
 
 -- it refused to take the buffer
 pub record CountsWrite (p : Permit) (s : State) (count : ℕ) : Type 0 where
   pub left : List ℕ
-  pub counts : MayCount p s (ToWrite (block_at p s s.cursor) s.filled left) count
+  pub counts : MayCount p s (ToWrite (block_of s.geometry s.cursor) s.filled left) count
 
 -- so many blocks of the buffer from a place on, where these are the buffer's bytes
 abbrev pub bytes_from : State → List ℕ → Row → List ℕ
@@ -43,7 +39,7 @@ bytes_from s bytes row = take (512 * row.blocks) (drop (512 * (row.place - s.cur
 -- it took the buffer in one write, in which each piece of the buffer stands with its recorded digest
 pub record TakesBuffer (p : Permit) (s : State) : Type 0 where
   pub bytes : List ℕ
-  pub written : IsAmong (Wrote (block_at p s s.cursor) bytes) p.events
+  pub written : IsAmong (Wrote (block_of s.geometry s.cursor) bytes) p.events
   pub whole : length bytes / 512 ≡ s.filled
   pub holds : AllByRecursion (λ (row : Row). s.cursor ≤ row.place → document_digest (bytes_from s bytes row) ≡ row.digest) s.rows
 
@@ -71,7 +67,7 @@ AreWrittenLast calls at bytes = (i : ℕ) → i < length bytes / 512 → written
 pub record IsWrittenLast (p : Permit) (s : State) (calls : List Call) (row : Row) : Type 0 where
   pub bytes : List ℕ
   pub whole : length bytes ≡ 512 * row.blocks
-  pub written : AreWrittenLast calls (block_at p s row.place) bytes
+  pub written : AreWrittenLast calls (block_of s.geometry row.place) bytes
   pub digest : document_digest bytes ≡ row.digest
 
 -- up to some moment of the step each piece of the buffer stands as the calls of the device wrote it last
@@ -130,7 +126,7 @@ IsWritten s row = row.place < s.cursor
 -- the device gave these bytes for the piece in this step, in one read of its blocks
 pub record IsGiven (p : Permit) (s : State) (row : Row) (bytes : List ℕ) : Type 0 where
   pub written : IsWritten s row
-  pub given : IsAmong (Read (block_at p s row.place) bytes) p.events
+  pub given : IsAmong (Read (block_of s.geometry row.place) bytes) p.events
   pub whole : length bytes ≡ 512 * row.blocks
   pub of_bytes : IsBytes bytes
 

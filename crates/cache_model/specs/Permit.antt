@@ -92,12 +92,10 @@ work_after i rest why Stays = record { intents = i ∷ rest; refused = why }
 work_after i rest why Done = record { intents = rest; refused = why }
 work_after i rest why (Fails reason) = record { intents = filter is_cleanup rest; refused = Some reason }
 
--- what a stripe is for the whole of its session: whether its directory displaces entries, whether it syncs, and the block
--- at which the device's content area begins
+-- what a stripe is for the whole of its session: whether its directory displaces entries, and whether it syncs
 pub record Setting : Type 0 where
   pub packed : Bool
   pub syncs : Bool
-  pub area : ℕ
 
 -- the same of a step, with the moment that pins are weighed by, the calls that the device made in the steps of the session
 -- before it, and those that it made in the step itself, the newest first
@@ -105,20 +103,13 @@ pub record Permit : Type 0 where
   pub packed : Bool
   pub syncs : Bool
   pub now : ℕ
-  pub area : ℕ
   pub past : List Call
   pub events : List Call
-
--- a device has two gates and two bodies of one size below its content area
-abbrev pub HasCopies : ℕ → Type 0
-HasCopies area = (directory : ℕ) × (area ≡ 7 + 2 * directory)
 
 -- the step is one of such a session, which has made these calls before it
 pub record IsSetBy (setting : Setting) (calls : List Call) (p : Permit) : Type 0 where
   pub packed : p.packed ≡ setting.packed
   pub syncs : p.syncs ≡ setting.syncs
-  pub area : p.area ≡ setting.area
-  pub copies : setting.syncs ≡ true → HasCopies setting.area
   pub past : setting.syncs ≡ true → p.past ≡ calls
 
 -- the value stands in the list, once or more often

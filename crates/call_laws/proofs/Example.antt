@@ -3,7 +3,7 @@ use Rattle.std.proofs.Common.{◌≡◌, ℕ, true, List, [], ◌∷◌, refl}
 use Rattle.std.specs.Prelude.{None}
 use Rattle.device_log.specs.Calls.{Call}
 use Rattle.cache_model.specs.Kept.{state_of}
-use Rattle.cache_model.specs.Permit.{HasCopies, Weigh, Finish, Commit, GiveUp, Intent, Reason}
+use Rattle.cache_model.specs.Permit.{Weigh, Finish, Commit, GiveUp, Intent, Reason}
 use Rattle.cache_model.specs.Legal.{IsQuiet}
 use Rattle.cache_model.specs.Vectors.{AreTold, IsVectorAs}
 use Rattle.call_laws.specs.Moments.{NothingKnown, At, Facts, IsToldAt}
@@ -60,6 +60,6 @@ module _ (now put rest fragments : ℕ) (a b c d : At) (Weighed : Facts) where
   given_up why closing gives = serves_fails (GiveUp put ∷ []) closing gives
 
   -- a close that is a step of its own, of a stripe that syncs or not
-  whole : (past : List Call) → (a.setting.syncs ≡ true → HasCopies a.setting.area) → AreTold (state_of a.kept) → IsQuiet (state_of d.kept)
+  whole : (past : List Call) → AreTold (state_of a.kept) → IsQuiet (state_of d.kept)
       → ServesFrom IsVectorAs now a d closes AllDone IsToldAt IsToldAt → IsWholeStep IsVectorAs now past a d closes None IsToldAt
-  whole past copies known quiet serves = serves_step None past in_full copies quiet known serves
+  whole past known quiet serves = serves_step None past in_full quiet known serves

@@ -7,7 +7,7 @@ use Rattle.tape_base.specs.Digest.{Collide}
 use Rattle.doc_header.specs.Reading.{extent_of}
 use Rattle.cache_model.specs.declared.record.Rec.{Rec}
 use Rattle.cache_model.specs.State.{Row, State, live_row_of}
-use Rattle.cache_model.specs.Permit.{HasCopies, Intent, Permit, Reason, to_do}
+use Rattle.cache_model.specs.Permit.{Intent, Permit, Reason, to_do}
 use Rattle.cache_model.specs.Legal.{nothing}
 use Rattle.cache_model.specs.Pair.{Documents, IsPairOf, ShowsPair}
 use Rattle.call_laws.specs.Moments.{NothingKnown, At, Facts, IsStillAt}
@@ -68,12 +68,6 @@ from_nothing : {P : Documents} {now : ℕ} {a b : At} {asked : List Intent} {o :
     → Happens a b calls added
     → ServesFrom P now a b asked o (λ past s. ⊥) known
 from_nothing calls added happens = record { calls = calls; added = added; happens = happens; does = λ p earlier step. record { from = λ k. absurd k } }
-
--- a stripe that syncs, on a device whose content area has no copies below it, stands in no step
-in_no_step : {now : ℕ} {a b : At} {comes : Upshots} (calls : List Call) (added : List Rec) → a.setting.syncs ≡ true → (HasCopies a.setting.area → ⊥)
-    → Happens a b calls added → IsCall now a b comes
-in_no_step calls added syncs none happens =
-    record { calls = calls; added = added; happens = happens; does = λ p earlier step. absurd (none (step.set.copies syncs)) }
 
 -- ---- a pair
 

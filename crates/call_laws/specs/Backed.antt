@@ -2,14 +2,14 @@
 use Rattle.std.specs.Prelude.{ℕ, ◌≡◌, ◌+◌, ◌*◌, true, List, [], ◌∷◌, length, Some}
 use Rattle.device_log.specs.Calls.{Asked, ToRead, Call, Read, RefusedCall}
 use Rattle.tape_base.specs.declared.keys.Key.{Key}
-use Rattle.tape_base.specs.Place.{slot_of}
+use Rattle.tape_base.specs.Place.{block_of}
 use Rattle.alternate_vector.specs.Field.{Field}
 use Rattle.cache_model.specs.declared.record.Rec.{Rec}
 use Rattle.cache_model.specs.declared.record.Rec.TheVariants as rec
 use Rattle.cache_model.specs.State.{Row}
 use Rattle.cache_model.specs.Kept.{state_of}
 use Rattle.cache_model.specs.Verdict.{live_vector_of}
-use Rattle.cache_model.specs.Permit.{HasCopies, IsAmong, Look}
+use Rattle.cache_model.specs.Permit.{IsAmong, Look}
 use Rattle.cache_model.specs.Given.{IsWritten}
 use Rattle.cache_model.specs.Pair.{Documents}
 use Rattle.call_laws.specs.Moments.{At, Facts}
@@ -41,6 +41,6 @@ abbrev pub LookupsAsk : Documents → (before known : Facts) → Type 0
 LookupsAsk IsPlaced before known =
     (now : ℕ) (a b : At) (actor : ℕ) (key : Key) (request : List Field) (row : Row) (past : List Call)
     → (call : ServesFrom IsPlaced now a b (Look actor key request ∷ []) AllDone before known)
-    → (a.setting.syncs ≡ true → HasCopies a.setting.area) → before past (state_of a.kept)
+    → before past (state_of a.kept)
     → live_vector_of (state_of a.kept) key ≡ Some row → IsWritten (state_of a.kept) row
-    → WasAsked (slot_of (state_of a.kept).geometry row.place + a.setting.area) row.blocks call.calls
+    → WasAsked (block_of (state_of a.kept).geometry row.place) row.blocks call.calls

@@ -4,7 +4,7 @@ use Rattle.device_log.specs.Calls.{Call}
 use Rattle.cache_model.specs.declared.record.Rec.{Rec}
 use Rattle.cache_model.specs.State.{Row, State, after_all}
 use Rattle.cache_model.specs.Kept.{state_of}
-use Rattle.cache_model.specs.Permit.{End, HasCopies, Intent, Permit, Reason, Work}
+use Rattle.cache_model.specs.Permit.{End, Intent, Permit, Reason, Work}
 use Rattle.cache_model.specs.Legal.{Does, IsQuiet, MayGrow}
 use Rattle.cache_model.specs.Tape.{IsSound}
 use Rattle.cache_model.specs.Pair.{Documents, IsPair}
@@ -169,7 +169,7 @@ ToldServes known = (now : ℕ) (a b : At) (asked : List Intent) (o : Progress) �
 abbrev pub ServesStep : Documents → (before known : Facts) → Type 0
 ServesStep IsPlaced before known =
     (now : ℕ) (a b : At) (asked : List Intent) (o : Progress) (why : Option Reason) (past : List Call) → EndsWith o why
-    → (a.setting.syncs ≡ true → HasCopies a.setting.area) → IsQuiet (state_of b.kept)
+    → IsQuiet (state_of b.kept)
     → before past (state_of a.kept)
     → ServesFrom IsPlaced now a b asked o before known → IsWholeStep IsPlaced now past a b asked why known
 

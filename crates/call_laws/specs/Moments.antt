@@ -58,4 +58,4 @@ pub record Encloses (now : ℕ) (setting : Setting) (p : Permit) (earlier calls 
 -- the step that has these calls alone, behind those of the session before it
 abbrev pub permit_of : (now : ℕ) → Setting → (past calls : List Call) → Permit
 permit_of now setting past calls =
-    record { packed = setting.packed; syncs = setting.syncs; now = now; area = setting.area; past = past; events = calls }
+    record { packed = setting.packed; syncs = setting.syncs; now = now; past = past; events = calls }

@@ -1,3 +1,2 @@
-mod Behind
 mod Turning
 pub mod Calls

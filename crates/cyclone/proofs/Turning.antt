@@ -19,7 +19,7 @@ use Rattle.dir_table.proofs.Plainly.{all_stored}
 use Rattle.dir_table.specs.Wrap.{rows_at_or_above}
 use Rattle.write_cursor.specs.Plan.{FitsInLap}
 use Rattle.tape_base.specs.declared.geometries.Geometry.{Geometry}
-use Rattle.tape_base.specs.Place.{slot_of}
+use Rattle.tape_base.specs.Place.{block_of, device_blocks_of, slot_of}
 use Rattle.dir_table.specs.declared.rows.DirRow.{DirRow}
 use Rattle.dir_table.specs.declared.rows.StoredRow.{StoredRow}
 
@@ -105,8 +105,10 @@ next_turns old new t b fits behind below =
     }
 
 -- the blocks of a buffer lie in the content area
-pub slot_fits : (g : Geometry) (cursor filled : ℕ) → FitsInLap g cursor → filled ≤ g.agg → slot_of g cursor + filled ≤ g.content
-slot_fits g cursor filled fits few = omega arith
+pub block_fits : (g : Geometry) (cursor filled : ℕ) → FitsInLap g cursor → filled ≤ g.agg → block_of g cursor + filled ≤ device_blocks_of g
+block_fits g cursor filled fits few =
+    let slot : slot_of g cursor + filled ≤ g.content = omega arith in
+    omega (arith, slot)
 
 below_rest : (high : ℕ) (row : DirRow) (rows : List DirRow) → AllBelow high (row ∷ rows) → AllBelow high rows
 below_rest high row rows all = λ k d within. all (suc k) d (omega arith)

@@ -5,7 +5,7 @@ use Rattle.hex.specs.Hex.{IsBytes}
 use Rattle.tape_base.specs.declared.geometries.Geometry.{Geometry}
 use Rattle.tape_base.specs.declared.pieces.PieceId.{PieceId}
 use Rattle.tape_base.specs.Piece.{key_of_piece}
-use Rattle.tape_base.specs.Place.{slot_of, floor_of, next_cursor_of, lap_end_of}
+use Rattle.tape_base.specs.Place.{block_of, device_blocks_of, floor_of, next_cursor_of, lap_end_of}
 use Rattle.device_log.specs.Causes.{HasCause}
 use Rattle.edge_io.specs.declared.source.Failed.{Failed}
 use Rattle.std.specs.Prelude.{Result, OnOk}
@@ -69,7 +69,7 @@ pub record IsTurning (c : Seen) : Type 0 where
   pub from : c.geometry.content ≤ c.buffer.cursor
   pub below : c.buffer.cursor < 2 ^ 62
   pub lap : FitsInLap c.geometry c.buffer.cursor
-  pub sized : c.geometry.content ≤ c.device.size
+  pub sized : device_blocks_of c.geometry ≤ c.device.size
   -- all that was entered stands below the next piece
   pub entered : All (λ r. r.place < next_place_of c.buffer) c.rows
 
@@ -78,12 +78,11 @@ abbrev pub IsCyclone : {D R : Type 0} {d : DiskGhosts D} {r : DirectoryGhosts R}
 IsCyclone c = IsTurning (seen_cyclone c)
 
 -- nothing was put yet
-pub record IsFresh (c : Seen) (g : Geometry) (device : DeviceState) : Type 0 where
+pub record IsFresh (c : Seen) (g : Geometry) : Type 0 where
   pub geometry : c.geometry ≡ g
   pub buffer : c.buffer ≡ empty_buffer g.content g.agg
   pub rows : c.rows ≡ []
   pub displaced : c.displaced ≡ none_displaced
-  pub device_is : c.device ≡ device
 
 -- a document is in the buffer, and its piece in the directory
 pub record IsPut (purges : Bool) (old new : Seen) (doc : Doc) (payload : List ℕ) : Type 0 where
@@ -170,12 +169,12 @@ pub record BeginsNext (old new : Seen) : Type 0 where
 
 -- what is in the buffer is seen on the device
 abbrev pub HasBuffer : Seen → Type 0
-HasBuffer c = span (content_of c.device) (slot_of c.geometry c.buffer.cursor) (filled_of c.buffer) ≡ c.buffer.bytes
+HasBuffer c = span (content_of c.device) (block_of c.geometry c.buffer.cursor) (filled_of c.buffer) ≡ c.buffer.bytes
 
 -- a write of the buffer is one call of the device, also where it fails
 pub record WritesBuffer (old new : Seen) (result : Result (Unit {0}) Failed) : Type 0 where
   pub keeps : Keeps 1 (filled_of old.buffer) old.device new.device
-  pub logs : Logs (Wrote (slot_of old.geometry old.buffer.cursor) old.buffer.bytes) result old.device new.device
+  pub logs : Logs (Wrote (block_of old.geometry old.buffer.cursor) old.buffer.bytes) result old.device new.device
   pub cause : HasCause old.device.faults new.device.faults result
 
 -- nothing changed but the room for more pieces, which may have grown, and what the device is
@@ -201,10 +200,10 @@ pub record BlocksStand (c : Seen) (place blocks : ℕ) : Type 0 where
 -- what a read of blocks from a place on gives: those of the buffer, or by one call of the device
 pub record ReadsBlocks (old new : Seen) (place blocks : ℕ) (result : Result (Unit {0}) Failed) (bytes : List ℕ) : Type 0 where
   pub keeps : Keeps 0 0 old.device new.device
-  pub logs : place < old.buffer.cursor → Logs (Read (slot_of old.geometry place) bytes) result old.device new.device
+  pub logs : place < old.buffer.cursor → Logs (Read (block_of old.geometry place) bytes) result old.device new.device
   pub none : old.buffer.cursor ≤ place → new.device ≡ old.device
   pub length : length bytes ≡ 512 * blocks
   pub of_bytes : IsBytes bytes
   pub buffered : old.buffer.cursor ≤ place → bytes ≡ bytes_at old.buffer place blocks
-  pub given : OnOk result (place < old.buffer.cursor → IsTrusted new.device → bytes ≡ span (content_of old.device) (slot_of old.geometry place) blocks)
+  pub given : OnOk result (place < old.buffer.cursor → IsTrusted new.device → bytes ≡ span (content_of old.device) (block_of old.geometry place) blocks)
   pub cause : HasCause old.device.faults new.device.faults result

@@ -1,5 +1,4 @@
 pub mod Cyclone
-pub mod Writes
 pub use Rattle.logged_disk.specs.Device
 pub use Rattle.agg_buffer.specs.Buffer
 pub use Rattle.dir_table.specs.Rows

@@ -2,7 +2,7 @@
 ghost use Rattle.std.specs.Prelude.{◌≡◌, ◌+◌, ◌-◌, ◌*◌, ◌/◌, ◌<◌, ◌≤◌, ◌^◌, length, IfOk, OnOk, OnErr, IfErr};
 ghost use Rattle.tape_base.specs.Blocks.{blocks_of};
 ghost use Rattle.tape_base.specs.Digest.{digest_of};
-ghost use Rattle.tape_base.specs.Place.{floor_of};
+ghost use Rattle.tape_base.specs.Place.{device_blocks_of, floor_of};
 ghost use Rattle.doc_header.specs.Document.{digest_of_document, document_bytes};
 ghost use Rattle.doc_header.specs.Reading.{document_digest};
 ghost use Rattle.doc_header.specs.Moving.{moved_to};
@@ -10,6 +10,7 @@ ghost use Rattle.agg_buffer.specs.Buffer.{IsWholePiece, blocks_in, filled_of, em
 ghost use Rattle.std.specs.Prelude.{[], ◌∷◌, false, true, IsOk, IsPermutation};
 ghost use Rattle.std.specs.Bool.{OnTrue};
 ghost use Rattle.logged_disk.specs.Device.{Affords, IsWhole, Keeps};
+ghost use Rattle.stripe_copies.specs.Format.{IsLaidOut, IsRefusedFormat};
 ghost use Rattle.dir_table.specs.Window.{first_window};
 ghost use Rattle.dir_table.specs.Rows.{has_row, plain_rows};
 ghost use Rattle.dir_table.specs.Displacement.{AreFew, none_displaced};
@@ -20,7 +21,8 @@ use doc_header::{Doc, document_digest};
 use edge_io::Failed;
 use logged_disk::Disk;
 use std::alloc::{AllocError, Global};
-use tape_base::{BLOCK, Digest, Geometry, Key, PieceId, blocks_of, floor_of, next_cursor, slot};
+use stripe_copies::{FormatFault, lay_out};
+use tape_base::{BLOCK, Digest, Geometry, Key, PieceId, block, blocks_of, floor_of, next_cursor};
 use write_cursor::Cursor;
 
 /// The content area of a device, which is written in a circle.
@@ -37,22 +39,29 @@ pub struct Cyclone<D: Disk, R: Directory + Drop> {
 impl<D: Disk, R: Directory + Drop> Cyclone<D, R> {
     ghost use Rattle.cyclone.specs.Cyclone.{IsCyclone, HasBuffer, IsFresh, IsPut, EntersDoc, IsMoved, EntersCopy, TakesOutStored, BeginsNext, BlocksStand, ReadsBlocks, SameButRoom, SameButRows, SameTape, WritesBuffer, row_of_piece, next_buffer_cursor, seen_cyclone};
 
-    /// An empty cyclone over a device, from the start of its second lap on. A refusal gives the
-    /// device back.
-    pub fn new(alloc: Global, disk: D, g: Geometry) -> Result<Cyclone<D, R>, (AllocError, D)>
-        requires { g.content ≤ (D.state disk).size }
+    /// Lays a device out, and begins an empty cyclone on it, from the start of its second lap on. A
+    /// refusal gives the device back.
+    pub fn format(alloc: Global, disk: D, g: Geometry) -> Result<Cyclone<D, R>, (FormatFault, D)>
+        requires { device_blocks_of g ≤ (D.state disk).size }
         ensures ok { IfOk result (λ c. IsCyclone c) }
-        ensures fresh { IfOk result (λ c. IsFresh (seen_cyclone c) g (D.state disk)) }
-        ensures back { IfErr result (λ refused. refused.1 ≡ disk) }
+        ensures fresh { IfOk result (λ c. IsFresh (seen_cyclone c) g) }
+        ensures laid { IfOk result (λ c. IsLaidOut g (D.state disk) (seen_cyclone c).device) }
+        ensures back { IfErr result (λ refused.
+            IsRefusedFormat g (D.state disk) (D.state refused.1) refused.0) }
     {
-        match parts(alloc, &g) {
-            Ok((directory, buffer)) => Ok(Cyclone {
+        let mut disk = disk;
+        let (directory, buffer) = match parts(alloc, &g) {
+            Ok(parts) => parts,
+            Err(e) => return Err((FormatFault::Memory(e), disk)),
+        };
+        match lay_out(alloc, &mut disk, &g) {
+            Ok(()) => Ok(Cyclone {
                 geometry: g,
                 disk,
                 directory,
                 buffer,
             }),
-            Err(e) => Err((e, disk)),
+            Err(fault) => Err((fault, disk)),
         }
     }
 
@@ -211,7 +220,7 @@ impl<D: Disk, R: Directory + Drop> Cyclone<D, R> {
         ensures ok { OnOk result (HasBuffer (seen_cyclone self.new)) }
         ensures device { WritesBuffer (seen_cyclone self.old) (seen_cyclone self.new) result }
     {
-        let first = slot(&self.geometry, self.buffer.cursor());
+        let first = block(&self.geometry, self.buffer.cursor());
         self.disk.write(first, self.buffer.bytes())
     }
 
@@ -247,7 +256,7 @@ impl<D: Disk, R: Directory + Drop> Cyclone<D, R> {
             → seen_cyclone self.new ≡ seen_cyclone self.old }
     {
         if place < self.buffer.cursor() {
-            return self.disk.read(slot(&self.geometry, place), into);
+            return self.disk.read(block(&self.geometry, place), into);
         }
         let blocks = (into.len() / BLOCK) as u32;
         into.copy_from_slice(self.buffer.get(place, blocks));

@@ -2,7 +2,5 @@
 #![tactic(auto)]
 
 mod cyclone;
-mod laws;
 
 pub use cyclone::Cyclone;
-pub use laws::buffers_stand_behind_writes;

@@ -2,7 +2,7 @@
 use Rattle.std.proofs.Common.{◌≡◌, ℕ, ◌+◌, ◌<◌, ◌≤◌, ◌⊎◌, List, [], ◌∷◌, sym, ◌∙◌, ap, subst, arith, inl, inr}
 use Rattle.std.specs.Prelude.{map, nat_le}
 use Rattle.std.specs.List.{AllByRecursion}
-use Rattle.tape_base.specs.Place.{floor_of, slot_of}
+use Rattle.tape_base.specs.Place.{floor_of, block_of}
 use Rattle.device_log.specs.Image.{span}
 use Rattle.logged_disk.specs.Device.{DeviceState as Device, TellsAll, seen as content_of}
 use Rattle.doc_header.specs.Reading.{document_digest}
@@ -43,15 +43,15 @@ next_behind s c held = next_above s.geometry s.cursor s.filled held.sound.room h
 
 -- what holds of the bytes of a piece that was written before, or of one that this buffer wrote, holds of those that stand there
 pub was_intact : (P : List ℕ → Type 0) (s : State) (c : Seen) (row : Row) → IsHeld s c → IsWrittenOut c → 0 < row.blocks
-    → (floor_now s ≤ row.place → row.place < s.cursor → P (span (content_of c.device) (slot_of s.geometry row.place) row.blocks))
+    → (floor_now s ≤ row.place → row.place < s.cursor → P (span (content_of c.device) (block_of s.geometry row.place) row.blocks))
     → IsBufferedWhereNew c.buffer row → (c.buffer.cursor ≤ row.place → P (bytes_at c.buffer row.place row.blocks))
-    → floor_next s ≤ row.place → P (span (content_of c.device) (slot_of s.geometry row.place) row.blocks)
+    → floor_next s ≤ row.place → P (span (content_of c.device) (block_of s.geometry row.place) row.blocks)
 was_intact P s c row held out some written buffered new low = by (either_side s.cursor row.place)
   where
-    by : ((s.cursor ≤ row.place) ⊎ (row.place < s.cursor)) → P (span (content_of c.device) (slot_of s.geometry row.place) row.blocks)
+    by : ((s.cursor ≤ row.place) ⊎ (row.place < s.cursor)) → P (span (content_of c.device) (block_of s.geometry row.place) row.blocks)
     by (inl above) =
         let from : c.buffer.cursor ≤ row.place = let same : c.buffer.cursor ≡ s.cursor = held.cursor in omega (arith, same, above) in
-        subst (λ g. P (span (content_of c.device) (slot_of g row.place) row.blocks)) held.geometry
+        subst (λ g. P (span (content_of c.device) (block_of g row.place) row.blocks)) held.geometry
         (written_intact P c.geometry c.buffer (content_of c.device) row held.turning.few held.turning.lap out.whole out.written some
         (buffered from).filled (new from))
     by (inr below) = written (let behind = next_behind s c held in omega (arith, low, behind)) below

@@ -9,7 +9,7 @@ use Rattle.std.specs.Prelude.{Result, Ok, Err, OnOk, OnErr}
 use Rattle.device_log.specs.Image.{Image, SameBut}
 use Rattle.logged_disk.specs.Device.{DeviceState as Device, Affords, IsAfter, Keeps, TellsAll, SeenStays, seen as content_of}
 use Rattle.logged_disk.proofs.GoingOn.{goes_by_none, same_past, told_before}
-use Rattle.tape_base.specs.Place.{slot_of}
+use Rattle.tape_base.specs.Place.{block_of}
 use Rattle.dir_table.specs.declared.rows.DirRow.{DirRow}
 use Rattle.dir_table.specs.Rows.{row_of_key}
 use Rattle.agg_buffer.specs.Buffer.{filled_of}
@@ -183,12 +183,12 @@ alike_is_held s t c held alike faults = record {
 
 -- all that such a device changes is where the buffer is written
 pub spared_places : (s : State) (c : Seen) (device : Device) → IsHeld s c → SparesPieces c device
-    → SameBut (slot_of s.geometry s.cursor) s.filled (content_of c.device) (content_of device)
+    → SameBut (block_of s.geometry s.cursor) s.filled (content_of c.device) (content_of device)
 spared_places s c device held spares =
-    let at : slot_of c.geometry c.buffer.cursor ≡ slot_of s.geometry s.cursor =
-    ap (λ g. slot_of g c.buffer.cursor) held.geometry ∙ ap (slot_of s.geometry) held.cursor in
+    let at : block_of c.geometry c.buffer.cursor ≡ block_of s.geometry s.cursor =
+    ap (λ g. block_of g c.buffer.cursor) held.geometry ∙ ap (block_of s.geometry) held.cursor in
     subst (λ n. SameBut n s.filled (content_of c.device) (content_of device)) at
-    (subst (λ n. SameBut (slot_of c.geometry c.buffer.cursor) n (content_of c.device) (content_of device)) held.filled spares.others)
+    (subst (λ n. SameBut (block_of c.geometry c.buffer.cursor) n (content_of c.device) (content_of device)) held.filled spares.others)
 
 -- what was written out stays intact there
 spared_intact : (s : State) (c : Seen) (device : Device) → IsHeld s c → SparesPieces c device → TellsAll device → AllByRecursion (IsIntactWhereWritten s (content_of device)) s.rows

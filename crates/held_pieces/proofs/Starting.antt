@@ -1,7 +1,6 @@
 -- A fresh cyclone holds what a format begins with.
 use Rattle.std.proofs.Common.{[], ap, arith, false, refl}
 use Rattle.tape_base.specs.declared.geometries.Geometry.{Geometry}
-use Rattle.logged_disk.specs.Device.{DeviceState as Device}
 use Rattle.agg_buffer.specs.Buffer.{Buffer, filled_of}
 use Rattle.dir_table.specs.declared.rows.DirRow.{DirRow}
 use Rattle.dir_table.specs.Window.{is_in_range}
@@ -13,10 +12,10 @@ use Rattle.cache_model.specs.Legal.{format_records}
 use Rattle.cache_model.proofs.Onward.{legal_is_sound}
 use Rattle.held_pieces.specs.Held.{IsHeld, times}
 
-pub fresh_is_held : (g : Geometry) (c : Seen) (device : Device) → IsFresh c g device → IsTurning c → IsHeld (after_all nothing_yet (format_records g)) c
-fresh_is_held g c device fresh turning = record {
+pub fresh_is_held : (g : Geometry) (c : Seen) → IsFresh c g → IsTurning c → IsHeld (after_all nothing_yet (format_records g)) c
+fresh_is_held g c fresh turning = record {
   turning = turning;
-  sound = legal_is_sound (record { packed = false; syncs = false; area = 0 }) [] (format_records g) (Legal.IsLegal.begins g);
+  sound = legal_is_sound (record { packed = false; syncs = false }) [] (format_records g) (Legal.IsLegal.begins g);
   geometry = fresh.geometry;
   cursor = ap (λ (b : Buffer). b.cursor) fresh.buffer;
   filled = ap filled_of fresh.buffer;

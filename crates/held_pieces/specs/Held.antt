@@ -4,7 +4,7 @@ use Rattle.std.specs.List.{AllByRecursion}
 use Rattle.tape_base.specs.declared.geometries.Geometry.{Geometry}
 use Rattle.tape_base.specs.Geometry.{budget_of}
 use Rattle.tape_base.specs.Piece.{key_of_piece}
-use Rattle.tape_base.specs.Place.{lap_end_of, slot_of}
+use Rattle.tape_base.specs.Place.{lap_end_of, block_of}
 use Rattle.device_log.specs.Image.{Image, span}
 use Rattle.logged_disk.specs.Device.{TellsAll, seen as content_of}
 use Rattle.doc_header.specs.Reading.{document_digest}
@@ -49,7 +49,7 @@ IsBufferedWhereNew b row = b.cursor ≤ row.place → IsBuffered b row
 -- a piece that was written out ends below the buffer, and stands on the device with its recorded digest
 pub record IsIntact (s : State) (content : Image) (row : Row) : Type 0 where
   pub ends : row.place + row.blocks ≤ s.cursor
-  pub digest : document_digest (span content (slot_of s.geometry row.place) row.blocks) ≡ row.digest
+  pub digest : document_digest (span content (block_of s.geometry row.place) row.blocks) ≡ row.digest
 
 -- as long as it may be read
 abbrev pub IsIntactWhereWritten : State → Image → Row → Type 0

@@ -5,7 +5,7 @@ use Rattle.tape_base.specs.declared.pieces.PieceId.{PieceId}
 use Rattle.tape_base.specs.declared.digests.Digest.{Digest}
 use Rattle.tape_base.specs.Blocks.{blocks_of}
 use Rattle.tape_base.specs.Geometry.{budget_of}
-use Rattle.tape_base.specs.Place.{slot_of}
+use Rattle.tape_base.specs.Place.{block_of}
 use Rattle.doc_header.specs.declared.documents.Doc.{Doc}
 use Rattle.doc_header.specs.Document.{document_bytes}
 use Rattle.doc_header.specs.Moving.{moved_to}
@@ -78,7 +78,7 @@ HeldFit = (s : State) (c : Seen) → IsHeld s c → AreFew c.window.geometry c.r
 -- what is in the buffer is seen on the device, in whole blocks
 pub record IsWrittenOut (c : Seen) : Type 0 where
   pub whole : (block : ℕ) → length ((content_of c.device) block) ≡ 512
-  pub written : span (content_of c.device) (slot_of c.geometry c.buffer.cursor) (filled_of c.buffer) ≡ c.buffer.bytes
+  pub written : span (content_of c.device) (block_of c.geometry c.buffer.cursor) (filled_of c.buffer) ≡ c.buffer.bytes
 
 -- where the next buffer begins, and is recorded, what may still be read is held
 abbrev pub BegunIsHeld : Type 0
@@ -122,7 +122,7 @@ AlikeIsHeld = (s t : State) (c : Seen) → IsHeld s c → IsAlike s t → t.faul
 pub record SparesPieces (c : Seen) (device : Device) : Type 0 where
   pub later : c.device.faults ≤ device.faults
   pub goes : IsAfter c.device device
-  pub others : SameBut (slot_of c.geometry c.buffer.cursor) (filled_of c.buffer) (content_of c.device) (content_of device)
+  pub others : SameBut (block_of c.geometry c.buffer.cursor) (filled_of c.buffer) (content_of c.device) (content_of device)
 
 -- and so does a device that changes no more than that
 abbrev pub DeviceMayChange : Type 0
@@ -130,7 +130,7 @@ DeviceMayChange = (s : State) (c new : Seen) → IsHeld s c → SameTape c new �
 
 -- a cyclone that is fresh holds what a format begins with
 abbrev pub FreshIsHeld : Type 0
-FreshIsHeld = (g : Geometry) (c : Seen) (device : Device) → IsFresh c g device → IsTurning c → IsHeld (after_all nothing_yet (format_records g)) c
+FreshIsHeld = (g : Geometry) (c : Seen) → IsFresh c g → IsTurning c → IsHeld (after_all nothing_yet (format_records g)) c
 
 -- more room changes nothing of what is held
 abbrev pub RoomMayGrow : Type 0

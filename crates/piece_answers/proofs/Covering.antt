@@ -5,11 +5,10 @@ use Rattle.std.proofs.Math.Seq.{take-append_seam}
 use Rattle.std.specs.List.{AllByRecursion}
 use Rattle.device_log.specs.Calls.{Call}
 use Rattle.tape_base.specs.declared.geometries.Geometry.{Geometry}
-use Rattle.tape_base.specs.Place.{slot_of}
+use Rattle.tape_base.specs.Place.{block_of}
 use Rattle.cache_model.specs.declared.record.Rec.{Rec}
 use Rattle.cache_model.specs.State.{State}
 use Rattle.cache_model.specs.Permit.{End, IsAmong, Permit}
-use Rattle.cache_model.specs.Given.{block_at}
 use Rattle.cache_model.specs.Syncing.{DoesSync, Syncing}
 use Rattle.cache_model.proofs.Steps.{all_parts}
 use Rattle.piece_answers.specs.Covers.{Covers, calls_since}
@@ -26,14 +25,6 @@ since_is before after made is =
 pub made_is : (before after made calls : List Call) → after ≡ calls ++ before → after ≡ made ++ before → made ≡ calls
 made_is before after made calls there is = append_cancel_right made calls before (sym is ∙ there)
 
--- ---- places as blocks
-
-with_none : (n a : ℕ) → a ≡ 0 → n ≡ n + a
-with_none n a none = omega (arith, none)
-
-pub block_is : (p : Permit) (s : State) (g : Geometry) (place : ℕ) → g ≡ s.geometry → p.area ≡ 0 → slot_of g place ≡ block_at p s place
-block_is p s g place same none = ap (λ h. slot_of h place) same ∙ with_none (slot_of s.geometry place) p.area none
-
 -- ---- a step of one call
 
 among_more : (x : Call) (ys xs : List Call) → AllByRecursion (λ r. IsAmong r ys) xs → AllByRecursion (λ r. IsAmong r (x ∷ ys)) xs
@@ -45,12 +36,11 @@ all_own [] = tt
 all_own (x ∷ xs) = (inl refl, among_more x xs xs (all_own xs))
 
 abbrev pub own_permit : (now : ℕ) (before after : List Call) → Permit
-own_permit now before after = record { packed = false; syncs = false; now = now; area = 0; past = []; events = calls_since before after }
+own_permit now before after = record { packed = false; syncs = false; now = now; past = []; events = calls_since before after }
 
 pub own_covers : (now : ℕ) (before after : List Call) → Covers (own_permit now before after) before after
 own_covers now before after = record {
   unsynced = refl;
-  content = refl;
   knows = λ made is. subst (λ calls. AllByRecursion (λ call. IsAmong call calls) made) (sym (since_is before after made is)) (all_own made);
 }
 
@@ -59,7 +49,6 @@ own_covers now before after = record {
 pub covers_first : (p : Permit) (before mid after more : List Call) → after ≡ more ++ mid → Covers p before after → Covers p before mid
 covers_first p before mid after more later c = record {
   unsynced = c.unsynced;
-  content = c.content;
   knows = λ made is.
       let whole : after ≡ (more ++ made) ++ before = later ∙ (ap (λ calls. more ++ calls) is ∙ sym (append_assoc more made before)) in
       (all_parts (λ (call : Call). IsAmong call p.events) more made (c.knows (more ++ made) whole)).1;
@@ -68,7 +57,6 @@ covers_first p before mid after more later c = record {
 pub covers_last : (p : Permit) (before mid after more : List Call) → mid ≡ more ++ before → Covers p before after → Covers p mid after
 covers_last p before mid after more later c = record {
   unsynced = c.unsynced;
-  content = c.content;
   knows = λ made is.
       let whole : after ≡ (made ++ more) ++ before = is ∙ (ap (λ calls. made ++ calls) later ∙ sym (append_assoc made more before)) in
       (all_parts (λ (call : Call). IsAmong call p.events) made more (c.knows (made ++ more) whole)).0;

@@ -19,7 +19,7 @@ use Rattle.piece_answers.proofs.SamePuts.{SamePuts}
 
 -- a step of a directory that displaces, or that does not
 abbrev step_of : Bool → Permit
-step_of packed = record { packed = packed; syncs = false; now = 0; area = 0; past = []; events = [] }
+step_of packed = record { packed = packed; syncs = false; now = 0; past = []; events = [] }
 
 mapped : (segment live : ℕ) (rows : List Row) → AreOfDisplacement (map (displaced_record segment live) rows)
 mapped segment live [] = tt

@@ -6,7 +6,7 @@ use Rattle.logged_disk.specs.Device.{DeviceState as Device, IsAsked, SeenStays, 
 use Rattle.logged_disk.proofs.GoingOn.{goes_further, stays_put, told_before}
 use Rattle.tape_base.specs.declared.geometries.Geometry.{Geometry}
 use Rattle.tape_base.specs.Geometry.{budget_of}
-use Rattle.tape_base.specs.Place.{slot_of}
+use Rattle.tape_base.specs.Place.{block_of}
 use Rattle.device_log.specs.Image.{Image}
 use Rattle.device_log.proofs.Spans.{span_same}
 use Rattle.doc_header.proofs.Stands.{part_in_front}
@@ -74,7 +74,7 @@ taken_more (r ∷ rows) (x ∷ outcomes) row o h = omega (arith, taken_more rows
 -- on an image that shows the same
 seen_before : (g : Geometry) (c d : Image) (row : Row) (o : Outcome) → ((j : ℕ) → d j ≡ c j) → IsAsSeen g d row o → IsAsSeen g c row o
 seen_before g c d row NoRoom same h = tt
-seen_before g c d row (Copied bytes) same h = h ∙ span_same d c (slot_of g row.place) row.blocks (λ j low high. same j)
+seen_before g c d row (Copied bytes) same h = h ∙ span_same d c (block_of g row.place) row.blocks (λ j low high. same j)
 seen_before g c d row (Spoiled found) same h = tt
 seen_before g c d row (ReadRefused count) same h = tt
 

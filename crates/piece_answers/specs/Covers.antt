@@ -14,11 +14,9 @@ use Rattle.cache_model.specs.Legal.{MayGrow}
 abbrev pub calls_since : (before after : List Call) → List Call
 calls_since before after = take (length after - length before) after
 
--- the step knows each call that the device made between these two moments of its log, the stripe does not sync, and the content
--- area begins at the first block
+-- the step knows each call that the device made between these two moments of its log, and the stripe does not sync
 pub record Covers (p : Permit) (before after : List Call) : Type 0 where
   pub unsynced : p.syncs ≡ false
-  pub content : p.area ≡ 0
   pub knows : (made : List Call) → after ≡ made ++ before → AllByRecursion (λ call. IsAmong call p.events) made
 
 -- a read gave what is seen there

@@ -3,7 +3,7 @@ use Rattle.std.specs.Prelude.{ℕ, ◌≡◌, ◌<◌, ◌≤◌, ◌^◌, IfSom
 use Rattle.std.specs.List.{AllByRecursion}
 use Rattle.tape_base.specs.declared.geometries.Geometry.{Geometry}
 use Rattle.tape_base.specs.declared.pieces.PieceId.{PieceId}
-use Rattle.tape_base.specs.Place.{slot_of}
+use Rattle.tape_base.specs.Place.{block_of}
 use Rattle.device_log.specs.Image.{Image, span}
 use Rattle.logged_disk.specs.Device.{DeviceState as Device, TellsAll, seen as content_of}
 use Rattle.doc_header.specs.Moving.{BeginsWith}
@@ -29,7 +29,7 @@ StandsInBuffer contents g b row = b.cursor ≤ row.place → HasContent contents
 -- one that was written out stands on the device, as long as it may be read
 abbrev pub StandsOnDevice : Contents → State → Image → Row → Type 0
 StandsOnDevice contents s content row = floor_now s ≤ row.place → row.place < s.cursor
-    → HasContent contents s.geometry row (span content (slot_of s.geometry row.place) row.blocks)
+    → HasContent contents s.geometry row (span content (block_of s.geometry row.place) row.blocks)
 
 -- where the device tells its content, what is told of the pieces stands, and each is recorded so, also one that the floor has passed
 pub record AreStanding (contents : Contents) (s : State) (c : Seen) : Type 0 where
@@ -43,7 +43,7 @@ IsToldPlaced device s id start payload contents = TellsAll device → IsToldAs c
 
 -- bytes that were read for a copy are what is seen there
 abbrev pub IsAsSeen : Geometry → Image → Row → Outcome → Type 0
-IsAsSeen g content row (Copied bytes) = bytes ≡ span content (slot_of g row.place) row.blocks
+IsAsSeen g content row (Copied bytes) = bytes ≡ span content (block_of g row.place) row.blocks
 IsAsSeen g content row _ = Unit {0}
 
 -- so it is of each piece

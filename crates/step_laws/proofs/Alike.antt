@@ -3,7 +3,7 @@
 use Rattle.std.proofs.Common.{◌≡◌, ℕ, ◌+◌, List, [], ◌∷◌, refl, sym, ◌∙◌, subst, arith}
 use Rattle.device_log.specs.Causes.{Rose}
 use Rattle.device_log.specs.Calls.{Asked, ToRead, ToWrite, Read}
-use Rattle.tape_base.specs.Place.{slot_of}
+use Rattle.tape_base.specs.Place.{block_of}
 use Rattle.cache_model.specs.State.{State, Row, after_all}
 use Rattle.cache_model.specs.Permit.{Permit, IsAmong}
 use Rattle.cache_model.specs.Given.{CountsRead, CountsWrite, IsDamaged, IsGiven, IsWritten, MayCount}
@@ -38,7 +38,7 @@ written_alike s t row same h = omega (arith, same, h)
 pub given_alike : (p : Permit) (s t : State) (row : Row) (bytes : List ℕ) → ReadsAlike s t → IsGiven p s row bytes → IsGiven p t row bytes
 given_alike p s t row bytes same g = record {
   written = written_alike s t row same.1 g.written;
-  given = subst (λ geometry. IsAmong (Read (slot_of geometry row.place + p.area) bytes) p.events) (sym same.0) g.given;
+  given = subst (λ geometry. IsAmong (Read (block_of geometry row.place) bytes) p.events) (sym same.0) g.given;
   whole = g.whole;
   of_bytes = g.of_bytes;
 }
@@ -48,16 +48,16 @@ counts_alike p s t asked count same m = record { rose = subst (λ n. Rose n coun
 
 pub read_alike : (p : Permit) (s t : State) (row : Row) (count : ℕ) → IsAlike s t → CountsRead p s row count → CountsRead p t row count
 read_alike p s t row count a m =
-    subst (λ geometry. MayCount p t (ToRead (slot_of geometry row.place + p.area) row.blocks) count) (sym a.0.0) (counts_alike p s t _ count a.2 m)
+    subst (λ geometry. MayCount p t (ToRead (block_of geometry row.place) row.blocks) count) (sym a.0.0) (counts_alike p s t _ count a.2 m)
 
 pub write_alike : (p : Permit) (s t : State) (count : ℕ) → IsAlike s t → CountsWrite p s count → CountsWrite p t count
 write_alike p s t count a m = record {
   left = m.left;
   counts =
-      subst (λ geometry. MayCount p t (ToWrite (slot_of geometry t.cursor + p.area) t.filled m.left) count) (sym a.0.0)
-      (subst (λ cursor. MayCount p t (ToWrite (slot_of s.geometry cursor + p.area) t.filled m.left) count) (sym a.0.1)
-      (subst (λ filled. MayCount p t (ToWrite (slot_of s.geometry s.cursor + p.area) filled m.left) count) (sym a.1)
-      (counts_alike p s t (ToWrite (slot_of s.geometry s.cursor + p.area) s.filled m.left) count a.2 m.counts)));
+      subst (λ geometry. MayCount p t (ToWrite (block_of geometry t.cursor) t.filled m.left) count) (sym a.0.0)
+      (subst (λ cursor. MayCount p t (ToWrite (block_of s.geometry cursor) t.filled m.left) count) (sym a.0.1)
+      (subst (λ filled. MayCount p t (ToWrite (block_of s.geometry s.cursor) filled m.left) count) (sym a.1)
+      (counts_alike p s t (ToWrite (block_of s.geometry s.cursor) s.filled m.left) count a.2 m.counts)));
 }
 
 damaged_alike : (p : Permit) (s t : State) (row : Row) (found : Digest) → ReadsAlike s t → IsDamaged p s row found → IsDamaged p t row found

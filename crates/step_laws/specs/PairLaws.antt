@@ -5,13 +5,14 @@ use Rattle.device_log.specs.Calls.{Read}
 use Rattle.tape_base.specs.declared.keys.Key.{Key}
 use Rattle.doc_header.specs.Reading.{extent_of}
 use Rattle.alternate_vector.specs.Field.{Field}
+use Rattle.tape_base.specs.Place.{block_of}
 use Rattle.cache_model.specs.State.{State, Row, reader_of}
 use Rattle.cache_model.specs.Verdict.{live_vector_of}
 use Rattle.cache_model.specs.Permit.{Intent, IsAmong, Look, Permit, ReadOn}
 use Rattle.cache_model.specs.Due.{due_pieces}
 use Rattle.cache_model.specs.Legal.{live_next}
 use Rattle.cache_model.specs.ToRead.{IsCopied, IsToRead, flushes_first, to_read}
-use Rattle.cache_model.specs.Given.{IsWritten, block_at}
+use Rattle.cache_model.specs.Given.{IsWritten}
 use Rattle.cache_model.specs.Pair.{Documents, IsPairOf}
 
 -- both sides of a pair are bytes
@@ -22,7 +23,7 @@ PairsAreBytes IsPlaced = (p : Permit) (s : State) (row : Row) (pair : IsPairOf I
 -- of a piece that was written out no pair is shown in a step in which the device gave nothing from the block of its place on
 abbrev pub PairsAreGiven : Documents → Type 0
 PairsAreGiven IsPlaced = (p : Permit) (s : State) (row : Row) → IsWritten s row
-    → ((bytes : List ℕ) → IsAmong (Read (block_at p s row.place) bytes) p.events → ⊥) → IsPairOf IsPlaced p s row → ⊥
+    → ((bytes : List ℕ) → IsAmong (Read (block_of s.geometry row.place) bytes) p.events → ⊥) → IsPairOf IsPlaced p s row → ⊥
 
 -- where no piece is asked for, and no flush begins what is asked, no piece is read
 abbrev pub NothingAskedReadsNone : Type 0

@@ -12,6 +12,7 @@ use Rattle.tape_base.specs.Blocks.{blocks_of}
 use Rattle.tape_base.specs.Geometry.{budget_of}
 use Rattle.doc_header.specs.Reading.{document_digest}
 use Rattle.alternate_vector.specs.Field.{Field}
+use Rattle.tape_base.specs.Place.{block_of}
 use Rattle.cache_model.specs.declared.answer.ReadAnswer.{ReadAnswer}
 use Rattle.cache_model.specs.declared.record.Rec.{Rec}
 use Rattle.cache_model.specs.declared.record.Rec.TheVariants as rec
@@ -19,7 +20,7 @@ use Rattle.cache_model.specs.State.{State, Row, PutRow, AllAlong, after_all, liv
 use Rattle.cache_model.specs.Verdict.{live_vector_of, payload_of_piece}
 use Rattle.cache_model.specs.Permit.{Permit, IsAmong, Intent, Flush, Fragment, Weigh, Finish, GiveUp, Remove, Look, ReadAll, StopReading, Reason, End, Done, Fails, Work, work_after}
 use Rattle.cache_model.specs.Room.{limit, has_room}
-use Rattle.cache_model.specs.Given.{IsRead, block_at}
+use Rattle.cache_model.specs.Given.{IsRead}
 use Rattle.cache_model.specs.Syncing.{must_unmark}
 use Rattle.cache_model.specs.Legal.{Does, IsStep, MayGrow, is_writing, size_alone}
 
@@ -132,7 +133,7 @@ FaultsRise = (p : Permit) (s : State) (intents : List Intent) (added : List Rec)
 -- the digest of a document that the device gave in the step from the block of a place on
 pub record IsOfGiven (p : Permit) (s : State) (place : ℕ) (found : Digest) : Type 0 where
   pub bytes : List ℕ
-  pub given : IsAmong (Read (block_at p s place) bytes) p.events
+  pub given : IsAmong (Read (block_of s.geometry place) bytes) p.events
   pub digest : found ≡ document_digest bytes
 
 -- the digest of the payload of the live piece at a place, which was in the buffer, or read in the step

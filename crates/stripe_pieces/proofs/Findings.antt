@@ -9,7 +9,7 @@ use Rattle.device_log.specs.Causes.{Rose}
 use Rattle.edge_io.specs.declared.source.Failed.{Failed}
 use Rattle.tape_base.specs.declared.pieces.PieceId.{PieceId}
 use Rattle.tape_base.specs.declared.digests.Digest.{Digest}
-use Rattle.tape_base.specs.Place.{slot_of}
+use Rattle.tape_base.specs.Place.{block_of}
 use Rattle.device_log.specs.Image.{span}
 use Rattle.logged_disk.specs.Device.{DeviceState as Device, IsTrusted, TellsAll, seen as content_of}
 use Rattle.logged_disk.proofs.GoingOn.{told_before}
@@ -21,7 +21,7 @@ use Rattle.cache_model.specs.declared.cause.Cause.TheVariants as cause
 use Rattle.cache_model.specs.declared.record.Rec.TheVariants as rec
 use Rattle.cache_model.specs.State.{State, Row, floor_now, live_row_of, row_in, state_after}
 use Rattle.cache_model.specs.Permit.{IsAmong, Permit}
-use Rattle.cache_model.specs.Given.{CountsRead, Denied, IsGiven, Trouble, block_at, effects_told}
+use Rattle.cache_model.specs.Given.{CountsRead, Denied, IsGiven, Trouble, effects_told}
 use Rattle.cache_model.specs.Verdict.{cause_of_piece}
 use Rattle.cache_model.proofs.Lists.{found_row, own_piece}
 use Rattle.piece_answers.specs.declared.answer.Found.{Found}
@@ -35,7 +35,7 @@ use Rattle.piece_answers.specs.Standing.{AreStanding}
 use Rattle.cache_model.specs.Troubles.{cause_records}
 use Rattle.piece_answers.specs.Find.{Finds, HasPayload, IsFoundAs, IsJudged, IsRecorded, TellsCount, find_adds, found_records, judged_records}
 use Rattle.piece_answers.proofs.Effects.{effects_none}
-use Rattle.piece_answers.proofs.Covering.{block_is, made_is}
+use Rattle.piece_answers.proofs.Covering.{made_is}
 use Rattle.held_pieces.proofs.Candidates.{live_is}
 use Rattle.stripe_pieces.proofs.Payloads.{content_by, found_content}
 
@@ -59,19 +59,19 @@ pub given_read : (p : Permit) (t : State) (c new : Seen) (row : Row) (bytes : Li
     → ReadsBlocks c new row.place row.blocks (Ok tt) bytes → Covers p c.device.past new.device.past → IsGiven p t row bytes
 given_read p t c new row bytes same from below read covers = record {
   written = below;
-  given = subst (λ at. IsAmong (Read at bytes) p.events) (block_is p t c.geometry row.place same covers.content)
-      (covers.knows (Read (slot_of c.geometry row.place) bytes ∷ []) (read.logs from).past).0;
+  given = subst (λ at. IsAmong (Read at bytes) p.events) (ap (λ g. block_of g row.place) same)
+      (covers.knows (Read (block_of c.geometry row.place) bytes ∷ []) (read.logs from).past).0;
   whole = read.length;
   of_bytes = read.of_bytes;
 }
 
 pub effects_read : (c new : Seen) (place blocks : ℕ) (bytes : List ℕ) → place < c.buffer.cursor → ReadsBlocks c new place blocks (Ok tt) bytes → HasEffects c.device.past new.device.past []
-effects_read c new place blocks bytes from read = record { made = Read (slot_of c.geometry place) bytes ∷ []; past = (read.logs from).past; are = refl }
+effects_read c new place blocks bytes from read = record { made = Read (block_of c.geometry place) bytes ∷ []; past = (read.logs from).past; are = refl }
 
 pub effects_failed : (c new : Seen) (place blocks : ℕ) (bytes : List ℕ) (e : Failed) (count : ℕ) → place < c.buffer.cursor → ReadsBlocks c new place blocks (Err e) bytes → count ≡ new.device.faults
     → HasEffects c.device.past new.device.past (Denied count ∷ [])
 effects_failed c new place blocks bytes e count from read is = record {
-  made = RefusedCall (ToRead (slot_of c.geometry place) (length bytes / 512)) new.device.faults ∷ [];
+  made = RefusedCall (ToRead (block_of c.geometry place) (length bytes / 512)) new.device.faults ∷ [];
   past = (read.logs from).0;
   are = ap (λ n. Denied n ∷ []) (sym is);
 }
@@ -88,10 +88,10 @@ counts_read p t c new row bytes e count same from read is low covers =
     record {
       rose = rw is (lower_rose t.fault c.device.faults new.device.faults low rose);
       refused = subst (λ call. IsAmong call p.events)
-          (ap (λ at. RefusedCall (ToRead at (length bytes / 512)) new.device.faults) (block_is p t c.geometry row.place same covers.content)
-          ∙ (ap (λ n. RefusedCall (ToRead (block_at p t row.place) n) new.device.faults) few
-          ∙ ap (λ n. RefusedCall (ToRead (block_at p t row.place) row.blocks) n) (sym is)))
-          (covers.knows (RefusedCall (ToRead (slot_of c.geometry row.place) (length bytes / 512)) new.device.faults ∷ []) (read.logs from).0).0;
+          (ap (λ at. RefusedCall (ToRead at (length bytes / 512)) new.device.faults) (ap (λ g. block_of g row.place) same)
+          ∙ (ap (λ n. RefusedCall (ToRead (block_of t.geometry row.place) n) new.device.faults) few
+          ∙ ap (λ n. RefusedCall (ToRead (block_of t.geometry row.place) row.blocks) n) (sym is)))
+          (covers.knows (RefusedCall (ToRead (block_of c.geometry row.place) (length bytes / 512)) new.device.faults ∷ []) (read.logs from).0).0;
     }
 
 -- where no call was made, nothing was read
@@ -116,15 +116,15 @@ module _ (s : State) (c new : Seen) (id : PieceId) (row : Row) (bytes into : Lis
   from_device below = omega (arith, below, held.cursor)
 
   abbrev given : Call
-  given = Read (slot_of c.geometry row.place) bytes
+  given = Read (block_of c.geometry row.place) bytes
 
   -- where the device is trusted, what it gave is what is seen
-  shown : row.place < s.cursor → IsTrusted new.device → bytes ≡ span (content_of new.device) (slot_of c.geometry row.place) (length bytes / 512)
+  shown : row.place < s.cursor → IsTrusted new.device → bytes ≡ span (content_of new.device) (block_of c.geometry row.place) (length bytes / 512)
   shown below trusted =
       let count : row.blocks ≡ length bytes / 512 = omega (arith, whole) in
       read.given (from_device below) trusted
-      ∙ (span_same (content_of c.device) (content_of new.device) (slot_of c.geometry row.place) row.blocks (λ j low high. sym (reads_same c new row.place row.blocks (Ok tt) bytes read j))
-      ∙ ap (span (content_of new.device) (slot_of c.geometry row.place)) count)
+      ∙ (span_same (content_of c.device) (content_of new.device) (block_of c.geometry row.place) row.blocks (λ j low high. sym (reads_same c new row.place row.blocks (Ok tt) bytes read j))
+      ∙ ap (span (content_of new.device) (block_of c.geometry row.place)) count)
 
   all_shown : row.place < s.cursor → AllReadIsSeen c.device new.device
   all_shown below = λ made past trusted.
@@ -200,7 +200,7 @@ module _ (s : State) (c new : Seen) (id : PieceId) (row : Row) (bytes into : Lis
       let before : TellsAll c.device = told_before c.device new.device (reads_go_on c new row.place row.blocks (Ok tt) bytes read) told in
       let found = live_is s (row_in s.rows id) row live in
       let i = found_row (IsIntactWhereWritten s (content_of c.device)) id s.rows row (held.intact before) found.0 (leb-true (floor_now s) row.place found.1) below in
-      sym (ap document_digest (read.given (omega (arith, below, held.cursor)) told.trusted ∙ ap (λ g. span (content_of c.device) (slot_of g row.place) row.blocks) held.geometry) ∙ i.digest)
+      sym (ap document_digest (read.given (omega (arith, below, held.cursor)) told.trusted ∙ ap (λ g. span (content_of c.device) (block_of g row.place) row.blocks) held.geometry) ∙ i.digest)
 
   no_damage_by : (answer : Found) → ((s.cursor ≤ row.place) ⊎ (row.place < s.cursor)) → IsJudged row.place row.digest bytes answer into → TellsAll new.device → TellNoDamage (find_adds s id answer)
   no_damage_by (found.Found size) side j told = rw live tt
@@ -261,7 +261,7 @@ module _ (s : State) (c new : Seen) (id : PieceId) (row : Row) (count : ℕ) (by
   fault_by = record {
     seen = λ made past trusted.
         subst (AllByRecursion (ReadIsSeen new.device)) (sym (made_is c.device.past new.device.past made
-        (RefusedCall (ToRead (slot_of c.geometry row.place) (length bytes / 512)) new.device.faults ∷ []) (read.logs beneath).0 past)) (tt, tt);
+        (RefusedCall (ToRead (block_of c.geometry row.place) (length bytes / 512)) new.device.faults ∷ []) (read.logs beneath).0 past)) (tt, tt);
     faults = subst (HasEffects c.device.past new.device.past) (sym (ap (λ o. effects_told (found_records o (found.Missing (cause.DeviceFault count)))) live))
         (effects_failed c new row.place row.blocks bytes e count beneath read is);
     counted = subst (λ o. TellsCount o new.device.faults (found.Missing (cause.DeviceFault count))) (sym live) is;

@@ -8,7 +8,7 @@ use Rattle.edge_io.specs.declared.source.Failed.{Failed}
 use Rattle.device_log.specs.Calls.{Call, RefusedCall, ToWrite, Wrote}
 use Rattle.doc_header.specs.Reading.{document_digest}
 use Rattle.agg_buffer.specs.Buffer.{Buffer, filled_of}
-use Rattle.tape_base.specs.Place.{slot_of}
+use Rattle.tape_base.specs.Place.{block_of}
 use Rattle.cyclone.specs.Cyclone.{SameTape, Seen, WritesBuffer}
 use Rattle.tape_base.specs.Geometry.{budget_of}
 use Rattle.logged_disk.specs.Device.{DeviceState as Device, IsAfter, IsAsked, TellsAll, seen as content_of}
@@ -20,7 +20,7 @@ use Rattle.cache_model.specs.State.{Row, State, after_all, cursor_next, floor_ne
 use Rattle.cache_model.specs.Kept.{Kept, state_of, with_records}
 use Rattle.cache_model.specs.Permit.{IsAmong, Permit}
 use Rattle.cache_model.specs.Due.{due_pieces, is_due}
-use Rattle.cache_model.specs.Given.{CountsWrite, Denied, Took, block_at, bytes_from, effects_told}
+use Rattle.cache_model.specs.Given.{CountsWrite, Denied, Took, bytes_from, effects_told}
 use Rattle.cache_model.specs.Legal
 use Rattle.cache_model.specs.Legal.{CanFlush}
 use Rattle.cache_model.specs.Outcomes.{AreOutcomes, Copied, NoRoom, Outcome, ReadRefused, Spoiled, began_record, copies_of, flush_records, flush_tail, front_of, moved_record, moved_records, records_of, stopped_front_of, stopped_records, stopped_records_of, Copy}
@@ -49,7 +49,7 @@ use Rattle.cache_model.specs.Contents.{Contents}
 use Rattle.piece_answers.specs.Standing.{StandsOnDevice}
 use Rattle.piece_answers.specs.declared.ahead.Fate.{Fate}
 use Rattle.piece_answers.proofs.Effects.{effects_then, told_append}
-use Rattle.piece_answers.proofs.Covering.{block_is, covers_first, own_covers, own_permit}
+use Rattle.piece_answers.proofs.Covering.{covers_first, own_covers, own_permit}
 use Rattle.stripe_pieces.proofs.Findings.{lower_rose}
 use Rattle.piece_answers.proofs.OneMore.{counted_later}
 use Rattle.cache_model.specs.Damage.{TellNoDamage, tells_damage}
@@ -235,7 +235,7 @@ stopped_unharmed rows outcomes count h = all_append (λ r. tells_damage r ≡ fa
 
 -- the bytes of the buffer, and the block to which they go
 pub record GoesOut (s : State) (at : ℕ) (bytes : List ℕ) : Type 0 where
-  pub at_is : at ≡ slot_of s.geometry s.cursor
+  pub at_is : at ≡ block_of s.geometry s.cursor
   pub whole : length bytes / 512 ≡ s.filled
   pub holds : AllByRecursion (λ (row : Row). s.cursor ≤ row.place → document_digest (bytes_from s bytes row) ≡ row.digest) s.rows
 
@@ -249,9 +249,9 @@ all_hold s b (row ∷ rows) same h = (
   all_hold s b rows same h.1,
 )
 
-pub goes_out : (s : State) (c : Seen) → IsHeld s c → GoesOut s (slot_of c.geometry c.buffer.cursor) c.buffer.bytes
+pub goes_out : (s : State) (c : Seen) → IsHeld s c → GoesOut s (block_of c.geometry c.buffer.cursor) c.buffer.bytes
 goes_out s c held = record {
-  at_is = ap (λ g. slot_of g c.buffer.cursor) held.geometry ∙ ap (slot_of s.geometry) held.cursor;
+  at_is = ap (λ g. block_of g c.buffer.cursor) held.geometry ∙ ap (block_of s.geometry) held.cursor;
   whole = held.filled;
   holds = all_hold s c.buffer s.rows held.cursor held.buffered;
 }
@@ -275,7 +275,7 @@ pub record IsLeft (s : State) (mid after : Device) : Type 0 where
 
 pub taken_by_write : (s : State) (c mid out : Seen) (device : Device) → IsHeld s c → SameTape c mid → WritesBuffer mid out (Ok tt) → device ≡ out.device → IsTaken s mid.device device
 taken_by_write s c mid out device held same wrote is = record {
-  at = slot_of mid.geometry mid.buffer.cursor;
+  at = block_of mid.geometry mid.buffer.cursor;
   bytes = mid.buffer.bytes;
   buffer = rw (ap (λ (y : Seen). y.geometry) same, ap (λ (y : Seen). y.buffer) same) (goes_out s c held);
   wrote = ap (λ (d : Device). d.past) is ∙ wrote.logs.past;
@@ -284,12 +284,12 @@ taken_by_write s c mid out device held same wrote is = record {
 
 pub left_by_write : (s : State) (c mid out : Seen) (device : Device) (e : Failed) → IsHeld s c → SameTape c mid → WritesBuffer mid out (Err e) → device ≡ out.device → IsLeft s mid.device device
 left_by_write s c mid out device e held same wrote is = record {
-  at = slot_of mid.geometry mid.buffer.cursor;
+  at = block_of mid.geometry mid.buffer.cursor;
   bytes = mid.buffer.bytes;
   left = wrote.logs.0.0;
   buffer = rw (ap (λ (y : Seen). y.geometry) same, ap (λ (y : Seen). y.buffer) same) (goes_out s c held);
   refused = ap (λ (d : Device). d.past) is
-      ∙ (wrote.logs.0.1 ∙ ap (λ n. RefusedCall (ToWrite (slot_of mid.geometry mid.buffer.cursor) (length mid.buffer.bytes / 512) wrote.logs.0.0) n ∷ mid.device.past) (sym (ap (λ (d : Device). d.faults) is)));
+      ∙ (wrote.logs.0.1 ∙ ap (λ n. RefusedCall (ToWrite (block_of mid.geometry mid.buffer.cursor) (length mid.buffer.bytes / 512) wrote.logs.0.0) n ∷ mid.device.past) (sym (ap (λ (d : Device). d.faults) is)));
   goes = subst (λ d. IsAfter mid.device d) (sym is) (write_goes_on mid out (Err e) wrote);
 }
 
@@ -318,7 +318,7 @@ flush_asked now old new before mid after a flushed sound able looks taken is =
         can = able;
         takes = record {
           bytes = taken.bytes;
-          written = subst (λ at. IsAmong (Wrote at taken.bytes) p.events) (taken.buffer.at_is ∙ block_is p s s.geometry s.cursor refl covers.content) (covers.knows made past).0;
+          written = subst (λ at. IsAmong (Wrote at taken.bytes) p.events) taken.buffer.at_is (covers.knows made past).0;
           whole = taken.buffer.whole;
           holds = taken.buffer.holds;
         };
@@ -333,15 +333,15 @@ counts_write : (p : Permit) (s t : State) (before mid after : Device) (made : Li
     → (t.geometry ≡ s.geometry) × (t.cursor ≡ s.cursor) × (t.filled ≡ s.filled) → after.past ≡ (RefusedCall (ToWrite left.at (length left.bytes / 512) left.left) after.faults ∷ made) ++ before.past
     → t.fault ≤ mid.faults → Rose mid.faults after.faults → Covers p before.past after.past → CountsWrite p t after.faults
 counts_write p s t before mid after made left same past low rose covers =
-    let at : left.at ≡ block_at p t t.cursor =
-    left.buffer.at_is ∙ (ap (λ g. slot_of g s.cursor) (sym same.0) ∙ (ap (slot_of t.geometry) (sym same.1) ∙ block_is p t t.geometry t.cursor refl covers.content)) in
+    let at : left.at ≡ block_of t.geometry t.cursor =
+    left.buffer.at_is ∙ (ap (λ g. block_of g s.cursor) (sym same.0) ∙ ap (block_of t.geometry) (sym same.1)) in
     record {
       left = left.left;
       counts = record {
         rose = lower_rose t.fault mid.faults after.faults low rose;
         refused = subst (λ call. IsAmong call p.events)
             (ap (λ k. RefusedCall (ToWrite k (length left.bytes / 512) left.left) after.faults) at
-            ∙ ap (λ n. RefusedCall (ToWrite (block_at p t t.cursor) n left.left) after.faults) (left.buffer.whole ∙ sym same.2))
+            ∙ ap (λ n. RefusedCall (ToWrite (block_of t.geometry t.cursor) n left.left) after.faults) (left.buffer.whole ∙ sym same.2))
             (covers.knows (RefusedCall (ToWrite left.at (length left.bytes / 512) left.left) after.faults ∷ made) past).0;
       };
     }

@@ -6,7 +6,7 @@ use Rattle.std.proofs.lemmas.List.{take-append-drop}
 use Rattle.std.proofs.lemmas.Option.{IfSome_then}
 use Rattle.tape_base.specs.declared.geometries.Geometry.{Geometry}
 use Rattle.tape_base.specs.declared.pieces.PieceId.{PieceId}
-use Rattle.tape_base.specs.Place.{slot_of}
+use Rattle.tape_base.specs.Place.{block_of}
 use Rattle.device_log.specs.Image.{span}
 use Rattle.logged_disk.specs.Device.{TellsAll, seen as content_of}
 use Rattle.logged_disk.proofs.GoingOn.{told_before}
@@ -59,8 +59,8 @@ content_by s c new id row bytes held live read (inr below) told contents stands 
     let before : TellsAll c.device = told_before c.device new.device (reads_go_on c new row.place row.blocks (Ok tt) bytes read) told in
     let at = live_is s (row_in s.rows id) row live in
     let here = found_row (StandsOnDevice contents s (content_of c.device)) id s.rows row (stands.written before) at.0 (leb-true (floor_now s) row.place at.1) below in
-    let shown : bytes ≡ span (content_of c.device) (slot_of s.geometry row.place) row.blocks =
-    read.given (omega (arith, below, held.cursor)) told.trusted ∙ ap (λ g. span (content_of c.device) (slot_of g row.place) row.blocks) held.geometry in
+    let shown : bytes ≡ span (content_of c.device) (block_of s.geometry row.place) row.blocks =
+    read.given (omega (arith, below, held.cursor)) told.trusted ∙ ap (λ g. span (content_of c.device) (block_of g row.place) row.blocks) held.geometry in
     subst (HasContent contents s.geometry row) (sym shown) here
 
 -- so what was found of it is the payload

@@ -2,7 +2,7 @@
 use Rattle.std.proofs.Common.{◌≡◌, ℕ, ◌*◌, ◌<◌, List, refl, sym, ◌∙◌, ap, subst, arith, inr, length, take, Result, Ok, Err}
 use Rattle.std.proofs.lemmas.List.{take_all}
 use Rattle.edge_io.specs.declared.source.Failed.{Failed}
-use Rattle.tape_base.specs.Place.{slot_of}
+use Rattle.tape_base.specs.Place.{block_of}
 use Rattle.device_log.specs.Image.{span}
 use Rattle.logged_disk.specs.Device.{seen as content_of}
 use Rattle.doc_header.specs.Reading.{document_digest}
@@ -48,7 +48,7 @@ module _ (s : State) (c new : Seen) (row : Row) (bytes : List ℕ) (held : IsHel
     taken = refl;
     count = tt;
     unharmed = λ told. tt;
-    exact = λ told. read.given beneath told.trusted ∙ ap (λ g. span (content_of c.device) (slot_of g row.place) row.blocks) held.geometry;
+    exact = λ told. read.given beneath told.trusted ∙ ap (λ g. span (content_of c.device) (block_of g row.place) row.blocks) held.geometry;
     faults = effects_read c new row.place row.blocks bytes beneath read;
     is = λ p t left covers beside few. (few, given_then p t read covers beside, j.0);
   }

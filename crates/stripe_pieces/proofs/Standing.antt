@@ -5,7 +5,7 @@ use Rattle.std.specs.List.{AllByRecursion}
 use Rattle.tape_base.specs.declared.keys.Key.{Key}
 use Rattle.tape_base.specs.declared.pieces.PieceId.{PieceId}
 use Rattle.tape_base.specs.declared.digests.Digest.{Digest}
-use Rattle.tape_base.specs.Place.{slot_of}
+use Rattle.tape_base.specs.Place.{block_of}
 use Rattle.device_log.specs.Image.{Image, SameBut}
 use Rattle.logged_disk.specs.Device.{DeviceState as Device, TellsAll, seen as content_of}
 use Rattle.logged_disk.proofs.GoingOn.{told_before}
@@ -31,7 +31,7 @@ use Rattle.held_pieces.proofs.Takings.{all_committed, damaged_without}
 
 -- what stands on the device stands on one that changes no more than where the buffer is written
 each_stays : (contents : Contents) (s : State) (filled : ℕ) (old new : Image) (rows : List Row) → filled ≤ s.geometry.agg
-    → SameBut (slot_of s.geometry s.cursor) filled old new → AllByRecursion (IsIntactWhereWritten s old) rows
+    → SameBut (block_of s.geometry s.cursor) filled old new → AllByRecursion (IsIntactWhereWritten s old) rows
     → AllByRecursion (StandsOnDevice contents s old) rows → AllByRecursion (StandsOnDevice contents s new) rows
 each_stays contents s filled old new [] few same intact stands = tt
 each_stays contents s filled old new (row ∷ rows) few same intact stands = (

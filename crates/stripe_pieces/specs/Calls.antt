@@ -11,6 +11,7 @@ use Rattle.cache_model.specs.Damage.{TellNoDamage}
 use Rattle.cache_model.specs.Kept.{all_of, with_records}
 use Rattle.cache_model.specs.Legal.{format_records}
 use Rattle.cache_model.specs.State.{cursor_next}
+use Rattle.stripe_copies.specs.Format.{IsLaidOut}
 use Rattle.cache_chronicle.specs.declared.chronicle.Chronicle.{Ghosts as ChronicleGhosts}
 use Rattle.cache_model.specs.Contents.{Contents}
 use Rattle.stripe_actors.specs.Actors.{ActorsSeen, AreActors}
@@ -106,12 +107,12 @@ module _ {D R C : Type 0} {d : DiskGhosts D} {r : DirectoryGhosts R} {c : Chroni
 
   -- ---- what comes of them
 
-  -- a session has begun on a device
-  pub record IsFormatted (g : Geometry) (empty : Device) (p : Pieces D R C d r c) : Type 0 where
+  -- a session has begun on a device that was laid out for it
+  pub record IsFormatted (g : Geometry) (before : Device) (p : Pieces D R C d r c) : Type 0 where
     pub pieces : ArePieces p
     pub records : kept_now p ≡ all_of (format_records g)
     pub contents : (contents : Contents) → Stand contents p
-    pub device : (seen_now p).device ≡ empty
+    pub device : IsLaidOut g before (seen_now p).device
 
   -- there is memory for so many calls, and on the device for at least so many flushes
   pub record HasGrown (units flushes : ℕ) (old new : Pieces D R C d r c) : Type 0 where

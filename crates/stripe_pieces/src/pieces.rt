@@ -6,6 +6,8 @@ ghost use Rattle.cyclone.specs.Cyclone.{IsCyclone, seen_cyclone};
 ghost use Rattle.logged_disk.specs.Device.{Affords};
 ghost use Rattle.stripe_pieces.specs.Units.{records_of_unit};
 ghost use Rattle.held_pieces.specs.This.{is_this};
+ghost use Rattle.stripe_copies.specs.Format.{IsRefusedFormat};
+ghost use Rattle.tape_base.specs.Place.{device_blocks_of};
 
 use crate::records;
 use cache_chronicle::Chronicle;
@@ -13,6 +15,7 @@ use cyclone::Cyclone;
 use dir_table::Directory;
 use logged_disk::Disk;
 use std::alloc::{AllocError, Global};
+use stripe_copies::FormatFault;
 use tape_base::{Geometry, Key, PieceId, Steps};
 
 // The records of a flush for each block of the buffer: the floor moves by two buffers at most, and of a
@@ -42,25 +45,27 @@ impl<D: Disk, R: Directory + Drop, C: Chronicle> Pieces<D, R, C> {
     ghost use Rattle.stripe_pieces.specs.Pieces.{ArePieces, kept_now, seen_now, state_now};
     ghost use Rattle.stripe_pieces.specs.Calls.{HasGrown, IsFormatted, OnlyGrows};
 
-    /// Begins a session on an empty content area. A refusal gives back the device and the chronicle.
+    /// Lays the device out, and begins a session on it. A refusal gives back the device and the
+    /// chronicle.
     pub fn format(
         alloc: Global,
         disk: D,
         chronicle: C,
         g: Geometry,
-    ) -> Result<Pieces<D, R, C>, (AllocError, D, C)>
-        requires sized { g.content ≤ (D.state disk).size }
+    ) -> Result<Pieces<D, R, C>, (FormatFault, D, C)>
+        requires sized { device_blocks_of g ≤ (D.state disk).size }
         requires empty { C.kept chronicle ≡ all_of [] }
         ensures formatted { IfOk result (IsFormatted g (D.state disk)) }
-        ensures back { IfErr result (λ r. (r.1 ≡ disk) × (C.kept r.2 ≡ all_of [])) }
+        ensures back { IfErr result (λ r.
+            IsRefusedFormat g (D.state disk) (D.state r.1) r.0 × (C.kept r.2 ≡ all_of [])) }
     {
         let mut chronicle = chronicle;
         if let Err(e) = chronicle.reserve(2) {
-            return Err((e, disk, chronicle));
+            return Err((FormatFault::Memory(e), disk, chronicle));
         }
-        match Cyclone::new(alloc, disk, g) {
+        match Cyclone::format(alloc, disk, g) {
             Ok(cyclone) => Ok(Pieces::begun(cyclone, chronicle)),
-            Err((e, disk)) => Err((e, disk, chronicle)),
+            Err((fault, disk)) => Err((fault, disk, chronicle)),
         }
     }
 
