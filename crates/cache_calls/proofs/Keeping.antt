@@ -26,8 +26,5 @@ module _ {S : Type 0} {at : S → At} {holds : S → Type 0} where
     unharmed = λ (u : IsUnharmed (at a)). next.unharmed (first.unharmed u);
   }
 
-clash : false ≡ true → ⊥
-clash e = cc
-
 pub plain_has_steps : PlainHasSteps
-plain_has_steps setting plain now past calls = encloses_own now setting past calls (λ syncs. absurd (clash (sym plain.syncs ∙ syncs)))
+plain_has_steps setting plain now past calls = encloses_own now setting past calls

@@ -6,13 +6,14 @@ use Rattle.cache_model.specs.Kept.{all_of}
 use Rattle.cache_model.specs.Legal.{format_records}
 use Rattle.cache_model.specs.Contents.{Contents}
 use Rattle.call_laws.specs.Moments.{At}
+use Rattle.stripe_copies.specs.Format.{IsLaidOut}
 use Rattle.cache_calls.specs.Keeping.{plain_setting}
 
--- a plain cache that rests on this device, which made no call for it, with the records of a format alone; it has no piece, so that
--- whatever is told of pieces stands
+-- a plain cache that rests on this device, which was laid out for it, with the records of a format alone; it has no piece,
+-- so that whatever is told of pieces stands
 pub record Begins {S : Type 0} (at : S → At) (holds : S → Type 0) (stands : S → Contents → Type 0) (geometry : Geometry) (device : Device) (cache : S) : Type 0 where
   pub holds_first : holds cache
   pub kept : (at cache).kept ≡ all_of (format_records geometry)
-  pub device_is : (at cache).device ≡ device
+  pub laid : IsLaidOut geometry device (at cache).device
   pub contents : (contents : Contents) → stands cache contents
   pub setting : (at cache).setting ≡ plain_setting

@@ -32,9 +32,9 @@ abbrev pub PlainHasSteps : Type 0
 PlainHasSteps = (setting : Setting) → IsPlain setting → (now : ℕ) (past calls : List Call)
     → Encloses now setting (permit_of now setting past calls) [] calls
 
--- one of these whose content area begins at the first block of its device, and whose directory displaces (`packed`) or not
+-- one of these whose directory displaces (`packed`) or not
 abbrev pub unsynced_setting : Bool → Setting
-unsynced_setting packed = record { packed = packed; syncs = false; area = 0 }
+unsynced_setting packed = record { packed = packed; syncs = false }
 
 -- that of the program's cache: its directory displaces
 abbrev pub plain_setting : Setting

@@ -52,7 +52,6 @@ pub covers_in : {packed : Bool} {now : ℕ} {p : Permit} {earlier calls : List C
     → Encloses now (unsynced_setting packed) p earlier calls → Covers p before after
 covers_in {p = p} {earlier = earlier} {calls = calls} before after is h = record {
   unsynced = h.set.syncs;
-  content = h.set.area;
   knows = λ made there. subst (λ cs. AllByRecursion (λ call. IsAmong call p.events) cs) (sym (made_is before after made calls is there)) own;
 }
   where

@@ -4,7 +4,8 @@ use cache_calls::Formats;
 use cache_chronicle::FullChronicle;
 use logged_disk::Disk;
 use packed_directory::PackedDirectory;
-use std::alloc::{AllocError, Global};
+use std::alloc::Global;
+use stripe_copies::FormatFault;
 use stripe_core::Stripe;
 use tape_base::Geometry;
 
@@ -14,11 +15,10 @@ impl<D: Disk> Formats<D> for StripeCache<D, PackedDirectory, FullChronicle> {
         alloc: Global,
         device: D,
         geometry: Geometry,
-    ) -> Result<StripeCache<D, PackedDirectory, FullChronicle>, (AllocError, D)> {
+    ) -> Result<StripeCache<D, PackedDirectory, FullChronicle>, (FormatFault, D)> {
         match Stripe::format(alloc, device, FullChronicle::new(alloc), geometry) {
             Ok(stripe) => Ok(StripeCache { stripe }),
-            // A format is refused for memory alone.
-            Err((_, device, _)) => Err((AllocError, device)),
+            Err((fault, device, _)) => Err((fault, device)),
         }
     }
 

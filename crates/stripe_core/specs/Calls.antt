@@ -18,6 +18,7 @@ use Rattle.cache_model.specs.declared.record.Rec.TheVariants as rec
 use Rattle.cache_model.specs.Kept.{all_of, with_records}
 use Rattle.cache_model.specs.Legal.{format_records}
 use Rattle.cache_model.specs.Room.{has_room, is_flush_exhausted}
+use Rattle.stripe_copies.specs.Format.{IsLaidOut}
 use Rattle.cache_chronicle.specs.declared.chronicle.Chronicle.{Ghosts as ChronicleGhosts}
 use Rattle.cache_model.specs.Contents.{AnyContents, Contents}
 use Rattle.stripe_actors.specs.Actors.{reader_room_of}
@@ -40,12 +41,12 @@ use Rattle.stripe_core.specs.Stripe.{alloc_in, AnswersOrWants, flushes_in, HasMe
 module _ {D R C : Type 0} {d : DiskGhosts D} {r : DirectoryGhosts R} {c : ChronicleGhosts C} where
   -- ---- a stripe begins
 
-  -- a session has begun on a device
-  pub record IsFormattedStripe (source : Global) (g : Geometry) (empty : Device) (t : Stripe D R C d r c) : Type 0 where
+  -- a session has begun on a device that was laid out for it
+  pub record IsFormattedStripe (source : Global) (g : Geometry) (before : Device) (t : Stripe D R C d r c) : Type 0 where
     pub stripe : IsStripe t
     pub records : kept_in t ≡ all_of (format_records g)
     pub contents : (contents : Contents) → StandIn contents t
-    pub device : (seen_in t).device ≡ empty
+    pub device : IsLaidOut g before (seen_in t).device
     pub alloc : alloc_in t ≡ source
 
   -- ---- what makes memory

@@ -3,6 +3,7 @@ ghost use Rattle.std.specs.Prelude.{◌≡◌, ◌+◌, ◌≤◌, true, [], IfO
 ghost use Rattle.tape_base.specs.Blocks.{blocks_of};
 ghost use Rattle.tape_base.specs.Digest.{digest_of};
 ghost use Rattle.tape_base.specs.Geometry.{budget_of};
+ghost use Rattle.tape_base.specs.Place.{device_blocks_of};
 ghost use Rattle.cache_model.specs.State.{floor_now};
 ghost use Rattle.cache_model.specs.Kept.{all_of};
 ghost use Rattle.cache_model.specs.Verdict.{payload_of_piece};
@@ -11,6 +12,7 @@ ghost use Rattle.piece_answers.specs.Find.{HasRoomFor};
 ghost use Rattle.cache_model.specs.Contents.{contents_of_vectors};
 ghost use Rattle.piece_answers.specs.Standing.{IsToldPlaced};
 ghost use Rattle.piece_answers.specs.Place.{IsFragmentOf, IsPlacing, IsVectorFor};
+ghost use Rattle.stripe_copies.specs.Format.{IsRefusedFormat};
 
 use cache_answers::{Flushed, Refusal};
 use cache_chronicle::Chronicle;
@@ -20,6 +22,7 @@ use open_directory::OpenDirectory;
 use piece_answers::{Ahead, Found, Placed};
 use std::alloc::{AllocError, Global};
 use stripe_actors::Actors;
+use stripe_copies::FormatFault;
 use stripe_pieces::Pieces;
 use tape_base::{Digest, Geometry, PieceId, blocks_of};
 
@@ -40,22 +43,23 @@ impl<D: Disk, R: Directory + Drop, C: Chronicle> Stripe<D, R, C> {
     ghost use Rattle.stripe_core.specs.Between.{IsResting};
     ghost use Rattle.stripe_core.specs.Calls.{FindsInStripe, FlushesInStripe, HasTakenUnit, IsFormattedStripe, MakesRow, MakesUnits, PlacesFragmentInStripe, PlacesInStripe, PlacesVectorInStripe, PreparesStripe, RoomsInStripe, TakesUnit};
 
-    /// Begins a session on an empty content area. A refusal gives back the device and the chronicle.
+    /// Lays the device out, and begins a session on it. A refusal gives back the device and the
+    /// chronicle.
     pub fn format(
         alloc: Global,
         disk: D,
         chronicle: C,
         g: Geometry,
-    ) -> Result<Stripe<D, R, C>, (Refusal, D, C)>
-        requires sized { g.content ≤ (D.state disk).size }
+    ) -> Result<Stripe<D, R, C>, (FormatFault, D, C)>
+        requires sized { device_blocks_of g ≤ (D.state disk).size }
         requires empty { C.kept chronicle ≡ all_of [] }
         ensures formatted { IfOk result (IsFormattedStripe alloc g (D.state disk)) }
-        ensures back { IfErr result (λ r. (r.1 ≡ disk) × (C.kept r.2 ≡ all_of [])) }
-        ensures memory { IfErr result (λ r. IsWanting r.0) }
+        ensures back { IfErr result (λ r.
+            IsRefusedFormat g (D.state disk) (D.state r.1) r.0 × (C.kept r.2 ≡ all_of [])) }
     {
         let ahead = match Ahead::new(alloc, &g) {
             Ok(ahead) => ahead,
-            Err(e) => return Err((Refusal::Memory(e), disk, chronicle)),
+            Err(e) => return Err((FormatFault::Memory(e), disk, chronicle)),
         };
         match Pieces::format(alloc, disk, chronicle, g) {
             Ok(pieces) => Ok(Stripe {
@@ -66,7 +70,7 @@ impl<D: Disk, R: Directory + Drop, C: Chronicle> Stripe<D, R, C> {
                 units: 0,
                 flushes: 0,
             }),
-            Err((e, disk, chronicle)) => Err((Refusal::Memory(e), disk, chronicle)),
+            Err((fault, disk, chronicle)) => Err((fault, disk, chronicle)),
         }
     }
 

@@ -9,7 +9,7 @@ use logged_disk::{Disk, MemDisk};
 use std::alloc::{AllocError, Global};
 use std::test::Fail;
 use stripe_core::Stripe;
-use tape_base::{Geometry, Key};
+use tape_base::{Geometry, Key, device_blocks};
 
 type Counted = Stripe<MemDisk, Counting, FullChronicle>;
 
@@ -20,8 +20,8 @@ fn empty(alloc: Global) -> Result<Counted, Fail>
     let Ok(g) = Geometry::check(1, 64, 64, 8, 16, 4, 7) else {
         return Err("no geometry".into());
     };
-    let disk = MemDisk::new(alloc, 0, 64);
-    if disk.blocks() < g.content {
+    let disk = MemDisk::new(alloc, 0, device_blocks(&g));
+    if disk.blocks() < device_blocks(&g) {
         return Err("a short device".into());
     }
     match Stripe::format(alloc, disk, FullChronicle::new(alloc), g) {

@@ -34,10 +34,10 @@ use Rattle.stripe_write.proofs.Spending.{then_more}
 -- the one that the call alone makes, at a moment, of a directory that displaces or that does not
 abbrev pub alone : (packed : Bool) (now : ℕ) (before after : List Call) → Permit
 alone packed now before after =
-    record { packed = packed; syncs = false; now = now; area = 0; past = []; events = calls_since before after }
+    record { packed = packed; syncs = false; now = now; past = []; events = calls_since before after }
 
 pub covers_alone : (packed : Bool) (now : ℕ) (before after : List Call) → Covers (alone packed now before after) before after
-covers_alone packed now before after = record { unsynced = refl; content = refl; knows = (own_covers now before after).knows }
+covers_alone packed now before after = record { unsynced = refl; knows = (own_covers now before after).knows }
 
 -- ---- among records
 

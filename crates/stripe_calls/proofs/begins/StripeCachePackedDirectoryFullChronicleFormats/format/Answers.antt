@@ -7,7 +7,7 @@ pub returns-in-Ok-clause-begins : goal.returns-in-Ok-clause-begins
 returns-in-Ok-clause-begins g c = record {
   holds_first = record { stripe = c.in-Ok.ensures.formatted.stripe; quiet = subst (λ k. IsQuiet (state_of k)) (sym c.in-Ok.ensures.formatted.records) refl };
   kept = c.in-Ok.ensures.formatted.records;
-  device_is = c.in-Ok.ensures.formatted.device;
+  laid = c.in-Ok.ensures.formatted.device;
   contents = c.in-Ok.ensures.formatted.contents;
   setting = refl;
 }
