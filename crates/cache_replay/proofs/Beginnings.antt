@@ -1,6 +1,7 @@
 -- A session that a format began.
 use Rattle.std.proofs.Common.{◌≡◌, ℕ, ◌*◌, List, [], ◌∷◌, refl, sym, ◌∙◌, ap, subst, arith, length}
 use Rattle.std.specs.Prelude.{Option, Some, None, IfSome}
+use Rattle.std.proofs.lemmas.List.{append-nil}
 use Rattle.tape_base.specs.declared.geometries.Geometry.{Geometry}
 use Rattle.tape_base.specs.Geometry.{budget_of}
 use Rattle.logged_disk.specs.Device.{DeviceState as Device}
@@ -12,8 +13,9 @@ use Rattle.step_laws.proofs.ToldGroups.{told_format}
 use Rattle.cache_calls.specs.declared.calls.Calls.{Ghosts as CallsGhosts}
 use Rattle.cache_calls.specs.Begins.{Begins}
 use Rattle.cache_calls.specs.Keeping.{IsAtRest, IsUnharmed}
-use Rattle.script_run.specs.Run.{Run, no_harm}
-use Rattle.script_run.specs.Behind.{with_format}
+use Rattle.device_log.specs.Calls.{Call}
+use Rattle.script_run.specs.Run.{Run, loosened, no_harm}
+use Rattle.script_run.specs.Behind.{with_format, without_session}
 use Rattle.script_run.specs.Ledger.{AreReached}
 use Rattle.script_run.specs.Losses.{NoLossIsAFault}
 use Rattle.script_run.specs.Own.{AreOwn}
@@ -53,15 +55,14 @@ module _ {S W R : Type 0} {c : CallsGhosts S W R} (geometry : Geometry) (device 
   }
 
   -- nothing was told of its device
-  begun_reached : device.past ≡ [] → AreReached (no_harm ∷ []) (return_of (Some part))
-  begun_reached past =
-      subst (λ (d : Device). AreReached (no_harm ∷ []) (d ∷ [])) (sym begins.device_is)
-      (record { made = record { later = []; is = past }; all = λ yes. past; counted = omega arith; unharmed = λ trusted. refl }, tt)
+  begun_reached : AreReached (loosened no_harm ∷ []) (return_of (Some part))
+  begun_reached =
+      (record { made = record { later = (at_in part).device.past; is = sym (append-nil (at_in part).device.past) }; all = λ no. cc; counted = omega arith; unharmed = λ trusted. refl }, tt)
 
-  begun_plays : (run : Run) (name : List ℕ) (slots : ℕ → Option HoldingSeen) → ((n : ℕ) → slots n ≡ None)
-      → PlaysIn (with_format run name (format_records geometry)) (state_in_part part) slots
-  begun_plays run name slots none =
-      let later : Run = with_format run name (format_records geometry) in
+  begun_plays : (run : Run) (name : List ℕ) (calls : List Call) (slots : ℕ → Option HoldingSeen) → ((n : ℕ) → slots n ≡ None)
+      → PlaysIn (with_format run name calls (format_records geometry)) (state_in_part part) slots
+  begun_plays run name calls slots none =
+      let later : Run = with_format run name calls (format_records geometry) in
       record {
         state = ap Some (sym begun_state);
         told = subst AreTold (sym begun_state) (told_format nothing_yet geometry);
@@ -79,18 +80,34 @@ module _ {S W R : Type 0} {c : CallsGhosts S W R} (geometry : Geometry) (device 
     session_begins rest page = subst (λ p. IsAt p (slots_in new)) (sym is)
         (record { part_is = begun_part rest page; held = none_held (slots_in new) none (state_in_part part); apart = none_apart (slots_in new) none })
 
-    pub session_reached : device.past ≡ [] → AreReached (no_harm ∷ []) (return_in new)
-    session_reached past = subst (λ p. AreReached (no_harm ∷ []) (return_of p)) (sym is) (begun_reached past)
+    pub session_reached : AreReached (loosened no_harm ∷ []) (return_in new)
+    session_reached = subst (λ p. AreReached (loosened no_harm ∷ []) (return_of p)) (sym is) begun_reached
 
-    pub session_plays : (old : Session S W R c) (run : Run) (name : List ℕ) → names_in new ≡ names_in old → new.now ≡ old.now → device.past ≡ []
-        → Plays run old → Plays (with_format run name (format_records geometry)) new
-    session_plays old run name names now past plays =
-        let later : Run = with_format run name (format_records geometry) in
+    pub session_plays : (old : Session S W R c) (run : Run) (name : List ℕ) → names_in new ≡ names_in old → new.now ≡ old.now
+        → Plays run old → Plays (with_format run name (at_in part).device.past (format_records geometry)) new
+    session_plays old run name names now plays =
+        let later : Run = with_format run name (at_in part).device.past (format_records geometry) in
         record {
           names = plays.names ∙ sym names;
           now = plays.now ∙ sym now;
-          at = subst (λ p. PlaysAt later p (slots_in new)) (sym is) (begun_plays run name (slots_in new) none);
+          at = subst (λ p. PlaysAt later p (slots_in new)) (sym is) (begun_plays run name (at_in part).device.past (slots_in new) none);
           unharmed = subst (λ p. IsUnharmedAt p) (sym is) begun_unharmed;
           stands = subst (λ p. OwnStandsAt later p) (sym is) (λ contents told. begins.contents contents);
-          calls = subst (λ p. CallsAt later p) (sym is) (ap (λ (d : Device). d.past) begins.device_is ∙ past);
+          calls = subst (λ p. CallsAt later p) (sym is) refl;
         }
+
+-- ---- no session, since the device refused a call of its format
+
+module _ {S W R : Type 0} {c : CallsGhosts S W R} (new : Session S W R c) (is : new.part ≡ None) (none : (n : ℕ) → slots_in new n ≡ None) where
+  pub none_plays : (old : Session S W R c) (run : Run) (name : List ℕ) (calls : List Call) (count : ℕ) → names_in new ≡ names_in old → new.now ≡ old.now
+      → Plays run old → Plays (without_session run name calls count) new
+  none_plays old run name calls count names now plays =
+      let later : Run = without_session run name calls count in
+      record {
+        names = plays.names ∙ sym names;
+        now = plays.now ∙ sym now;
+        at = subst (λ p. PlaysAt later p (slots_in new)) (sym is) (record { state = refl; held = λ n. refl });
+        unharmed = subst (λ p. IsUnharmedAt p) (sym is) tt;
+        stands = subst (λ p. OwnStandsAt later p) (sym is) tt;
+        calls = subst (λ p. CallsAt later p) (sym is) tt;
+      }

@@ -1,5 +1,5 @@
 -- What a line makes of an outline.
-use Rattle.std.proofs.Common.{◌≡◌, ℕ, true, List, [], ◌∷◌, ◌++◌, refl, sym, ◌∙◌, ap, subst, arith, Result, Ok, Err}
+use Rattle.std.proofs.Common.{◌≡◌, ℕ, true, List, [], ◌∷◌, ◌++◌, refl, sym, ◌∙◌, ap, subst, arith, inl, inr, ◌<◌, Result, Ok, Err}
 use Rattle.std.specs.Prelude.{Option, Some, None, IfOk, IfErr, IsSome, map, option_map}
 use Rattle.std.proofs.lemmas.List.{append-nil, append_assoc}
 use Rattle.device_log.specs.Calls.{Call}
@@ -22,14 +22,13 @@ use Rattle.cache_replay.specs.declared.session.Session.{Session}
 use Rattle.cache_replay.specs.declared.session.Part.{Part}
 use Rattle.cache_replay.specs.declared.stop.Stop.{Stop}
 use Rattle.cache_replay.specs.declared.stop.Stop.TheVariants.{BayFault, Memory, NoCache}
-use Rattle.run_promise.specs.Outline.{IsAnswerOf, Outline, begun, begun_by, count_in, doubted, format_answer, with_calls_of, with_told_count}
+use Rattle.run_promise.specs.Outline.{IsAnswerOf, IsFormatAnswer, Outline, attached, begun, begun_by, count_in, doubted, with_calls_of, with_told_count}
 use Rattle.run_promise.specs.Outline.{outline_after, outline_in, raised, told_of}
 use Rattle.cache_replay.specs.Session.{AnswerTellsCount, AreLater, return_of}
 use Rattle.run_promise.specs.Needs.{AttachesAs, NeedsSession}
 use Rattle.cache_replay.specs.Stop.{IsSessionStop}
 use Rattle.cache_replay.specs.Plays.{CallsAt, IsLeftAtEnd, IsOutlined, IsUntoldAt, Outlines, stays, tried}
 use Rattle.script_run.specs.Ledger.{AreReached, Deals, GoesOnFrom, Ledger}
-use Rattle.cache_replay.proofs.Unharming.{reached_loosely}
 
 -- ---- what a bay tells
 
@@ -72,19 +71,15 @@ reached_later (harm ∷ harms) (d ∷ old) (e ∷ new) later h = (
 )
 
 -- a step that works on a session begins none
-begun_none : (o : Outline) (s : Step) → NeedsSession s → begun_by o s ≡ o
-begun_none o (step.Format name segments buckets content agg reach fragment generation alternates) needs = absurd needs
-begun_none o _ needs = refl
+begun_none : (o : Outline) (s : Step) (said : StepAnswer) → NeedsSession s → begun_by o s said ≡ o
+begun_none o (step.Format name segments buckets content agg reach fragment generation alternates) said needs = absurd needs
+begun_none o _ said needs = refl
 
 -- nor is its answer the step's alone
 answer_free : (s : Step) (said : StepAnswer) → NeedsSession s → IsAnswerOf s said
 answer_free (step.Format name segments buckets content agg reach fragment generation alternates) said needs = absurd needs
 answer_free (step.Now moment) said needs = absurd needs
 answer_free _ said needs = tt
-
-no_session : (session : Option Harm) (count : ℕ) → IsSome session → session ≡ None → count ≡ 0
-no_session None count some none = cc
-no_session (Some harm) count some none = cc
 
 -- what is told of a device, and doubted
 abbrev doubt : Harm → Harm
@@ -136,12 +131,11 @@ module _ {S W R : Type 0} {c : CallsGhosts S W R} where
       → AreReached (told_of (option_map (raised (count_in said)) o.session)) (Returns new.part)
       → Outlines o s new said ledger ledger
   joined_outlines o s new said ledger needs some h =
-      let same : begun_by o s ≡ o = begun_none o s needs in
+      let same : begun_by o s said ≡ o = begun_none o s said needs in
       let after : outline_after o s said ≡ with_told_count o (count_in said) = ap (λ x. with_told_count x (count_in said)) same in
       record {
         answered = record {
           session = λ x. some;
-          none = λ none. no_session o.session (count_in said) some (ap (λ (x : Outline). x.session) (sym same) ∙ none);
           fixed =
               answer_free s said needs;
         };
@@ -219,14 +213,14 @@ module _ {S W R : Type 0} {c : CallsGhosts S W R} where
   all_stays_left (Err why) name session before now same = λ harms s attaches h. stays h same
 
   -- a line that begins no session and tells no count
-  still_outlines : (o : Outline) (s : Step) (new : Session S W R c) (said : StepAnswer) (ledger : Ledger) → (NeedsSession s → ⊥) → begun_by o s ≡ o → count_in said ≡ 0
+  still_outlines : (o : Outline) (s : Step) (new : Session S W R c) (said : StepAnswer) (ledger : Ledger) → (NeedsSession s → ⊥) → begun_by o s said ≡ o → count_in said ≡ 0
       → IsAnswerOf s said
       → AreReached (told_of o.session) (Returns new.part) → Outlines o s new said ledger ledger
   still_outlines o s new said ledger free same none fixed h =
       let after : outline_after o s said ≡ with_told_count o 0 = ap (λ x. with_told_count x (count_in said)) same
       ∙ ap (with_told_count o) none in
       record {
-        answered = record { session = λ needs. absurd (free needs); none = λ gone. none; fixed = fixed };
+        answered = record { session = λ needs. absurd (free needs); fixed = fixed };
         outlined = subst (λ (x : Outline). AreReached (told_of x.session) (Returns new.part)) (sym after) (joins_none o.session (Returns new.part) h);
         harms = [];
         ended = ap (λ (x : Outline). x.ended) after ∙ sym (append-nil o.ended);
@@ -248,28 +242,51 @@ module _ {S W R : Type 0} {c : CallsGhosts S W R} where
       → Outlines o (step.Format name segments buckets content agg reach fragment generation alternates) session (answer.Refused (refused.Geometry number) None) ledger ledger
   refused_outlines o name segments buckets content agg reach fragment generation alternates number bad session ledger is numbered h =
       still_outlines o (step.Format name segments buckets content agg reach fragment generation alternates) session (answer.Refused (refused.Geometry number) None) ledger
-      (λ needs. needs) (ap (begun o name) is) refl
-      (ap (λ n. answer.Refused (refused.Geometry n) None) numbered ∙ ap (format_answer content agg) (sym is)) h
+      (λ needs. needs) (ap (begun o name (answer.Refused (refused.Geometry number) None)) is) refl
+      (subst (IsFormatAnswer content agg (answer.Refused (refused.Geometry number) None)) (sym is) (ap (λ n. answer.Refused (refused.Geometry n) None) numbered)) h
 
   -- a session begins
   pub format_outlines : (o : Outline) (name : List ℕ) (segments buckets content agg reach fragment generation alternates cursor floor : ℕ) (new : Session S W R c)
       (before now : Ledger)
-      → first_refusal segments buckets content agg reach fragment alternates ≡ None → cursor ≡ content → floor ≡ agg → AreReached (no_harm ∷ []) (Returns new.part)
+      → first_refusal segments buckets content agg reach fragment alternates ≡ None → cursor ≡ content → floor ≡ agg → AreReached (loosened no_harm ∷ []) (Returns new.part)
       → Deals before now (told_of o.session) (name ∷ [])
       → Outlines o (step.Format name segments buckets content agg reach fragment generation alternates) new (answer.Formatted 1 cursor floor) before now
   format_outlines o name segments buckets content agg reach fragment generation alternates cursor floor new before now is at low h deals =
       let after : outline_after o (step.Format name segments buckets content agg reach fragment generation alternates) (answer.Formatted 1 cursor floor) ≡ with_told_count
-      (begun o name None) 0 = ap (λ x. with_told_count (begun o name x) 0) is in
+      (attached o name (answer.Formatted 1 cursor floor)) 0 = ap (λ x. with_told_count (begun o name (answer.Formatted 1 cursor floor) x) 0) is in
       record {
         answered = record {
           session = λ needs. absurd needs;
-          none = λ gone. refl;
-          fixed = ap (λ n. answer.Formatted 1 n floor) at ∙ (ap (answer.Formatted 1 content) low ∙ ap (format_answer content agg) (sym is));
+          fixed = subst (IsFormatAnswer content agg (answer.Formatted 1 cursor floor)) (sym is)
+              (inl (ap (λ n. answer.Formatted 1 n floor) at ∙ ap (answer.Formatted 1 content) low));
         };
         outlined = subst (λ (x : Outline). AreReached (told_of x.session) (Returns new.part)) (sym after)
-            (joins_none (Some (loosened no_harm)) (Returns new.part) (reached_loosely (no_harm ∷ []) (Returns new.part) h));
+            (joins_none (Some (loosened no_harm)) (Returns new.part) h);
         harms = told_of o.session;
         ended = ap (λ (x : Outline). x.ended) after;
+        names = name ∷ [];
+        named = ap (λ (x : Outline). x.names) after;
+        deals = deals;
+      }
+
+  -- a device refused a call of its format
+  pub failed_outlines : (o : Outline) (name : List ℕ) (segments buckets content agg reach fragment generation alternates count : ℕ) (new : Session S W R c)
+      (before now : Ledger)
+      → first_refusal segments buckets content agg reach fragment alternates ≡ None → 0 < count → new.part ≡ None
+      → Deals before now (told_of o.session ++ raised count no_harm ∷ []) (name ∷ [])
+      → Outlines o (step.Format name segments buckets content agg reach fragment generation alternates) new (answer.DeviceFault count None) before now
+  failed_outlines o name segments buckets content agg reach fragment generation alternates count new before now is some none deals =
+      let said : StepAnswer = answer.DeviceFault count None in
+      let after : outline_after o (step.Format name segments buckets content agg reach fragment generation alternates) said ≡ with_told_count (attached o name said) count =
+      ap (λ x. with_told_count (begun o name said x) count) is in
+      record {
+        answered = record {
+          session = λ needs. absurd needs;
+          fixed = subst (IsFormatAnswer content agg said) (sym is) (inr (count, some, refl));
+        };
+        outlined = subst (λ (x : Outline). AreReached (told_of x.session) (Returns new.part)) (sym after) (subst (λ part. AreReached [] (Returns part)) (sym none) tt);
+        harms = told_of o.session ++ raised count no_harm ∷ [];
+        ended = ap (λ (x : Outline). x.ended) after ∙ append_assoc o.ended (told_of o.session) (raised count no_harm ∷ []);
         names = name ∷ [];
         named = ap (λ (x : Outline). x.names) after;
         deals = deals;

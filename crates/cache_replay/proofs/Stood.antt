@@ -123,7 +123,7 @@ module _ {S W R : Type 0} {c : CallsGhosts S W R} (run : Run) (step : Step) (old
     shown_so untold pair = record {
       turn = m.turn;
       calls = m.calls;
-      shows = record { packs = m.takes.packs; unsynced = m.takes.unsynced; content = m.takes.content; moment = m.takes.moment; shows = pair };
+      shows = record { packs = m.takes.packs; unsynced = m.takes.unsynced; moment = m.takes.moment; shows = pair };
       untold = untold;
     }
 

@@ -49,7 +49,6 @@ module _ {S W R : Type 0} (c : CallsGhosts S W R) (run : Run) (now : ℕ) (a b :
           takes = record {
             packs = ap (λ (setting : Setting). setting.packed) plain;
             unsynced = ap (λ (setting : Setting). setting.syncs) plain;
-            content = ap (λ (setting : Setting). setting.area) plain;
             moment = sym moment;
             legal = record {
               grows = way.grows;

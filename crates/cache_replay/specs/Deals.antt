@@ -1,5 +1,5 @@
 -- What a step comes to, with the devices that a bay gave and took back meanwhile.
-use Rattle.std.specs.Prelude.{ℕ, ◌≡◌, ◌+◌, ◌≤◌, ◌++◌, List, [], ◌∷◌, length, Result, IfOk, IfErr, OnOk}
+use Rattle.std.specs.Prelude.{ℕ, ◌≡◌, ◌+◌, ◌<◌, ◌≤◌, ◌++◌, List, [], ◌∷◌, length, None, Result, IfOk, IfErr}
 use Rattle.tape_base.specs.declared.geometries.Geometry.{Geometry}
 use Rattle.logged_disk.specs.Device.{DeviceState as Device}
 use Rattle.device_bay.specs.Calls.{BayCall, names_of, out_of, returned_by}
@@ -7,9 +7,14 @@ use Rattle.cache_model.specs.Legal.{format_records}
 use Rattle.cache_calls.specs.declared.calls.Calls.{Ghosts as CallsGhosts}
 use Rattle.script_grammar.specs.declared.step.Step.{Step}
 use Rattle.script_grammar.specs.declared.answer.StepAnswer.{StepAnswer}
-use Rattle.script_run.specs.Behind.{with_format}
+use Rattle.tape_base.specs.Place.{device_blocks_of}
+use Rattle.device_log.specs.Calls.{Call}
+use Rattle.script_run.specs.Behind.{harm_of_format, with_format, without_session}
 use Rattle.script_run.specs.Ledger.{AreReached, Deals, KeepsOrder, ledger_behind}
-use Rattle.script_run.specs.Run.{Harm, Run, no_harm}
+use Rattle.script_run.specs.Run.{Harm, Run, loosened, no_harm}
+use Rattle.script_run.specs.Takes.{LaysOut, StopsFormat}
+use Rattle.cache_replay.specs.declared.beginning.Tried.{Tried}
+use Rattle.cache_replay.specs.declared.beginning.Tried.TheVariants as tried
 use Rattle.cache_replay.specs.declared.session.Session.{Session}
 use Rattle.cache_replay.specs.declared.stop.Stop.{Stop}
 use Rattle.run_promise.specs.Outline.{Outline}
@@ -48,15 +53,36 @@ module _ {S W R : Type 0} {c : CallsGhosts S W R} where
     pub order : KeepsOrder (return_in old) before (return_in new) after
     pub refusals : RefusesAtStop before after result
 
-  -- a session began on the device of this name, which was attached, and that of the session before came back; or the run ended
-  pub record FormatsAs (name : List ℕ) (geometry : Geometry) (old new : Session S W R c) (before after : List BayCall) (result : Result (Unit {0}) Stop) : Type 0 where
+  -- a session began on a device of this name, which made these calls
+  pub record HasBegun (name : List ℕ) (geometry : Geometry) (old new : Session S W R c) (before after : List BayCall) : Type 0 where
+    pub calls : List Call
+    pub laid : LaysOut geometry calls
+    pub plays : (run : Run) → Plays run old → Plays (with_format run name calls (format_records geometry)) new
+    pub begun : AreReached (loosened no_harm ∷ []) (return_in new)
+    pub deals : (harms : List Harm) → AreReached harms (return_in old) → Deals (ledger_behind before) (ledger_behind after) harms (name ∷ [])
+
+  -- or it refused one of these, and came back behind that of the session before; no session stands
+  pub record HasFailed (name : List ℕ) (geometry : Geometry) (count : ℕ) (old new : Session S W R c) (before after : List BayCall) : Type 0 where
+    pub calls : List Call
+    pub stopped : StopsFormat geometry count calls
+    pub some : 0 < count
+    pub none : new.part ≡ None
+    pub plays : (run : Run) → Plays run old → Plays (without_session run name calls count) new
+    pub deals : (harms : List Harm) → AreReached harms (return_in old)
+        → Deals (ledger_behind before) (ledger_behind after) (harms ++ harm_of_format calls count ∷ []) (name ∷ [])
+
+  -- the one or the other
+  abbrev pub IsTried : List ℕ → Geometry → (old new : Session S W R c) → (before after : List BayCall) → Tried → Type 0
+  IsTried name geometry old new before after tried.Begun = HasBegun name geometry old new before after
+  IsTried name geometry old new before after (tried.Refused count) = HasFailed name geometry count old new before after
+
+  -- the device of this name was attached and tried, and that of the session before came back; or the run ended
+  pub record FormatsAs (name : List ℕ) (geometry : Geometry) (old new : Session S W R c) (before after : List BayCall) (result : Result Tried Stop) : Type 0 where
     pub session : IsSession new
-    pub plays : OnOk result ((run : Run) → Plays run old → Plays (with_format run name (format_records geometry)) new)
-    pub begun : OnOk result (AreReached (no_harm ∷ []) (return_in new))
-    pub deals : OnOk result ((harms : List Harm) → AreReached harms (return_in old) → Deals (ledger_behind before) (ledger_behind after) harms (name ∷ []))
+    pub tried : IfOk result (IsTried name geometry old new before after)
     pub left : IfErr result (λ why. (harms : List Harm) (step : Step) → AttachesAs name step → AreReached harms (return_in old)
         → IsLeftAtEnd harms step new (ledger_behind before) (ledger_behind after) why)
-    pub stop : IfErr result (IsFormatStop name geometry.content before after)
+    pub stop : IfErr result (IsFormatStop name (device_blocks_of geometry) before after)
     pub out : out_of after + devices_of old ≡ out_of before + devices_of new
     pub names : names_in new ≡ names_in old
     pub order : KeepsOrder (return_in old) before (return_in new) after

@@ -24,7 +24,8 @@ use device_bay::{Bay, BayFault};
 use script_grammar::{Refused, StepAnswer};
 use std::alloc::{AllocError, Global};
 use std::mem;
-use tape_base::{BadGeometry, Geometry, alternates_are_last, floor_of};
+use stripe_copies::FormatFault;
+use tape_base::{BadGeometry, Geometry, alternates_are_last, device_blocks, floor_of};
 
 /// A session in which nothing was formatted yet.
 pub fn begin<S: Calls>(alloc: Global) -> Session<S>
@@ -137,6 +138,7 @@ fn end<B: Bay, S: Formats<B::Dev>>(session: &mut Session<S>, bay: &mut B)
     ensures part { session.new.part ≡ None }
     ensures slots { (n : ℕ) → slots_in session.new n ≡ None }
     ensures names { names_in session.new ≡ names_in session.old }
+    ensures now { session.new.now ≡ session.old.now }
     ensures gives { GivesBack (return_in session.old) (B.past bay.old) (B.past bay.new) }
 {
     session.actors.clear();
@@ -172,24 +174,32 @@ pub(crate) fn format_line<B: Bay, S: Formats<B::Dev>>(
             },
             took: None,
         }),
-        Ok(geometry) => {
-            format(session, bay, name, geometry)?;
-            Ok(StepAnswer::Formatted {
+        Ok(geometry) => match format(session, bay, name, geometry)? {
+            Tried::Begun => Ok(StepAnswer::Formatted {
                 serial: 1,
                 cursor: geometry.content,
                 floor: floor_of(&geometry, geometry.content),
-            })
-        }
+            }),
+            Tried::Refused { count } => Ok(StepAnswer::DeviceFault { count, took: None }),
+        },
     }
 }
 
-// Begins a session on the device of that name.
+/// What became of a device that was attached: a session began on it, or it refused a call of its
+/// format, and its count of faults then stood at `count`.
+#[derive(Clone, Copy, Debug)]
+pub enum Tried {
+    Begun,
+    Refused { count: u64 },
+}
+
+// Lays the device of that name out, and begins a session on it.
 fn format<B: Bay, S: Formats<B::Dev>>(
     session: &mut Session<S>,
     bay: &mut B,
     name: &[u8],
     geometry: Geometry,
-) -> Result<(), Stop>
+) -> Result<Tried, Stop>
     requires session { IsSession session.old }
     requires held { devices_of session.old ≤ out_of (B.past bay.old) }
     ensures formats { FormatsAs name.now geometry session.old session.new (B.past bay.old)
@@ -197,17 +207,19 @@ fn format<B: Bay, S: Formats<B::Dev>>(
 {
     let alloc = session.alloc;
     let page = make_page(alloc, &geometry)?;
-    let device = attach(alloc, bay, name, geometry.content)?;
+    let device = attach(alloc, bay, name, device_blocks(&geometry))?;
     match S::format(alloc, device, geometry) {
         Ok(cache) => {
             start(session, bay, Part { cache, page });
-            Ok(())
+            Ok(Tried::Begun)
         }
-        // A format is refused for memory alone.
-        Err((_, device)) => {
+        Err((fault, device)) => {
             end(session, bay);
             bay.give_back(device);
-            Err(Stop::Memory)
+            match fault {
+                FormatFault::Memory(_) => Err(Stop::Memory),
+                FormatFault::Device(count) => Ok(Tried::Refused { count }),
+            }
         }
     }
 }

@@ -51,14 +51,11 @@ later_shows streams one other goes p s asks added shows =
 
 -- ---- calls that serve all that is asked, or are refused, are a step
 
-unsynced : (a : At) → a.setting ≡ plain_setting → a.setting.syncs ≡ true → ⊥
-unsynced a plain syncs = let clash : false ≡ true = sym (ap (λ (setting : Rattle.cache_model.specs.Permit.Setting). setting.syncs) plain) ∙ syncs in cc
-
 pub serves_whole : {P : Documents} {now : ℕ} {a b : At} {asks : List Intent} {o : Progress} {before known : Facts} (why : Option Reason) → EndsWith o why
     → a.setting ≡ plain_setting → IsQuiet (state_at b) → before [] (state_at a) → ServesFrom P now a b asks o before known
     → IsWholeStep P now [] a b asks why known
 serves_whole {a = a} why ends plain quiet first serves =
-    serves_step why [] ends (λ syncs. absurd (unsynced a plain syncs)) quiet first serves
+    serves_step why [] ends quiet first serves
 
 -- ---- beside a run
 
@@ -78,7 +75,6 @@ module _ (run : Run) (step : Step) (a b : At) (now : ℕ) (plain : a.setting ≡
         shows = record {
           packs = ap (λ (setting : Rattle.cache_model.specs.Permit.Setting). setting.packed) plain;
           unsynced = ap (λ (setting : Rattle.cache_model.specs.Permit.Setting). setting.syncs) plain;
-          content = ap (λ (setting : Rattle.cache_model.specs.Permit.Setting). setting.area) plain;
           moment = sym moment;
           shows = subst (λ is. ShowsPair (IsPlacedAs (streams_with run (state_at a) step)) (permit_of now a.setting [] calls) (state_at a) is added) (sym same) shows.0;
         };
@@ -94,7 +90,6 @@ module _ (run : Run) (step : Step) (a b : At) (now : ℕ) (plain : a.setting ≡
   takes_line asks why given same w own legal = record {
     packs = ap (λ (setting : Rattle.cache_model.specs.Permit.Setting). setting.packed) plain;
     unsynced = ap (λ (setting : Rattle.cache_model.specs.Permit.Setting). setting.syncs) plain;
-    content = ap (λ (setting : Rattle.cache_model.specs.Permit.Setting). setting.area) plain;
     moment = sym moment;
     legal = subst (λ is. IsStep (permit_of now a.setting [] w.calls) (state_at a) is w.added why) (sym same) legal;
     own = own;

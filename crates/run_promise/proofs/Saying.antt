@@ -1,6 +1,6 @@
 -- The answers of a run, and its outline.
-use Rattle.std.proofs.Common.{◌≡◌, ℕ, List, [], ◌∷◌, ◌++◌, refl, ◌∙◌, ap, arith}
-use Rattle.std.specs.Prelude.{All, Option, Some, None, max, option_map}
+use Rattle.std.proofs.Common.{◌≡◌, ℕ, List, [], ◌∷◌, ◌++◌, refl, ◌∙◌, ap, arith, subst, sym, inl, inr, ◌<◌}
+use Rattle.std.specs.Prelude.{All, Option, Some, None, max, option_map, IsSome}
 use Rattle.std.proofs.lemmas.List.Elements.{All-append, All-cons, All-head, All-nil, All-tail}
 use Rattle.tape_base.specs.declared.geometries.BadGeometry.{BadGeometry}
 use Rattle.tape_base.specs.Limits.{first_refusal}
@@ -9,12 +9,13 @@ use Rattle.script_grammar.specs.declared.line.LineAnswer.TheVariants as line
 use Rattle.script_grammar.specs.declared.step.Step.{Step}
 use Rattle.script_grammar.specs.declared.step.Step.TheVariants as step
 use Rattle.script_grammar.specs.declared.answer.StepAnswer.{StepAnswer}
+use Rattle.script_grammar.specs.declared.answer.StepAnswer.TheVariants as answer
 use Rattle.script_grammar.specs.Grammar.{reading_of}
 use Rattle.script_run.specs.Run.{Harm, Run, loosened, no_harm}
 use Rattle.script_run.specs.Turn.{Turn}
 use Rattle.script_run.specs.Behind.{after_line}
 use Rattle.script_run.specs.Takes.{output_of, reading_text}
-use Rattle.run_promise.specs.Outline.{Outline, all_told, begun, begun_by, count_in, raised, told_of}
+use Rattle.run_promise.specs.Outline.{Outline, all_told, begun, begun_by, count_in, raised, told_of, IsAnswered, IsFormatAnswer, attached}
 use Rattle.run_promise.specs.Lines.{AreAnswered, IsReadAs, TellsNone, answers_of, outline_of, outline_read, reading_answer, text_of, texts_of}
 
 -- ---- what is printed
@@ -45,27 +46,53 @@ abbrev IsNone : Harm → Type 0
 IsNone harm = harm.fault ≡ 0
 
 -- the greater of two counts is 0
-joined_none : (ended : List Harm) (session : Option Harm) (count : ℕ) → All IsNone (ended ++ told_of (option_map (raised count) session)) → All IsNone (ended ++ told_of session) × ((session ≡ None → count ≡ 0) → count ≡ 0)
-joined_none ended None count all = (all, λ none. none refl)
+joined_none : (ended : List Harm) (session : Option Harm) (count : ℕ) → All IsNone (ended ++ told_of (option_map (raised count) session)) → All IsNone (ended ++ told_of session) × (IsSome session → count ≡ 0)
+joined_none ended None count all = (all, λ some. cc)
 joined_none ended (Some harm) count all =
     let last : max count harm.fault ≡ 0 = All-head IsNone (raised count harm) [] (All-behind IsNone ended (raised count harm ∷ []) all) in
     let mine : harm.fault ≡ 0 = omega (arith, last) in
-    (All-append IsNone ended (harm ∷ []) (All-front IsNone ended (raised count harm ∷ []) all) (All-cons IsNone harm [] mine (All-nil IsNone)), λ none. omega (arith, last))
+    (All-append IsNone ended (harm ∷ []) (All-front IsNone ended (raised count harm ∷ []) all) (All-cons IsNone harm [] mine (All-nil IsNone)), λ some. omega (arith, last))
 
--- so it was before a session began
-begun_none : (o : Outline) (name : List ℕ) (bad : Option BadGeometry) → All IsNone (all_told (begun o name bad)) → All IsNone (all_told o)
-begun_none o name None all = All-front IsNone (all_told o) (told_of (Some (loosened no_harm))) all
-begun_none o name (Some bad) all = all
+-- so it was before a device was attached
+attached_none : (o : Outline) (name : List ℕ) (said : StepAnswer) → All IsNone (all_told (attached o name said)) → All IsNone (all_told o)
+attached_none o name (answer.DeviceFault count took) all =
+    All-front IsNone (all_told o) (raised count no_harm ∷ []) (All-front IsNone (all_told o ++ raised count no_harm ∷ []) [] all)
+attached_none o name _ all = All-front IsNone (all_told o) (told_of (Some (loosened no_harm))) all
 
-begun_by_none : (o : Outline) (step : Step) → All IsNone (all_told (begun_by o step)) → All IsNone (all_told o)
-begun_by_none o (step.Format name segments buckets content agg reach fragment generation alternates) all = begun_none o name (first_refusal segments buckets content agg reach fragment alternates) all
-begun_by_none o _ all = all
+begun_none : (o : Outline) (name : List ℕ) (said : StepAnswer) (bad : Option BadGeometry) → All IsNone (all_told (begun o name said bad)) → All IsNone (all_told o)
+begun_none o name said None all = attached_none o name said all
+begun_none o name said (Some bad) all = all
+
+begun_by_none : (o : Outline) (step : Step) (said : StepAnswer) → All IsNone (all_told (begun_by o step said)) → All IsNone (all_told o)
+begun_by_none o (step.Format name segments buckets content agg reach fragment generation alternates) said all =
+    begun_none o name said (first_refusal segments buckets content agg reach fragment alternates) all
+begun_by_none o _ said all = all
+
+-- of a format no fault was told where none was of its device
+format_none : (o : Outline) (name : List ℕ) (content agg : ℕ) (said : StepAnswer) (bad : Option BadGeometry) → IsFormatAnswer content agg said bad
+    → All IsNone (all_told (begun o name said bad)) → count_in said ≡ 0
+format_none o name content agg said (Some bad) is all = ap count_in is
+format_none o name content agg said None (inl is) all = ap count_in is
+format_none o name content agg said None (inr fault) all =
+    let here : All IsNone (all_told (attached o name (answer.DeviceFault fault.0 None))) = subst (λ x. All IsNone (all_told (attached o name x))) fault.2 all in
+    let last : max fault.0 0 ≡ 0 =
+    All-head IsNone (raised fault.0 no_harm) [] (All-behind IsNone (all_told o) (raised fault.0 no_harm ∷ []) (All-front IsNone (all_told o ++ raised fault.0 no_harm ∷ []) [] here)) in
+    absurd (omega (arith, last, fault.1))
+
+-- nor of any other step
+step_none : (o : Outline) (step : Step) (said : StepAnswer) → IsAnswered o step said → All IsNone (all_told (begun_by o step said))
+    → (IsSome (begun_by o step said).session → count_in said ≡ 0) → count_in said ≡ 0
+step_none o (step.Format name segments buckets content agg reach fragment generation alternates) said is all some =
+    format_none o name content agg said (first_refusal segments buckets content agg reach fragment alternates) is.fixed all
+step_none o (step.Now moment) said is all some = ap count_in is.fixed
+step_none o _ said is all some = some (is.session tt)
 
 -- no line before told a fault, nor does this one
 read_none : (o : Outline) (read : LineAnswer) (said : Option StepAnswer) → IsReadAs o read said → All IsNone (all_told (outline_read o read said)) → TellsNone said × All IsNone (all_told o)
 read_none o (line.Step step) (Some said) is all =
-    let here = joined_none (begun_by o step).ended (begun_by o step).session (count_in said) all in
-    (here.1 is.none, begun_by_none o step here.0)
+    let next : Outline = begun_by o step said in
+    let here = joined_none next.ended next.session (count_in said) all in
+    (step_none o step said is here.0 here.1, begun_by_none o step said here.0)
 read_none o (line.Step step) None is all = absurd is
 read_none o line.Nothing None is all = (tt, all)
 read_none o line.Nothing (Some said) is all = absurd is

@@ -1,6 +1,6 @@
 -- What the answers of a run tell of its devices, whatever its records are worth: whether a session stands, which
 -- devices were given back, and up to which count their faults were told.
-use Rattle.std.specs.Prelude.{ℕ, ◌≡◌, max, false, true, List, [], ◌∷◌, ◌++◌, IsSome, Option, Some, None, option_map, ⊤}
+use Rattle.std.specs.Prelude.{ℕ, ◌≡◌, ◌<◌, ◌⊎◌, max, false, true, List, [], ◌∷◌, ◌++◌, IsSome, Option, Some, None, option_map, ⊤}
 use Rattle.tape_base.specs.declared.geometries.BadGeometry.{BadGeometry}
 use Rattle.tape_base.specs.Limits.{first_refusal}
 use Rattle.cache_model.specs.declared.cause.Cause.{Cause}
@@ -76,16 +76,22 @@ told_of (Some harm) = harm ∷ []
 abbrev pub all_told : Outline → List Harm
 all_told o = o.ended ++ told_of o.session
 
+-- the device of this name is attached, and the session before it has ended; where that device refused a call it was given back
+abbrev pub attached : Outline → List ℕ → StepAnswer → Outline
+attached o name (answer.DeviceFault count took) =
+    record { session = None; ended = all_told o ++ raised count no_harm ∷ []; names = o.names ++ name ∷ [] }
+attached o name _ = record { session = Some (loosened no_harm); ended = all_told o; names = o.names ++ name ∷ [] }
+
 -- a format whose numbers are accepted ends the session before it, and begins one on the device of its name
-abbrev pub begun : Outline → List ℕ → Option BadGeometry → Outline
-begun o name (Some bad) = o
-begun o name None = record { session = Some (loosened no_harm); ended = all_told o; names = o.names ++ name ∷ [] }
+abbrev pub begun : Outline → List ℕ → StepAnswer → Option BadGeometry → Outline
+begun o name said (Some bad) = o
+begun o name said None = attached o name said
 
 -- no other step ends a session, or begins one
-abbrev pub begun_by : Outline → Step → Outline
-begun_by o (step.Format name segments buckets content agg reach fragment generation alternates) =
-    begun o name (first_refusal segments buckets content agg reach fragment alternates)
-begun_by o _ = o
+abbrev pub begun_by : Outline → Step → StepAnswer → Outline
+begun_by o (step.Format name segments buckets content agg reach fragment generation alternates) said =
+    begun o name said (first_refusal segments buckets content agg reach fragment alternates)
+begun_by o _ said = o
 
 -- a count that is told of the session's device
 abbrev pub with_told_count : Outline → ℕ → Outline
@@ -93,23 +99,22 @@ with_told_count o count = record { session = option_map (raised count) o.session
 
 -- the outline behind a step, by its answer
 abbrev pub outline_after : Outline → Step → StepAnswer → Outline
-outline_after o step said = with_told_count (begun_by o step) (count_in said)
+outline_after o step said = with_told_count (begun_by o step said) (count_in said)
 
--- what a format answers, by its numbers: the first one that is refused, or where cursor and floor then stand
-abbrev pub format_answer : (content agg : ℕ) → Option BadGeometry → StepAnswer
-format_answer content agg (Some bad) = answer.Refused (refused.Geometry (number_of_bad bad)) None
-format_answer content agg None = answer.Formatted 1 content agg
+-- what a format answers, by its numbers: the first one that is refused, or where cursor and floor then stand, if its device
+-- refused no call
+abbrev pub IsFormatAnswer : (content agg : ℕ) → StepAnswer → Option BadGeometry → Type 0
+IsFormatAnswer content agg said (Some bad) = said ≡ answer.Refused (refused.Geometry (number_of_bad bad)) None
+IsFormatAnswer content agg said None = (said ≡ answer.Formatted 1 content agg) ⊎ ((count : ℕ) × (0 < count) × (said ≡ answer.DeviceFault count None))
 
 -- the answer that is the step's alone, whatever was recorded: that of a format, and of a moment
 abbrev pub IsAnswerOf : Step → StepAnswer → Type 0
 IsAnswerOf (step.Format name segments buckets content agg reach fragment generation alternates) said =
-    said ≡ format_answer content agg (first_refusal segments buckets content agg reach fragment alternates)
+    IsFormatAnswer content agg said (first_refusal segments buckets content agg reach fragment alternates)
 IsAnswerOf (step.Now moment) said = said ≡ answer.Now moment
 IsAnswerOf _ said = ⊤
 
--- a step that needs a session is answered where there is one, no fault is told where there is none behind it, and what
--- no record decides is answered as the step has it
+-- a step that needs a session is answered where there is one, and what no record decides is answered as the step has it
 pub record IsAnswered (o : Outline) (step : Step) (said : StepAnswer) : Type 0 where
   pub session : NeedsSession step → IsSome o.session
-  pub none : (begun_by o step).session ≡ None → count_in said ≡ 0
   pub fixed : IsAnswerOf step said

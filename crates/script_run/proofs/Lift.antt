@@ -1,9 +1,11 @@
 -- What holds of a run before its lines and is kept by each kind of step (`StepGoes`) holds behind them.
-use Rattle.std.proofs.Common.{◌≡◌, ℕ, List, [], ◌∷◌, refl, sym, subst}
+use Rattle.std.proofs.Common.{◌≡◌, ℕ, List, [], ◌∷◌, refl, sym, subst, true}
 use Rattle.std.specs.Prelude.{Option, Some, None, is_none}
 use Rattle.tape_base.specs.declared.geometries.BadGeometry.{BadGeometry}
 use Rattle.tape_base.specs.declared.geometries.Geometry.{Geometry}
 use Rattle.tape_base.specs.Limits.{first_refusal}
+use Rattle.device_log.specs.Calls.{Call}
+use Rattle.cache_model.specs.Permit.{Faulted, Reason}
 use Rattle.cache_model.specs.State.{State, after_all, nothing_yet}
 use Rattle.cache_model.specs.Legal.{format_records}
 use Rattle.script_grammar.specs.declared.answer.StepAnswer.{StepAnswer}
@@ -14,18 +16,29 @@ use Rattle.script_grammar.specs.declared.step.Step.TheVariants as step
 use Rattle.script_grammar.specs.Grammar.{reading_of}
 use Rattle.script_run.specs.Run.{Run}
 use Rattle.script_run.specs.Turn.{Turn}
-use Rattle.script_run.specs.Answers.{format_said, step_answer, step_said}
-use Rattle.script_run.specs.Behind.{after_format, after_line, after_reading, after_step, at_moment, behind, in_session, with_format}
-use Rattle.script_run.specs.Takes.{FormatTakes, IsRun, ReadingTakes, SessionTakes, StepTakes, Takes, run_after}
-use Rattle.script_run.specs.Goes.{StepGoes, begins, begins_session, stays, waits, works}
+use Rattle.script_run.specs.Answers.{format_said, step_answer, step_said, tried_said}
+use Rattle.script_run.specs.Behind.{after_format, after_line, after_reading, after_step, at_moment, behind, in_session, tried_format, with_format, without_session}
+use Rattle.stripe_copies.specs.Format.{format_calls}
+use Rattle.script_run.specs.Takes.{FormatTakes, FormatsOn, IsRun, ReadingTakes, SessionTakes, StepTakes, StopsFormat, Takes, run_after}
+use Rattle.script_run.proofs.Formats.{stopped_refused}
+use Rattle.script_run.specs.Goes.{StepGoes, begins, begins_session, fails, stays, waits, works}
 
 -- ---- each step is of one kind
 
+tried_goes : (run : Run) (turn : Turn) (asks : Step) (name : List ℕ) (g : Geometry) (o : Option Reason) → begins_session asks ≡ true → FormatsOn turn g o
+    → StepGoes run turn asks (tried_said turn.added o) (tried_format run turn name o)
+tried_goes run turn asks name g None same takes = begins name g same takes.0
+tried_goes run turn asks name g (Some (Faulted count)) same takes =
+    let stops : StopsFormat g count turn.device.events = takes.2 in
+    fails name count same takes.0 (stopped_refused (format_calls g stops.0) count [] turn.device.events stops.2, takes.1)
+tried_goes run turn asks name g (Some _) same takes = absurd takes
+
 format_goes : (run : Run) (turn : Turn) (asks : Step) (name : List ℕ) (segments buckets content agg reach fragment generation alternates : ℕ) (bad : Option BadGeometry)
-    → begins_session asks ≡ is_none bad → FormatTakes turn.added segments buckets content agg reach fragment generation alternates bad
-    → StepGoes run turn asks (format_said turn.added bad) (after_format run name turn.added bad)
+    → begins_session asks ≡ is_none bad → FormatTakes turn segments buckets content agg reach fragment generation alternates bad
+    → StepGoes run turn asks (format_said turn bad) (after_format run turn name bad)
 format_goes run turn asks name segments buckets content agg reach fragment generation alternates (Some bad) same takes = stays bad same takes
-format_goes run turn asks name segments buckets content agg reach fragment generation alternates None same takes = begins name takes.0 same takes.2
+format_goes run turn asks name segments buckets content agg reach fragment generation alternates None same takes =
+    tried_goes run turn asks name takes.0 turn.refused same takes.2
 
 goes_by : (run : Run) (turn : Turn) (o : Option State) (asks : Step) → run.state ≡ o → Takes run turn o asks → StepGoes run turn asks (step_said run turn o asks) (behind run turn o asks)
 goes_by run turn o (step.Format name segments buckets content agg reach fragment generation alternates) e takes =
@@ -39,18 +52,20 @@ goes run turn asks takes = goes_by run turn run.state asks refl takes
 
 -- ---- what holds of a run
 
--- the moment keeps it, and so does a step of the session and the format of another one
+-- the moment keeps it, and so does a step of the session, the format of another one, and one whose device refused a call
 pub record EachKeeps (Has : Run → Type 0) : Type 0 where
   pub moments : (run : Run) (at : ℕ) → Has run → Has (at_moment run at)
   pub steps : (run : Run) (s : State) (turn : Turn) (asks : Step) → run.state ≡ Some s → SessionTakes run s turn asks → Has run → Has (in_session run s (after_all s turn.added) turn asks)
-  pub formats : (run : Run) (name : List ℕ) (g : Geometry) → Has run → Has (with_format run name (format_records g))
+  pub formats : (run : Run) (name : List ℕ) (calls : List Call) (g : Geometry) → Has run → Has (with_format run name calls (format_records g))
+  pub fails : (run : Run) (name : List ℕ) (calls : List Call) (count : ℕ) → Has run → Has (without_session run name calls count)
 
 module _ (Has : Run → Type 0) (kept : EachKeeps Has) where
   step_keeps : (run : Run) (turn : Turn) {asks : Step} {said : StepAnswer} {after : Run} → StepGoes run turn asks said after → Has run → Has after
   step_keeps run turn (stays bad same none) h = h
   step_keeps run turn (waits at same none) h = kept.moments run at h
   step_keeps run turn {asks = asks} (works s same e takes) h = kept.steps run s turn asks e takes h
-  step_keeps run turn (begins name g same is) h = subst (λ recs. Has (with_format run name recs)) (sym is) (kept.formats run name g h)
+  step_keeps run turn (begins name g same is) h = subst (λ recs. Has (with_format run name turn.device.events recs)) (sym is) (kept.formats run name turn.device.events g h)
+  step_keeps run turn (fails name count same is refuses) h = kept.fails run name turn.device.events count h
 
   pub line_keeps : (run : Run) (turn : Turn) (l : LineAnswer) → ReadingTakes run turn l → Has run → Has (after_reading run turn l)
   line_keeps run turn (line.Step asks) takes h = step_keeps run turn (goes run turn asks takes) h
@@ -66,10 +81,11 @@ module _ (Has : Run → Type 0) (kept : EachKeeps Has) where
 
 module _ (Has : Option State → Type 0)
     (steps : (run : Run) (s : State) (turn : Turn) (asks : Step) → SessionTakes run s turn asks → Has (Some s) → Has (Some (after_all s turn.added)))
-    (formats : (g : Geometry) → Has (Some (after_all nothing_yet (format_records g)))) where
+    (formats : (g : Geometry) → Has (Some (after_all nothing_yet (format_records g)))) (none : Has None) where
   pub states_keep : (lines : List (List ℕ)) (turns : List Turn) (run : Run) → IsRun run lines turns → Has run.state → Has (run_after run lines turns).state
   states_keep = lines_keep (λ run. Has run.state) (record {
     moments = λ run at h. h;
     steps = λ run s turn asks e takes h. steps run s turn asks takes (subst Has e h);
-    formats = λ run name g h. formats g;
+    formats = λ run name calls g h. formats g;
+    fails = λ run name calls count h. none;
   })

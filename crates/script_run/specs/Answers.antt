@@ -45,10 +45,16 @@ abbrev pub first_floor : List Rec → ℕ
 first_floor (rec.Formatted g ∷ more) = floor_of g g.content
 first_floor _ = 0
 
--- the first number outside refuses the geometry; the serial of a session is 1
-abbrev pub format_said : List Rec → Option BadGeometry → StepAnswer
-format_said added (Some bad) = answer.Refused (refused.Geometry (number_of_bad bad)) None
-format_said added None = answer.Formatted 1 (first_cursor added) (first_floor added)
+-- the serial of a session is 1; a device that refused a call has none
+abbrev pub tried_said : List Rec → Option Reason → StepAnswer
+tried_said added None = answer.Formatted 1 (first_cursor added) (first_floor added)
+tried_said added (Some (Faulted count)) = answer.DeviceFault count None
+tried_said added (Some _) = answer.Done
+
+-- the first number outside refuses the geometry
+abbrev pub format_said : Turn → Option BadGeometry → StepAnswer
+format_said turn (Some bad) = answer.Refused (refused.Geometry (number_of_bad bad)) None
+format_said turn None = tried_said turn.added turn.refused
 
 -- ---- refusals
 
@@ -182,7 +188,7 @@ session_said run s t turn (step.Now moment) = answer.Now moment
 -- the same; without a session only a format and a moment are answered
 abbrev pub step_said : Run → Turn → Option State → Step → StepAnswer
 step_said run turn state (step.Format name segments buckets content agg reach fragment generation alternates) =
-    format_said turn.added (first_refusal segments buckets content agg reach fragment alternates)
+    format_said turn (first_refusal segments buckets content agg reach fragment alternates)
 step_said run turn state (step.Now moment) = answer.Now moment
 step_said run turn (Some s) step = session_said run s (after_all s turn.added) turn step
 step_said run turn None step = answer.Done

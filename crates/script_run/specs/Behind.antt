@@ -127,23 +127,47 @@ harm_of calls (Some s) = harm_in calls s ∷ []
 abbrev pub harms_of : Run → List Harm
 harms_of run = run.ended ++ harm_of run.calls run.state
 
--- a format ends the session before it, with its writers and readers, and attaches the device of its name
-abbrev pub with_format : Run → List ℕ → List Rec → Run
-with_format run name added = record {
+-- a format ends the session before it, with its writers and readers, and attaches the device of its name, which has made
+-- these calls since
+abbrev pub with_format : Run → List ℕ → List Call → List Rec → Run
+with_format run name calls added = record {
   state = Some (after_all nothing_yet added);
   streams = λ put. no_stream;
   actors = run.actors;
   held = λ actor. None;
-  calls = [];
+  calls = calls;
   ended = harms_of run;
   names = run.names ++ name ∷ [];
   now = run.now;
 }
 
+-- what was told of a device that was given back with this count, for it refused one of these calls
+abbrev pub harm_of_format : List Call → ℕ → Harm
+harm_of_format calls count = record { fault = count; damaged = false; calls = calls; whole = true }
+
+-- a format ends the session before it also where its device refuses a call; that is given back, and no session stands
+abbrev pub without_session : Run → List ℕ → List Call → ℕ → Run
+without_session run name calls count = record {
+  state = None;
+  streams = λ put. no_stream;
+  actors = run.actors;
+  held = λ actor. None;
+  calls = [];
+  ended = harms_of run ++ harm_of_format calls count ∷ [];
+  names = run.names ++ name ∷ [];
+  now = run.now;
+}
+
+-- by what the device refused in the turn
+abbrev pub tried_format : Run → Turn → List ℕ → Option Reason → Run
+tried_format run turn name None = with_format run name turn.device.events turn.added
+tried_format run turn name (Some (Faulted count)) = without_session run name turn.device.events count
+tried_format run turn name (Some _) = run
+
 -- a refused geometry leaves the run as it is: the session before it goes on
-abbrev pub after_format : Run → List ℕ → List Rec → Option BadGeometry → Run
-after_format run name added (Some bad) = run
-after_format run name added None = with_format run name added
+abbrev pub after_format : Run → Turn → List ℕ → Option BadGeometry → Run
+after_format run turn name (Some bad) = run
+after_format run turn name None = tried_format run turn name turn.refused
 
 -- a step other than a format or a moment: the session goes on, on the same device
 abbrev pub in_session : Run → State → State → Turn → Step → Run
@@ -165,7 +189,7 @@ at_moment run at = record run { now = at }
 -- a format and a moment need no session; without one no other step changes anything
 abbrev pub behind : Run → Turn → Option State → Step → Run
 behind run turn state (step.Format name segments buckets content agg reach fragment generation alternates) =
-    after_format run name turn.added (first_refusal segments buckets content agg reach fragment alternates)
+    after_format run turn name (first_refusal segments buckets content agg reach fragment alternates)
 behind run turn state (step.Now moment) = at_moment run moment
 behind run turn (Some s) step = in_session run s (after_all s turn.added) turn step
 behind run turn None step = run

@@ -1,8 +1,9 @@
 -- What a step does to a run, whatever its verb.
-use Rattle.std.specs.Prelude.{ℕ, ◌≡◌, Bool, false, true, is_none, List, [], Some, None}
+use Rattle.std.specs.Prelude.{ℕ, ◌≡◌, Bool, false, true, is_none, List, [], ◌∷◌, Some, None}
 use Rattle.tape_base.specs.declared.geometries.Geometry.{Geometry}
 use Rattle.tape_base.specs.declared.geometries.BadGeometry.{BadGeometry}
 use Rattle.tape_base.specs.Limits.{first_refusal}
+use Rattle.cache_model.specs.declared.record.Rec.TheVariants as rec
 use Rattle.cache_model.specs.State.{State, after_all}
 use Rattle.cache_model.specs.Legal.{format_records}
 use Rattle.script_grammar.specs.declared.step.Step.{Step}
@@ -11,11 +12,11 @@ use Rattle.script_grammar.specs.declared.answer.StepAnswer.{StepAnswer}
 use Rattle.script_grammar.specs.declared.answer.StepAnswer.TheVariants as answer
 use Rattle.script_run.specs.Run.{Run}
 use Rattle.script_run.specs.Turn.{Turn, no_turn}
-use Rattle.script_run.specs.Answers.{format_said, session_said}
-use Rattle.script_run.specs.Behind.{at_moment, in_session, with_format}
-use Rattle.script_run.specs.Takes.{SessionTakes}
+use Rattle.script_run.specs.Answers.{format_said, session_said, tried_said}
+use Rattle.script_run.specs.Behind.{at_moment, in_session, with_format, without_session}
+use Rattle.script_run.specs.Takes.{RefusesCall, SessionTakes}
 
--- a format that is not refused begins another session
+-- a format whose numbers are accepted ends the session before it, and begins another where its device refuses no call
 abbrev pub begins_session : Step → Bool
 begins_session (step.Format name segments buckets content agg reach fragment generation alternates) = is_none (first_refusal segments buckets content agg reach fragment alternates)
 begins_session _ = false
@@ -24,7 +25,7 @@ begins_session _ = false
 pub data StepGoes (run : Run) (turn : Turn) : Step → StepAnswer → Run → Type 0 where
   -- a refused geometry leaves all as it is
   stays : {asks : Step} (bad : BadGeometry) → begins_session asks ≡ false → turn.added ≡ []
-      → StepGoes run turn asks (format_said turn.added (Some bad)) run
+      → StepGoes run turn asks (format_said turn (Some bad)) run
   -- the moment is set
   waits : {asks : Step} (at : ℕ) → begins_session asks ≡ false → turn ≡ no_turn
       → StepGoes run turn asks (answer.Now at) (at_moment run at)
@@ -33,4 +34,7 @@ pub data StepGoes (run : Run) (turn : Turn) : Step → StepAnswer → Run → Ty
       → StepGoes run turn asks (session_said run s (after_all s turn.added) turn asks) (in_session run s (after_all s turn.added) turn asks)
   -- another session begins, on the device of this name
   begins : {asks : Step} (name : List ℕ) (g : Geometry) → begins_session asks ≡ true → turn.added ≡ format_records g
-      → StepGoes run turn asks (format_said turn.added None) (with_format run name turn.added)
+      → StepGoes run turn asks (tried_said turn.added None) (with_format run name turn.device.events turn.added)
+  -- or none does, for the device refused a call
+  fails : {asks : Step} (name : List ℕ) (count : ℕ) → begins_session asks ≡ true → turn.added ≡ rec.Fault count ∷ [] → RefusesCall turn count
+      → StepGoes run turn asks (answer.DeviceFault count None) (without_session run name turn.device.events count)

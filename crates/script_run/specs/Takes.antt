@@ -1,13 +1,19 @@
 -- What a line may do: all that it must, and no more.
-use Rattle.std.specs.Prelude.{ℕ, ◌≡◌, ⊤, false, true, if◌then◌else◌, List, [], ◌∷◌, ◌++◌, Option, Some, None}
+use Rattle.std.specs.Prelude.{ℕ, ◌≡◌, ◌<◌, ◌+◌, ◌*◌, ⊤, false, true, if◌then◌else◌, List, [], ◌∷◌, ◌++◌, Option, Some, None, length}
 use Rattle.tape_base.specs.declared.geometries.Geometry.{Geometry}
 use Rattle.tape_base.specs.declared.geometries.BadGeometry.{BadGeometry}
 use Rattle.tape_base.specs.Geometry.{HasNumbers}
 use Rattle.tape_base.specs.Limits.{first_refusal}
+use Rattle.tape_base.specs.Place.{directory_blocks_of}
+use Rattle.device_log.specs.Calls.{Call}
+use Rattle.device_log.specs.Along.{Stopped, Went}
+use Rattle.stripe_copies.specs.Format.{format_calls}
 use Rattle.cache_model.specs.declared.answer.ReadAnswer.{ReadAnswer}
 use Rattle.cache_model.specs.declared.answer.ReadAnswer.TheVariants as read
 use Rattle.cache_model.specs.declared.record.Rec.{Rec}
 use Rattle.cache_model.specs.declared.record.Rec.TheVariants as rec
+use Rattle.cache_model.specs.Permit.{Faulted, Reason}
+use Rattle.step_laws.specs.StepLaws.{IsRefusalCount}
 use Rattle.cache_model.specs.State.{State, ReaderRow, reader_of}
 use Rattle.cache_model.specs.Legal.{IsStep, format_records}
 use Rattle.cache_model.specs.Pair.{ShowsPair}
@@ -50,19 +56,40 @@ GivesOwn run s turn _ = turn.given ≡ []
 
 -- ---- lines
 
--- the records of a session begin with the geometry of its line
-abbrev pub FormatTakes : List Rec → ℕ → ℕ → ℕ → ℕ → ℕ → ℕ → ℕ → ℕ → Option BadGeometry → Type 0
-FormatTakes added segments buckets content agg reach fragment generation alternates (Some bad) = added ≡ []
-FormatTakes added segments buckets content agg reach fragment generation alternates None =
-    (g : Geometry) × HasNumbers g segments buckets content agg reach fragment generation alternates × (added ≡ format_records g)
+-- the device refused a call of the turn, and its count then stood here
+abbrev pub RefusesCall : Turn → ℕ → Type 0
+RefusesCall turn count = IsRefusalCount turn.device count × (0 < count)
 
--- a line on a session is one step of its records, with a directory that displaces and a stripe that does not sync, on a
--- device whose content area begins at its first block, in which pins are weighed by the moment of the run; and the bytes
--- that it gives are those that were put
+-- the bytes have the blocks of a copy of the directory: its header, its segments and its footer
+abbrev pub HasBlocksOfCopy : Geometry → List ℕ → Type 0
+HasBlocksOfCopy g body = length body ≡ 512 * (directory_blocks_of g + 2)
+
+-- a device that made no call before made those of a format, in order, and refused none
+abbrev pub LaysOut : Geometry → List Call → Type 0
+LaysOut g made = (body : List ℕ) × HasBlocksOfCopy g body × Went (format_calls g body) [] made
+
+-- or it refused one of them with this count, and made no later one
+abbrev pub StopsFormat : Geometry → ℕ → List Call → Type 0
+StopsFormat g count made = (body : List ℕ) × HasBlocksOfCopy g body × Stopped (format_calls g body) count [] made
+
+-- the records of a session begin with the geometry of its line; of a device that refuses a call of the format that alone is
+-- recorded; and the turn has no call but those of the format
+abbrev pub FormatsOn : Turn → Geometry → Option Reason → Type 0
+FormatsOn turn g None = (turn.added ≡ format_records g) × LaysOut g turn.device.events
+FormatsOn turn g (Some (Faulted count)) = (turn.added ≡ rec.Fault count ∷ []) × (0 < count) × StopsFormat g count turn.device.events
+FormatsOn turn g (Some _) = ⊥
+
+-- an accepted format is tried on its device, and a refused one does nothing
+abbrev pub FormatTakes : Turn → ℕ → ℕ → ℕ → ℕ → ℕ → ℕ → ℕ → ℕ → Option BadGeometry → Type 0
+FormatTakes turn segments buckets content agg reach fragment generation alternates (Some bad) = turn.added ≡ []
+FormatTakes turn segments buckets content agg reach fragment generation alternates None =
+    (g : Geometry) × HasNumbers g segments buckets content agg reach fragment generation alternates × FormatsOn turn g turn.refused
+
+-- a line on a session is one step of its records, with a directory that displaces and a stripe that does not sync, in
+-- which pins are weighed by the moment of the run; and the bytes that it gives are those that were put
 pub record SessionTakes (run : Run) (s : State) (turn : Turn) (step : Step) : Type 0 where
   pub packs : turn.device.packed ≡ true
   pub unsynced : turn.device.syncs ≡ false
-  pub content : turn.device.area ≡ 0
   pub moment : turn.device.now ≡ run.now
   pub legal : IsStep turn.device s (asked run s step) turn.added turn.refused
   pub own : GivesOwn run s turn step
@@ -70,7 +97,7 @@ pub record SessionTakes (run : Run) (s : State) (turn : Turn) (step : Step) : Ty
 -- a format and a moment need no session; all other steps work on one
 abbrev pub Takes : Run → Turn → Option State → Step → Type 0
 Takes run turn state (step.Format name segments buckets content agg reach fragment generation alternates) =
-    FormatTakes turn.added segments buckets content agg reach fragment generation alternates (first_refusal segments buckets content agg reach fragment alternates)
+    FormatTakes turn segments buckets content agg reach fragment generation alternates (first_refusal segments buckets content agg reach fragment alternates)
 Takes run turn state (step.Now moment) = turn ≡ no_turn
 Takes run turn (Some s) step = SessionTakes run s turn step
 Takes run turn None step = ⊥
@@ -123,7 +150,6 @@ streams_with run s _ = run.streams
 pub record SessionShows (run : Run) (s : State) (turn : Turn) (step : Step) : Type 0 where
   pub packs : turn.device.packed ≡ true
   pub unsynced : turn.device.syncs ≡ false
-  pub content : turn.device.area ≡ 0
   pub moment : turn.device.now ≡ run.now
   pub shows : ShowsPair (IsPlacedAs (streams_with run s step)) turn.device s (asked run s step) turn.added
 

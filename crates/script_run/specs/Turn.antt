@@ -15,7 +15,7 @@ pub record Turn : Type 0 where
 
 -- a line that does nothing: no records, no calls, no bytes
 abbrev pub no_turn : Turn
-no_turn = record { added = []; refused = None; device = record { packed = false; syncs = false; now = 0; area = 0; past = []; events = [] }; given = [] }
+no_turn = record { added = []; refused = None; device = record { packed = false; syncs = false; now = 0; past = []; events = [] }; given = [] }
 
 -- what a lookup among these records was answered
 abbrev pub lookup_in : List Rec → Option ReadAnswer

@@ -1,5 +1,6 @@
-use Rattle.std.proofs.Common.{sym}
-use Rattle.cache_replay.proofs.Formats.{line_begun, line_refused, line_stopped}
+use Rattle.std.proofs.Common.{Ok, subst, sym}
+use Rattle.cache_replay.specs.Deals.{FormatsAs}
+use Rattle.cache_replay.proofs.Formats.{line_begun, line_failed, line_refused, line_stopped}
 use Rattle.cache_replay.proofs.beginning.format_line.Goals as goal
 
 pub returns-in-Err : goal.returns-in-Err
@@ -9,12 +10,27 @@ returns-in-Err g c = record {
       c.number_of.ensures;
 }
 
-pub returns-in_ok-format-in-Ok : goal.returns-in_ok-format-in-Ok
-returns-in_ok-format-in-Ok g c = record {
-  answers = line_begun c.args.name.now c.args.segments c.args.buckets c.args.content c.args.agg c.args.reach c.args.fragment c.args.generation c.args.alternates
-      c.in-Ok.geometry c.args.session.now c.format.new.session (g.B.Bay.past c.args.bay.now) (g.B.Bay.past c.format.new.bay) (sym c.in-Ok.ensures.refused)
-      c.in-Ok.ensures.numbers c.floor_of.result c.requires.session c.floor_of.ensures c.in_ok-format-in-Ok.ensures.formats;
-}
+pub returns-in-Begun : goal.returns-in-Begun
+returns-in-Begun g c =
+    let before = g.B.Bay.past c.args.bay.now in
+    let after = g.B.Bay.past c.format.new.bay in
+    record {
+      answers = line_begun c.args.name.now c.args.segments c.args.buckets c.args.content c.args.agg c.args.reach c.args.fragment c.args.generation c.args.alternates
+          c.in-Ok.geometry c.args.session.now c.format.new.session before after (sym c.in-Ok.ensures.refused)
+          c.in-Ok.ensures.numbers c.floor_of.result c.requires.session c.floor_of.ensures
+          (subst (λ t. FormatsAs c.args.name.now c.in-Ok.geometry c.args.session.now c.format.new.session before after (Ok t)) c.in-Begun.is c.in_ok-format-in-Ok.ensures.formats);
+    }
+
+pub returns-in-Refused : goal.returns-in-Refused
+returns-in-Refused g c =
+    let before = g.B.Bay.past c.args.bay.now in
+    let after = g.B.Bay.past c.format.new.bay in
+    record {
+      answers = line_failed c.args.name.now c.args.segments c.args.buckets c.args.content c.args.agg c.args.reach c.args.fragment c.args.generation c.args.alternates
+          c.in-Ok.geometry c.args.session.now c.format.new.session before after (sym c.in-Ok.ensures.refused)
+          c.in-Ok.ensures.numbers c.in-Refused.count c.requires.session
+          (subst (λ t. FormatsAs c.args.name.now c.in-Ok.geometry c.args.session.now c.format.new.session before after (Ok t)) c.in-Refused.is c.in_ok-format-in-Ok.ensures.formats);
+    }
 
 pub returns-in_err-format-in-Ok : goal.returns-in_err-format-in-Ok
 returns-in_err-format-in-Ok g c = record {
