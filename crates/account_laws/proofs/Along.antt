@@ -1,6 +1,6 @@
 -- What the lines of a legal history leave: how many sessions they began, that no piece is lost by a fault, and what the
 -- devices that came back show of it.
-use Rattle.std.proofs.Common.{◌≡◌, ℕ, ◌+◌, List, [], ◌∷◌, ◌++◌, length, refl, sym, ◌∙◌, subst, arith, length-append, Bool, false, true}
+use Rattle.std.proofs.Common.{◌≡◌, ℕ, ◌+◌, List, [], ◌∷◌, ◌++◌, length, refl, sym, ◌∙◌, ap, subst, arith, append-nil, length-append, Bool, false, true}
 use Rattle.std.specs.Prelude.{Option, Some, None, if◌then◌else◌}
 use Rattle.std.proofs.lemmas.Bool.{false_from_ne_true}
 use Rattle.std.proofs.lemmas.List.{append_cancel_left}
@@ -17,15 +17,15 @@ use Rattle.script_grammar.specs.Grammar.{reading_of}
 use Rattle.script_run.specs.Run.{Harm, Run, fresh}
 use Rattle.script_run.specs.Turn.{Turn}
 use Rattle.script_run.specs.Asked.{asked}
-use Rattle.script_run.specs.Behind.{after_line, after_reading, harm_in, harm_of, harms_of}
+use Rattle.script_run.specs.Behind.{after_line, after_reading, harm_in, harm_of, harm_of_format, harms_of}
 use Rattle.script_run.specs.Takes.{IsRun, ReadingTakes, SessionTakes, run_after}
 use Rattle.script_run.specs.Losses.{NoLossIsAFault}
 use Rattle.script_run.specs.Ledger.{GoesOnFrom}
-use Rattle.script_run.specs.Goes.{StepGoes, begins, begins_session, stays, waits, works}
+use Rattle.script_run.specs.Goes.{StepGoes, begins, begins_session, fails, stays, waits, works}
 use Rattle.script_run.proofs.Lift.{goes, states_keep}
 use Rattle.script_run.proofs.Losses.{formats_lose_none, losses_stay}
 use Rattle.script_laws.specs.Damages.{DamageStays}
-use Rattle.headline.specs.Account.{AreBack, ComeBackFrom, IsDeviceBehind, RunLogs, begun_in, sessions_begun}
+use Rattle.headline.specs.Account.{AreBack, ComeBackFrom, RunLogs, begun_in, sessions_begun, IsDeviceAt}
 use Rattle.account_laws.proofs.Devices.{goes_on}
 
 -- ---- sessions
@@ -48,7 +48,10 @@ step_length run turn {st = st} (stays bad same none) = begun_none _ _ (begins_se
 step_length run turn {st = st} (waits at same none) = begun_none _ _ (begins_session st) same refl
 step_length run turn {st = st} (works s same e takes) =
     begun_none _ _ (begins_session st) same (session_length run.ended run.calls (harm_in (turn.device.events ++ run.calls) (after_all s turn.added)) run.state s e)
-step_length run turn {st = st} (begins name g begun is) = begun_one (harms_of run) (harm_in [] (after_all nothing_yet turn.added)) (begins_session st) begun
+step_length run turn {st = st} (begins name g begun is) = begun_one (harms_of run) (harm_in turn.device.events (after_all nothing_yet turn.added)) (begins_session st) begun
+step_length run turn {st = st} (fails name count begun is refuses) =
+    ap length (append-nil (harms_of run ++ harm_of_format turn.device.events count ∷ []))
+    ∙ begun_one (harms_of run) (harm_of_format turn.device.events count) (begins_session st) begun
 
 reading_length : (run : Run) (turn : Turn) (l : LineAnswer) → ReadingTakes run turn l → length (harms_of (after_reading run turn l)) ≡ length (harms_of run) + begun_in l
 reading_length run turn (line.Step st) takes = step_length run turn (goes run turn st takes)
@@ -70,7 +73,7 @@ LossesWhere (Some s) = NoLossIsAFault s
 
 pub no_loss : (lines : List (List ℕ)) (turns : List Turn) (s : State) → IsRun fresh lines turns → (run_after fresh lines turns).state ≡ Some s → NoLossIsAFault s
 no_loss lines turns s is e =
-    subst LossesWhere e (states_keep LossesWhere (λ run s turn st takes h. losses_stay s turn.added h) (formats_lose_none nothing_yet) lines turns fresh is tt)
+    subst LossesWhere e (states_keep LossesWhere (λ run s turn st takes h. losses_stay s turn.added h) (formats_lose_none nothing_yet) tt lines turns fresh is tt)
 
 -- ---- what a device shows of it
 
@@ -119,7 +122,9 @@ module _ (law : DamageStays) (ds : List Device) where
   goes_seen run turn {st = st} (works s same e takes) h =
       subst (λ (x : Option State). AreSeen (run.ended ++ harm_of run.calls x) ds) (sym e)
       (last_seen run.ended (harm_in (turn.device.events ++ run.calls) (after_all s turn.added)) (harm_in run.calls s) ds (session_seen run s turn st takes) h)
-  goes_seen run turn (begins name g same is) h = front_seen (harms_of run) (harm_in [] (after_all nothing_yet turn.added) ∷ []) ds h
+  goes_seen run turn (begins name g same is) h = front_seen (harms_of run) (harm_in turn.device.events (after_all nothing_yet turn.added) ∷ []) ds h
+  goes_seen run turn (fails name count same is refuses) h =
+      front_seen (harms_of run) (harm_of_format turn.device.events count ∷ []) ds (front_seen (harms_of run ++ harm_of_format turn.device.events count ∷ []) [] ds h)
 
   pub reading_seen : (run : Run) (turn : Turn) (l : LineAnswer) → ReadingTakes run turn l → AreSeen (harms_of (after_reading run turn l)) ds → AreSeen (harms_of run) ds
   reading_seen run turn (line.Step st) takes h = goes_seen run turn (goes run turn st takes) h
@@ -133,9 +138,9 @@ module _ (law : DamageStays) (ds : List Device) where
       reading_seen run turn (reading_of bytes) is.0 (run_seen lines turns (after_line run turn bytes) is.1 h)
 
 -- the device of a line shows what was told of its session
-pub device_seen : (l : RunLogs) (before : List (List ℕ)) (device : Device) (ended : List Harm) (h : Harm) (ds : List Device) → l.now.returned ≡ l.before.returned ++ ds → AreSeen (ended ++ h ∷ []) ds
-    → IsDeviceBehind l before device → sessions_begun before ≡ length ended + 1 → IsSeen h device
-device_seen l before device ended h ds returned seen at begun =
+pub device_seen : (l : RunLogs) (n : ℕ) (device : Device) (ended : List Harm) (h : Harm) (ds : List Device) → l.now.returned ≡ l.before.returned ++ ds → AreSeen (ended ++ h ∷ []) ds
+    → IsDeviceAt l n device → n ≡ length ended + 1 → IsSeen h device
+device_seen l n device ended h ds returned seen at begun =
     let same : ds ≡ at.earlier ++ device ∷ at.later = append_cancel_left l.before.returned ds (at.earlier ++ device ∷ at.later) (sym returned ∙ at.returned) in
     seen_at ended h at.earlier device at.later (subst (λ (xs : List Device). AreSeen (ended ++ h ∷ []) xs) same seen) (omega (arith, begun, at.which))
 

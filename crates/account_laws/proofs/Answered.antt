@@ -30,7 +30,7 @@ use Rattle.script_run.specs.Turn.{Turn}
 use Rattle.script_run.specs.Answers.{cause_of_lost, feed_said, if_has as has_said, put_said, refusal_said, remove_said, said, session_said, step_answer, took_of}
 use Rattle.script_run.specs.Behind.{after_line, after_step}
 use Rattle.script_run.specs.Takes.{IsRun, LineTakes, ReadingTakes, run_after}
-use Rattle.script_run.specs.Goes.{StepGoes, begins, stays, waits, works}
+use Rattle.script_run.specs.Goes.{StepGoes, begins, fails, stays, waits, works}
 use Rattle.script_run.proofs.Lift.{goes}
 use Rattle.script_run.proofs.Ended.{IsNotOpen}
 use Rattle.script_run.proofs.Listed.{is_among}
@@ -93,12 +93,17 @@ module _ (told : Rec) (ends : SaysEnd told) where
   format_ends_none g (inr (inl second)) = subst SaysEnd second ends
   format_ends_none g (inr (inr none)) = none
 
+  fault_ends_none : (count : ℕ) → IsAmong told (rec.Fault count ∷ []) → ⊥
+  fault_ends_none count (inl same) = subst SaysEnd same ends
+  fault_ends_none count (inr none) = none
+
   session_ends : (run : Run) (turn : Turn) {asks : Step} {says : StepAnswer} {after : Run} → StepGoes run turn asks says after → step_answer run turn asks ≡ says → after_step run turn asks ≡ after
       → IsAmong told turn.added → OnSession run turn run.state asks
   session_ends run turn (stays bad same is) answered next among = absurd (subst (IsAmong told) is among)
   session_ends run turn (waits at same is) answered next among = absurd (subst (λ (t : Turn). IsAmong told t.added) is among)
-  session_ends run turn (works s same e takes) answered next among = record { s = s; state = e; takes = takes; said = answered; next = next }
+  session_ends run turn (works s same e takes) answered next among = record { s = s; session = same; state = e; takes = takes; said = answered; next = next }
   session_ends run turn (begins name g same is) answered next among = absurd (format_ends_none g (subst (IsAmong told) is among))
+  session_ends run turn (fails name count same is refuses) answered next among = absurd (fault_ends_none count (subst (IsAmong told) is among))
 
   module _ {l : RunLogs} (a : Account l) (lines : List (List ℕ)) (r : RecordsBehind a lines told) where
     abbrev pub Before : Run

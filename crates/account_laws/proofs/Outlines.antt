@@ -1,5 +1,5 @@
 -- What the answers of lines tell of devices.
-use Rattle.std.proofs.Common.{◌≡◌, ℕ, ◌+◌, List, [], ◌∷◌, ◌++◌, length, refl, ◌∙◌, arith, length-append}
+use Rattle.std.proofs.Common.{◌≡◌, ℕ, ◌+◌, List, [], ◌∷◌, ◌++◌, length, refl, ◌∙◌, arith, length-append, ◌<◌, sym, ap, subst, append-nil, inl, inr, ◌⊎◌}
 use Rattle.std.specs.Prelude.{Bool, Option, Some, None, map, option_map, if◌then◌else◌, is_none}
 use Rattle.device_log.specs.Calls.{Call}
 use Rattle.tape_base.specs.declared.geometries.BadGeometry.{BadGeometry}
@@ -10,12 +10,13 @@ use Rattle.script_grammar.specs.declared.line.LineAnswer.TheVariants as line
 use Rattle.script_grammar.specs.declared.step.Step.{Step}
 use Rattle.script_grammar.specs.declared.step.Step.TheVariants as step
 use Rattle.script_grammar.specs.declared.answer.StepAnswer.{StepAnswer}
+use Rattle.script_grammar.specs.declared.answer.StepAnswer.TheVariants as answer
 use Rattle.script_grammar.specs.Grammar.{reading_of}
 use Rattle.script_run.specs.Run.{Harm, Run, fresh, loosened, no_harm}
 use Rattle.script_run.specs.Turn.{Turn}
 use Rattle.script_run.specs.Behind.{harm_in, harm_of, harms_of}
 use Rattle.script_run.specs.Takes.{run_after}
-use Rattle.run_promise.specs.Outline.{Outline, all_told, begun, begun_by, count_in, doubted, outline_in, raised, told_of, with_calls_of, with_told_count}
+use Rattle.run_promise.specs.Outline.{Outline, all_told, begun, begun_by, count_in, doubted, outline_in, raised, told_of, with_calls_of, with_told_count, IsAnswered, IsFormatAnswer, attached, outline_after}
 use Rattle.run_promise.specs.Lines.{AreAnswered, IsReadAs, outline_of, outline_read}
 use Rattle.run_promise.specs.Story.{ShownAlong, DevicesTold, all_in}
 use Rattle.headline.specs.Account.{ComeBackFrom, RunLogs, begun_in, doubted_harms, sessions_begun}
@@ -34,18 +35,24 @@ own_within count (Some h) = (raised_within count h, tt)
 joined_within : (o : Outline) (count : ℕ) → AreWithin (all_told o) (all_told (with_told_count o count))
 joined_within o count = within_behind o.ended (told_of o.session) (told_of (option_map (raised count) o.session)) (own_within count o.session)
 
-begun_within : (o : Outline) (name : List ℕ) (bad : Option BadGeometry) → AreWithin (all_told o) (all_told (begun o name bad))
-begun_within o name None = within_front (all_told o) (loosened no_harm ∷ [])
-begun_within o name (Some bad) = all_within_self (all_told o)
+attached_within : (o : Outline) (name : List ℕ) (said : StepAnswer) → AreWithin (all_told o) (all_told (attached o name said))
+attached_within o name (answer.DeviceFault count took) =
+    subst (AreWithin (all_told o)) (sym (append-nil (all_told o ++ raised count no_harm ∷ []))) (within_front (all_told o) (raised count no_harm ∷ []))
+attached_within o name _ = within_front (all_told o) (loosened no_harm ∷ [])
 
-begun_by_within : (o : Outline) (step : Step) → AreWithin (all_told o) (all_told (begun_by o step))
-begun_by_within o (step.Format name segments buckets content agg reach fragment generation alternates) =
-    begun_within o name (first_refusal segments buckets content agg reach fragment alternates)
-begun_by_within o _ = all_within_self (all_told o)
+begun_within : (o : Outline) (name : List ℕ) (said : StepAnswer) (bad : Option BadGeometry) → AreWithin (all_told o) (all_told (begun o name said bad))
+begun_within o name said None = attached_within o name said
+begun_within o name said (Some bad) = all_within_self (all_told o)
+
+begun_by_within : (o : Outline) (step : Step) (said : StepAnswer) → AreWithin (all_told o) (all_told (begun_by o step said))
+begun_by_within o (step.Format name segments buckets content agg reach fragment generation alternates) said =
+    begun_within o name said (first_refusal segments buckets content agg reach fragment alternates)
+begun_by_within o _ said = all_within_self (all_told o)
 
 read_within : (o : Outline) (read : LineAnswer) (said : Option StepAnswer) → AreWithin (all_told o) (all_told (outline_read o read said))
 read_within o (line.Step step) (Some said) =
-    all_within_trans (all_told o) (all_told (begun_by o step)) (all_told (with_told_count (begun_by o step) (count_in said))) (begun_by_within o step) (joined_within (begun_by o step) (count_in said))
+    let next : Outline = begun_by o step said in
+    all_within_trans (all_told o) (all_told next) (all_told (with_told_count next (count_in said))) (begun_by_within o step said) (joined_within next (count_in said))
 read_within o (line.Step step) None = all_within_self (all_told o)
 read_within o line.Nothing said = all_within_self (all_told o)
 read_within o (line.Bad fault) said = all_within_self (all_told o)
@@ -101,19 +108,26 @@ own_length : (count : ℕ) (session : Option Harm) → length (told_of (option_m
 own_length count None = refl
 own_length count (Some h) = refl
 
-begun_length : (o : Outline) (name : List ℕ) (bad : Option BadGeometry) → length (all_told (begun o name bad)) ≡ length (all_told o) + (if is_none bad then 1 else 0)
-begun_length o name None = omega (arith, length-append (all_told o) (loosened no_harm ∷ []))
-begun_length o name (Some bad) = omega arith
+attached_length : (o : Outline) (name : List ℕ) (said : StepAnswer) → length (all_told (attached o name said)) ≡ length (all_told o) + 1
+attached_length o name (answer.DeviceFault count took) =
+    ap length (append-nil (all_told o ++ raised count no_harm ∷ [])) ∙ length-append (all_told o) (raised count no_harm ∷ [])
+attached_length o name _ = length-append (all_told o) (loosened no_harm ∷ [])
 
-begun_by_length : (o : Outline) (step : Step) → length (all_told (begun_by o step)) ≡ length (all_told o) + begun_in (line.Step step)
-begun_by_length o (step.Format name segments buckets content agg reach fragment generation alternates) =
-    begun_length o name (first_refusal segments buckets content agg reach fragment alternates)
-begun_by_length o _ = omega arith
+begun_length : (o : Outline) (name : List ℕ) (said : StepAnswer) (bad : Option BadGeometry)
+    → length (all_told (begun o name said bad)) ≡ length (all_told o) + (if is_none bad then 1 else 0)
+begun_length o name said None = attached_length o name said
+begun_length o name said (Some bad) = omega arith
+
+begun_by_length : (o : Outline) (step : Step) (said : StepAnswer) → length (all_told (begun_by o step said)) ≡ length (all_told o) + begun_in (line.Step step)
+begun_by_length o (step.Format name segments buckets content agg reach fragment generation alternates) said =
+    begun_length o name said (first_refusal segments buckets content agg reach fragment alternates)
+begun_by_length o _ said = omega arith
 
 pub read_length : (o : Outline) (read : LineAnswer) (said : Option StepAnswer) → IsReadAs o read said → length (all_told (outline_read o read said)) ≡ length (all_told o) + begun_in read
 read_length o (line.Step step) (Some said) is =
-    same_length (begun_by o step).ended (told_of (option_map (raised (count_in said)) (begun_by o step).session)) (told_of (begun_by o step).session) (own_length (count_in said) (begun_by o step).session)
-    ∙ begun_by_length o step
+    let next : Outline = begun_by o step said in
+    same_length next.ended (told_of (option_map (raised (count_in said)) next.session)) (told_of next.session) (own_length (count_in said) next.session)
+    ∙ begun_by_length o step said
 read_length o (line.Step step) None is = absurd is
 read_length o line.Nothing said is = omega arith
 read_length o (line.Bad fault) said is = absurd is
@@ -126,38 +140,66 @@ outline_length o (bytes ∷ lines) [] are = absurd are
 outline_length o (bytes ∷ lines) (said ∷ answers) are =
     omega (arith, read_length o (reading_of bytes) said are.0, outline_length (outline_read o (reading_of bytes) said) lines answers are.1)
 
--- where no session stands in the end, none was begun
+-- where no session stands in the end, none was begun, or the last device refused a call of its format
 none_raised : (count : ℕ) (session : Option Harm) → option_map (raised count) session ≡ None → session ≡ None
 none_raised count None e = refl
 none_raised count (Some h) e = absurd cc
 
-abbrev one_where : Bool → ℕ
-one_where b = if b then 1 else 0
+-- of the device that was given back last a fault was told
+pub record EndsFaulted (ended : List Harm) : Type 0 where
+  pub front : List Harm
+  pub harm : Harm
+  pub is : ended ≡ front ++ harm ∷ []
+  pub faulted : 0 < harm.fault
 
-begun_none : (o : Outline) (name : List ℕ) (bad : Option BadGeometry) → (begun o name bad).session ≡ None → (o.session ≡ None) × (one_where (is_none bad) ≡ 0)
-begun_none o name None e = absurd cc
-begun_none o name (Some bad) e = (e, refl)
+-- no session was begun meanwhile, and none stood
+pub record BeginsNone (o after : Outline) (begun : ℕ) : Type 0 where
+  pub session : o.session ≡ None
+  pub none : begun ≡ 0
+  pub ended : after.ended ≡ o.ended
 
-begun_by_none : (o : Outline) (step : Step) → (begun_by o step).session ≡ None → (o.session ≡ None) × (begun_in (line.Step step) ≡ 0)
-begun_by_none o (step.Format name segments buckets content agg reach fragment generation alternates) e =
-    begun_none o name (first_refusal segments buckets content agg reach fragment alternates) e
-begun_by_none o _ e = (e, refl)
+format_none : (o : Outline) (name : List ℕ) (content agg : ℕ) (said : StepAnswer) (bad : Option BadGeometry) → IsFormatAnswer content agg said bad
+    → (with_told_count (begun o name said bad) (count_in said)).session ≡ None
+    → BeginsNone o (with_told_count (begun o name said bad) (count_in said)) (if is_none bad then 1 else 0)
+    ⊎ EndsFaulted (with_told_count (begun o name said bad) (count_in said)).ended
+format_none o name content agg said (Some bad) is e = inl (record { session = none_raised (count_in said) o.session e; none = refl; ended = refl })
+format_none o name content agg said None (inl is) e =
+    absurd (some_attached (subst (λ x. (with_told_count (attached o name x) (count_in x)).session ≡ None) is e))
+  where
+    some_attached : Some (raised 0 (loosened no_harm)) ≡ None → ⊥
+    some_attached h = cc
+format_none o name content agg said None (inr fault) e =
+    inr (subst (λ x. EndsFaulted (with_told_count (attached o name x) (count_in x)).ended) (sym fault.2)
+    (record { front = all_told o; harm = raised fault.0 no_harm; is = refl; faulted = omega (arith, fault.1) }))
 
-read_none : (o : Outline) (read : LineAnswer) (said : Option StepAnswer) → IsReadAs o read said → (outline_read o read said).session ≡ None → (o.session ≡ None) × (begun_in read ≡ 0)
-read_none o (line.Step step) (Some said) is e = begun_by_none o step (none_raised (count_in said) (begun_by o step).session e)
+step_none : (o : Outline) (step : Step) (said : StepAnswer) → IsAnswered o step said → (outline_after o step said).session ≡ None
+    → BeginsNone o (outline_after o step said) (begun_in (line.Step step)) ⊎ EndsFaulted (outline_after o step said).ended
+step_none o (step.Format name segments buckets content agg reach fragment generation alternates) said is e =
+    format_none o name content agg said (first_refusal segments buckets content agg reach fragment alternates) is.fixed e
+step_none o _ said is e = inl (record { session = none_raised (count_in said) o.session e; none = refl; ended = refl })
+
+read_none : (o : Outline) (read : LineAnswer) (said : Option StepAnswer) → IsReadAs o read said → (outline_read o read said).session ≡ None
+    → BeginsNone o (outline_read o read said) (begun_in read) ⊎ EndsFaulted (outline_read o read said).ended
+read_none o (line.Step step) (Some said) is e = step_none o step said is e
 read_none o (line.Step step) None is e = absurd is
-read_none o line.Nothing said is e = (e, refl)
+read_none o line.Nothing said is e = inl (record { session = e; none = refl; ended = refl })
 read_none o (line.Bad fault) said is e = absurd is
 
 pub none_begun : (o : Outline) (lines : List (List ℕ)) (answers : List (Option StepAnswer)) → AreAnswered o lines answers
-    → (outline_of o lines answers).session ≡ None → (o.session ≡ None) × (sessions_begun lines ≡ 0)
-none_begun o [] [] are e = (e, refl)
+    → (outline_of o lines answers).session ≡ None
+    → BeginsNone o (outline_of o lines answers) (sessions_begun lines) ⊎ EndsFaulted (outline_of o lines answers).ended
+none_begun o [] [] are e = inl (record { session = e; none = refl; ended = refl })
 none_begun o [] (said ∷ answers) are e = absurd are
 none_begun o (bytes ∷ lines) [] are e = absurd are
 none_begun o (bytes ∷ lines) (said ∷ answers) are e =
-    let rest = none_begun (outline_read o (reading_of bytes) said) lines answers are.1 e in
-    let here = read_none o (reading_of bytes) said are.0 rest.0 in
-    (here.0, omega (arith, here.1, rest.1))
+    let next : Outline = outline_read o (reading_of bytes) said in
+    elim (none_begun next lines answers are.1 e) [
+      | inr faulted ↦ inr faulted
+      | inl rest ↦ elim (read_none o (reading_of bytes) said are.0 rest.session) [
+        | inr faulted ↦ inr (subst EndsFaulted (sym rest.ended) faulted)
+        | inl here ↦ inl (record { session = here.session; none = omega (arith, here.none, rest.none); ended = rest.ended ∙ here.ended })
+      ]
+    ]
 
 -- ---- the outline at a line
 

@@ -1,7 +1,6 @@
 -- The line of a legal history that was answered so: what it did, in the run that the lines before it left.
-use Rattle.std.proofs.Common.{◌≡◌, ℕ, List, [], ◌∷◌, ◌++◌, length, refl, sym, ap, subst, arith, inl, inr, ◌⊎◌, false}
+use Rattle.std.proofs.Common.{◌≡◌, ℕ, List, [], ◌∷◌, ◌++◌, length, refl, sym, ap, subst, arith, inl, inr, ◌⊎◌, false, true}
 use Rattle.std.specs.Prelude.{Option, Some, None}
-use Rattle.tape_base.specs.declared.geometries.BadGeometry.{BadGeometry}
 use Rattle.cache_model.specs.declared.record.Rec.{Rec}
 use Rattle.cache_model.specs.State.{State, after_all}
 use Rattle.cache_model.proofs.Found.{same_some}
@@ -9,13 +8,14 @@ use Rattle.script_grammar.specs.declared.line.LineAnswer.{LineAnswer}
 use Rattle.script_grammar.specs.declared.line.LineAnswer.TheVariants as line
 use Rattle.script_grammar.specs.declared.step.Step.{Step}
 use Rattle.script_grammar.specs.declared.answer.StepAnswer.{StepAnswer}
+use Rattle.script_grammar.specs.declared.answer.StepAnswer.TheVariants as answer
 use Rattle.script_grammar.specs.Grammar.{reading_of}
 use Rattle.script_run.specs.Run.{Run, fresh}
 use Rattle.script_run.specs.Turn.{Turn}
-use Rattle.script_run.specs.Answers.{format_said, session_said, step_answer, step_said}
-use Rattle.script_run.specs.Behind.{after_line, after_reading, after_step, behind, in_session}
-use Rattle.script_run.specs.Takes.{IsRun, ReadingTakes, SessionTakes, StepTakes, run_after}
-use Rattle.script_run.specs.Goes.{StepGoes, begins, stays, waits, works}
+use Rattle.script_run.specs.Answers.{session_said, step_answer, step_said}
+use Rattle.script_run.specs.Behind.{after_line, after_reading, after_step, behind, in_session, without_session}
+use Rattle.script_run.specs.Takes.{IsRun, ReadingTakes, SessionTakes, StepTakes, run_after, RefusesCall}
+use Rattle.script_run.specs.Goes.{StepGoes, begins, fails, stays, waits, works, begins_session}
 use Rattle.script_run.proofs.Lift.{goes}
 use Rattle.script_laws.specs.Causes.{cause_answered}
 use Rattle.script_laws.specs.Runs.{answers_damage, answers_fault}
@@ -87,10 +87,20 @@ told_line l a before asks said at =
 -- the step is one of a session
 pub record OnSession (run : Run) (turn : Turn) (o : Option State) (asks : Step) : Type 0 where
   pub s : State
+  pub session : begins_session asks ≡ false
   pub state : o ≡ Some s
   pub takes : SessionTakes run s turn asks
   pub said : step_said run turn o asks ≡ session_said run s (after_all s turn.added) turn asks
   pub next : behind run turn o asks ≡ in_session run s (after_all s turn.added) turn asks
+
+-- the step is a format whose device refused a call
+pub record OnFormat (run : Run) (turn : Turn) (asks : Step) : Type 0 where
+  pub name : List ℕ
+  pub count : ℕ
+  pub begins : begins_session asks ≡ true
+  pub refuses : RefusesCall turn count
+  pub said : step_answer run turn asks ≡ answer.DeviceFault count None
+  pub next : after_step run turn asks ≡ without_session run name turn.device.events count
 
 -- the answer tells no trouble, and no cause
 pub record IsUntroubled (said : StepAnswer) : Type 0 where
@@ -98,16 +108,14 @@ pub record IsUntroubled (said : StepAnswer) : Type 0 where
   pub no_damage : answers_damage said ≡ false
   pub no_cause : cause_answered said ≡ None
 
-format_untroubled : (added : List Rec) (bad : Option BadGeometry) → IsUntroubled (format_said added bad)
-format_untroubled added None = record { no_fault = refl; no_damage = refl; no_cause = refl }
-format_untroubled added (Some bad) = record { no_fault = refl; no_damage = refl; no_cause = refl }
-
 kinds : (run : Run) (turn : Turn) {asks : Step} {said : StepAnswer} {after : Run} → StepGoes run turn asks said after → step_answer run turn asks ≡ said → after_step run turn asks ≡ after
-    → OnSession run turn run.state asks ⊎ IsUntroubled said
-kinds run turn (stays bad same none) answered next = inr (format_untroubled turn.added (Some bad))
-kinds run turn (waits at same none) answered next = inr (record { no_fault = refl; no_damage = refl; no_cause = refl })
-kinds run turn (works s same e takes) answered next = inl (record { s = s; state = e; takes = takes; said = answered; next = next })
-kinds run turn (begins name g same is) answered next = inr (format_untroubled turn.added None)
+    → OnSession run turn run.state asks ⊎ OnFormat run turn asks ⊎ IsUntroubled said
+kinds run turn (stays bad same none) answered next = inr (inr (record { no_fault = refl; no_damage = refl; no_cause = refl }))
+kinds run turn (waits at same none) answered next = inr (inr (record { no_fault = refl; no_damage = refl; no_cause = refl }))
+kinds run turn (works s same e takes) answered next = inl (record { s = s; session = same; state = e; takes = takes; said = answered; next = next })
+kinds run turn (begins name g same is) answered next = inr (inr (record { no_fault = refl; no_damage = refl; no_cause = refl }))
+kinds run turn (fails name count same is refuses) answered next =
+    inr (inl (record { name = name; count = count; begins = same; refuses = refuses; said = answered; next = next }))
 
-pub kind_of : (run : Run) (turn : Turn) (asks : Step) → StepTakes run turn asks → OnSession run turn run.state asks ⊎ IsUntroubled (step_answer run turn asks)
+pub kind_of : (run : Run) (turn : Turn) (asks : Step) → StepTakes run turn asks → OnSession run turn run.state asks ⊎ OnFormat run turn asks ⊎ IsUntroubled (step_answer run turn asks)
 kind_of run turn asks takes = kinds run turn (goes run turn asks takes) refl refl

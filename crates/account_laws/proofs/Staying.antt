@@ -7,6 +7,7 @@ use Rattle.tape_base.specs.declared.keys.Key.{Key}
 use Rattle.tape_base.specs.Key.{same_key}
 use Rattle.tape_base.proofs.NameLaws.{same_key-same}
 use Rattle.cache_model.specs.declared.record.Rec.{Rec}
+use Rattle.cache_model.specs.declared.record.Rec.TheVariants as rec
 use Rattle.cache_model.specs.State.{State, after_all, state_after}
 use Rattle.cache_model.specs.Permit.{IsAmong, Permit}
 use Rattle.cache_model.specs.Legal.{format_records}
@@ -20,7 +21,7 @@ use Rattle.script_run.specs.Run.{Run, fresh}
 use Rattle.script_run.specs.Turn.{Turn}
 use Rattle.script_run.specs.Behind.{after_line, after_reading}
 use Rattle.script_run.specs.Takes.{IsRun, ReadingTakes, run_after}
-use Rattle.script_run.specs.Goes.{StepGoes, begins, begins_session, stays, waits, works}
+use Rattle.script_run.specs.Goes.{StepGoes, begins, begins_session, fails, stays, waits, works}
 use Rattle.script_run.proofs.Lift.{goes}
 use Rattle.script_laws.proofs.Groups.{IsKept}
 use Rattle.script_laws.proofs.Walking.{walked}
@@ -43,6 +44,7 @@ found_none key k x o same h = none_is (sym h ∙ ap (λ b. cond b (Some x) o) (s
 
 module _ (Makes : Rec → Type 0) (Has : State → Type 0)
     (none_of_format : (g : Geometry) (told : Rec) → IsAmong told (format_records g) → Makes told → ⊥)
+    (none_of_fault : (count : ℕ) → Makes (rec.Fault count) → ⊥)
     (has_by : (s : State) (r : Rec) → Makes r → Has (state_after s r))
     (has_still : (p : Permit) (s : State) (r : Rec) → IsKept p r → Has s → Has (state_after s r)) where
   -- so it is where there is a session
@@ -61,11 +63,16 @@ module _ (Makes : Rec → Type 0) (Has : State → Type 0)
 
   -- ---- behind the line that recorded it
 
+  only_fault : (count : ℕ) (told : Rec) → IsAmong told (rec.Fault count ∷ []) → Makes told → ⊥
+  only_fault count told (inl same) makes = none_of_fault count (subst Makes same makes)
+  only_fault count told (inr none) makes = none
+
   by_step : (run : Run) (turn : Turn) {st : Step} {said : StepAnswer} {after : Run} (told : Rec) → StepGoes run turn st said after → IsAmong told turn.added → Makes told → HasWhere after.state
   by_step run turn told (stays bad same is) among makes = absurd (subst (IsAmong told) is among)
   by_step run turn told (waits at same is) among makes = absurd (subst (λ (t : Turn). IsAmong told t.added) is among)
   by_step run turn told (works s same e takes) among makes = by_among turn.device s turn.added told (walked takes.legal.grows).kept among makes
   by_step run turn told (begins name g same is) among makes = absurd (none_of_format g told (subst (IsAmong told) is among) makes)
+  by_step run turn told (fails name count same is refuses) among makes = absurd (only_fault count told (subst (IsAmong told) is among) makes)
 
   by_reading : (run : Run) (turn : Turn) (l : LineAnswer) (told : Rec) → ReadingTakes run turn l → IsAmong told turn.added → Makes told
       → HasWhere (after_reading run turn l).state
@@ -80,6 +87,7 @@ module _ (Makes : Rec → Type 0) (Has : State → Type 0)
   step_stays run turn (waits at same none) keeps has = has
   step_stays run turn (works s same e takes) keeps has = still_all turn.device s turn.added (walked takes.legal.grows).kept (subst HasWhere e has)
   step_stays run turn (begins name g begun is) keeps has = no_truth (sym begun ∙ keeps)
+  step_stays run turn (fails name count begun is refuses) keeps has = no_truth (sym begun ∙ keeps)
 
   reading_stays : (run : Run) (turn : Turn) (l : LineAnswer) → KeepsSession l → ReadingTakes run turn l → HasWhere run.state → HasWhere (after_reading run turn l).state
   reading_stays run turn (line.Step st) keeps takes has = step_stays run turn (goes run turn st takes) keeps has

@@ -1,6 +1,6 @@
 -- What lines answer of faults and of damage rests on calls of their devices.
-use Rattle.std.proofs.Common.{◌≡◌, ℕ, ◌+◌, ◌<◌, ◌≤◌, List, [], ◌∷◌, ◌++◌, length, refl, sym, ◌∙◌, ap, subst, arith, length-append, append_assoc, inl, inr, Bool, true, false}
-use Rattle.std.specs.Prelude.{Option, Some, None, option_map, unwrap_or}
+use Rattle.std.proofs.Common.{◌≡◌, ℕ, ◌+◌, ◌<◌, ◌≤◌, List, [], ◌∷◌, ◌++◌, length, refl, sym, ◌∙◌, ap, subst, arith, length-append, append_assoc, inl, inr, Bool, true, false, append-nil}
+use Rattle.std.specs.Prelude.{Option, Some, None, option_map, unwrap_or, if◌then◌else◌}
 use Rattle.std.proofs.lemmas.Bool.{false_from_ne_true}
 use Rattle.device_log.specs.Causes.{Rose}
 use Rattle.logged_disk.specs.Device.{DeviceState as Device, TellsAll}
@@ -17,12 +17,15 @@ use Rattle.step_laws.specs.StepLaws.{FaultsRise, IsRisen}
 use Rattle.script_grammar.specs.declared.answer.Refused.TheVariants as refused
 use Rattle.script_grammar.specs.declared.answer.StepAnswer.{StepAnswer}
 use Rattle.script_grammar.specs.declared.answer.StepAnswer.TheVariants as answer
+use Rattle.script_grammar.specs.declared.line.LineAnswer.TheVariants as line
 use Rattle.script_grammar.specs.declared.step.Step.{Step}
+use Rattle.device_log.specs.Calls.{RefusedCall}
+use Rattle.script_run.specs.Goes.{begins_session}
 use Rattle.script_run.specs.Run.{Harm, Run, fresh}
 use Rattle.script_run.specs.Turn.{Turn}
 use Rattle.script_run.specs.Asked.{asked}
 use Rattle.script_run.specs.Answers.{session_said}
-use Rattle.script_run.specs.Behind.{after_step, harm_in, harm_of, harms_of}
+use Rattle.script_run.specs.Behind.{after_step, harm_in, harm_of, harms_of, harm_of_format}
 use Rattle.script_run.specs.Losses.{NoLossIsAFault, is_fault}
 use Rattle.script_run.specs.Takes.{SessionTakes, run_after}
 use Rattle.script_run.proofs.Listed.{is_among}
@@ -32,12 +35,12 @@ use Rattle.script_laws.specs.Damages.{DamageIsRecorded, DamageStays}
 use Rattle.script_laws.specs.Runs.{answers_damage, answers_fault}
 use Rattle.script_laws.specs.Troubles.{FaultIsRecorded}
 use Rattle.run_promise.specs.Outline.{count_in}
-use Rattle.headline.specs.Account.{Account, ComeBackFrom, HistoryTells, IsDeviceBehind, RunAnswers, RunLogs, sessions_begun}
-use Rattle.headline.specs.Causes.{WasRefusedInLine}
+use Rattle.headline.specs.Account.{Account, ComeBackFrom, HistoryTells, IsDeviceBehind, RunAnswers, RunLogs, sessions_begun, IsDeviceAt, IsDeviceOf, begun_in}
+use Rattle.headline.specs.Causes.{WasRefusedInLine, LogHasCalls}
 use Rattle.headline.specs.Reads.{DidBefore}
 use Rattle.account_laws.proofs.Along.{AreSeen, IsSeen, all_seen, device_seen, no_loss, run_length}
 use Rattle.account_laws.proofs.Counting.{counts_are_reached}
-use Rattle.account_laws.proofs.Places.{Found, OnSession, kind_of, told_line}
+use Rattle.account_laws.proofs.Places.{Found, OnSession, kind_of, told_line, OnFormat}
 
 -- ---- a line that an account tells, on a session
 
@@ -65,10 +68,29 @@ module _ (l : RunLogs) (a : Account l) (lines : List (List ℕ)) (asks : Step) (
   pub seen_behind : (law : DamageStays) → AreSeen (harms_of (after_step Before f.turn asks)) come.devices
   seen_behind law = all_seen law l (after_step Before f.turn asks) f.after f.later f.goes come
 
+  -- a line on a session is answered of the device before it
+  pub own_device : (device : Device) → IsDeviceOf l lines asks device → On → IsDeviceBehind l lines device
+  own_device device at on = subst (λ n. IsDeviceAt l n device) (none_more (sessions_begun lines) (begins_session asks) on.session) at
+    where
+      none_more : (n : ℕ) (b : Bool) → b ≡ false → n + (if b then 1 else 0) ≡ n
+      none_more n b e = subst (λ x. n + (if x then 1 else 0) ≡ n) (sym e) (omega arith)
+
   pub line_seen : (law : DamageStays) (device : Device) → IsDeviceBehind l lines device → (on : On) → IsSeen (harm_in (f.turn.device.events ++ Before.calls) (after_all on.s f.turn.added)) device
   line_seen law device at on =
-      device_seen l lines device Before.ended (harm_in (f.turn.device.events ++ Before.calls) (after_all on.s f.turn.added)) come.devices come.returned
+      device_seen l (sessions_begun lines) device Before.ended (harm_in (f.turn.device.events ++ Before.calls) (after_all on.s f.turn.added)) come.devices come.returned
       (subst (λ (hs : List Harm). AreSeen hs come.devices) (behind_is on) (seen_behind law)) at (begun_is on)
+
+  -- a format whose device refused a call is answered of that one, which made no other
+  format_seen : (law : DamageStays) (device : Device) → IsDeviceOf l lines asks device → (on : OnFormat Before f.turn asks) → IsSeen (harm_of_format f.turn.device.events on.count) device
+  format_seen law device at on =
+      let h : Harm = harm_of_format f.turn.device.events on.count in
+      let all : length (harms_of Before) ≡ length (harms_of fresh) + sessions_begun lines = run_length lines f.earlier fresh f.legal in
+      device_seen l (sessions_begun lines + begun_in (line.Step asks)) device (harms_of Before) h come.devices come.returned
+      (subst (λ (hs : List Harm). AreSeen hs come.devices) (ap harms_of on.next ∙ append-nil (harms_of Before ++ h ∷ [])) (seen_behind law)) at
+      (one_more (sessions_begun lines) (length (harms_of Before)) (begins_session asks) on.begins (omega (arith, all)))
+    where
+      one_more : (n m : ℕ) (b : Bool) → b ≡ true → m ≡ n → n + (if b then 1 else 0) ≡ m + 1
+      one_more n m b e same = ap (λ x. n + (if x then 1 else 0)) e ∙ ap (λ k. k + 1) (sym same)
 
   abbrev pub did_before : DidBefore a.turns lines
   did_before = record { earlier = f.earlier; turn = f.turn; later = f.later; turns_are = f.turns_are; legal = f.legal }
@@ -152,7 +174,7 @@ none_above : (n most : ℕ) → most ≡ 0 → n ≤ most → 0 < n → ⊥
 none_above n most none within above = omega (arith, none, within, above)
 
 pub no_false_faults : (recorded : FaultIsRecorded) (traced : AnswersAreTraced) (rise : FaultsRise) (l : RunLogs) (a : Account l) (lines : List (List ℕ)) (asks : Step) (said : StepAnswer) (device : Device)
-    → HistoryTells a lines asks said → IsDeviceBehind l lines device → device.faults ≡ 0 → answers_fault said ≡ false
+    → HistoryTells a lines asks said → IsDeviceOf l lines asks device → device.faults ≡ 0 → answers_fault said ≡ false
 no_false_faults recorded traced rise l a lines asks said device at which none =
     let f = told_line l a lines asks said at in
     let run : Run = run_after fresh lines f.earlier in
@@ -161,26 +183,43 @@ no_false_faults recorded traced rise l a lines asks said device at which none =
       | inl on ↦ false_from_ne_true (answers_fault said) (λ e.
           none_above (count_in said) device.faults none within
           (above_of recorded traced rise run on.s f.turn asks on.takes (losses l a lines asks said f on) said (sym (answer_is l a lines asks said f on)) e))
-      | inr u ↦ ap answers_fault f.is ∙ u.no_fault
+      | inr other ↦ elim other [
+        | inl on ↦ absurd (none_above (count_in said) device.faults none within (subst (λ n. 0 < n) (sym (ap count_in (f.is ∙ on.said))) on.refuses.1))
+        | inr u ↦ ap answers_fault f.is ∙ u.no_fault
+      ]
     ]
 
+same_count : (count other : ℕ) (took : Option ℕ) → answer.DeviceFault count took ≡ answer.DeviceFault other None → other ≡ count
+same_count count other took h = cc
+
 pub faults_were_refused : (recorded : FaultIsRecorded) (law : DamageStays) (l : RunLogs) (a : Account l) (lines : List (List ℕ)) (asks : Step) (count : ℕ) (took : Option ℕ) (device : Device)
-    → HistoryTells a lines asks (answer.DeviceFault count took) → IsDeviceBehind l lines device → WasRefusedInLine a.turns lines device count
+    → HistoryTells a lines asks (answer.DeviceFault count took) → IsDeviceOf l lines asks device → WasRefusedInLine a.turns lines asks device count
 faults_were_refused recorded law l a lines asks count took device at which =
     let said : StepAnswer = answer.DeviceFault count took in
     let f = told_line l a lines asks said at in
     let run : Run = run_after fresh lines f.earlier in
     elim (kind_of run f.turn asks f.takes) [
       | inl on ↦
-          let seen = line_seen l a lines asks said f law device which on in
+          let seen = line_seen l a lines asks said f law device (own_device l a lines asks said f device which on) on in
           let fault = recorded run on.s f.turn asks count took on.takes (losses l a lines asks said f on) (sym (answer_is l a lines asks said f on)) in
           record {
             did = did_before l a lines asks said f;
-            made = record { newer = seen.calls.later; is = seen.calls.is };
+            made = subst (λ b. LogHasCalls f.turn.device.events (if b then [] else run.calls) device) (sym on.session) (record { newer = seen.calls.later; is = seen.calls.is });
             asked = fault.counted.0;
             refused = fault.counted.1;
           }
-      | inr u ↦ no_truth (ap answers_fault f.is ∙ u.no_fault)
+      | inr other ↦ elim other [
+        | inl on ↦
+            let seen = format_seen l a lines asks said f law device which on in
+            let all : device.past ≡ seen.calls.later ++ (f.turn.device.events ++ []) = seen.calls.is ∙ ap (λ calls. seen.calls.later ++ calls) (sym (append-nil f.turn.device.events)) in
+            record {
+              did = did_before l a lines asks said f;
+              made = subst (λ b. LogHasCalls f.turn.device.events (if b then [] else run.calls) device) (sym on.begins) (record { newer = seen.calls.later; is = all });
+              asked = on.refuses.0.0;
+              refused = subst (λ n. IsAmong (RefusedCall on.refuses.0.0 n) f.turn.device.events) (same_count count on.count took (f.is ∙ on.said)) on.refuses.0.1;
+            }
+        | inr u ↦ no_truth (ap answers_fault f.is ∙ u.no_fault)
+      ]
     ]
 
 -- ---- damage
@@ -196,5 +235,8 @@ no_false_damage recorded law l a lines asks said device at which tells =
           false_from_ne_true (answers_damage said) (λ e.
           let named = named_is is_damage (cause_answered said) e in
           no_truth (sym (recorded run on.s f.turn asks named.0 on.takes (ap cause_answered (sym (answer_is l a lines asks said f on)) ∙ named.1) named.2) ∙ none))
-      | inr u ↦ ap answers_damage f.is ∙ u.no_damage
+      | inr other ↦ elim other [
+        | inl on ↦ ap answers_damage (f.is ∙ on.said)
+        | inr u ↦ ap answers_damage f.is ∙ u.no_damage
+      ]
     ]

@@ -32,7 +32,7 @@ use Rattle.script_run.specs.Asked
 use Rattle.script_run.specs.Asked.{asked, close_intents, count_with, cut_intents, feed_intents, put_intents, rest_intents}
 use Rattle.script_run.specs.Turn.{Turn, lookup_in, told_in}
 use Rattle.script_run.specs.Answers
-use Rattle.script_run.specs.Answers.{broken_said, cause_of_lost, end_said, format_said, get_said, lookup_said, miss_said, next_said, put_said, refusal_said, remove_said, said, step_answer, step_said, took_of}
+use Rattle.script_run.specs.Answers.{broken_said, cause_of_lost, end_said, format_said, get_said, lookup_said, miss_said, next_said, put_said, refusal_said, remove_said, said, step_answer, step_said, took_of, tried_said}
 use Rattle.script_run.specs.Takes.{StepTakes, Takes, run_after}
 use Rattle.script_laws.proofs.Groups.{IsKept}
 use Rattle.script_laws.proofs.Walking.{walked}
@@ -378,9 +378,14 @@ module _ (t : State) (index : ℕ) (why : Cause) (took : Option ℕ) where
   removal_loses_none s key (rec.Removed put k ∷ recs) h = cc
   removal_loses_none s key (_ ∷ recs) h = cc
 
-  format_loses_none : (added : List Rec) (bad : Option BadGeometry) → Says (format_said added bad) → ⊥
-  format_loses_none added None h = cc
-  format_loses_none added (Some bad) h = cc
+  tried_loses_none : (added : List Rec) (o : Option Reason) → Says (tried_said added o) → ⊥
+  tried_loses_none added None h = cc
+  tried_loses_none added (Some (Faulted count)) h = cc
+  tried_loses_none added (Some _) h = cc
+
+  format_loses_none : (turn : Turn) (bad : Option BadGeometry) → Says (format_said turn bad) → ⊥
+  format_loses_none turn None h = tried_loses_none turn.added turn.refused h
+  format_loses_none turn (Some bad) h = cc
 
   free_loses : (held : Option Holding) (a : StepAnswer) → Says (Answers.if_free held a) → Says a
   free_loses None a h = h
@@ -465,7 +470,7 @@ module _ (run : Run) (turn : Turn) (index : ℕ) (why : Cause) (took : Option �
 
   state_loses : (asks : Step) (o : Option State) → run.state ≡ o → Takes run turn o asks → SaysSo (step_said run turn o asks) → LosesHere run turn asks index why
   state_loses (step.Format name segments buckets content agg reach fragment generation alternates) o e takes h =
-      absurd (format_loses_none (after_all nothing_yet []) index why took turn.added (first_refusal segments buckets content agg reach fragment alternates) h)
+      absurd (format_loses_none (after_all nothing_yet []) index why took turn (first_refusal segments buckets content agg reach fragment alternates) h)
   state_loses (step.Now at) o e takes h = absurd cc
   state_loses (step.Put key body request response) (Some s) e takes h = put_loses s key body request response e takes.legal h
   state_loses (step.Get key request) (Some s) e takes h = absurd (get_loses_none s index why took turn.given (told_in turn.added) (lookup_in turn.added) h)

@@ -78,7 +78,10 @@ displaced_was_told traced l a lines asks said segment live at names =
     elim (kind_of run f.turn asks f.takes) [
       | inl on ↦ by_trace l a lines asks said segment live f on
           (traced run on.s f.turn asks (cause.Displaced segment live) on.takes (ap cause_answered (sym (answer_is l a lines asks said f on)) ∙ names))
-      | inr u ↦ none_is (sym u.no_cause ∙ (ap cause_answered (sym f.is) ∙ names))
+      | inr other ↦ elim other [
+        | inl on ↦ none_is (ap cause_answered (sym (f.is ∙ on.said)) ∙ names)
+        | inr u ↦ none_is (sym u.no_cause ∙ (ap cause_answered (sym f.is) ∙ names))
+      ]
     ]
 
 -- ---- of a miss

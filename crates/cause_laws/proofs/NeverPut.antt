@@ -104,6 +104,6 @@ never_put_was_none law l a lines asks said key misses at =
     record {
       did = did_before l a lines asks said f;
       none = λ ended.
-          recorded_none (EndsPut key) (IsEnded key) (formats_end_none key) (ended_by key) (ended_stays key) lines f.earlier h.s f.legal h.state (λ has. has neither)
+          recorded_none (EndsPut key) (IsEnded key) (formats_end_none key) (λ count ends. ends) (ended_by key) (ended_stays key) lines f.earlier h.s f.legal h.state (λ has. has neither)
           (as_recorded key lines f.earlier ended);
     }

@@ -70,7 +70,7 @@ module _ (lines : List (List ℕ)) (turns : List Turn) (s : State) (legal : IsRu
       let number : n ≡ put = cc in
       record {
         aborted = told_last (IsLastAbort key put) (IsAbort key put) (GivesUpKey key) (λ g h. none_is h) (last_abort_by key put) lines turns s legal state (abort ∙ ap (λ x. Some x) number);
-        none = recorded_none (ChangesVector key) (HasVector key) (formats_change_none key) (vector_by key) (vector_stays key) lines turns s legal state (λ has. has last);
+        none = recorded_none (ChangesVector key) (HasVector key) (formats_change_none key) (λ count changes. changes) (vector_by key) (vector_stays key) lines turns s legal state (λ has. has last);
       }
   given_up put (never last abort same) = no_truth (sym (unknown s (cause.Aborted put) same))
 

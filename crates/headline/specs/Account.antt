@@ -69,23 +69,31 @@ doubted_harms run = run.ended ++ map (λ (harm : Harm). record harm { damaged = 
 abbrev pub AllTell : RunLogs → Type 0
 AllTell l = (devices : List Device) → l.now.returned ≡ l.before.returned ++ devices → AllByRecursion TellsAll devices
 
--- how many sessions a line begins: a format whose numbers are accepted begins one
+-- how many devices a line attaches: a format whose numbers are accepted attaches one
 abbrev pub begun_in : LineAnswer → ℕ
 begun_in (line.Step step) = if begins_session step then 1 else 0
 begun_in line.Nothing = 0
 begun_in (line.Bad fault) = 0
 
--- how many sessions these lines begin, by their bytes alone
+-- how many devices these lines attach, by their bytes alone
 abbrev pub sessions_begun : List (List ℕ) → ℕ
 sessions_begun [] = 0
 sessions_begun (bytes ∷ lines) = begun_in (reading_of bytes) + sessions_begun lines
 
--- the device of a line behind these: of those that came back since, that of the session which they began last
-pub record IsDeviceBehind (l : RunLogs) (lines : List (List ℕ)) (device : Device) : Type 0 where
+-- of the devices that came back since, the one that was attached as the nth
+pub record IsDeviceAt (l : RunLogs) (n : ℕ) (device : Device) : Type 0 where
   pub earlier : List Device
   pub later : List Device
   pub returned : l.now.returned ≡ l.before.returned ++ (earlier ++ device ∷ later)
-  pub which : sessions_begun lines ≡ length earlier + 1
+  pub which : n ≡ length earlier + 1
+
+-- the device of a line behind these: that which they attached last
+abbrev pub IsDeviceBehind : RunLogs → List (List ℕ) → Device → Type 0
+IsDeviceBehind l lines device = IsDeviceAt l (sessions_begun lines) device
+
+-- the device of which a step behind these lines is answered: an accepted format attaches its own
+abbrev pub IsDeviceOf : RunLogs → List (List ℕ) → Step → Device → Type 0
+IsDeviceOf l lines asks device = IsDeviceAt l (sessions_begun lines + begun_in (line.Step asks)) device
 
 -- ---- accounts
 

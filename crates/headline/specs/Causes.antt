@@ -1,5 +1,5 @@
 -- Causes, in lines: the calls of devices on which faults and damage rest, and the records by which a digest was kept.
-use Rattle.std.specs.Prelude.{◌≡◌, ◌≢◌, ℕ, List, ◌∷◌, ◌++◌, ◌⊎◌, Option, Some}
+use Rattle.std.specs.Prelude.{◌≡◌, ◌≢◌, ℕ, if◌then◌else◌, List, [], ◌∷◌, ◌++◌, ◌⊎◌, Option, Some}
 use Rattle.device_log.specs.Calls.{Asked, Call, RefusedCall}
 use Rattle.tape_base.specs.declared.digests.Digest.{Digest}
 use Rattle.tape_base.specs.declared.pieces.PieceId.{PieceId}
@@ -13,12 +13,13 @@ use Rattle.step_laws.specs.StepLaws.{IsOfGiven}
 use Rattle.script_grammar.specs.declared.step.Step.{Step}
 use Rattle.script_grammar.specs.declared.answer.StepAnswer.{StepAnswer}
 use Rattle.script_grammar.specs.declared.answer.StepAnswer.TheVariants as answer
-use Rattle.script_run.specs.Run.{fresh}
+use Rattle.script_run.specs.Goes.{begins_session}
+use Rattle.script_run.specs.Run.{Run, fresh}
 use Rattle.script_run.specs.Turn.{Turn}
 use Rattle.script_run.specs.Takes.{run_after}
 use Rattle.script_laws.specs.Causes.{cause_answered}
 use Rattle.line_laws.specs.Along.{AreOfSession}
-use Rattle.headline.specs.Account.{Account, HistoryTells, IsDeviceBehind, RunLogs}
+use Rattle.headline.specs.Account.{Account, HistoryTells, IsDeviceBehind, IsDeviceOf, RunLogs}
 use Rattle.headline.specs.Reads.{DidBefore}
 use Rattle.headline.specs.Standing.{HasRecorded}
 
@@ -27,18 +28,22 @@ pub record LogHasCalls (made older : List Call) (device : Device) : Type 0 where
   pub newer : List Call
   pub is : device.past ≡ newer ++ (made ++ older)
 
+-- the calls of a step's device before it: an accepted format attaches a new one
+abbrev pub calls_before : Run → Step → List Call
+calls_before run asks = if begins_session asks then [] else run.calls
+
 -- a call of the line behind these was refused, with this count behind it; the log of the device has the calls of that
 -- line, behind those of the earlier lines of its session
-pub record WasRefusedInLine (turns : List Turn) (lines : List (List ℕ)) (device : Device) (count : ℕ) : Type 0 where
+pub record WasRefusedInLine (turns : List Turn) (lines : List (List ℕ)) (asks : Step) (device : Device) (count : ℕ) : Type 0 where
   pub did : DidBefore turns lines
-  pub made : LogHasCalls did.turn.device.events (run_after fresh lines did.earlier).calls device
+  pub made : LogHasCalls did.turn.device.events (calls_before (run_after fresh lines did.earlier) asks) device
   pub asked : Asked
   pub refused : IsAmong (RefusedCall asked count) did.turn.device.events
 
 -- where a line answers a device fault, its device refused a call in that line, with that count behind it
 abbrev pub FaultsWereRefused : Type 0
 FaultsWereRefused = (l : RunLogs) (a : Account l) (lines : List (List ℕ)) (asks : Step) (count : ℕ) (took : Option ℕ) (device : Device)
-    → HistoryTells a lines asks (answer.DeviceFault count took) → IsDeviceBehind l lines device → WasRefusedInLine a.turns lines device count
+    → HistoryTells a lines asks (answer.DeviceFault count took) → IsDeviceOf l lines asks device → WasRefusedInLine a.turns lines asks device count
 
 -- in the line behind these, where none were since, or in an earlier one of its session, the device gave a document of this
 -- digest from the block of the place on; the log of the device has the calls of that line

@@ -1,6 +1,7 @@
 -- Completeness: how a run ends, by the text that the source gave and the calls that were refused; and what ties an account
 -- to its run.
 use Rattle.std.specs.Prelude.{◌≡◌, ◌≢◌, ℕ, ◌+◌, ◌<◌, ◌≤◌, ◌⊎◌, List, [], ◌∷◌, ◌++◌, length, Option, ⊤}
+use Rattle.logged_disk.specs.Device.{DeviceState as Device}
 use Rattle.device_log.specs.Faults.{next_count}
 use Rattle.device_log.specs.Streams.{SourceRead, SinkWrite, RefusedWrite, refused_writes, write_faults}
 use Rattle.edge_io.specs.declared.reader.TheConstants.{MAX_LINE_BYTES, MAX_LINES}
@@ -25,17 +26,17 @@ use Rattle.run_promise.specs.declared.status.Status.TheVariants as status
 use Rattle.run_promise.specs.Story.{Because, CutsLast, HoldsNoLine, IsBadLine, IsNextLine, MeetsBayFault, SendsAll, SendsBefore}
 use Rattle.run_promise.specs.Story.{Taken, DevicesTold, told_by, told_by_records}
 use Rattle.run_promise.specs.Top.{EachBack, EachBackOrMore, ReadsFailed, WentOut, status_of}
-use Rattle.headline.specs.Account.{Account, IsConcluded, RunLogs, begun_in, sessions_begun}
+use Rattle.headline.specs.Account.{Account, IsConcluded, IsDeviceBehind, RunLogs, begun_in, sessions_begun}
 
 -- ---- lines that may be taken
 
--- the line is in the grammar, and where it needs a session one was begun
+-- the line is in the grammar, and where it needs a session a format was accepted
 abbrev pub MayBeTaken : (sessions : ℕ) → LineAnswer → Type 0
 MayBeTaken sessions (line.Step step) = NeedsSession step → 0 < sessions
 MayBeTaken sessions line.Nothing = ⊤
 MayBeTaken sessions (line.Bad fault) = ⊥
 
--- so it is of each of these, where so many sessions were begun before them
+-- so it is of each of these, where so many formats were accepted before them
 abbrev pub AreTakeable : (sessions : ℕ) → List (List ℕ) → Type 0
 AreTakeable sessions [] = ⊤
 AreTakeable sessions (bytes ∷ lines) =
@@ -55,21 +56,33 @@ IsFine text = (lines : List (List ℕ)) (behind : List ℕ)
 
 -- ---- laws
 
--- The status is Done where the words were the command, memory was not wanting, no read, no write and no attach was
--- refused, and the text that was read is fine.
+-- the device that these lines attached last refused a call
+pub record FormatFailed (l : RunLogs) (lines : List (List ℕ)) : Type 0 where
+  pub device : Device
+  pub behind : IsDeviceBehind l lines device
+  pub faulted : 0 < device.faults
+
+-- a run ended for want of a session behind a format that failed
+pub record LostItsFormat (l : RunLogs) (s : Status) : Type 0 where
+  pub is : s ≡ status.NoCache
+  pub lines : List (List ℕ)
+  pub failed : FormatFailed l lines
+
+-- The status is Done where the words were the command, memory was not wanting, no read, no write and no attach was refused,
+-- and the text that was read is fine; or a device refused a call of its format.
 abbrev pub DoneWhereFine : Type 0
 DoneWhereFine = (l : RunLogs) (s : Status) → IsConcluded l s → ReadsFailed l.first l.read s → s ≢ status.Usage → s ≢ status.OutOfMemory
     → NoReadFailed l.first l.read → refused_writes l.new ≡ refused_writes l.old → l.bay.now ≡ l.bay.before
-    → ((reads : List SourceRead) → l.read ≡ reads ++ l.first → IsFine (text_read reads)) → s ≡ status.Done
+    → ((reads : List SourceRead) → l.read ≡ reads ++ l.first → IsFine (text_read reads)) → (s ≡ status.Done) ⊎ LostItsFormat l s
 
--- the next line needs a session, and none was begun
-pub record HasNoSession (lines : List (List ℕ)) (held : List ℕ) : Type 0 where
+-- the next line needs a session, and none was begun, or the last format failed
+pub record HasNoSession (l : RunLogs) (lines : List (List ℕ)) (held : List ℕ) : Type 0 where
   pub bytes : List ℕ
   pub next : IsNextLine (length lines) held bytes
   pub step : Step
   pub asks : reading_of bytes ≡ line.Step step
   pub needs : NeedsSession step
-  pub none : sessions_begun lines ≡ 0
+  pub none : (sessions_begun lines ≡ 0) ⊎ FormatFailed l lines
 
 -- the last write failed, by the next count, and no other one of the run did
 pub record LastWriteFailed (old new : List SinkWrite) : Type 0 where
@@ -87,7 +100,7 @@ EndsHere l lines held status.ReadFault = HoldsNoLine (length lines) held × ((co
 EndsHere l lines held status.WriteFault = LastWriteFailed l.old l.new
 EndsHere l lines held status.BayFault = MeetsBayFault (length lines) held l.bay.before l.bay.now
 EndsHere l lines held status.LineTooLong = IsTooLong (length lines) held
-EndsHere l lines held status.NoCache = HasNoSession lines held
+EndsHere l lines held status.NoCache = HasNoSession l lines held
 EndsHere l lines held status.OutOfMemory = ⊤
 EndsHere l lines held status.TooManyLines = IsTooMany (length lines) held
 

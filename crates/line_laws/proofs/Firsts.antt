@@ -58,4 +58,4 @@ abbrev pub PlacedIn : Run → Type 0
 PlacedIn run = StandsWhere (λ x s. ArePlaced s) run run.state
 
 pub lines_place : (lines : List (List ℕ)) (turns : List Turn) (run : Run) → IsRun run lines turns → PlacedIn run → PlacedIn (run_after run lines turns)
-lines_place = lines_keep PlacedIn (stands_kept (λ x s. ArePlaced s) (λ run at s h. h) (λ run s turn asks takes h. records_place s turn.added h) (λ run name g. tt))
+lines_place = lines_keep PlacedIn (stands_kept (λ x s. ArePlaced s) (λ run at s h. h) (λ run s turn asks takes h. records_place s turn.added h) (λ run name calls g. tt))

@@ -152,7 +152,7 @@ module _ (laws : OfSteps) (n : ℕ) (run : Run) (s : State) (turn : Turn) (stand
 
   -- ---- each line
 
-  format_line : (name : List ℕ) (o : Option BadGeometry) → run.state ≡ Some s → is_none o ≡ false → LineGoes n s run.streams (after_format run name turn.added o) []
+  format_line : (name : List ℕ) (o : Option BadGeometry) → run.state ≡ Some s → is_none o ≡ false → LineGoes n s run.streams (after_format run turn name o) []
   format_line name None e keeps = no_truth keeps
   format_line name (Some bad) e keeps = unchanged n s run.streams run e refl quiet opened
 

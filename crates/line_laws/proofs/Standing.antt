@@ -24,10 +24,11 @@ use Rattle.script_grammar.specs.Grammar.{reading_of}
 use Rattle.script_run.specs.Run.{Run, fresh, no_stream}
 use Rattle.script_run.specs.Asked.{asked}
 use Rattle.script_run.specs.Turn.{Turn}
+use Rattle.device_log.specs.Calls.{Call}
 use Rattle.script_run.specs.Behind.{after_line, after_reading, at_moment, in_session, with_format}
 use Rattle.script_run.specs.Laws.{FormatsKeep, FormatsOwn, OwnIsKept, StepsKeep, StepsOwn}
 use Rattle.script_run.specs.Own.{AreOwn, ArePayloadsOwn, IsPlacedAs}
-use Rattle.script_run.specs.Goes.{StepGoes, begins, stays, waits, works}
+use Rattle.script_run.specs.Goes.{StepGoes, begins, fails, stays, waits, works}
 use Rattle.script_run.specs.Takes.{IsRun, ReadingShows, ReadingTakes, SessionShows, SessionTakes, StepShows, run_after, streams_with}
 use Rattle.line_laws.specs.Along.{AreOfSession, KeptAlong, OwnAlong, QuietWhere, ShowsAlong, StandsKept, StandsOwn, StandsWhere}
 use Rattle.script_run.proofs.Lift.{EachKeeps, goes, line_keeps, lines_keep}
@@ -66,9 +67,9 @@ abbrev pub KeepsIn : Run → Type 0
 KeepsIn run = StandsWhere Keeps run run.state
 
 module _ (laws : OfKept) where
-  formatted_keeps : (run : Run) (name : List ℕ) (g : Geometry) → Keeps (with_format run name (format_records g)) (after_all nothing_yet (format_records g))
-  formatted_keeps run name g = record {
-    sound = laws.legal_is_sound (record { packed = false; syncs = false; area = 0 }) [] (format_records g) (Legal.IsLegal.begins g);
+  formatted_keeps : (run : Run) (name : List ℕ) (calls : List Call) (g : Geometry) → Keeps (with_format run name calls (format_records g)) (after_all nothing_yet (format_records g))
+  formatted_keeps run name calls g = record {
+    sound = laws.legal_is_sound (record { packed = false; syncs = false }) [] (format_records g) (Legal.IsLegal.begins g);
     displaced = refl;
     quiet = refl;
     kept = laws.formats_keep nothing_yet g (λ put. no_stream);
@@ -130,9 +131,9 @@ abbrev HoldsIn : Run → Type 0
 HoldsIn run = StandsWhere Holds run run.state
 
 module _ (laws : OfLines) where
-  formatted_holds : (run : Run) (name : List ℕ) (g : Geometry) → Holds (with_format run name (format_records g)) (after_all nothing_yet (format_records g))
-  formatted_holds run name g =
-      record { keeps = formatted_keeps laws.kept run name g; told = laws.formats_tell nothing_yet g; own = laws.formats_own nothing_yet g (λ put. no_stream) }
+  formatted_holds : (run : Run) (name : List ℕ) (calls : List Call) (g : Geometry) → Holds (with_format run name calls (format_records g)) (after_all nothing_yet (format_records g))
+  formatted_holds run name calls g =
+      record { keeps = formatted_keeps laws.kept run name calls g; told = laws.formats_tell nothing_yet g; own = laws.formats_own nothing_yet g (λ put. no_stream) }
 
   moment_holds : (run : Run) (at : ℕ) (s : State) → Holds run s → Holds (at_moment run at) s
   moment_holds run at s h = record { keeps = moment_keeps laws.kept run at s h.keeps; told = h.told; own = h.own }
@@ -143,7 +144,6 @@ module _ (laws : OfLines) where
     vector_shows s st takes v = record {
       packs = takes.packs;
       unsynced = takes.unsynced;
-      content = takes.content;
       moment = takes.moment;
       shows = also_shows IsVectorAs (IsPlacedAs (streams_with run s st)) (λ t row document vector. inl vector) turn.device s (to_do (asked run s st)) turn.added v;
     }
@@ -156,7 +156,7 @@ module _ (laws : OfLines) where
           | inr v ↦ inr (vector_shows s st takes v)
           | inl told ↦ elim (laws.steps_own run s turn st k.sound h.told k.quiet h.own (are_writing run s k.held) takes.legal) [
             | inl own ↦ inl (record { keeps = keeps_step laws.kept run s turn st takes k; told = told; own = own })
-            | inr shown ↦ inr (record { packs = takes.packs; unsynced = takes.unsynced; content = takes.content; moment = takes.moment; shows = shown })
+            | inr shown ↦ inr (record { packs = takes.packs; unsynced = takes.unsynced; moment = takes.moment; shows = shown })
           ]
         ]
 
@@ -165,7 +165,8 @@ module _ (laws : OfLines) where
     goes_holds (waits at same none) h = inl (stands_at Holds moment_holds run at run.state h)
     goes_holds {st = st} (works s same e takes) h =
         subst (λ (o : Option State). HoldsIn (in_session run s (after_all s turn.added) turn st) ⊎ StepShows run turn o st) (sym e) (holds_step s st takes (subst (StandsWhere Holds run) e h))
-    goes_holds (begins name g same is) h = inl (subst (λ recs. HoldsIn (with_format run name recs)) (sym is) (formatted_holds run name g))
+    goes_holds (begins name g same is) h = inl (subst (λ recs. HoldsIn (with_format run name turn.device.events recs)) (sym is) (formatted_holds run name turn.device.events g))
+    goes_holds (fails name count same is refuses) h = inl tt
 
     reading_holds : (l : LineAnswer) → ReadingTakes run turn l → HoldsIn run → HoldsIn (after_reading run turn l) ⊎ ReadingShows run turn l
     reading_holds (line.Step st) takes h = goes_holds (goes run turn st takes) h

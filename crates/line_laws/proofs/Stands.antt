@@ -2,6 +2,7 @@
 use Rattle.std.proofs.Common.{ℕ, List, subst}
 use Rattle.std.specs.Prelude.{Option, Some, None}
 use Rattle.tape_base.specs.declared.geometries.Geometry.{Geometry}
+use Rattle.device_log.specs.Calls.{Call}
 use Rattle.cache_model.specs.State.{State, after_all, nothing_yet}
 use Rattle.cache_model.specs.Legal.{format_records}
 use Rattle.script_grammar.specs.declared.step.Step.{Step}
@@ -18,10 +19,11 @@ module _ (Stands : Run → State → Type 0) (moments : (run : Run) (at : ℕ) (
   stands_at run at (Some s) h = moments run at s h
 
   pub stands_kept : ((run : Run) (s : State) (turn : Turn) (asks : Step) → SessionTakes run s turn asks → Stands run s → Stands (in_session run s (after_all s turn.added) turn asks) (after_all s turn.added))
-      → ((run : Run) (name : List ℕ) (g : Geometry) → Stands (with_format run name (format_records g)) (after_all nothing_yet (format_records g)))
+      → ((run : Run) (name : List ℕ) (calls : List Call) (g : Geometry) → Stands (with_format run name calls (format_records g)) (after_all nothing_yet (format_records g)))
       → EachKeeps (λ run. StandsWhere Stands run run.state)
   stands_kept steps formats = record {
     moments = λ run at h. stands_at run at run.state h;
     steps = λ run s turn asks e takes h. steps run s turn asks takes (subst (StandsWhere Stands run) e h);
-    formats = λ run name g h. formats run name g;
+    formats = λ run name calls g h. formats run name calls g;
+    fails = λ run name calls count h. tt;
   }

@@ -4,11 +4,12 @@ use Rattle.std.specs.Prelude.{Some}
 use Rattle.std.specs.List.{AllByRecursion}
 use Rattle.tape_base.specs.declared.digests.Digest.{Digest}
 use Rattle.tape_base.specs.declared.pieces.PieceId.{PieceId}
+use Rattle.tape_base.specs.Place.{block_of}
 use Rattle.cache_model.specs.declared.record.Rec.{Rec}
 use Rattle.cache_model.specs.State.{State, Row, after_all, live_row_of, state_after}
 use Rattle.device_log.specs.Calls.{Asked}
 use Rattle.cache_model.specs.Permit.{Permit}
-use Rattle.cache_model.specs.Given.{IsDamaged, IsGiven, MayCount, block_at}
+use Rattle.cache_model.specs.Given.{IsDamaged, IsGiven, MayCount}
 use Rattle.model_laws.specs.Choices.{GivesOnce, IsFaithful}
 use Rattle.cache_model.specs.Tape.{IsSound}
 use Rattle.cache_model.specs.Due.{due_pieces}
@@ -32,7 +33,7 @@ pub no_damage : {p : Permit} {s u : State} {row : Row} {found : Digest} → IsFa
 no_damage {p} {s} {u} {row = row} still live same d = d.differ (still.kept live.0 row d.bytes live.1 (given_alike p u s row d.bytes (reads_back s u same) d.given) ∙ sym d.digest)
 
 pub same_bytes : (p : Permit) (s : State) (row : Row) (one other : List ℕ) → GivesOnce p → IsGiven p s row one → IsGiven p s row other → one ≡ other
-same_bytes p s row one other once g k = once (block_at p s row.place) one other g.given k.given (g.whole ∙ sym k.whole)
+same_bytes p s row one other once g k = once (block_of s.geometry row.place) one other g.given k.given (g.whole ∙ sym k.whole)
 
 -- ---- no trouble
 

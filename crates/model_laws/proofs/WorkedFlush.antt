@@ -9,6 +9,7 @@ use Rattle.tape_base.specs.declared.geometries.Geometry.{Geometry}
 use Rattle.doc_header.specs.Reading.{document_digest}
 use Rattle.doc_header.specs.Moving.{moved_to}
 use Rattle.evacuator.specs.Choice.{kept_within}
+use Rattle.tape_base.specs.Place.{block_of}
 use Rattle.cache_model.specs.declared.record.Rec.{Rec}
 use Rattle.cache_model.specs.declared.record.Rec.TheVariants as rec
 use Rattle.cache_model.specs.State.{State, Row, ReaderRow, cursor_next, floor_next, floor_now, formatted}
@@ -87,7 +88,7 @@ pub one_that_does_not_fit_leaves_the_budget : kept_within 4 (map (λ (row : Row)
 one_that_does_not_fit_leaves_the_budget = refl
 
 abbrev none_read : Permit
-none_read = record { packed = false; syncs = false; now = 0; area = 0; past = []; events = RefusedCall (ToRead 5 1) 2 ∷ RefusedCall (ToRead 0 3) 1 ∷ [] }
+none_read = record { packed = false; syncs = false; now = 0; past = []; events = RefusedCall (ToRead (block_of small 69) 1) 2 ∷ RefusedCall (ToRead (block_of small 64) 3) 1 ∷ [] }
 
 -- a read that is refused uses the budget too
 pub two_are_refused : AreOutcomes none_read (at_120 pinned []) 4 pinned (ReadRefused 1 ∷ NoRoom ∷ ReadRefused 2 ∷ [])

@@ -9,6 +9,7 @@ use Rattle.tape_base.specs.declared.actors.Actor.{Actor}
 use Rattle.tape_base.specs.Geometry.{budget_of}
 use Rattle.doc_header.specs.Reading.{document_digest}
 use Rattle.alternate_vector.specs.Field.{Field, AreFields}
+use Rattle.tape_base.specs.Place.{block_of}
 use Rattle.cache_model.specs.declared.answer.ReadAnswer.TheVariants as read
 use Rattle.cache_model.specs.declared.answer.NextAnswer.TheVariants as next
 use Rattle.cache_model.specs.declared.record.Rec.{Rec}
@@ -17,7 +18,7 @@ use Rattle.cache_model.specs.Verdict.{live_vector_of, next_piece}
 use Rattle.cache_model.specs.Permit.{Permit, IsAmong, Intent, Flush, Sync, SyncBegin, SyncStep, Drain, CleanSync, Write, Fragment, Overflow, Weigh, Finish, Commit, GiveUp, Remove, Look, ReadOn, ReadAll, StopReading, End}
 use Rattle.cache_model.specs.Due.{due_pieces}
 use Rattle.cache_model.specs.Tape.{IsSound}
-use Rattle.cache_model.specs.Given.{CountsRead, CountsWrite, IsGiven, IsWritten, TakesBuffer, block_at}
+use Rattle.cache_model.specs.Given.{CountsRead, CountsWrite, IsGiven, IsWritten, TakesBuffer}
 use Rattle.cache_model.specs.ToRead.{flushes_first, to_read}
 use Rattle.cache_model.specs.Legal.{CanFlush, Does, IsCut, IsNext, IsNextAsListed, IsLookup, IsQuiet, IsReading, IsWriting}
 
@@ -72,7 +73,7 @@ pub data AreTried (p : Permit) : State → ℕ → List Row → State → Type 0
 -- the device gave some bytes for the piece in the step, in one read of its blocks
 pub record GaveBytesFor (p : Permit) (s : State) (row : Row) : Type 0 where
   pub bytes : List ℕ
-  pub given : IsAmong (Read (block_at p s row.place) bytes) p.events
+  pub given : IsAmong (Read (block_of s.geometry row.place) bytes) p.events
   pub whole : length bytes ≡ 512 * row.blocks
   pub of_bytes : IsBytes bytes
 

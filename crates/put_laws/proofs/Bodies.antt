@@ -30,7 +30,7 @@ use Rattle.script_run.specs.Answers.{feed_said, idle, if_has as has_said, put_sa
 use Rattle.script_run.specs.Behind.{after_line, after_reading, behind, fed, in_session, of_put, sealed_by, streams_behind, streams_closed, streams_fed, streams_opened, taken_in_line}
 use Rattle.script_run.specs.Own.{AreWriting}
 use Rattle.script_run.specs.Takes.{IsRun, LineTakes, ReadingTakes, SessionTakes, Takes, run_after}
-use Rattle.script_run.specs.Goes.{StepGoes, begins, begins_session, stays, waits, works}
+use Rattle.script_run.specs.Goes.{StepGoes, begins, begins_session, fails, stays, waits, works}
 use Rattle.script_run.proofs.Lift.{goes}
 use Rattle.script_run.proofs.Changed.{Changes, Was, changed, changed_from, either, itself}
 use Rattle.script_run.proofs.Ended.{IsNotOpen, open_row}
@@ -211,6 +211,7 @@ module _ (put : ℕ) where
         record { s = k.s; state = k.state; over = k.over; below = k.below; bytes = k.bytes }
     step_taken run turn {st = st} (works s same e takes) keeps k stands = in_session_taken run turn s st takes k e stands
     step_taken run turn (begins name g begun is) keeps k stands = no_truth (sym begun ∙ keeps)
+    step_taken run turn (fails name count begun is refuses) keeps k stands = no_truth (sym begun ∙ keeps)
 
     reading_taken : (run : Run) (turn : Turn) (x : LineAnswer) → KeepsSession x → ReadingTakes run turn x → (k : HasTaken run body)
         → StandsKept run k.s
@@ -347,7 +348,7 @@ module _ (p : Permit) (s : State) (put : ℕ) (key : Key) (size : ℕ) (list : L
 on_put : (run : Run) (turn : Turn) (o : Option State) (key : Key) (body : List ℕ) (request response : List Field)
     → Takes run turn o (step.Put key body request response) → OnSession run turn o (step.Put key body request response)
 on_put run turn None key body request response takes = absurd takes
-on_put run turn (Some s) key body request response takes = record { s = s; state = refl; takes = takes; said = refl; next = refl }
+on_put run turn (Some s) key body request response takes = record { s = s; session = refl; state = refl; takes = takes; said = refl; next = refl }
 
 module _ (numbers : NumbersFollow) (l : RunLogs) (a : Account l) (lines : List (List ℕ)) (key : Key) (body : List ℕ)
     (request response : List Field)
@@ -438,7 +439,7 @@ put_took_its_body law measured numbers l a lines since key body request response
 on_close : (run : Run) (turn : Turn) (o : Option State) (name : List ℕ) → Takes run turn o (step.Close name)
     → OnSession run turn o (step.Close name)
 on_close run turn None name takes = absurd takes
-on_close run turn (Some s) name takes = record { s = s; state = refl; takes = takes; said = refl; next = refl }
+on_close run turn (Some s) name takes = record { s = s; session = refl; state = refl; takes = takes; said = refl; next = refl }
 
 idle_puts_none : (put size fragments : ℕ) → idle ≡ answer.Put put size fragments → ⊥
 idle_puts_none put size fragments h = cc
@@ -556,7 +557,7 @@ refusal_took t took (StillMoving blocks) count h = cc
 on_feed : (run : Run) (turn : Turn) (o : Option State) (name body : List ℕ) → Takes run turn o (step.Feed name body)
     → OnSession run turn o (step.Feed name body)
 on_feed run turn None name body takes = absurd takes
-on_feed run turn (Some s) name body takes = record { s = s; state = refl; takes = takes; said = refl; next = refl }
+on_feed run turn (Some s) name body takes = record { s = s; session = refl; state = refl; takes = takes; said = refl; next = refl }
 
 module _ (run : Run) (t : State) (name body : List ℕ) (count : ℕ) where
   -- what the put of an actor took, and what was told

@@ -2,7 +2,6 @@
 use Rattle.std.proofs.Common.{◌≡◌, ℕ, List, [], ◌∷◌, ◌++◌, length, Bool, true, false, refl, sym, ◌∙◌, ap, subst, arith, inl, inr, ◌⊎◌}
 use Rattle.std.specs.Prelude.{Option, Some, None, if◌then◌else◌}
 use Rattle.std.proofs.lemmas.List.{append_cancel_left}
-use Rattle.tape_base.specs.declared.geometries.BadGeometry.{BadGeometry}
 use Rattle.tape_base.specs.declared.keys.Key.{Key}
 use Rattle.alternate_vector.specs.Alternates.{Stored}
 use Rattle.alternate_vector.specs.Field.{Field}
@@ -29,11 +28,11 @@ use Rattle.script_grammar.specs.Grammar.{reading_of}
 use Rattle.script_run.specs.Run.{Holding, Run, fresh, gathered_of, held_by, put_written_by, reader_by}
 use Rattle.script_run.specs.Turn.{Turn, lookup_in, told_in}
 use Rattle.script_run.specs.Asked.{asked, asks_if_has, body_intents, close_intents, closing, feed_intents, put_intents, rest_behind, rest_intents, whole_fragments}
-use Rattle.script_run.specs.Answers.{broken_said, end_said, format_said, get_said, if_free, if_has as has_said, lookup_said, miss_said, next_said, put_said, refusal_said, remove_said, said, session_said, step_answer}
+use Rattle.script_run.specs.Answers.{broken_said, end_said, get_said, if_free, if_has as has_said, lookup_said, miss_said, next_said, put_said, refusal_said, remove_said, said, session_said, step_answer}
 use Rattle.script_run.specs.Behind.{after_step}
 use Rattle.script_run.specs.Own.{AreWriting}
 use Rattle.script_run.specs.Takes.{run_after}
-use Rattle.script_run.specs.Goes.{StepGoes, begins, stays, waits, works}
+use Rattle.script_run.specs.Goes.{StepGoes, begins, fails, stays, waits, works}
 use Rattle.script_run.proofs.Lift.{goes}
 use Rattle.script_laws.proofs.Among.{among_left, among_right}
 use Rattle.line_laws.specs.Laws.{LegalIsKept}
@@ -197,17 +196,14 @@ other_kind run s t turn step.Flush other = said_kind t None turn.refused _ refl
 other_kind run s t turn (step.Now moment) other = refl
 other_kind run s t turn _ other = absurd other
 
-format_kind : (added : List Rec) (bad : Option BadGeometry) → kind (format_said added bad) ≡ 0
-format_kind added None = refl
-format_kind added (Some bad) = refl
-
 -- a line that is answered so is one of a session
 on_session : (run : Run) (turn : Turn) {asks : Step} {says : StepAnswer} {after : Run} → StepGoes run turn asks says after
     → step_answer run turn asks ≡ says → after_step run turn asks ≡ after → (kind says ≡ 0 → ⊥) → OnSession run turn run.state asks
-on_session run turn (stays bad same none) answered next ends = absurd (ends (format_kind turn.added (Some bad)))
+on_session run turn (stays bad same none) answered next ends = absurd (ends refl)
 on_session run turn (waits at same none) answered next ends = absurd (ends refl)
-on_session run turn (works s same e takes) answered next ends = record { s = s; state = e; takes = takes; said = answered; next = next }
-on_session run turn (begins name g same is) answered next ends = absurd (ends (format_kind turn.added None))
+on_session run turn (works s same e takes) answered next ends = record { s = s; session = same; state = e; takes = takes; said = answered; next = next }
+on_session run turn (begins name g same is) answered next ends = absurd (ends refl)
+on_session run turn (fails name count same is refuses) answered next ends = absurd (ends refl)
 
 -- a put or a close is answered a put, where nothing is refused, and else none of these
 data PutKind (why : Option Reason) (n : ℕ) : Type 0 where

@@ -8,7 +8,7 @@ use Rattle.tape_base.specs.declared.geometries.Geometry.{Geometry}
 use Rattle.tape_base.specs.declared.keys.Key.{Key}
 use Rattle.tape_base.specs.declared.pieces.PieceId.{PieceId}
 use Rattle.tape_base.specs.Geometry.{budget_of}
-use Rattle.tape_base.specs.Place.{slot_of}
+use Rattle.tape_base.specs.Place.{block_of}
 use Rattle.fragment_table.specs.Table.{TableRow}
 use Rattle.alternate_vector.specs.Field.{Field}
 use Rattle.cache_model.specs.declared.answer.NextAnswer.{NextAnswer}
@@ -90,7 +90,7 @@ module _ (p : Permit) (s : State) where
 
   damage : (t : State) (row : Row) (found : Digest) → Same t → Given.IsDamaged p t row found → IsTold (Given.damage_record row row.digest found)
   damage t row found same d =
-      (record { bytes = d.bytes; given = subst (λ (g : Geometry). IsAmong (Read (slot_of g row.place + p.area) d.bytes) p.events) same d.given.given; digest = d.digest }, d.differ)
+      (record { bytes = d.bytes; given = subst (λ (g : Geometry). IsAmong (Read (block_of g row.place) d.bytes) p.events) same d.given.given; digest = d.digest }, d.differ)
 
   -- ---- a flush
 

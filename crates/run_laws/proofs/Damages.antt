@@ -129,7 +129,7 @@ module _ (laws : OfDamage) (l : RunLogs) (a : Account l) (lines : List (List ℕ
         let behind : AreSeen (harms_of (after_line Then t.turn t.bytes)) ds =
         run_seen laws.stays ds t.later t.rest (after_line Then t.turn t.bytes) t.goes
         (subst (λ (run : Run). AreSeen (harms_of run) ds) t.ends before) in
-        device_seen l t.before device Then.ended Harmed ds (come l a lines asks said f).returned (subst (λ (hs : List Harm). AreSeen hs ds) (ap harms_of t.made.next) behind) same_device begun
+        device_seen l (sessions_begun t.before) device Then.ended Harmed ds (come l a lines asks said f).returned (subst (λ (hs : List Harm). AreSeen hs ds) (ap harms_of t.made.next) behind) same_device begun
 
     by_earlier : WasBacked a.turns lines device place kept found
     by_earlier =
@@ -180,5 +180,8 @@ damage_was_given laws l a lines asks said place kept found device at names which
       | inl on ↦ by_trace laws l a lines asks said place kept found device which f on
           (laws.traced run on.s f.turn asks (cause.Damaged place kept found) on.takes
           (ap cause_answered (sym (answer_is l a lines asks said f on)) ∙ names))
-      | inr u ↦ no_truth (sym (ap (λ (o : Option Cause). unwrap_or (option_map is_damage o) false) names) ∙ (ap answers_damage f.is ∙ u.no_damage))
+      | inr other ↦ elim other [
+        | inl on ↦ no_truth (sym (ap (λ (o : Option Cause). unwrap_or (option_map is_damage o) false) names) ∙ ap answers_damage (f.is ∙ on.said))
+        | inr u ↦ no_truth (sym (ap (λ (o : Option Cause). unwrap_or (option_map is_damage o) false) names) ∙ (ap answers_damage f.is ∙ u.no_damage))
+      ]
     ]

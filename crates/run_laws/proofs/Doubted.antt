@@ -21,14 +21,14 @@ use Rattle.headline.proofs.Honest.{doubt}
 -- ---- the device of the last that was told
 
 -- devices, and the one behind as many as these
-record IsSplit (xs : List Harm) (ds : List Device) : Type 0 where
-  earlier : List Device
-  device : Device
-  later : List Device
-  are : ds ≡ earlier ++ device ∷ later
-  as_many : length earlier ≡ length xs
+pub record IsSplit (xs : List Harm) (ds : List Device) : Type 0 where
+  pub earlier : List Device
+  pub device : Device
+  pub later : List Device
+  pub are : ds ≡ earlier ++ device ∷ later
+  pub as_many : length earlier ≡ length xs
 
-split_back : (xs : List Harm) (h : Harm) (ds : List Device) → AreBack (xs ++ h ∷ []) ds → IsSplit xs ds
+pub split_back : (xs : List Harm) (h : Harm) (ds : List Device) → AreBack (xs ++ h ∷ []) ds → IsSplit xs ds
 split_back [] h [] back = absurd back
 split_back [] h (d ∷ ds) back = record { earlier = []; device = d; later = ds; are = refl; as_many = refl }
 split_back (x ∷ xs) h [] back = absurd back
@@ -56,7 +56,7 @@ module _ (l : RunLogs) (told : List (List ℕ)) (run : Run) (begun : length (har
           returned = come.returned ∙ ap (λ (ds : List Device). l.before.returned ++ ds) split.are;
           which = omega (arith, which, split.as_many);
         };
-        none_tells = λ other at tells. no_truth ((device_of l run.ended (doubt h) told other come at which).unharmed tells);
+        none_tells = λ other at tells. no_truth ((device_of l run.ended (doubt h) (sessions_begun told) other come at which).unharmed tells);
       }
 
   step_doubted : (turn : Turn) (o : Option State) (step : Step) → length (run.ended ++ harm_of run.calls o) ≡ sessions_begun told → StepShows run turn o step

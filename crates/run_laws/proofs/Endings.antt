@@ -1,6 +1,7 @@
 -- How a run ends, by the text that the source gave and the calls that were refused.
 use Rattle.std.proofs.Common.{◌≡◌, ℕ, ◌+◌, ◌<◌, List, [], ◌∷◌, ◌++◌, length, refl, sym, ◌∙◌, ap, subst, arith, length-append, inl, inr}
-use Rattle.std.specs.Prelude.{◌≢◌, IsSome, Option, Some, None}
+use Rattle.std.specs.Prelude.{◌≢◌, ◌⊎◌, IsSome, Option, Some, None}
+use Rattle.std.proofs.lemmas.List.{append-nil}
 use Rattle.device_log.specs.Streams.{SourceRead, SinkWrite, RefusedRead, RefusedWrite, refused_reads, refused_writes, write_faults}
 use Rattle.device_log.specs.Faults.{next_count}
 use Rattle.edge_io.specs.Source.{LastReadFailed, NoReadFailed}
@@ -19,9 +20,12 @@ use Rattle.run_promise.specs.declared.status.Status.{Status}
 use Rattle.run_promise.specs.declared.status.Status.TheVariants as status
 use Rattle.run_promise.specs.Story.{Because, CutsLast, HoldsNoLine, IsBadLine, LacksCache, MeetsBayFault, Story, DevicesTold}
 use Rattle.run_promise.specs.Top.{EndsEarly, ReadsFailed, status_of}
-use Rattle.headline.specs.Account.{IsConcluded, RunLogs, begun_in, sessions_begun}
-use Rattle.headline.specs.Endings.{AreTakeable, EndsFirst, EndsHere, GoesOnWith, HasNoSession, IsFine, LastWriteFailed, MayBeTaken}
-use Rattle.account_laws.proofs.Outlines.{none_begun, read_length}
+use Rattle.headline.specs.Account.{ComeBackFrom, IsConcluded, IsDeviceBehind, RunLogs, begun_in, sessions_begun}
+use Rattle.headline.specs.Endings.{AreTakeable, EndsFirst, EndsHere, FormatFailed, GoesOnWith, HasNoSession, IsFine, LastWriteFailed, LostItsFormat, MayBeTaken}
+use Rattle.account_laws.proofs.Counting.{device_of}
+use Rattle.account_laws.proofs.Devices.{come_back}
+use Rattle.account_laws.proofs.Outlines.{EndsFaulted, none_begun, outline_length, read_length}
+use Rattle.run_laws.proofs.Doubted.{split_back}
 
 -- ---- lines that were taken
 
@@ -43,9 +47,32 @@ takeable o n (bytes ∷ lines) (said ∷ answers) e are = (
   takeable (outline_read o (reading_of bytes) said) (n + begun_in (reading_of bytes)) lines answers (omega (arith, read_length o (reading_of bytes) said are.0, e)) are.1,
 )
 
+-- ---- a format that failed
+
+-- of the last device that was given back a fault was told, so it refused a call
+format_failed : (l : RunLogs) (lines : List (List ℕ)) (o : Outline) → ComeBackFrom l (all_told o) → length (all_told o) ≡ sessions_begun lines → o.session ≡ None → EndsFaulted o.ended
+    → FormatFailed l lines
+format_failed l lines o come counted none faulted =
+    let all : all_told o ≡ faulted.front ++ faulted.harm ∷ [] = ap (λ s. o.ended ++ told_of s) none ∙ (append-nil o.ended ∙ faulted.is) in
+    let back : ComeBackFrom l (faulted.front ++ faulted.harm ∷ []) = subst (ComeBackFrom l) all come in
+    let split = split_back faulted.front faulted.harm back.devices back.told in
+    let which : sessions_begun lines ≡ length faulted.front + 1 = omega (arith, counted, ap length all, length-append faulted.front (faulted.harm ∷ [])) in
+    let behind : IsDeviceBehind l lines split.device = record {
+      earlier = split.earlier;
+      later = split.later;
+      returned = back.returned ∙ ap (λ ds. l.before.returned ++ ds) split.are;
+      which = omega (arith, which, split.as_many);
+    } in
+    record {
+      device = split.device;
+      behind = behind;
+      faulted = omega (arith, (device_of l faulted.front faulted.harm (sessions_begun lines) split.device back behind which).counted, faulted.faulted);
+    }
+
 -- ---- what ended a run
 
-module _ (l : RunLogs) (lines : List (List ℕ)) (held : List ℕ) (given : ℕ) (answers : List (Option StepAnswer)) (counted : given ≡ length lines) (are : AreAnswered blank_outline lines answers) where
+module _ (l : RunLogs) (lines : List (List ℕ)) (held : List ℕ) (given : ℕ) (answers : List (Option StepAnswer)) (counted : given ≡ length lines) (are : AreAnswered blank_outline lines answers)
+    (come : ComeBackFrom l (all_told (outline_of blank_outline lines answers))) where
   because_ends : (why : LastLine) → Because l.bay held given (outline_of blank_outline lines answers) why → ReadsFailed l.first l.read (status_of why) → EndsHere l lines held (status_of why)
   because_ends last.Usage because failed = absurd because
   because_ends (last.BadScript number fault) because failed = (fault, subst (λ n. IsBadLine n held fault) counted because.1)
@@ -61,7 +88,10 @@ module _ (l : RunLogs) (lines : List (List ℕ)) (held : List ℕ) (given : ℕ)
         step = lacks.step;
         asks = lacks.asks;
         needs = lacks.needs;
-        none = (none_begun blank_outline lines answers are lacks.none).1;
+        none = elim (none_begun blank_outline lines answers are lacks.none) [
+          | inl begins ↦ inl begins.none
+          | inr faulted ↦ inr (format_failed l lines (outline_of blank_outline lines answers) come (omega (arith, outline_length blank_outline lines answers are)) lacks.none faulted)
+        ];
       }
 
 module _ (l : RunLogs) where
@@ -81,7 +111,8 @@ module _ (l : RunLogs) where
   ended_early s e failed =
       let story = e.upto.story in
       let here : EndsHere l story.lines e.upto.held (status_of e.why) =
-      because_ends l story.lines e.upto.held e.upto.given story.answers story.counted story.outline.each e.why story.outline.behind (subst (λ (t : Status). ReadsFailed l.first l.read t) e.said failed) in
+      because_ends l story.lines e.upto.held e.upto.given story.answers story.counted story.outline.each
+      (come_back l (all_told (outline_of blank_outline story.lines story.answers)) story.outline.devices.back) e.why story.outline.behind (subst (λ (t : Status). ReadsFailed l.first l.read t) e.said failed) in
       subst (λ (t : Status). EndsHere l story.lines e.upto.held t) (sym e.said) here
 
   early : (s : Status) → EndsEarly l.first l.read l.old l.new l.bay l.before l.now s → ReadsFailed l.first l.read s → EndsFirst l s
@@ -137,8 +168,8 @@ module _ (l : RunLogs) (read_none : NoReadFailed l.first l.read) (write_none : r
   none_below : (n : ℕ) → n ≡ 0 → 0 < n → ⊥
   none_below n e above = omega (arith, e, above)
 
-  only_done : (s : Status) → EndsFirst l s → s ≢ status.Usage → s ≢ status.OutOfMemory → s ≡ status.Done
-  only_done status.Done h begun found = refl
+  only_done : (s : Status) → EndsFirst l s → s ≢ status.Usage → s ≢ status.OutOfMemory → (s ≡ status.Done) ⊎ LostItsFormat l s
+  only_done status.Done h begun found = inl refl
   only_done status.Usage h begun found = absurd h.ends
   only_done status.BadScript h begun found =
       let bad = h.ends.1 in
@@ -149,14 +180,17 @@ module _ (l : RunLogs) (read_none : NoReadFailed l.first l.read) (write_none : r
   only_done status.BayFault h begun found = absurd (not_one_more l.bay.before h.ends.refusal (sym h.ends.refused ∙ bay_none))
   only_done status.LineTooLong h begun found = absurd (omega (arith, h.ends.long, (goes_on h).short))
   only_done status.NoCache h begun found =
-      let lacks : HasNoSession h.lines h.held = h.ends in
+      let lacks : HasNoSession l h.lines h.held = h.ends in
       let may : MayBeTaken (sessions_begun h.lines) (reading_of lacks.bytes) = (goes_on h).next lacks.bytes lacks.next.0 lacks.next.1.is_line lacks.next.1.first in
-      absurd (none_below (sessions_begun h.lines) lacks.none (subst (MayBeTaken (sessions_begun h.lines)) lacks.asks may lacks.needs))
+      elim lacks.none [
+        | inl none ↦ absurd (none_below (sessions_begun h.lines) none (subst (MayBeTaken (sessions_begun h.lines)) lacks.asks may lacks.needs))
+        | inr failed ↦ inr (record { is = refl; lines = h.lines; failed = failed })
+      ]
   only_done status.OutOfMemory h begun found = absurd (found refl)
   only_done status.TooManyLines h begun found = absurd (h.ends.more ((goes_on h).few h.ends.all))
 
 pub done_where_fine : (l : RunLogs) (s : Status) → IsConcluded l s → ReadsFailed l.first l.read s → s ≢ status.Usage → s ≢ status.OutOfMemory
     → NoReadFailed l.first l.read → refused_writes l.new ≡ refused_writes l.old → l.bay.now ≡ l.bay.before
-    → ((reads : List SourceRead) → l.read ≡ reads ++ l.first → IsFine (text_read reads)) → s ≡ status.Done
+    → ((reads : List SourceRead) → l.read ≡ reads ++ l.first → IsFine (text_read reads)) → (s ≡ status.Done) ⊎ LostItsFormat l s
 done_where_fine l s c failed begun memory read_none write_none bay_none fine =
     only_done l read_none write_none bay_none fine s (ends_are_caused l s c failed begun) begun memory

@@ -12,4 +12,4 @@ use Rattle.script_laws.specs.Counts.{IsCountedWhere}
 pub runs_are_counted : (lines : List (List ℕ)) (turns : List Turn) → IsRun fresh lines turns → IsCountedWhere (run_after fresh lines turns).state
 runs_are_counted lines turns is =
     states_keep IsCountedWhere (λ run s turn asks takes counted. counted_step turn.device s (asked run s asks) turn.added turn.refused counted takes.legal)
-    (λ g. counted_format nothing_yet g) lines turns fresh is tt
+    (λ g. counted_format nothing_yet g) tt lines turns fresh is tt

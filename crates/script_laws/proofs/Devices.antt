@@ -3,7 +3,7 @@ use Rattle.std.proofs.Common.{◌≡◌, ℕ, List, [], ◌∷◌, ◌++◌, ref
 use Rattle.std.specs.Prelude.{Option, Some, None, if◌then◌else◌, length, map, option_map, unwrap_or}
 use Rattle.std.proofs.lemmas.List.{map-append}
 use Rattle.tape_base.specs.declared.keys.Key.{Key}
-use Rattle.tape_base.specs.declared.geometries.BadGeometry.{BadGeometry}
+use Rattle.device_log.specs.Calls.{Call}
 use Rattle.cache_model.specs.declared.answer.ReadAnswer.{ReadAnswer}
 use Rattle.cache_model.specs.declared.answer.ReadAnswer.TheVariants as read
 use Rattle.cache_model.specs.declared.cause.Cause.{Cause}
@@ -25,7 +25,7 @@ use Rattle.script_run.specs.Run.{Harm, Run, held_by, put_written_by, reader_by}
 use Rattle.script_run.specs.Turn.{Turn, is_told, later, lookup_in, no_turn, told_in}
 use Rattle.script_run.specs.Asked.{asked}
 use Rattle.script_run.specs.Answers.{feed_said, if_free, if_has, lookup_said, next_said, get_said, put_said, refusal_said, remove_said, said, session_said, took_of}
-use Rattle.script_run.specs.Behind.{after_format, at_moment, harm_of, harms_of, in_session}
+use Rattle.script_run.specs.Behind.{at_moment, harm_of, harms_of, in_session, with_format}
 use Rattle.script_run.specs.Takes.{GivesOwn}
 use Rattle.script_laws.specs.Agreeing.{without_calls, without_devices}
 
@@ -159,12 +159,11 @@ run_twice run =
     ap (λ (o : Option State). left_as run o (map without_calls run.ended)) (state_twice run.state)
     ∙ ap (left_as run (option_map without_digests (option_map without_digests run.state))) (sym (twice run.ended))
 
-pub format_too : (run : Run) (name : List ℕ) (added : List Rec) (bad : Option BadGeometry)
-    → without_devices (after_format run name added bad) ≡ without_devices (after_format (without_devices run) name added bad)
+pub format_too : (run : Run) (name : List ℕ) (calls : List Call) (added : List Rec)
+    → without_devices (with_format run name calls added) ≡ without_devices (with_format (without_devices run) name [] added)
 unfolding left_as
-format_too run name added (Some bad) = run_twice run
-format_too run name added None =
-    ap (left_as (after_format run name added None) (Some (without_digests (after_all nothing_yet added))))
+format_too run name calls added =
+    ap (left_as (with_format run name [] added) (Some (without_digests (after_all nothing_yet added))))
     (told_harms run run.state ∙ sym (ap (map without_calls) (sym (told_harms run run.state)) ∙ twice (harms_of run) ∙ told_harms run run.state))
 
 pub moment_too : (run : Run) (at : ℕ) → without_devices (at_moment run at) ≡ without_devices (at_moment (without_devices run) at)

@@ -1,14 +1,18 @@
 -- The records of a format are fixed by the numbers of its line.
-use Rattle.std.proofs.Common.{◌≡◌, ℕ, List, sym, ◌∙◌, ap, subst}
+use Rattle.std.proofs.Common.{◌≡◌, ℕ, List, [], ◌∷◌, Bool, true, false, sym, ◌∙◌, ap, subst}
 use Rattle.std.specs.Prelude.{Option, Some, None}
+use Rattle.std.specs.List.{AllByRecursion}
 use Rattle.std.proofs.Props.{props}
-use Rattle.tape_base.specs.declared.geometries.BadGeometry.{BadGeometry}
 use Rattle.tape_base.specs.declared.geometries.Geometry.{Geometry}
 use Rattle.tape_base.specs.Geometry.{HasNumbers}
 use Rattle.tape_base.specs.Limits.{IsGeometry, MayKeep}
 use Rattle.cache_model.specs.declared.record.Rec.{Rec}
 use Rattle.cache_model.specs.Legal.{format_records}
-use Rattle.script_run.specs.Takes.{FormatTakes}
+use Rattle.cache_model.specs.declared.record.Rec.TheVariants as rec
+use Rattle.cache_model.specs.Permit.{Faulted, Reason}
+use Rattle.cache_model.proofs.Found.{no_truth}
+use Rattle.script_run.specs.Takes.{FormatsOn}
+use Rattle.script_run.specs.Turn.{Turn}
 
 -- the numbers of a geometry, in the order of its line
 abbrev Numbers : Type 0
@@ -36,10 +40,15 @@ numbered : (g : Geometry) (segments buckets content agg reach fragment generatio
 numbered g segments buckets content agg reach fragment generation alternates h =
     λ i. (h.has_segments i, h.has_buckets i, h.has_content i, h.has_agg i, h.has_reach i, h.has_fragment i, h.has_generation i, h.has_alternates i)
 
-pub same_format : (one other : List Rec) (segments buckets content agg reach fragment generation alternates : ℕ) (bad : Option BadGeometry)
-    → FormatTakes one segments buckets content agg reach fragment generation alternates bad → FormatTakes other segments buckets content agg reach fragment generation alternates bad → one ≡ other
-same_format one other segments buckets content agg reach fragment generation alternates (Some bad) x y = x ∙ sym y
-same_format one other segments buckets content agg reach fragment generation alternates None x y =
-    let same : numbers_of x.0 ≡ numbers_of y.0 =
-    numbered x.0 segments buckets content agg reach fragment generation alternates x.1 ∙ sym (numbered y.0 segments buckets content agg reach fragment generation alternates y.1) in
-    x.2 ∙ (ap format_records (same_geometry x.0 y.0 same) ∙ sym y.2)
+pub same_numbers : (g h : Geometry) (segments buckets content agg reach fragment generation alternates : ℕ) → HasNumbers g segments buckets content agg reach fragment generation alternates
+    → HasNumbers h segments buckets content agg reach fragment generation alternates → g ≡ h
+same_numbers g h segments buckets content agg reach fragment generation alternates x y =
+    same_geometry g h (numbered g segments buckets content agg reach fragment generation alternates x ∙ sym (numbered h segments buckets content agg reach fragment generation alternates y))
+
+-- a format that recorded no refused call began a session
+pub untroubled_format : (is_trouble : Rec → Bool) → ((count : ℕ) → is_trouble (rec.Fault count) ≡ true) → (turn : Turn) (g : Geometry) (o : Option Reason) → turn.refused ≡ o → FormatsOn turn g o
+    → AllByRecursion (λ r. is_trouble r ≡ false) turn.added → (turn.refused ≡ None) × (turn.added ≡ format_records g)
+untroubled_format is_trouble tells turn g None e takes quiet = (e, takes.0)
+untroubled_format is_trouble tells turn g (Some (Faulted count)) e takes quiet =
+    no_truth (sym (tells count) ∙ (subst (AllByRecursion (λ r. is_trouble r ≡ false)) takes.0 quiet).0)
+untroubled_format is_trouble tells turn g (Some _) e takes quiet = absurd takes

@@ -7,8 +7,8 @@ use Rattle.tape_base.specs.Limits.{first_refusal}
 use Rattle.cache_model.specs.declared.record.Rec.{Rec}
 use Rattle.cache_model.specs.declared.record.Rec.TheVariants as rec
 use Rattle.cache_model.specs.State.{State, after_all}
-use Rattle.cache_model.specs.Permit.{Intent, IsAmong}
-use Rattle.cache_model.specs.Legal.{IsStep}
+use Rattle.cache_model.specs.Permit.{Intent, IsAmong, Reason}
+use Rattle.cache_model.specs.Legal.{IsStep, format_records}
 use Rattle.cache_model.proofs.Found.{no_truth}
 use Rattle.model_laws.specs.Agreeing.{AreLike, HoldTheSame, IsUntroubled, StepsAgree, TellTheSame, is_trouble, without_digests}
 use Rattle.model_laws.specs.Purging.{DisplacementsAgree, TellNoDeviceTrouble, is_device_trouble}
@@ -23,13 +23,13 @@ use Rattle.script_grammar.specs.Texts.{answer_line}
 use Rattle.script_run.specs.Run.{Run}
 use Rattle.script_run.specs.Turn.{Turn, lookup_in, no_turn, told_in}
 use Rattle.script_run.specs.Asked.{asked}
-use Rattle.script_run.specs.Answers.{format_said, session_said, step_said}
-use Rattle.script_run.specs.Behind.{after_format, after_line, after_reading, at_moment, behind, in_session}
+use Rattle.script_run.specs.Answers.{format_said, session_said, step_said, tried_said}
+use Rattle.script_run.specs.Behind.{after_format, after_line, after_reading, at_moment, behind, in_session, tried_format, with_format}
 use Rattle.script_run.proofs.Listed.{is_among}
-use Rattle.script_run.specs.Takes.{GivesOwn, IsRun, LineTakes, ReadingTakes, SessionTakes, Takes, line_text, output_of, reading_text, run_after}
+use Rattle.script_run.specs.Takes.{FormatTakes, GivesOwn, IsRun, LineTakes, ReadingTakes, SessionTakes, Takes, line_text, output_of, reading_text, run_after}
 use Rattle.script_laws.specs.Agreeing.{AreSame, without_devices}
 use Rattle.script_laws.specs.Parting.{DisplacesPiece, IsUntroubledUpTo, LinesPart, MeetsDeviceTrouble, TurnsPart, both_displace, first_in_trouble, second_in_trouble}
-use Rattle.script_laws.proofs.Formats.{same_format}
+use Rattle.script_laws.proofs.Formats.{same_numbers, untroubled_format}
 use Rattle.script_laws.proofs.Devices.{asked_too, format_too, gives_too, leaves_too, lookup_too, moment_too, says_too, told_too, without_device}
 use Rattle.script_laws.proofs.Alike.{same_given}
 
@@ -156,24 +156,40 @@ module _ (agree : StepsAgree) (displace : DisplacementsAgree) where
         },
       )
 
+  same_tried : (u v : Run) (a b : Turn) (name : List ℕ) (segments buckets content agg reach fragment generation alternates : ℕ) (bad : Option BadGeometry) → without_devices u ≡ without_devices v
+      → FormatTakes a segments buckets content agg reach fragment generation alternates bad → FormatTakes b segments buckets content agg reach fragment generation alternates bad
+      → IsUntroubled a.added → TellNoDeviceTrouble b.added
+      → IsUntroubled b.added × IsSame (answer_line (format_said a bad)) (answer_line (format_said b bad)) (after_format u a name bad) (after_format v b name bad)
+  same_tried u v a b name segments buckets content agg reach fragment generation alternates (Some bad) runs takes other_takes calm quiet =
+      (subst IsUntroubled (takes ∙ sym other_takes) calm, record { printed = refl; left = runs })
+  same_tried u v a b name segments buckets content agg reach fragment generation alternates None runs takes other_takes calm quiet =
+      let one = untroubled_format is_trouble (λ count. refl) a takes.0 a.refused refl takes.2 calm in
+      let other = untroubled_format is_device_trouble (λ count. refl) b other_takes.0 b.refused refl other_takes.2 quiet in
+      let same : a.added ≡ b.added =
+      one.1 ∙ (ap format_records (same_numbers takes.0 other_takes.0 segments buckets content agg reach fragment generation alternates takes.1 other_takes.1) ∙ sym other.1) in (
+        subst IsUntroubled same calm,
+        record {
+          printed =
+              ap (λ (why : Option Reason). answer_line (tried_said a.added why)) one.0
+              ∙ (ap (λ (added : List Rec). answer_line (tried_said added None)) same
+              ∙ sym (ap (λ (why : Option Reason). answer_line (tried_said b.added why)) other.0));
+          left =
+              ap (λ (why : Option Reason). without_devices (tried_format u a name why)) one.0
+              ∙ (format_too u name a.device.events a.added
+              ∙ (ap (λ (run : Run). without_devices (with_format run name [] a.added)) runs
+              ∙ (ap (λ (added : List Rec). without_devices (with_format (without_devices v) name [] added)) same
+              ∙ (sym (format_too v name b.device.events b.added)
+              ∙ sym (ap (λ (why : Option Reason). without_devices (tried_format v b name why)) other.0)))));
+        },
+      )
+
   same_step : (u v : Run) (a b : Turn) (o p : Option State) (step : Step) → without_devices u ≡ without_devices v
       → option_map without_digests o ≡ option_map without_digests p
       → Takes u a o step → Takes v b p step
       → IsUntroubled a.added → TellNoDeviceTrouble b.added
       → IsUntroubled b.added × IsSame (answer_line (step_said u a o step)) (answer_line (step_said v b p step)) (behind u a o step) (behind v b p step)
   same_step u v a b o p (step.Format name segments buckets content agg reach fragment generation alternates) runs states takes other_takes calm quiet =
-      let bad : Option BadGeometry = first_refusal segments buckets content agg reach fragment alternates in
-      let same : a.added ≡ b.added = same_format a.added b.added segments buckets content agg reach fragment generation alternates bad takes other_takes in (
-        subst IsUntroubled same calm,
-        record {
-          printed = ap (λ (added : List Rec). answer_line (format_said added bad)) same;
-          left =
-              format_too u name a.added bad
-              ∙ ap (λ (run : Run). without_devices (after_format run name a.added bad)) runs
-              ∙ ap (λ (added : List Rec). without_devices (after_format (without_devices v) name added bad)) same
-              ∙ sym (format_too v name b.added bad);
-        },
-      )
+      same_tried u v a b name segments buckets content agg reach fragment generation alternates (first_refusal segments buckets content agg reach fragment alternates) runs takes other_takes calm quiet
   same_step u v a b o p (step.Now at) runs states takes other_takes calm quiet =
       (nothing_told b other_takes, record { printed = refl; left = moment_too u at ∙ ap (λ (run : Run). without_devices (at_moment run at)) runs ∙ sym (moment_too v at) })
   same_step u v a b (Some s) (Some t) step runs states takes other_takes calm quiet =

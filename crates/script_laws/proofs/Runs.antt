@@ -14,6 +14,7 @@ use Rattle.cache_model.specs.Damage.{has_damage, is_damage}
 use Rattle.script_grammar.specs.declared.step.Step.{Step}
 use Rattle.script_grammar.specs.declared.line.LineAnswer.{LineAnswer}
 use Rattle.script_grammar.specs.declared.line.LineAnswer.TheVariants as line
+use Rattle.script_grammar.specs.declared.answer.Refused.TheVariants as refused
 use Rattle.script_grammar.specs.declared.answer.StepAnswer.{StepAnswer}
 use Rattle.script_grammar.specs.declared.answer.StepAnswer.TheVariants as answer
 use Rattle.script_grammar.specs.Grammar.{reading_of}
@@ -21,9 +22,9 @@ use Rattle.device_log.specs.Calls.{Call}
 use Rattle.script_run.specs.Run.{Harm, Run, fresh}
 use Rattle.script_run.specs.Turn.{Turn}
 use Rattle.script_run.specs.Asked.{asked}
-use Rattle.script_run.specs.Answers.{format_said, session_said}
-use Rattle.script_run.specs.Behind.{after_line, after_reading, harm_in, harm_of, harms_of, in_session}
-use Rattle.script_run.specs.Goes.{StepGoes, begins, stays, waits, works}
+use Rattle.script_run.specs.Answers.{number_of_bad, session_said, tried_said}
+use Rattle.script_run.specs.Behind.{after_line, after_reading, harm_in, harm_of, harm_of_format, harms_of, in_session}
+use Rattle.script_run.specs.Goes.{StepGoes, begins, fails, stays, waits, works}
 use Rattle.script_run.specs.Takes.{IsRun, ReadingTakes, SessionTakes, run_after}
 use Rattle.script_laws.specs.Causes.{cause_answered}
 use Rattle.script_run.specs.Losses.{NoLossIsAFault, is_fault}
@@ -36,7 +37,7 @@ use Rattle.script_laws.proofs.Damages.{damage_is_recorded, damage_stays}
 
 -- ---- lists
 
-all_front : {X : Type 0} (P : X → Type 0) (xs ys : List X) → All P (xs ++ ys) → All P xs
+pub all_front : {X : Type 0} (P : X → Type 0) (xs ys : List X) → All P (xs ++ ys) → All P xs
 all_front P [] ys all = All-nil P
 all_front P (x ∷ xs) ys all = All-cons P x xs (All-head P x (xs ++ ys) all) (all_front P xs ys (All-tail P x (xs ++ ys) all))
 
@@ -54,7 +55,9 @@ record IsWitnessed (test : StepAnswer → Bool) (Fine : Harm → Type 0) (Sound 
   before : (run : Run) (s : State) (turn : Turn) (step : Step) (old new : List Call) → SessionTakes run s turn step → Fine (harm_in new (after_all s turn.added)) → Fine (harm_in old s)
   without : (run : Run) (s : State) (turn : Turn) (step : Step) (new : List Call) → SessionTakes run s turn step → Sound s → Fine (harm_in new (after_all s turn.added))
       → test (session_said run s (after_all s turn.added) turn step) ≡ false
-  format : (added : List Rec) (bad : Option BadGeometry) → test (format_said added bad) ≡ false
+  format : (added : List Rec) → test (tried_said added None) ≡ false
+  refused : (bad : BadGeometry) → test (answer.Refused (refused.Geometry (number_of_bad bad)) None) ≡ false
+  fails : (calls : List Call) (count : ℕ) → 0 < count → Fine (harm_of_format calls count) → test (answer.DeviceFault count None) ≡ false
   moment : (at : ℕ) → test (answer.Now at) ≡ false
 
 module _ (test : StepAnswer → Bool) (Fine : Harm → Type 0) (Sound : State → Type 0) (w : IsWitnessed test Fine Sound) where
@@ -91,13 +94,23 @@ module _ (test : StepAnswer → Bool) (Fine : Harm → Type 0) (Sound : State �
   -- ---- each line
 
   played : (run : Run) (turn : Turn) {step : Step} {said : StepAnswer} {next : Run} → StepGoes run turn step said next → IsSound run.state → IsPlayed run next (test said ≡ false)
-  played run turn (stays bad same none) sound = record { sound = sound; back = λ fine. (w.format turn.added (Some bad), fine) }
+  played run turn (stays bad same none) sound = record { sound = sound; back = λ fine. (w.refused bad, fine) }
   played run turn (waits at same none) sound = record { sound = sound; back = λ fine. (w.moment at, fine) }
   played run turn {step = step} (works s same e takes) sound = on_session run s turn step e (subst IsSound e sound) takes
   played run turn (begins name g same is) sound = record {
     sound = subst (λ added. Sound (after_all nothing_yet added)) (sym is) (w.formats g);
-    back = λ fine. (w.format turn.added None, all_front Fine (harms_of run) (harm_in [] (after_all nothing_yet turn.added) ∷ []) fine);
+    back = λ fine. (w.format turn.added, all_front Fine (harms_of run) (harm_in turn.device.events (after_all nothing_yet turn.added) ∷ []) fine);
   }
+  played run turn (fails name count same is refuses) sound =
+      let h : Harm = harm_of_format turn.device.events count in
+      let whole : (fine : AreFine ((harms_of run ++ h ∷ []) ++ [])) → AreFine (harms_of run ++ h ∷ []) = λ fine. all_front Fine (harms_of run ++ h ∷ []) [] fine in
+      record {
+        sound = tt;
+        back = λ fine. (
+          w.fails turn.device.events count refuses.1 (All-head Fine h [] (all_behind Fine (harms_of run) (h ∷ []) (whole fine))),
+          all_front Fine (harms_of run) (h ∷ []) (whole fine),
+        );
+      }
 
   read : (run : Run) (turn : Turn) (reading : LineAnswer) → IsSound run.state → ReadingTakes run turn reading
       → IsPlayed run (after_reading run turn reading) (ReadsWithout test run turn reading)
@@ -141,10 +154,6 @@ none_before : (n m : ℕ) → (0 < n → 0 < m) → m ≡ 0 → n ≡ 0
 none_before zero m rises e = refl
 none_before (suc n) m rises e = absurd (none_below m e (rises (omega arith)))
 
-no_format_fault : (added : List Rec) (bad : Option BadGeometry) → answers_fault (format_said added bad) ≡ false
-no_format_fault added None = refl
-no_format_fault added (Some bad) = refl
-
 faultless : IsWitnessed answers_fault (λ harm. harm.fault ≡ 0) NoLossIsAFault
 faultless = record {
   formats = λ geometry. formats_lose_none nothing_yet geometry;
@@ -153,7 +162,9 @@ faultless = record {
   without = λ run s turn step new takes sound fine. no_fault (session_said run s (after_all s turn.added) turn step)
       (λ count took answered. none_below (after_all s turn.added).fault fine (fault_is_recorded run s turn step count took takes sound answered).told)
       (λ why answered fault. none_below (after_all s turn.added).fault fine (named_is_recorded run s turn step why takes sound answered fault));
-  format = no_format_fault;
+  format = λ added. refl;
+  refused = λ bad. refl;
+  fails = λ calls count some fine. absurd (none_below count fine some);
   moment = λ at. refl;
 }
 
@@ -165,10 +176,6 @@ faultless_runs = whole answers_fault (λ harm. harm.fault ≡ 0) NoLossIsAFault 
 was_not_true : (a b : Bool) → (a ≡ true → b ≡ true) → b ≡ false → a ≡ false
 was_not_true a b rises e = false_from_ne_true a (λ h. no_truth (sym (rises h) ∙ e))
 
-no_format_damage : (added : List Rec) (bad : Option BadGeometry) → answers_damage (format_said added bad) ≡ false
-no_format_damage added None = refl
-no_format_damage added (Some bad) = refl
-
 undamaged : IsWitnessed answers_damage (λ harm. harm.damaged ≡ false) (λ s. Unit {0})
 undamaged = record {
   formats = λ geometry. tt;
@@ -176,7 +183,9 @@ undamaged = record {
   before = λ run s turn step old new takes fine. was_not_true (has_damage s) (has_damage (after_all s turn.added)) (damage_stays turn.device s (asked run s step) turn.added turn.refused takes.legal) fine;
   without = λ run s turn step new takes sound fine. none_named is_damage (cause_answered (session_said run s (after_all s turn.added) turn step))
       (λ why answered damage. no_truth (sym (damage_is_recorded run s turn step why takes answered damage) ∙ fine));
-  format = no_format_damage;
+  format = λ added. refl;
+  refused = λ bad. refl;
+  fails = λ calls count some fine. refl;
   moment = λ at. refl;
 }
 
@@ -193,7 +202,9 @@ module _ (Fine : Harm → Type 0) (before : (run : Run) (s : State) (turn : Turn
     stays = λ run s turn step takes sound. tt;
     before = before;
     without = λ run s turn step new takes sound fine. refl;
-    format = λ added bad. refl;
+    format = λ added. refl;
+    refused = λ bad. refl;
+    fails = λ calls count some fine. refl;
     moment = λ at. refl;
   }
 

@@ -15,13 +15,11 @@ use Rattle.script_run.proofs.Lift.{lines_keep}
 use Rattle.cache_calls.specs.Keeping.{plain_setting}
 use Rattle.script_laws.specs.Sessions.{IsLegalWhere, IsOfLegal}
 
--- of a stripe that does not sync nothing is asked of its copies, and none of the calls before
+-- of a stripe that does not sync nothing is asked of the calls before
 set_by : (run : Run) (s : State) (turn : Turn) (step : Step) (calls : List Call) → SessionTakes run s turn step → IsSetBy plain_setting calls turn.device
 set_by run s turn step calls takes = record {
   packed = takes.packs;
   syncs = takes.unsynced;
-  area = takes.content;
-  copies = λ on. absurd cc;
   past = λ on. absurd cc;
 }
 
@@ -39,7 +37,9 @@ goes_on run s turn step h takes =
       legal = Legal.IsLegal.steps course (set_by run s turn step (calls_of_courses h.courses) takes) h.legal
           (subst (λ (t : State). IsStep turn.device t (asked run s step) turn.added turn.refused) h.comes_to takes.legal);
       comes_to = ap (λ (t : State). after_all t turn.added) h.comes_to ∙ sym (after_all-append nothing_yet h.recs turn.added);
-      made = calls_behind h.courses course ∙ ap (λ calls. turn.device.events ++ calls) h.made;
+      began = h.began;
+      made = ap (λ calls. calls ++ h.began) (calls_behind h.courses course)
+          ∙ (append_assoc turn.device.events (calls_of_courses h.courses) h.began ∙ ap (λ calls. turn.device.events ++ calls) h.made);
     }
 
 -- ---- a script
@@ -48,5 +48,6 @@ pub sessions_are_legal : (lines : List (List ℕ)) (turns : List Turn) → IsRun
 sessions_are_legal lines turns is = lines_keep (λ run. IsLegalWhere run.calls run.state) (record {
   moments = λ run at h. h;
   steps = λ run s turn asks e takes h. goes_on run s turn asks (subst (IsLegalWhere run.calls) e h) takes;
-  formats = λ run name g h. record { courses = []; recs = format_records g; legal = Legal.IsLegal.begins g; comes_to = refl; made = refl };
+  formats = λ run name calls g h. record { courses = []; recs = format_records g; legal = Legal.IsLegal.begins g; comes_to = refl; began = calls; made = refl };
+  fails = λ run name calls count h. tt;
 }) lines turns fresh is tt

@@ -21,4 +21,4 @@ on_record_where (Some s) h = h.on
 pub vectors_are_on_record : (lines : List (List ℕ)) (turns : List Turn) → IsRun fresh lines turns → AreOnRecordWhere (run_after fresh lines turns).state
 vectors_are_on_record lines turns is =
     on_record_where (run_after fresh lines turns).state
-    (states_keep StandsWhere (λ run s turn asks takes h. step_stands turn.device s (asked run s asks) turn.added turn.refused takes.legal h) format_stands lines turns fresh is tt)
+    (states_keep StandsWhere (λ run s turn asks takes h. step_stands turn.device s (asked run s asks) turn.added turn.refused takes.legal h) format_stands tt lines turns fresh is tt)

@@ -1,5 +1,5 @@
 -- The records of each session of a script are a legal chronicle, so that all that holds of those holds of sessions.
-use Rattle.std.specs.Prelude.{ℕ, ◌≡◌, ⊤, List, Option, Some, None}
+use Rattle.std.specs.Prelude.{ℕ, ◌≡◌, ◌++◌, ⊤, List, Option, Some, None}
 use Rattle.device_log.specs.Calls.{Call}
 use Rattle.cache_model.specs.declared.record.Rec.{Rec}
 use Rattle.cache_model.specs.State.{State, after_all, nothing_yet}
@@ -9,13 +9,15 @@ use Rattle.script_run.specs.Run.{fresh}
 use Rattle.script_run.specs.Turn.{Turn}
 use Rattle.script_run.specs.Takes.{IsRun, run_after}
 
--- the state is what the records of a legal chronicle of that setting come to, in whose steps the device made these calls
+-- the state is what the records of a legal chronicle of that setting come to, in whose format and steps the device made
+-- these calls
 pub record IsOfLegal (calls : List Call) (s : State) : Type 0 where
   pub courses : List Course
   pub recs : List Rec
   pub legal : IsLegal plain_setting courses recs
   pub comes_to : s ≡ after_all nothing_yet recs
-  pub made : calls_of_courses courses ≡ calls
+  pub began : List Call
+  pub made : calls_of_courses courses ++ began ≡ calls
 
 -- where there is a session
 abbrev pub IsLegalWhere : List Call → Option State → Type 0
