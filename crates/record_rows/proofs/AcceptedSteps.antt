@@ -9,6 +9,7 @@ use Rattle.tape_base.specs.declared.geometries.Geometry.{Geometry}
 use Rattle.hex.specs.Hex.{IsBytes}
 use Rattle.tape_base.specs.Digest.{digest_of}
 use Rattle.tape_base.specs.Key.{key_bytes, key_of_bytes}
+use Rattle.tape_base.specs.Place.{block_of}
 use Rattle.tape_base.proofs.Bytes.{bytes_by_test, zeros_are_bytes}
 use Rattle.device_log.specs.Calls.{Call, Read, RefusedCall, ToWrite, Wrote}
 use Rattle.doc_header.specs.declared.documents.Doc.{Doc}
@@ -68,7 +69,7 @@ formatted = after_all nothing_yet (format_records geometry)
 
 -- a device that did this in the step, the newest first
 abbrev did : List Call → Permit
-did events = record { packed = false; syncs = false; now = 0; area = 0; past = []; events = events }
+did events = record { packed = false; syncs = false; now = 0; past = []; events = events }
 
 -- a device that did nothing
 abbrev idle : Permit
@@ -233,7 +234,7 @@ abbrev full : State
 full = record formatted { filled = 8 }
 
 abbrev faulty : Permit
-faulty = did (RefusedCall (ToWrite 0 8 []) 1 ∷ [])
+faulty = did (RefusedCall (ToWrite (block_of geometry 64) 8 []) 1 ∷ [])
 
 abbrev f1 : State
 f1 = after_all full opened
@@ -284,7 +285,7 @@ cut_doc = doc_at s1 (next_fragment_of w1) 0 0
 
 -- a device that took these bytes
 abbrev taking : List ℕ → Permit
-taking bytes = did (Wrote 0 bytes ∷ [])
+taking bytes = did (Wrote (block_of geometry 64) bytes ∷ [])
 
 -- a buffer of eight blocks that begins with the fragment's document
 pub record IsBuffer (bytes : List ℕ) : Type 0 where
@@ -373,7 +374,7 @@ abbrev junk : List ℕ
 junk = replicate 512 0
 
 abbrev reading : Permit
-reading = did (Read 1 junk ∷ [])
+reading = did (Read (block_of geometry 65) junk ∷ [])
 
 abbrev stored_row : Digest → Row
 stored_row kept = record { id = vector_piece k 1; place = 65; blocks = 1; digest = kept; payload = None; pin = 0; alternates = Some [] }
@@ -433,7 +434,7 @@ abbrev kept_state : List ℕ → State
 kept_state bytes = record formatted { cursor = 66; rows = kept_row bytes ∷ []; vectors = (k, Complete 1) ∷ [] }
 
 abbrev giving : List ℕ → Permit
-giving bytes = did (Read 1 bytes ∷ [])
+giving bytes = did (Read (block_of geometry 65) bytes ∷ [])
 
 abbrev g1 : List ℕ → State
 g1 bytes = after_all (kept_state bytes) hit

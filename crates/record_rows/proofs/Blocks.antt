@@ -2,6 +2,7 @@
 use Rattle.std.proofs.Common.{◌≡◌, ◌∙◌, ℕ, ◌<◌, List, [], ◌∷◌, ◌++◌, refl, sym, ap, arith}
 use Rattle.std.specs.Prelude.{Some, ◌+◌, ◌*◌, ◌/◌, drop, length, take}
 use Rattle.std.proofs.Math.Seq.{take-length}
+use Rattle.tape_base.specs.Place.{directory_blocks}
 use Rattle.device_log.specs.Calls.{Call, Wrote}
 use Rattle.doc_header.specs.Reading.{document_digest}
 use Rattle.cache_model.specs.Given.{AreUpTo, StandsWritten, written_of}
@@ -20,6 +21,7 @@ written block whole i less =
 
 -- it is taken before all else
 pub takes_it : (later : List Call) (block : List ℕ) → IsBlock block → AreUpTo (with_calls later) (Wrote 19 block ∷ []) → StandsWritten (with_calls later) (with_one (document_digest block))
+unfolding directory_blocks
 takes_it later block whole upto = record {
   calls = Wrote 19 block ∷ [];
   upto = upto;

@@ -8,6 +8,7 @@ use Rattle.tape_base.specs.declared.pieces.PieceId.{PieceId}
 use Rattle.device_log.specs.Calls.{Call, Read, Wrote}
 use Rattle.doc_header.specs.Moving.{moved_to}
 use Rattle.doc_header.specs.Reading.{document_digest}
+use Rattle.tape_base.specs.Place.{block_of}
 use Rattle.cache_model.specs.declared.findings.FoundRow.{FoundRow}
 use Rattle.cache_model.specs.declared.record.Rec.{Rec}
 use Rattle.cache_model.specs.declared.record.Rec.TheVariants as rec
@@ -42,7 +43,7 @@ over_the_end = record {
 
 -- a step of a stripe that does not sync, with these calls
 abbrev pub unsynced : List Call → Permit
-unsynced events = record { packed = false; syncs = false; now = 0; area = 3; past = []; events = events }
+unsynced events = record { packed = false; syncs = false; now = 0; past = []; events = events }
 
 -- a fragment of four blocks, pinned, which stands so far below the cursor that the next floor passes it
 abbrev pub pinned_piece : PieceId
@@ -85,7 +86,7 @@ pub record AreFour (bytes : List ℕ) : Type 0 where
 -- the copy ends one block below 2^62
 abbrev pub ACopyMayEndBelowTheLimit : Type 0
 ACopyMayEndBelowTheLimit = (bytes block : List ℕ) → AreFour bytes → IsBlock block
-    → IsStep (unsynced (Wrote 61 block ∷ Read 69 bytes ∷ [])) (before_flush (2 ^ 62 - 6) (document_digest bytes) (document_digest block)) (Flush ∷ [])
+    → IsStep (unsynced (Wrote (block_of over_the_end (2 ^ 62 - 6)) block ∷ Read (block_of over_the_end (2 ^ 62 - 94)) bytes ∷ [])) (before_flush (2 ^ 62 - 6) (document_digest bytes) (document_digest block)) (Flush ∷ [])
     (copied_from (2 ^ 62 - 6) bytes) None
 
 -- it would end one block above: whatever the device does

@@ -11,9 +11,9 @@ use Rattle.cache_model.specs.State.{State, after_all, nothing_yet}
 use Rattle.record_rows.specs.Worked.{IsBlock, a, behind_format, behind_opening, put_of_no_bytes, synced, wide}
 use Rattle.record_rows.specs.Rows.{at_end_in_parts, clean_sync, once_refused, while_it_runs}
 
--- a step of a stripe that syncs, whose content area begins behind two copies of six blocks of directory
+-- a step of a stripe that syncs
 abbrev pub with_calls : List Call → Permit
-with_calls events = record { packed = true; syncs = true; now = 0; area = 19; past = []; events = events }
+with_calls events = record { packed = true; syncs = true; now = 0; past = []; events = events }
 
 -- the bytes of a gate behind its first one
 abbrev pub gate_zeros : List ℕ
@@ -87,7 +87,7 @@ while_parts_are_left = after_all nothing_yet (format_records wide ++ rec.SyncBeg
 -- a part of 64 blocks that is not the last one leaves it
 abbrev pub APartIsAStep : Type 0
 APartIsAStep = (part : List ℕ) → length part ≡ 512 * 64
-    → IsStep (record (with_calls (Wrote 326 part ∷ [])) { area = 649 }) while_parts_are_left (SyncStep false ∷ []) [] None
+    → IsStep (with_calls (Wrote 326 part ∷ [])) while_parts_are_left (SyncStep false ∷ []) [] None
 
 -- where none goes on there is no part to write
 abbrev pub NoPartWithoutASync : Type 0

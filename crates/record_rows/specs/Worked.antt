@@ -83,7 +83,7 @@ late = record { number = 5 }
 
 -- a step of a directory that displaces, in which the device does nothing
 abbrev pub of_packed : Permit
-of_packed = record { packed = true; syncs = true; now = 0; area = 0; past = []; events = [] }
+of_packed = record { packed = true; syncs = true; now = 0; past = []; events = [] }
 
 -- no verdict reads one
 abbrev pub no_digest : Digest

@@ -1,13 +1,16 @@
 -- The script as steps, under any key: each is taken, and answered.
-use Rattle.std.proofs.Common.{◌≡◌, List, [], ◌∷◌, refl}
+use Rattle.std.proofs.Common.{◌≡◌, ◌+◌, ◌*◌, List, [], ◌∷◌, refl}
 use Rattle.std.specs.Prelude.{codes}
+use Rattle.std.proofs.lemmas.List.{length-replicate}
 use Rattle.tape_base.specs.declared.keys.Key.{Key}
 use Rattle.tape_base.proofs.NameLaws.{same_key-same}
 use Rattle.tape_base.specs.Geometry.{HasNumbers}
+use Rattle.tape_base.specs.Place.{directory_blocks_of}
 use Rattle.script_grammar.specs.declared.step.Step.{Step}
 use Rattle.script_grammar.specs.declared.step.Step.TheVariants as step
 use Rattle.script_run.specs.Run.{fresh}
-use Rattle.worked_runs.specs.Script.{body_of_a, key_of_a, name_of_reader, script_geometry, script_lines, turns_with}
+use Rattle.script_run.specs.Takes.{LaysOut}
+use Rattle.worked_runs.specs.Script.{body_of_a, body_of_copy, calls_of_format, key_of_a, name_of_reader, script_geometry, script_lines, turns_with}
 use Rattle.worked_runs.specs.History.{script_answers}
 use Rattle.worked_runs.proofs.Along.{AreRead, StepsTake, answers_by}
 use Rattle.worked_runs.proofs.Missed.{miss_is_a_step}
@@ -67,24 +70,27 @@ has_numbers = record {
   has_alternates = refl;
 }
 
+pub lays_out : LaysOut script_geometry calls_of_format
+lays_out = (body_of_copy, length-replicate (512 * (directory_blocks_of script_geometry + 2)) 0, refl)
+
 pub are_taken : (key : Key) → StepsTake fresh (steps_with key) (turns_with key)
 are_taken key = (
-  (script_geometry, has_numbers, refl),
+  (script_geometry, has_numbers, (refl, lays_out)),
   (
-    record { packs = refl; unsynced = refl; content = refl; moment = refl; legal = miss_is_a_step key; own = refl },
+    record { packs = refl; unsynced = refl; moment = refl; legal = miss_is_a_step key; own = refl },
     (
-      record { packs = refl; unsynced = refl; content = refl; moment = refl; legal = put_is_a_step key; own = refl },
+      record { packs = refl; unsynced = refl; moment = refl; legal = put_is_a_step key; own = refl },
       (
-        record { packs = refl; unsynced = refl; content = refl; moment = refl; legal = hit_is_a_step key; own = refl },
+        record { packs = refl; unsynced = refl; moment = refl; legal = hit_is_a_step key; own = refl },
         (
-          record { packs = refl; unsynced = refl; content = refl; moment = refl; legal = piece_is_a_step key; own = (_, refl, refl) },
+          record { packs = refl; unsynced = refl; moment = refl; legal = piece_is_a_step key; own = (_, refl, refl) },
           (
-            record { packs = refl; unsynced = refl; content = refl; moment = refl; legal = end_is_a_step key; own = refl },
+            record { packs = refl; unsynced = refl; moment = refl; legal = end_is_a_step key; own = refl },
             (
-              record { packs = refl; unsynced = refl; content = refl; moment = refl; legal = get_is_a_step key; own = refl },
+              record { packs = refl; unsynced = refl; moment = refl; legal = get_is_a_step key; own = refl },
               (
-                record { packs = refl; unsynced = refl; content = refl; moment = refl; legal = removal_is_a_step key; own = refl },
-                (record { packs = refl; unsynced = refl; content = refl; moment = refl; legal = last_is_a_step key; own = refl }, tt),
+                record { packs = refl; unsynced = refl; moment = refl; legal = removal_is_a_step key; own = refl },
+                (record { packs = refl; unsynced = refl; moment = refl; legal = last_is_a_step key; own = refl }, tt),
               ),
             ),
           ),

@@ -24,7 +24,7 @@ use Rattle.run_promise.specs.Story.{Taken, SinkTook, told_by, told_by_records}
 use Rattle.run_promise.specs.Top.{EachBack}
 use Rattle.headline.specs.Account.{ComeBackFrom}
 use Rattle.headline.specs.Endings.{AreTakeable}
-use Rattle.worked_runs.specs.Script.{body_of_a, key_of_a, line_to_format, line_to_get, line_to_open, line_to_put, line_to_read_on, line_to_remove, script_lines, script_turns}
+use Rattle.worked_runs.specs.Script.{body_of_a, calls_of_format, key_of_a, line_to_format, line_to_get, line_to_open, line_to_put, line_to_read_on, line_to_remove, script_lines, script_turns}
 use Rattle.worked_runs.specs.History.{TheScriptIsAnswered, TheScriptIsARun, script_answers}
 use Rattle.worked_runs.specs.Told.{TheScriptHasAnAccount, TheScriptIsConcluded, script_device, script_logs, script_reads, script_writes}
 use Rattle.worked_runs.proofs.Along.{AreAnsweredBy, AreTakeableBy, begun_by_step, are_answered, are_takeable, outline_by, outline_is, run_by, run_is}
@@ -87,22 +87,22 @@ what_was_said =
 
 each_is_answered : (key : Key) → AreAnsweredBy blank_outline (steps_with key) what_was_said
 each_is_answered key = (
-  record { session = λ needs. absurd needs; none = λ h. refl; fixed = refl },
+  record { session = λ needs. absurd needs; fixed = inl refl },
   (
-    record { session = λ needs. refl; none = λ h. refl; fixed = tt },
+    record { session = λ needs. refl; fixed = tt },
     (
-      record { session = λ needs. refl; none = λ h. refl; fixed = tt },
+      record { session = λ needs. refl; fixed = tt },
       (
-        record { session = λ needs. refl; none = λ h. refl; fixed = tt },
+        record { session = λ needs. refl; fixed = tt },
         (
-          record { session = λ needs. refl; none = λ h. refl; fixed = tt },
+          record { session = λ needs. refl; fixed = tt },
           (
-            record { session = λ needs. refl; none = λ h. refl; fixed = tt },
+            record { session = λ needs. refl; fixed = tt },
             (
-              record { session = λ needs. refl; none = λ h. refl; fixed = tt },
+              record { session = λ needs. refl; fixed = tt },
               (
-                record { session = λ needs. refl; none = λ h. refl; fixed = tt },
-                (record { session = λ needs. refl; none = λ h. refl; fixed = tt }, tt),
+                record { session = λ needs. refl; fixed = tt },
+                (record { session = λ needs. refl; fixed = tt }, tt),
               ),
             ),
           ),
@@ -127,7 +127,7 @@ answers_come_back : ComeBackFrom script_logs (all_told (outline_of blank_outline
 answers_come_back = subst (λ (o : Outline). ComeBackFrom script_logs (all_told o)) (sym outline_behind) (record {
   devices = script_device ∷ [];
   returned = refl;
-  told = (record { made = record { later = []; is = refl }; all = λ h. cc; counted = lit≤ tt; unharmed = λ h. refl }, tt);
+  told = (record { made = record { later = calls_of_format; is = refl }; all = λ h. cc; counted = lit≤ tt; unharmed = λ h. refl }, tt);
 })
 
 records_come_back : ComeBackFrom script_logs (harms_of (run_after fresh script_lines script_turns))
@@ -142,7 +142,7 @@ back_by_answers = subst (λ (o : Outline). EachBack script_logs.before script_lo
   back = record {
     devices = script_device ∷ [];
     returned = refl;
-    reached = (record { made = record { later = []; is = refl }; all = λ h. cc; counted = lit≤ tt; unharmed = λ h. refl }, tt);
+    reached = (record { made = record { later = calls_of_format; is = refl }; all = λ h. cc; counted = lit≤ tt; unharmed = λ h. refl }, tt);
   };
   attached = refl;
 })

@@ -17,6 +17,7 @@ use Rattle.model_laws.specs.Agreeing.{IsUntroubled, is_trouble}
 use Rattle.model_laws.specs.Purging.{is_device_trouble}
 use Rattle.model_laws.proofs.Among.{among_behind}
 use Rattle.script_grammar.specs.Grammar.{reading_of}
+use Rattle.script_grammar.specs.declared.line.LineAnswer.TheVariants as line
 use Rattle.script_grammar.specs.declared.step.Step.{Step}
 use Rattle.script_run.specs.Run.{Run, fresh}
 use Rattle.script_run.specs.Turn.{Turn}
@@ -28,7 +29,7 @@ use Rattle.script_laws.specs.Parting.{AreUntroubled, DisplacesPiece, IsUntrouble
 use Rattle.run_promise.specs.Story.{Taken}
 use Rattle.run_promise.specs.Top.{ComeBackSteady}
 use Rattle.run_promise.specs.declared.status.Status.TheVariants as status
-use Rattle.headline.specs.Account.{Account, IsDeviceBehind, begun_in, sessions_begun}
+use Rattle.headline.specs.Account.{Account, IsDeviceBehind, IsDeviceOf, begun_in, sessions_begun}
 use Rattle.headline.specs.Endings.{EndsAreCaused, RunsAreTold}
 use Rattle.headline.specs.Fixed.{AreSwitched, SwitchedRunsAreSteady}
 use Rattle.headline.specs.Parting.{HistoriesAgreeBeforeTrouble, HistoryBegins, RunsAgreeBeforeTrouble}
@@ -109,16 +110,36 @@ device_behind : (first : List ℕ) (lines later : List (List ℕ)) → script_li
     → IsDeviceBehind script_logs (first ∷ lines) script_device
 device_behind first lines later are = record { earlier = []; later = []; returned = refl; which = behind_first first lines later are }
 
+-- no line behind the first begins a session
+none_behind_first : (first : List ℕ) (lines : List (List ℕ)) (bytes : List ℕ) (later : List (List ℕ)) (asks : Step)
+    → script_lines ≡ (first ∷ lines) ++ bytes ∷ later → reading_of bytes ≡ line.Step asks → begun_in (line.Step asks) ≡ 0
+none_behind_first first lines bytes later asks are reading =
+    let total : sessions_begun ((first ∷ lines) ++ bytes ∷ later) ≡ 1 = ap sessions_begun (sym are) ∙ one_is_begun in
+    let apart : sessions_begun ((first ∷ lines) ++ bytes ∷ later) ≡ sessions_begun (first ∷ lines) + sessions_begun (bytes ∷ later) =
+    begun_apart (first ∷ lines) (bytes ∷ later) in
+    let here : begun_in (reading_of bytes) ≡ begun_in (line.Step asks) = ap begun_in reading in
+    omega (arith, total, apart, here, behind_first first lines (bytes ∷ later) are)
+
+device_of : (first : List ℕ) (lines : List (List ℕ)) (bytes : List ℕ) (later : List (List ℕ)) (asks : Step)
+    → script_lines ≡ (first ∷ lines) ++ bytes ∷ later → reading_of bytes ≡ line.Step asks
+    → IsDeviceOf script_logs (first ∷ lines) asks script_device
+device_of first lines bytes later asks are reading = record {
+  earlier = [];
+  later = [];
+  returned = refl;
+  which = omega (arith, behind_first first lines (bytes ∷ later) are, none_behind_first first lines bytes later asks are reading);
+}
+
 pub no_count_is_told : CountsAreReached → NoCountIsTold
 no_count_is_told law a tells first lines asks said answers =
-    let behind = device_behind first lines (answers.bytes ∷ answers.later) (sym tells.lines_are ∙ answers.lines_are) in
-    let most = law script_logs a (first ∷ lines) asks said script_device answers behind in
+    let of = device_of first lines answers.bytes answers.later asks (sym tells.lines_are ∙ answers.lines_are) answers.reading in
+    let most = law script_logs a (first ∷ lines) asks said script_device answers of in
     omega (arith, most)
 
 pub no_fault_is_told : NoFalseFaults → NoFaultIsTold
 no_fault_is_told law a tells first lines asks said answers =
-    let behind = device_behind first lines (answers.bytes ∷ answers.later) (sym tells.told_are ∙ answers.lines_are) in
-    law script_logs a (first ∷ lines) asks said script_device answers behind refl
+    let of = device_of first lines answers.bytes answers.later asks (sym tells.told_are ∙ answers.lines_are) answers.reading in
+    law script_logs a (first ∷ lines) asks said script_device answers of refl
 
 pub no_damage_is_told : NoFalseDamage → NoDamageIsTold
 no_damage_is_told law a tells first lines asks said answers =

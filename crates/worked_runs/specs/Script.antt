@@ -1,12 +1,16 @@
--- A script of nine lines on a device in memory of 64 blocks, and what each line did. All pieces stay in the buffer, so no
--- call of the device is made. Keys and digests stay names: no SHA-256 is computed.
-use Rattle.std.specs.Prelude.{ℕ, true, false, refl, List, [], ◌∷◌, codes, None}
+-- A script of nine lines on a device in memory of 83 blocks, and what each line did. The format lays the device out, and all
+-- pieces stay in the buffer, so no other call is made. Keys and digests stay names: no SHA-256 is computed.
+use Rattle.std.specs.Prelude.{ℕ, ◌+◌, ◌*◌, true, false, refl, List, [], ◌∷◌, ◌++◌, codes, None, replicate}
 use Rattle.std.proofs.Math.Dec.{lit≤, lit<}
 use Rattle.tape_base.specs.declared.digests.Digest.{Digest}
 use Rattle.tape_base.specs.declared.geometries.Geometry.{Geometry}
 use Rattle.tape_base.specs.declared.keys.Key.{Key}
 use Rattle.tape_base.specs.Digest.{digest_of}
 use Rattle.tape_base.specs.Key.{key_of_url}
+use Rattle.tape_base.specs.Place.{directory_blocks_of}
+use Rattle.device_log.specs.Calls.{Call, Synced, Wrote}
+use Rattle.dir_sync.specs.SyncCalls.{open_block, shut_block}
+use Rattle.stripe_copies.specs.Format.{first_span}
 use Rattle.doc_header.specs.Document.{digest_of_document}
 use Rattle.fragment_table.specs.Table.{TableRow, made_row}
 use Rattle.alternate_vector.specs.Alternates.{Stored}
@@ -23,7 +27,7 @@ use Rattle.script_run.specs.Turn.{Turn}
 
 -- ---- the lines
 
--- a device of 64 blocks, with buffers of 8 and fragments of 4 bytes
+-- 64 blocks of content, with buffers of 8 and fragments of 4 bytes
 abbrev pub line_to_format : List ℕ
 line_to_format = codes "format mem:a 1 64 64 8 16 4 7"
 
@@ -153,15 +157,36 @@ removal_records key = rec.Removed 1 key ∷ []
 
 -- a device that makes no call, under a directory that displaces, at the moment 0
 abbrev pub silent : Permit
-silent = record { packed = true; syncs = false; now = 0; area = 0; past = []; events = [] }
+silent = record { packed = true; syncs = false; now = 0; past = []; events = [] }
 
 -- a line that added these records and gave these bytes, and made no call
 abbrev pub silent_turn : List Rec → List ℕ → Turn
 silent_turn added given = record { added = added; refused = None; device = silent; given = given }
 
+-- as many bytes as a copy of the directory has; which they are no line says
+abbrev pub body_of_copy : List ℕ
+body_of_copy = replicate (512 * (directory_blocks_of script_geometry + 2)) 0
+
+-- the calls of the format, the last one first
+abbrev pub calls_of_format : List Call
+calls_of_format =
+    Synced
+    ∷ Wrote 1 open_block
+    ∷ Synced
+    ∷ Wrote 3 body_of_copy
+    ∷ Wrote 0 (first_span script_geometry)
+    ∷ Synced
+    ∷ Wrote 1 (shut_block ++ shut_block)
+    ∷ []
+
 -- the format
 abbrev pub turn_of_format : Turn
-turn_of_format = silent_turn (format_records script_geometry) []
+turn_of_format = record {
+  added = format_records script_geometry;
+  refused = None;
+  device = record silent { events = calls_of_format };
+  given = [];
+}
 
 -- the get before the put
 abbrev pub turn_of_miss : Key → Turn

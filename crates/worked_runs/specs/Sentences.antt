@@ -14,6 +14,7 @@ use Rattle.run_promise.specs.declared.status.Status.TheVariants as status
 use Rattle.run_promise.specs.Top.{ReadsFailed}
 use Rattle.headline.specs.Account.{Account, HistoryTells, IsConcluded, RunLogs}
 use Rattle.headline.specs.Answered.{RecordedPut, RecordedRemoval, WasCompleted}
+use Rattle.headline.specs.Endings.{LostItsFormat}
 use Rattle.headline.specs.Fixed.{AreSteady, GiveSame, BothDisplaced}
 use Rattle.headline.specs.Misses.{HasEndedNone}
 use Rattle.headline.specs.Readers.{IsReadToEnd}
@@ -93,8 +94,9 @@ abbrev pub EachRunPrintsIt : Type 0
 EachRunPrintsIt = (m : RunLogs) → IsConcluded m status.Done → (same : GiveSame script_logs m) → AreSteady m
     → (taken_by m.new ≡ taken_by m.old ++ script_output) ⊎ BothDisplaced script_logs m same
 
--- each run over that text, of which nothing was refused and whose memory sufficed, ends with the status Done
+-- each run over that text, of which nothing was refused and whose memory sufficed, ends with the status Done, or for want of
+-- the session whose format its device refused
 abbrev pub EachRunIsDone : Type 0
 EachRunIsDone = (m : RunLogs) (s : Status) → IsConcluded m s → ReadsFailed m.first m.read s → s ≢ status.Usage → s ≢ status.OutOfMemory
     → NoReadFailed m.first m.read → refused_writes m.new ≡ refused_writes m.old → m.bay.now ≡ m.bay.before
-    → ((reads : List SourceRead) → m.read ≡ reads ++ m.first → text_read reads ≡ spelled script_lines) → s ≡ status.Done
+    → ((reads : List SourceRead) → m.read ≡ reads ++ m.first → text_read reads ≡ spelled script_lines) → (s ≡ status.Done) ⊎ LostItsFormat m s

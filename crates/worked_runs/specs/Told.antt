@@ -3,24 +3,25 @@
 use Rattle.std.specs.Prelude.{◌≡◌, true, List, [], ◌∷◌, codes}
 use Rattle.device_log.specs.Image.{blank}
 use Rattle.device_log.specs.Streams.{SourceRead, GaveBytes, CameToEnd, SinkWrite, TookBytes}
+use Rattle.tape_base.specs.Place.{device_blocks_of}
 use Rattle.edge_io.specs.Text.{spelled}
 use Rattle.logged_disk.specs.Device.{DeviceState as Device}
 use Rattle.run_promise.specs.declared.status.Status.TheVariants as status
 use Rattle.headline.specs.Account.{Account, IsConcluded, RunLogs}
 use Rattle.headline.specs.Endings.{IsAccountOf}
-use Rattle.worked_runs.specs.Script.{script_lines, script_turns}
+use Rattle.worked_runs.specs.Script.{calls_of_format, script_geometry, script_lines, script_turns}
 use Rattle.worked_runs.specs.History.{script_answers}
 
--- a device in memory of 64 blocks, of which nothing was asked but its size
+-- a device in memory of 83 blocks, which made the calls of the format alone
 abbrev pub script_device : Device
 script_device = record {
-  size = 64;
+  size = device_blocks_of script_geometry;
   trust = 2;
   number = 0;
   has_switch = true;
   settled = true;
   first = blank;
-  past = [];
+  past = calls_of_format;
   faults = 0;
   calls = 0;
   blocks = 0;

@@ -1,4 +1,5 @@
 use Rattle.std.proofs.Common.{refl, arith, inl}
+use Rattle.tape_base.specs.Place.{directory_blocks}
 use Rattle.cache_model.specs.Legal.{more, nothing}
 use Rattle.cache_model.specs.Permit.{Done}
 use Rattle.cache_model.specs.Given
@@ -6,6 +7,7 @@ use Rattle.cache_model.specs.Legal
 use Rattle.record_rows.proofs.an_unlike_payload_is_damage.Goals as goal
 
 pub returns : goal.returns
+unfolding directory_blocks
 returns c = λ there block others its. record {
   grows = more _ _ (
     Done,
