@@ -305,6 +305,7 @@ impl Bay for FaultyBay {
 }
 
 /// A script over devices that give other bytes, or of which the call of this number fails, and its answers, both in parts.
+#[derive(Drop)]
 struct Row {
     name: &'static str,
     flips: bool,
@@ -403,13 +404,13 @@ fn other_bytes_than_were_put_are_damage_from_then_on(rt: HostRuntime) -> Result<
     Ok(())
 }
 
-// In a round seven buffers are written, and as many vectors read; then both pieces are read, and the
-// eighth buffer is written.
+// A format makes seven calls. In a round seven buffers are written, and as many vectors read; then both
+// pieces are read, and the eighth buffer is written.
 const FAULTS: [Row; 5] = [
     Row {
         name: "the first write",
         flips: false,
-        nth: 1,
+        nth: 8,
         script: &[SMALL, SHORT, "flush\nget /a\n"],
         answers: &[
             FORMATTED,
@@ -420,7 +421,7 @@ const FAULTS: [Row; 5] = [
     Row {
         name: "the first read",
         flips: false,
-        nth: 2,
+        nth: 9,
         script: &[SMALL, SHORT, "flush\nget /a\n"],
         answers: &[
             FORMATTED,
@@ -431,7 +432,7 @@ const FAULTS: [Row; 5] = [
     Row {
         name: "a read of a fragment for a copy",
         flips: false,
-        nth: 15,
+        nth: 22,
         script: &[SMALL, PINNED, ROUND, "get /a\n"],
         answers: &[
             FORMATTED,
@@ -443,7 +444,7 @@ const FAULTS: [Row; 5] = [
     Row {
         name: "a read of a vector for a copy",
         flips: false,
-        nth: 16,
+        nth: 23,
         script: &[SMALL, PINNED, ROUND, "get /a\n"],
         answers: &[
             FORMATTED,
@@ -455,7 +456,7 @@ const FAULTS: [Row; 5] = [
     Row {
         name: "the write behind the copies",
         flips: false,
-        nth: 17,
+        nth: 24,
         script: &[SMALL, PINNED, ROUND, "get /a\n"],
         answers: &[
             FORMATTED,
@@ -472,6 +473,22 @@ fn a_call_that_fails_is_answered_and_a_copy_that_it_was_for_is_unsaved(
 ) -> Result<(), Fail> {
     for row in &FAULTS {
         assert!(rt; is_answered(rt.alloc(), row)?, "{}", row.name);
+    }
+    Ok(())
+}
+
+// The count is told, no session stands, and the run goes on.
+#[test]
+fn a_call_of_a_format_that_fails_leaves_no_session(rt: HostRuntime) -> Result<(), Fail> {
+    for nth in 1..=7 {
+        let row = Row {
+            name: "a call of a format",
+            flips: false,
+            nth,
+            script: &[SMALL, "now 7\n"],
+            answers: &["device-fault 1\nnow 7\n"],
+        };
+        assert!(rt; is_answered(rt.alloc(), &row)?, "call {}", nth);
     }
     Ok(())
 }
