@@ -1,5 +1,5 @@
 -- What a bay's log may note behind what it has, and what the devices tell that came back.
-use Rattle.std.proofs.Common.{◌≡◌, ℕ, ◌<◌, ◌≤◌, ◌==◌, ◌&&◌, Bool, true, false, if◌then◌else◌, List, [], ◌∷◌, None, Some, slice_index, length, refl, sym, ◌∙◌, ap, arith}
+use Rattle.std.proofs.Common.{◌≡◌, ℕ, ◌<◌, ◌≤◌, ◌==◌, ◌&&◌, Bool, true, false, if◌then◌else◌, List, [], ◌∷◌, None, Some, slice_index, length, refl, sym, ◌∙◌, ap, subst, arith}
 use Rattle.std.specs.Prelude.{All}
 use Rattle.std.proofs.lemmas.List.{length_push}
 use Rattle.std.proofs.lemmas.List.Elements.{All-nil, All-push, All-same}
@@ -13,7 +13,8 @@ use Rattle.logged_disk.specs.declared.mem_disk.MemDisk.{MemDisk}
 use Rattle.device_bay.specs.Entry.{BayEntry}
 use Rattle.device_bay.specs.Calls.{BayCall, Gave, RefusedAttach, TookBack, Gift, IsBayLog, IsDevice, are_bay_counts, bay_faults, gifts_of, number_behind, out_of, returned_by}
 use Rattle.device_bay.specs.Bay.{IsNewDevice}
-use Rattle.device_bay.specs.Register.{calls_of_entries}
+use Rattle.device_bay.specs.Register.{IsRegister, calls_in, calls_of_entries}
+use Rattle.device_bay.specs.declared.register.Register.{Register}
 use Rattle.device_bay.specs.Returns.{IsMemReturn, has_refusal, ZeroHasNoRefusal, UntoldReturnsUnfailed, ReturnsTellByLog, UnturnedReturnsTell}
 
 -- ---- one more call
@@ -43,6 +44,15 @@ took_is_log s past device out is =
       all = omega (arith, more, before, out);
       devices = All-push IsDevice (returned_by past) s is.devices device;
     }
+
+pub took_is_register : {D : Type 0} (state : D → DeviceState) (old new : Register D) (s : DeviceState)
+    → calls_in state new ≡ TookBack s ∷ calls_in state old → new.given ≡ old.given → new.faults ≡ old.faults → IsDevice s
+    → 0 < out_of (calls_in state old) → IsRegister state old → IsRegister state new
+took_is_register state old new s calls given faults device out is = record {
+  is_log = subst IsBayLog (sym calls) (took_is_log s (calls_in state old) device out is.is_log);
+  given_is = given ∙ (is.given_is ∙ ap (λ past. number_behind (length (gifts_of past))) (sym calls));
+  faults_are = faults ∙ (is.faults_are ∙ ap bay_faults (sym calls));
+}
 
 -- ---- devices in memory
 

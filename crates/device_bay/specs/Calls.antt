@@ -1,9 +1,10 @@
 -- The calls of a bay as its log has them, the newest first.
-use Rattle.std.specs.Prelude.{◌≡◌, ℕ, ◌+◌, ◌-◌, ◌^◌, ◌==◌, min, Bool, true, ◌&&◌, List, [], ◌∷◌, ◌++◌, All, length}
+use Rattle.std.specs.Prelude.{◌≡◌, ℕ, ◌+◌, ◌-◌, ◌^◌, ◌==◌, min, Bool, true, false, ◌&&◌, List, [], ◌∷◌, ◌++◌, All, length}
 use Rattle.device_log.specs.Image.{IsImage}
 use Rattle.device_log.specs.Seen.{ReadsAreSeen}
 use Rattle.device_log.specs.Faults.{IsLog, faults_of, next_count, obeys_switch}
-use Rattle.logged_disk.specs.Device.{DeviceState, IsTrusted}
+use Rattle.logged_disk.specs.Device.{DeviceState, IsTrusted, IsHonest, has_flip}
+use Rattle.logged_disk.specs.Honest.{CutsAreHonest}
 
 -- one call of a bay
 pub data BayCall : Type 0 where
@@ -92,6 +93,10 @@ pub record IsDevice (s : DeviceState) : Type 0 where
   -- and is trusted where they did, and where it has a switch
   pub tells : ReadsAreSeen s.first s.past → IsTrusted s
   pub switched : s.has_switch ≡ true → IsTrusted s
+  -- where it is honest, each cut of its log left what it might leave
+  pub honest : IsHonest s → CutsAreHonest s.settled s.first s.past
+  -- and it is honest where it has a switch and no bit was turned
+  pub unturned : s.has_switch ≡ true → has_flip s.past ≡ false → IsHonest s
 
 -- what a bay can have done
 pub record IsBayLog (past : List BayCall) : Type 0 where

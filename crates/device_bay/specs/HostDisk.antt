@@ -1,12 +1,13 @@
 -- What a contract sees of a `HostDisk`.
-use Rattle.std.specs.Prelude.{◌≡◌, ℕ, true}
+use Rattle.std.specs.Prelude.{◌≡◌, ℕ, true, false}
 use Rattle.device_log.specs.Image.{Image, IsImage}
 use Rattle.device_log.specs.Seen.{ReadsAreSeen}
 use Rattle.device_log.specs.Faults.{IsLog, faults_of, obeys_switch}
-use Rattle.logged_disk.specs.Device.{DeviceState, IsTrusted}
+use Rattle.logged_disk.specs.Device.{DeviceState, IsTrusted, IsHonest, has_flip}
+use Rattle.logged_disk.specs.Honest.{CutsAreHonest}
 use Rattle.logged_disk.specs.MemDisk.{mem_state}
-use Rattle.logged_disk.specs.MemoryFacts.{memory_is_log, memory_was_image, memory_counted, memory_obeys, memory_reads, memory_tells, memory_switched}
-use Rattle.logged_disk.specs.FileDisk.{file_state, file_is_log, file_counted, file_obeys, file_reads, file_tells, file_switched}
+use Rattle.logged_disk.specs.MemoryFacts.{memory_is_log, memory_was_image, memory_counted, memory_obeys, memory_reads, memory_tells, memory_switched, memory_honest, memory_unturned}
+use Rattle.logged_disk.specs.FileDisk.{file_state, file_is_log, file_counted, file_obeys, file_reads, file_tells, file_switched, file_honest, file_unturned}
 use Rattle.device_bay.specs.declared.host_disk.HostDisk.{HostDisk}
 use Rattle.device_bay.specs.declared.host_disk.HostDisk.TheVariants.{Memory, File}
 
@@ -52,3 +53,14 @@ pub host_switched : {S : Type 0} (first : ℕ → Image) (disk : HostDisk S)
     → (host_state first disk).has_switch ≡ true → IsTrusted (host_state first disk)
 host_switched first (Memory disk) = memory_switched disk
 host_switched first (File disk) = file_switched first disk
+
+pub host_honest : {S : Type 0} (first : ℕ → Image) (disk : HostDisk S) → IsHonest (host_state first disk)
+    → CutsAreHonest (host_state first disk).settled (host_state first disk).first (host_state first disk).past
+host_honest first (Memory disk) = memory_honest disk
+host_honest first (File disk) = file_honest first disk
+
+pub host_unturned : {S : Type 0} (first : ℕ → Image) (disk : HostDisk S)
+    → (host_state first disk).has_switch ≡ true → has_flip (host_state first disk).past ≡ false
+    → IsHonest (host_state first disk)
+host_unturned first (Memory disk) = memory_unturned disk
+host_unturned first (File disk) = file_unturned first disk

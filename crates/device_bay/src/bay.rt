@@ -3,7 +3,7 @@ ghost use Rattle.std.specs.Prelude.{◌≡◌, ℕ, ◌<◌, ◌∷◌, List, If
 ghost use Rattle.device_bay.specs.Calls.{BayCall, Gave, TookBack, bay_faults, out_of, IsBayLog};
 ghost use Rattle.device_bay.specs.Bay.{IsNewDevice, Refuses};
 
-use logged_disk::Disk;
+use logged_disk::PowerDisk;
 use std::alloc::{AllocError, Global};
 
 /// Why a device was not attached.
@@ -26,7 +26,7 @@ impl From<AllocError> for BayFault {
 
 /// Gives devices by name. Each call that changes it is in its log.
 pub trait Bay {
-    type Dev: Disk;
+    type Dev: PowerDisk;
 
     /// All calls, the newest first.
     ghost past: { Self → List BayCall };

@@ -2,6 +2,7 @@
 ghost use Rattle.std.specs.Prelude.{◌≡◌, ℕ, ◌≤◌, true, false, IsErr, IfOk};
 ghost use Rattle.std.proofs.Props.{props};
 ghost use Rattle.device_log.proofs.ReadLaws.{reads_are_prop};
+ghost use Rattle.logged_disk.specs.Honest.{cuts_are_prop};
 ghost use Rattle.logged_disk.specs.FileDisk.{file_state, IsAttached};
 ghost use Rattle.device_bay.specs.Bay.{has_kind};
 ghost use Rattle.device_bay.specs.Register.{IsRegister};
@@ -26,7 +27,7 @@ pub struct HostBay<R, S: FileStart> {
     streams: ClosedStreams,
     refusal: Option<Refusal>,
     register: Register<HostDisk<S>>,
-    ghost is_register: { IsRegister (host_state S.first) register } by { Prim.hlevel (props, reads_are_prop) },
+    ghost is_register: { IsRegister (host_state S.first) register } by { Prim.hlevel (props, reads_are_prop, cuts_are_prop) },
 }
 
 /// Why an attach was refused, with its name where memory was found for it.

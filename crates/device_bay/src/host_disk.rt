@@ -18,7 +18,7 @@ pub enum HostDisk<S> {
 }
 
 impl<S: FileStart> Disk for HostDisk<S> {
-    ghost use Rattle.device_bay.specs.HostDisk.{host_state, host_is_log, host_was_image, host_counted, host_obeys, host_reads, host_tells, host_switched};
+    ghost use Rattle.device_bay.specs.HostDisk.{host_state, host_is_log, host_was_image, host_counted, host_obeys, host_reads, host_tells, host_switched, host_honest, host_unturned};
 
     ghost state = { λ disk. host_state S.first disk };
 
@@ -77,6 +77,10 @@ impl<S: FileStart> Disk for HostDisk<S> {
     ghost tells = { host_tells S.first };
 
     ghost switched = { host_switched S.first };
+
+    ghost honest = { host_honest S.first };
+
+    ghost unturned = { host_unturned S.first };
 }
 
 // Each call but the first has a switch, so it is one of memory.

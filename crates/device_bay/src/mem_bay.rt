@@ -2,6 +2,7 @@
 ghost use Rattle.std.specs.Prelude.{◌≡◌, ◌≤◌};
 ghost use Rattle.std.proofs.Props.{props};
 ghost use Rattle.device_log.proofs.ReadLaws.{reads_are_prop};
+ghost use Rattle.logged_disk.specs.Honest.{cuts_are_prop};
 ghost use Rattle.device_bay.specs.Bay.{size_for};
 ghost use Rattle.device_bay.specs.Register.{IsRegister};
 ghost use Rattle.logged_disk.specs.MemDisk.{mem_state};
@@ -29,7 +30,7 @@ pub struct MemBay {
     attaches: u64,
     fail_at: Vec<u64>,
     register: Register<MemDisk>,
-    ghost is_register: { IsRegister mem_state register } by { Prim.hlevel (props, reads_are_prop) },
+    ghost is_register: { IsRegister mem_state register } by { Prim.hlevel (props, reads_are_prop, cuts_are_prop) },
 }
 
 impl MemBay {

@@ -34,6 +34,7 @@ pub fn read<D: Disk>(disk: &mut D, at: u64, into: &mut [u8]) -> Result<(), ReadF
     requires within { at + length into.old / 512 ≤ (D.state disk.old).size }
     ensures reads { OnOk result (Reads at (at + length into.new / 512) 1 (D.state disk.old) (D.state disk.new)
         (λ c. into.new ≡ span c at (length into.new / 512))) }
+    ensures unrefused { OnOk result ((D.state disk.new).faults ≡ (D.state disk.old).faults) }
     ensures fails { IfErr result (Fails at (at + length into.new / 512) 1 (D.state disk.old) (D.state disk.new)) }
     ensures len { length into.new ≡ length into.old }
 {

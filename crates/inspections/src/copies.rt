@@ -1,5 +1,5 @@
 // What the copies of a directory tell.
-ghost use Rattle.std.specs.Prelude.{◌≡◌, ◌≤◌, ◌-◌, ◌*◌, ◌+◌, length, take, drop, IfErr, IfOk};
+ghost use Rattle.std.specs.Prelude.{◌≡◌, ◌≤◌, ◌-◌, ◌*◌, ◌+◌, length, take, drop, IfErr, IfOk, OnOk};
 ghost use Rattle.device_log.specs.Image.{span};
 ghost use Rattle.stripe_header.specs.Layout.{body_blocks, body_of, device_blocks, gate_of};
 ghost use Rattle.stripe_header.specs.Reading.{block_bytes};
@@ -96,6 +96,7 @@ pub(crate) fn read_gates<D: Disk>(disk: &mut D) -> Result<Gates, ReadFault>
     requires room { 3 ≤ (D.state disk.old).size }
     ensures gates { IfOk result (λ gates. Reads 1 3 1 (D.state disk.old) (D.state disk.new)
         (λ c. (gates.a ≡ c 1) × (gates.b ≡ c 2))) }
+    ensures unrefused { OnOk result ((D.state disk.new).faults ≡ (D.state disk.old).faults) }
     ensures fails { IfErr result (Fails 1 3 1 (D.state disk.old) (D.state disk.new)) }
 {
     let mut blocks = [0; 1024];
@@ -114,6 +115,7 @@ fn read_body<D: Disk>(
     ensures body { IfOk result (λ body. let at = body_of area.now side in let n = body_blocks area.now in
         Reads at (at + n) 1 (D.state disk.old) (D.state disk.new) (λ c. body.items ≡ span c at n)) }
     ensures len { IfOk result (λ body. length body.items ≡ 512 * body_blocks area.now) }
+    ensures unrefused { OnOk result ((D.state disk.new).faults ≡ (D.state disk.old).faults) }
     ensures fails { IfErr result (let at = body_of area.now side in
         Fails at (at + body_blocks area.now) 1 (D.state disk.old) (D.state disk.new)) }
 {
@@ -134,6 +136,7 @@ pub(crate) fn read_side<D: Disk>(
     ensures copy { IfOk result (λ copy. let at = body_of area.now side in
         Reads at (at + body_blocks area.now) 1 (D.state disk.old) (D.state disk.new)
         (λ c. gate.now ≡ c (gate_of side) → copy ≡ copy_of area.now c side)) }
+    ensures unrefused { OnOk result ((D.state disk.new).faults ≡ (D.state disk.old).faults) }
     ensures fails { IfErr result (let at = body_of area.now side in
         Fails at (at + body_blocks area.now) 1 (D.state disk.old) (D.state disk.new)) }
 {

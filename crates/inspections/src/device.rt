@@ -1,5 +1,5 @@
 // An inspection of a device.
-ghost use Rattle.std.specs.Prelude.{◌≡◌, ◌≤◌, IfErr, IfOk, string_bytes};
+ghost use Rattle.std.specs.Prelude.{◌≡◌, ◌≤◌, IfErr, IfOk, OnOk, string_bytes};
 ghost use Rattle.inspections.specs.Head.{IsLaid};
 ghost use Rattle.inspections.specs.Inspect.{IsInspected, Says};
 ghost use Rattle.device_reads.specs.Reads.{Fails, Reads};
@@ -30,6 +30,7 @@ fn inspect_stripe<D: Disk>(
     requires laid { IsLaid (D.state disk.old).size head.now.area }
     ensures says { IfOk result (λ said. Reads 1 (D.state disk.old).size 3 (D.state disk.old) (D.state disk.new)
         (IsInspected head.now said)) }
+    ensures unrefused { OnOk result ((D.state disk.new).faults ≡ (D.state disk.old).faults) }
     ensures fails { IfErr result (Fails 1 (D.state disk.old).size 3 (D.state disk.old) (D.state disk.new)) }
 {
     let gates = read_gates(disk)?;
@@ -43,6 +44,7 @@ pub fn inspect<D: Disk>(alloc: Global, disk: &mut D) -> Result<Inspection, ReadF
     // Whatever image its reads agree with, this is what an inspection of that image says.
     ensures says { IfOk result (λ said. let size = (D.state disk.old).size in
         Reads 0 size 4 (D.state disk.old) (D.state disk.new) (λ c. Says size c (string_bytes said.text) said.opens)) }
+    ensures unrefused { OnOk result ((D.state disk.new).faults ≡ (D.state disk.old).faults) }
     ensures fails { IfErr result (Fails 0 (D.state disk.old).size 4 (D.state disk.old) (D.state disk.new)) }
 {
     match read_head(disk)? {

@@ -1,5 +1,5 @@
 // Where the stripe of a device lies.
-ghost use Rattle.std.specs.Prelude.{◌≡◌, ◌≤◌, ◌==◌, ◌&&◌, nat_le, min, length, IfErr, IfOk, IfSome, None};
+ghost use Rattle.std.specs.Prelude.{◌≡◌, ◌≤◌, ◌==◌, ◌&&◌, nat_le, min, length, IfErr, IfOk, OnOk, IfSome, None};
 ghost use Rattle.stripe_header.specs.Layout.{device_blocks, stripe_blocks};
 ghost use Rattle.stripe_header.specs.Reading.{block_bytes, block_number, span_blocks, span_fault, span_numbers, version_in, SpanAnswers};
 ghost use Rattle.packed_directory.specs.PackedImage.{image_blocks_of};
@@ -68,6 +68,7 @@ fn head_of(block: &[u8; 512], size: u64) -> Option<Head>
 pub(crate) fn read_head<D: Disk>(disk: &mut D) -> Result<Option<Head>, ReadFault>
     ensures head { IfOk result (λ head. Reads 0 (min 1 (D.state disk.old).size) 1 (D.state disk.old) (D.state disk.new) (λ c. HeadIs (c 0) (D.state disk.old).size head)) }
     ensures laid { IfOk result (λ head. IfSome head (λ h. IsLaid (D.state disk.old).size h.area)) }
+    ensures unrefused { OnOk result ((D.state disk.new).faults ≡ (D.state disk.old).faults) }
     ensures fails { IfErr result (Fails 0 (min 1 (D.state disk.old).size) 1 (D.state disk.old) (D.state disk.new)) }
 {
     let size = disk.blocks();

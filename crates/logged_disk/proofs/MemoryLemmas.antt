@@ -11,11 +11,13 @@ use Rattle.device_log.specs.Cuts.{write_over, torn_block, junk_block, left_by}
 use Rattle.device_log.specs.Faults.{IsLog, faults_of, next_count, is_fail_due, is_stopped, fails_next, obeys_switch}
 use Rattle.device_log.proofs.Puts.{blank_is_image, span_put_low, span_put_high}
 use Rattle.device_log.proofs.SeenLaws.{left_is_image}
+use Rattle.device_log.proofs.LeftLaws.{cut_may_leave}
 use Rattle.device_log.proofs.Spans.{span_same}
 use Rattle.logged_disk.specs.Counting.{is_among, is_past, least}
 use Rattle.logged_disk.specs.Blocks.{Written, Pending, AreStored, written_image, kept_or, synced_image, start_of, over_in, left_in, cut_image}
 use Rattle.logged_disk.specs.Switch.{Obeys, CountsCall}
 use Rattle.logged_disk.specs.Device.{has_flip}
+use Rattle.logged_disk.specs.Honest.{CutsAreHonest}
 use Rattle.logged_disk.specs.Memory.{IsMemory, memory_trust}
 use Rattle.logged_disk.specs.declared.switch.Switch.{Switch}
 use Rattle.logged_disk.proofs.Counted.{among_later, past_later, among_pushed, past_least}
@@ -85,7 +87,7 @@ module _ (written : Written) (pending : Pending) (switch : Switch) (faults : ℕ
 
     pub memory_read : (at : ℕ) (bytes : List ℕ) → bytes ≡ span (seen_of blank past) at (length bytes / 512) → result ≡ false
         → IsMemory written pending after count (Read at bytes ∷ past)
-    unfolding seen_of kept_of ReadsAreSeen write_over obeys_switch faults_of
+    unfolding seen_of kept_of ReadsAreSeen CutsAreHonest write_over obeys_switch faults_of
     memory_read at bytes gives goes = record {
       seen = is.seen;
       kept = is.kept;
@@ -95,6 +97,7 @@ module _ (written : Written) (pending : Pending) (switch : Switch) (faults : ℕ
       obeys = went goes;
       counted = same goes;
       reads = (gives, is.reads);
+      cuts = is.cuts;
     }
 
     pub memory_wrote : (new : Written) (more : Pending) (at : ℕ) (bytes : List ℕ)
@@ -102,7 +105,7 @@ module _ (written : Written) (pending : Pending) (switch : Switch) (faults : ℕ
         → ((j : ℕ) → synced_image new more j ≡ synced_image written pending j)
         → ((j : ℕ) → over_in more j ≡ (if in_range at (length bytes / 512) j then Some at else over_in pending j)) → AreStored new more
         → result ≡ false → IsMemory new more after count (Wrote at bytes ∷ past)
-    unfolding seen_of kept_of ReadsAreSeen write_over obeys_switch faults_of
+    unfolding seen_of kept_of ReadsAreSeen CutsAreHonest write_over obeys_switch faults_of
     memory_wrote new more at bytes seen kept over stored goes = record {
       seen = λ j. seen j ∙ ap (λ l. if in_range at (length bytes / 512) j then take 512 (drop (512 * (j - at)) bytes) else l) (is.seen j);
       kept = λ j. kept j ∙ is.kept j;
@@ -112,11 +115,12 @@ module _ (written : Written) (pending : Pending) (switch : Switch) (faults : ℕ
       obeys = went goes;
       counted = same goes;
       reads = is.reads;
+      cuts = is.cuts;
     }
 
     pub memory_synced : (none : Pending) → ((j : ℕ) → get nat_eq none j ≡ None) → result ≡ false
         → IsMemory written none after count (Synced ∷ past)
-    unfolding seen_of kept_of ReadsAreSeen write_over obeys_switch faults_of
+    unfolding seen_of kept_of ReadsAreSeen CutsAreHonest write_over obeys_switch faults_of
     memory_synced none empty goes = record {
       seen = is.seen;
       kept = λ j. ap (λ o. kept_or o (written_image written j)) (empty j) ∙ is.seen j;
@@ -126,11 +130,12 @@ module _ (written : Written) (pending : Pending) (switch : Switch) (faults : ℕ
       obeys = went goes;
       counted = same goes;
       reads = is.reads;
+      cuts = is.cuts;
     }
 
     pub memory_refused : (what : Asked) (shown : ℕ) → ((j : ℕ) → seen_of blank (RefusedCall what shown ∷ past) j ≡ seen_of blank past j)
         → result ≡ true → IsMemory written pending after count (RefusedCall what shown ∷ past)
-    unfolding kept_of ReadsAreSeen write_over obeys_switch faults_of
+    unfolding kept_of ReadsAreSeen CutsAreHonest write_over obeys_switch faults_of
     memory_refused what shown stays fails = record {
       seen = λ j. is.seen j ∙ sym (stays j);
       kept = is.kept;
@@ -140,11 +145,12 @@ module _ (written : Written) (pending : Pending) (switch : Switch) (faults : ℕ
       obeys = ap (λ b. b && obeys_switch past) (sym fails_as_told ∙ fails) ∙ is.obeys;
       counted = counts.counted ∙ (ap (λ b. if b then next_count faults else faults) fails ∙ ap next_count is.counted);
       reads = is.reads;
+      cuts = is.cuts;
     }
 
   pub memory_told_fail : (after : Switch) (nth count : ℕ) → after.armed.items ≡ switch.armed.items ++ nth ∷ [] → after.stop ≡ switch.stop → count ≡ faults
       → IsMemory written pending after count (Told (Fail nth) ∷ past)
-  unfolding seen_of kept_of ReadsAreSeen write_over obeys_switch faults_of is_fail_due is_stopped
+  unfolding seen_of kept_of ReadsAreSeen CutsAreHonest write_over obeys_switch faults_of is_fail_due is_stopped
   memory_told_fail after nth count armed stop same = record {
     seen = is.seen;
     kept = is.kept;
@@ -157,11 +163,12 @@ module _ (written : Written) (pending : Pending) (switch : Switch) (faults : ℕ
     obeys = is.obeys;
     counted = same ∙ is.counted;
     reads = is.reads;
+    cuts = is.cuts;
   }
 
   pub memory_told_stop : (after : Switch) (calls count : ℕ) → after.armed ≡ switch.armed → after.stop ≡ Some (least calls switch.stop) → count ≡ faults
       → IsMemory written pending after count (Told (StopAfter calls) ∷ past)
-  unfolding seen_of kept_of ReadsAreSeen write_over obeys_switch faults_of is_fail_due is_stopped
+  unfolding seen_of kept_of ReadsAreSeen CutsAreHonest write_over obeys_switch faults_of is_fail_due is_stopped
   memory_told_stop after calls count armed stop same = record {
     seen = is.seen;
     kept = is.kept;
@@ -174,6 +181,7 @@ module _ (written : Written) (pending : Pending) (switch : Switch) (faults : ℕ
     obeys = is.obeys;
     counted = same ∙ is.counted;
     reads = is.reads;
+    cuts = is.cuts;
   }
 
   left_shows : (choice : CutChoice) (j : ℕ) → left_in choice written pending j ≡ left_by choice blank past j
@@ -186,7 +194,7 @@ module _ (written : Written) (pending : Pending) (switch : Switch) (faults : ℕ
       → ((j : ℕ) → written_image new j ≡ cut_image choice size written pending j) → ((j : ℕ) → get nat_eq none j ≡ None)
       → after.armed ≡ switch.armed → after.stop ≡ None → count ≡ faults
       → IsMemory new none after count (PowerCut choice (span (left_by choice blank past) 0 size) ∷ past)
-  unfolding seen_of kept_of ReadsAreSeen write_over obeys_switch faults_of is_fail_due is_stopped
+  unfolding seen_of kept_of ReadsAreSeen CutsAreHonest write_over obeys_switch faults_of is_fail_due is_stopped
   memory_cut new none after choice size count log seen empty armed stop same =
       let whole = (left_is_image choice blank past blank_is_image log.entries).whole in
       let shows : (j : ℕ) → written_image new j ≡ put 0 (span (left_by choice blank past) 0 size) (seen_of blank past) j = λ j.
@@ -206,13 +214,14 @@ module _ (written : Written) (pending : Pending) (switch : Switch) (faults : ℕ
         obeys = is.obeys;
         counted = same ∙ is.counted;
         reads = is.reads;
+        cuts = (cut_may_leave choice blank size past blank_is_image log.entries, is.cuts);
       }
 
   pub memory_flipped : (new : Written) (turned_too : Pending) (at byte count : ℕ)
       → ((j : ℕ) → written_image new j ≡ flipped at byte (written_image written) j) → ((j : ℕ) → synced_image new turned_too j ≡ flipped at byte (synced_image written pending) j)
       → ((j : ℕ) → over_in turned_too j ≡ over_in pending j) → AreStored new turned_too → count ≡ faults
       → IsMemory new turned_too switch count (Flipped at byte ∷ past)
-  unfolding seen_of kept_of ReadsAreSeen write_over obeys_switch faults_of is_fail_due is_stopped
+  unfolding seen_of kept_of ReadsAreSeen CutsAreHonest write_over obeys_switch faults_of is_fail_due is_stopped
   memory_flipped new turned_too at byte count seen kept over stored same = record {
     seen = λ j. seen j ∙ ap (λ l. if j == at then turned byte l else l) (is.seen j);
     kept = λ j. kept j ∙ ap (λ l. if j == at then turned byte l else l) (is.kept j);
@@ -222,6 +231,7 @@ module _ (written : Written) (pending : Pending) (switch : Switch) (faults : ℕ
     obeys = is.obeys;
     counted = same ∙ is.counted;
     reads = is.reads;
+    cuts = is.cuts;
   }
 
   pub memory_gives : (at n : ℕ) → span (written_image written) at n ≡ span (seen_of blank past) at n
@@ -229,7 +239,7 @@ module _ (written : Written) (pending : Pending) (switch : Switch) (faults : ℕ
 
 pub memory_at_first : (written : Written) (pending : Pending) (switch : Switch) → ((j : ℕ) → get nat_eq written j ≡ None) → ((j : ℕ) → get nat_eq pending j ≡ None)
     → switch.armed.items ≡ [] → switch.stop ≡ None → IsMemory written pending switch 0 []
-unfolding seen_of kept_of ReadsAreSeen write_over obeys_switch faults_of is_fail_due is_stopped
+unfolding seen_of kept_of ReadsAreSeen CutsAreHonest write_over obeys_switch faults_of is_fail_due is_stopped
 memory_at_first written pending switch none empty armed stop = record {
   seen = λ j. ap (λ o. unwrap_or o (blank j)) (none j);
   kept = λ j. ap (λ o. kept_or o (written_image written j)) (empty j) ∙ ap (λ o. unwrap_or o (blank j)) (none j);
@@ -239,4 +249,5 @@ memory_at_first written pending switch none empty armed stop = record {
   obeys = refl;
   counted = refl;
   reads = tt;
+  cuts = tt;
 }

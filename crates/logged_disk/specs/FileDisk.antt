@@ -5,8 +5,9 @@ use Rattle.device_log.specs.Calls.{ToWrite, RefusedCall}
 use Rattle.device_log.specs.Seen.{ReadsAreSeen}
 use Rattle.device_log.specs.Faults.{IsLog, faults_of, obeys_switch}
 use Rattle.device_log.specs.DeviceLog.{calls_of}
-use Rattle.logged_disk.specs.Device.{DeviceState, IsTrusted}
-use Rattle.logged_disk.specs.FileTrust.{file_trust, seen_is_trusted, trusted_reads}
+use Rattle.logged_disk.specs.Device.{DeviceState, IsTrusted, IsHonest, has_flip}
+use Rattle.logged_disk.specs.Honest.{CutsAreHonest}
+use Rattle.logged_disk.specs.FileTrust.{file_trust, seen_is_trusted, trusted_reads, none_is_honest}
 use Rattle.logged_disk.specs.Switchless.{asks_none}
 use Rattle.logged_disk.specs.declared.file_disk.FileDisk.{FileDisk}
 
@@ -69,3 +70,13 @@ file_tells first disk seen = seen_is_trusted (first disk.number) (calls_of disk.
 pub file_switched : {S : Type 0} (first : ℕ → Image) (disk : FileDisk S)
     → (file_state first disk).has_switch ≡ true → IsTrusted (file_state first disk)
 file_switched first disk has = asks_none (IsTrusted (file_state first disk)) has
+
+-- a file is never honest
+pub file_honest : {S : Type 0} (first : ℕ → Image) (disk : FileDisk S) → IsHonest (file_state first disk)
+    → CutsAreHonest (file_state first disk).settled (file_state first disk).first (file_state first disk).past
+file_honest first disk honest =
+    none_is_honest (first disk.number) (calls_of disk.log) (CutsAreHonest disk.settled (first disk.number) (calls_of disk.log)) honest
+
+pub file_unturned : {S : Type 0} (first : ℕ → Image) (disk : FileDisk S) → (file_state first disk).has_switch ≡ true
+    → has_flip (file_state first disk).past ≡ false → IsHonest (file_state first disk)
+file_unturned first disk has none = asks_none (IsHonest (file_state first disk)) has

@@ -68,3 +68,12 @@ pub seen_is_trusted : (first : Image) (past : List Call) → ReadsAreSeen first 
 unfolding file_trust
 seen_is_trusted first past seen =
     subst (λ (b : Bool). 1 ≤ (if b then 1 else 0)) (sym (seen_agree first past seen)) (omega arith)
+
+one_at_most : (a : Bool) → 2 ≤ (if a then 1 else 0) → ⊥
+one_at_most true two = omega (arith, two)
+one_at_most false two = omega (arith, two)
+
+-- no file is honest
+pub none_is_honest : (first : Image) (past : List Call) (P : Type 0) → 2 ≤ file_trust first past → P
+unfolding file_trust
+none_is_honest first past P two = absurd (one_at_most (agrees first past) two)

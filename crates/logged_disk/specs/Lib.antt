@@ -1,4 +1,5 @@
 pub mod Device
+pub mod Honest
 pub mod Counting
 pub mod Blocks
 pub mod Switch

@@ -7,10 +7,11 @@ use Rattle.device_log.specs.Cuts.{write_over}
 use Rattle.device_log.specs.Faults.{faults_of, obeys_switch}
 use Rattle.logged_disk.specs.Blocks.{Written, Pending, AreStored, written_image, synced_image, over_in}
 use Rattle.logged_disk.specs.Device.{has_flip}
+use Rattle.logged_disk.specs.Honest.{CutsAreHonest}
 use Rattle.logged_disk.specs.Switch.{Obeys}
 use Rattle.logged_disk.specs.declared.switch.Switch.{Switch}
 
--- The blocks hold what the log says, the calls fail where it says, and its reads gave what was seen.
+-- The blocks hold what the log says, the calls fail where it says, its reads gave what was seen, and its cuts left what they may.
 pub record IsMemory (written : Written) (pending : Pending) (switch : Switch) (faults : ℕ)
     (past : List Call) : Type 0 where
   pub seen : (j : ℕ) → written_image written j ≡ seen_of blank past j
@@ -21,6 +22,7 @@ pub record IsMemory (written : Written) (pending : Pending) (switch : Switch) (f
   pub obeys : obeys_switch past ≡ true
   pub counted : faults ≡ faults_of past
   pub reads : ReadsAreSeen blank past
+  pub cuts : CutsAreHonest true blank past
 
 -- the highest trust, until a bit is flipped
 unfoldable pub memory_trust : List Call → ℕ

@@ -1,10 +1,11 @@
 // What a block device does.
-ghost use Rattle.std.specs.Prelude.{◌≡◌, ℕ, ◌+◌, ◌/◌, ◌≤◌, ◌<◌, ◌∷◌, List, length, OnOk, OnErr, IsTrue, true};
+ghost use Rattle.std.specs.Prelude.{◌≡◌, ℕ, ◌+◌, ◌/◌, ◌≤◌, ◌<◌, ◌∷◌, List, length, OnOk, OnErr, IsTrue, true, false};
 ghost use Rattle.device_log.specs.Image.{IsImage, span};
 ghost use Rattle.device_log.specs.Calls.{Read, Wrote, Synced, Told, Fail, StopAfter, PowerCut, Flipped};
 ghost use Rattle.device_log.specs.Faults.{IsLog, faults_of, obeys_switch};
 ghost use Rattle.device_log.specs.Seen.{ReadsAreSeen};
-ghost use Rattle.logged_disk.specs.Device.{DeviceState, seen, IsTrusted, IsHonest, IsWhole, Keeps, Affords, Adds, Logs, CutLeaves};
+ghost use Rattle.logged_disk.specs.Device.{DeviceState, seen, IsTrusted, IsHonest, IsWhole, Keeps, Affords, Adds, Logs, CutLeaves, has_flip};
+ghost use Rattle.logged_disk.specs.Honest.{CutsAreHonest};
 
 use device_log::CutChoice;
 use edge_io::Failed;
@@ -72,6 +73,13 @@ pub trait Disk {
     /// What has a switch is no part of the host, and gives what it was told.
     ghost switched: { (disk : Self)
         → (state disk).has_switch ≡ true → IsTrusted (state disk) };
+
+    ghost honest: { (disk : Self) → IsHonest (state disk)
+        → CutsAreHonest (state disk).settled (state disk).first (state disk).past };
+
+    /// What has a switch is honest until a bit is turned.
+    ghost unturned: { (disk : Self) → (state disk).has_switch ≡ true
+        → has_flip (state disk).past ≡ false → IsHonest (state disk) };
 }
 
 /// A device that may have a switch, by which its power is cut and its calls are made to fail.

@@ -113,7 +113,7 @@ fn counted(answer: io::Result<()>, faults: &mut u64) -> Result<(), Failed>
 
 #[tactic(auto, using(crate::proofs::FileLemmas::file_trust_falls), unfolding(device_log::specs::Faults::faults_of))]
 impl<S: FileStart> Disk for FileDisk<S> {
-    ghost use Rattle.logged_disk.specs.FileDisk.{file_state, LeavesFront, file_is_log, file_counted, file_obeys, file_reads, file_tells, file_switched};
+    ghost use Rattle.logged_disk.specs.FileDisk.{file_state, LeavesFront, file_is_log, file_counted, file_obeys, file_reads, file_tells, file_switched, file_honest, file_unturned};
 
     ghost state = { λ disk. file_state S.first disk };
 
@@ -203,4 +203,8 @@ impl<S: FileStart> Disk for FileDisk<S> {
     ghost tells = { λ disk. file_tells S.first disk };
 
     ghost switched = { λ disk. file_switched S.first disk };
+
+    ghost honest = { λ disk. file_honest S.first disk };
+
+    ghost unturned = { λ disk. file_unturned S.first disk };
 }

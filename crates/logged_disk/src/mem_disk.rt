@@ -3,6 +3,7 @@ ghost use Rattle.std.specs.Prelude.{◌≡◌, true, false, ℕ, List, ◌∷◌
 ghost use Rattle.std.specs.HashMap.{spare};
 ghost use Rattle.std.proofs.Props.{props};
 ghost use Rattle.device_log.proofs.ReadLaws.{reads_are_prop};
+ghost use Rattle.logged_disk.specs.Honest.{cuts_are_prop};
 ghost use Rattle.device_log.specs.Image.{blank, span};
 ghost use Rattle.device_log.specs.Calls.{Read, Wrote, Synced, RefusedCall, ToWrite, Told, Fail, StopAfter, PowerCut, Flipped};
 ghost use Rattle.device_log.specs.Faults.{fails_next, next_count, is_untold, obeys_switch};
@@ -33,7 +34,7 @@ pub struct MemDisk {
     calls: u64,
     blocks: u64,
     log: DeviceLog,
-    ghost is_memory: { IsMemory written pending switch faults (calls_of log) } by { Prim.hlevel (props, reads_are_prop) },
+    ghost is_memory: { IsMemory written pending switch faults (calls_of log) } by { Prim.hlevel (props, reads_are_prop, cuts_are_prop) },
     ghost block_room: { blocks ≤ spare written },
     ghost pending_room: { blocks ≤ spare pending },
     ghost call_room: { vec_len switch.armed + calls ≤ vec_capacity switch.armed },
@@ -88,7 +89,7 @@ fn fails(switch: &mut Switch, faults: &mut u64) -> bool
 #[tactic(auto, using(crate::proofs::MemoryLemmas::trust_falls))]
 impl Disk for MemDisk {
     ghost use Rattle.logged_disk.specs.MemDisk.{mem_state};
-    ghost use Rattle.logged_disk.specs.MemoryFacts.{memory_is_log, memory_was_image, memory_counted, memory_obeys, memory_reads, memory_tells, memory_switched};
+    ghost use Rattle.logged_disk.specs.MemoryFacts.{memory_is_log, memory_was_image, memory_counted, memory_obeys, memory_reads, memory_tells, memory_switched, memory_honest, memory_unturned};
 
     ghost state = { mem_state };
 
@@ -187,6 +188,10 @@ impl Disk for MemDisk {
     ghost tells = { memory_tells };
 
     ghost switched = { memory_switched };
+
+    ghost honest = { memory_honest };
+
+    ghost unturned = { memory_unturned };
 }
 
 #[tactic(auto, using(crate::proofs::MemoryLemmas::trust_falls))]

@@ -4,8 +4,9 @@ use Rattle.device_log.specs.Image.{IsImage, blank}
 use Rattle.device_log.specs.Seen.{ReadsAreSeen}
 use Rattle.device_log.specs.Faults.{IsLog, faults_of, obeys_switch}
 use Rattle.device_log.specs.DeviceLog.{calls_of}
-use Rattle.logged_disk.specs.Device.{DeviceState, IsTrusted}
-use Rattle.logged_disk.specs.FileTrust.{file_trust, seen_is_trusted, trusted_reads}
+use Rattle.logged_disk.specs.Device.{DeviceState, IsTrusted, IsHonest, has_flip}
+use Rattle.logged_disk.specs.Honest.{CutsAreHonest}
+use Rattle.logged_disk.specs.FileTrust.{file_trust, seen_is_trusted, trusted_reads, none_is_honest}
 use Rattle.logged_disk.specs.Switchless.{asks_none}
 use Rattle.std.proofs.Common.{sym}
 use Rattle.device_log.proofs.Puts.{blank_is_image}
@@ -46,3 +47,10 @@ word_tells disk seen = seen_is_trusted blank (calls_of disk.log) seen
 
 pub word_switched : (disk : WordDisk) → (word_state disk).has_switch ≡ true → IsTrusted (word_state disk)
 word_switched disk has = asks_none (IsTrusted (word_state disk)) has
+
+-- such a device is never honest
+pub word_honest : (disk : WordDisk) → IsHonest (word_state disk) → CutsAreHonest true blank (word_state disk).past
+word_honest disk honest = none_is_honest blank (calls_of disk.log) (CutsAreHonest true blank (calls_of disk.log)) honest
+
+pub word_unturned : (disk : WordDisk) → (word_state disk).has_switch ≡ true → has_flip (word_state disk).past ≡ false → IsHonest (word_state disk)
+word_unturned disk has none = asks_none (IsHonest (word_state disk)) has

@@ -57,7 +57,7 @@ impl WordDisk {
 
 #[tactic(auto, using(logged_disk::proofs::FileLemmas::file_trust_falls), unfolding(device_log::specs::Faults::faults_of))]
 impl Disk for WordDisk {
-    ghost use Rattle.word_disk.specs.WordDisk.{word_state, word_is_log, word_was_image, word_counted, word_obeys, word_reads, word_tells, word_switched};
+    ghost use Rattle.word_disk.specs.WordDisk.{word_state, word_is_log, word_was_image, word_counted, word_obeys, word_reads, word_tells, word_switched, word_honest, word_unturned};
 
     ghost state = { word_state };
 
@@ -108,4 +108,8 @@ impl Disk for WordDisk {
     ghost tells = { word_tells };
 
     ghost switched = { word_switched };
+
+    ghost honest = { word_honest };
+
+    ghost unturned = { word_unturned };
 }
