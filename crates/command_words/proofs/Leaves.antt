@@ -66,7 +66,7 @@ no_rows (p ∷ ps) = None
 
 abbrev pub one_row : List Text → Option (List Row)
 one_row [] = None
-one_row (p ∷ []) = Some (row (codes "name") p ∷ [])
+one_row (p ∷ []) = Some (row (codes "parameter") p ∷ [])
 one_row (p ∷ q ∷ ps) = None
 
 -- what rows come of further parameters
@@ -113,10 +113,10 @@ module _ (name : Text) where
   -- ---- one parameter
 
   abbrev pub one : Shape
-  one = leaf name (given (codes "name") ∷ [])
+  one = leaf name (given (codes "parameter") ∷ [])
 
   abbrev named : Text → Held
-  named v = record { rows = []; pending = Some (codes "name", v ∷ []); skip = 0 }
+  named v = record { rows = []; pending = Some (codes "parameter", v ∷ []); skip = 0 }
 
   one_behind_more : (v : Text) (ws : List Text) → rows_from one (at (named v) 2 true) ws ≡ one_row (v ∷ ws)
   unfolding clap_on_literals

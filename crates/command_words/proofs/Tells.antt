@@ -8,7 +8,7 @@ use Rattle.clap.specs.Simple.{Shape, built, entered, names_of}
 use Rattle.clap.specs.Kinds.{Kinds, or_else}
 use Rattle.clap.specs.Faults.{check_fault, defaults_fault, entered_fault, settle_fault, turn_fault, walk_fault}
 use Rattle.clap.proofs.OnLiterals.{clap_on_literals}
-use Rattle.command_words.specs.Words.{Wish, command_of, inspects, params, replays, command_verb, wish_by}
+use Rattle.command_words.specs.Words.{Wish, checks, command_of, command_verb, inspects, params, replays, wish_by, works}
 use Rattle.command_words.specs.Line.{is_taken, command_app, told_by_clap, wish_in}
 use Rattle.command_words.proofs.Turns.{AreTexts, Look, flag_turn, look, mark, option, plain, value_turn}
 use Rattle.command_words.proofs.Leaves.{end_of, ending, no_rows, none, none_rows, one, one_row, one_rows, rows_from}
@@ -76,17 +76,34 @@ unfolding clap_on_literals
 replay_told ws = gathered (codes "replay") (codes "replay") ws refl refl
     ∙ entered_told (codes "replay") (finished (none (codes "replay")).rules (end_of (none (codes "replay")) ws)) (walk_fault (none (codes "replay")) [] (walk_from nothing_held) ws) (ending (none (codes "replay")) (end_of (none (codes "replay")) ws))
 
+work_told : (ws : List Text) → told_by_clap (codes "work" ∷ ws) ≡ named_told (codes "work") (rows_from (one (codes "work")) (walk_from nothing_held) ws)
+unfolding clap_on_literals
+work_told ws = gathered (codes "work") (codes "work") ws refl refl
+    ∙ entered_told (codes "work") (finished (one (codes "work")).rules (end_of (one (codes "work")) ws)) (walk_fault (one (codes "work")) [] (walk_from nothing_held) ws) (ending (one (codes "work")) (end_of (one (codes "work")) ws))
+
 inspect_told : (ws : List Text) → told_by_clap (codes "inspect" ∷ ws) ≡ named_told (codes "inspect") (rows_from (one (codes "inspect")) (walk_from nothing_held) ws)
 unfolding clap_on_literals
 inspect_told ws = gathered (codes "inspect") (codes "inspect") ws refl refl
     ∙ entered_told (codes "inspect") (finished (one (codes "inspect")).rules (end_of (one (codes "inspect")) ws)) (walk_fault (one (codes "inspect")) [] (walk_from nothing_held) ws) (ending (one (codes "inspect")) (end_of (one (codes "inspect")) ws))
+
+check_told : (ws : List Text) → told_by_clap (codes "check" ∷ ws) ≡ named_told (codes "check") (rows_from (one (codes "check")) (walk_from nothing_held) ws)
+unfolding clap_on_literals
+check_told ws = gathered (codes "check") (codes "check") ws refl refl
+    ∙ entered_told (codes "check") (finished (one (codes "check")).rules (end_of (one (codes "check")) ws)) (walk_fault (one (codes "check")) [] (walk_from nothing_held) ws) (ending (one (codes "check")) (end_of (one (codes "check")) ws))
 
 -- ---- what these ask for
 
 replay_asks : (o : Option (List Text)) → asks (named_told (codes "replay") (option_and_then no_rows o)) ≡ option_and_then (wish_by replays) o
 replay_asks None = refl
 replay_asks (Some []) = refl
-replay_asks (Some (p ∷ ps)) = refl
+replay_asks (Some (p ∷ [])) = refl
+replay_asks (Some (p ∷ q ∷ ps)) = refl
+
+work_asks : (o : Option (List Text)) → asks (named_told (codes "work") (option_and_then one_row o)) ≡ option_and_then (wish_by works) o
+work_asks None = refl
+work_asks (Some []) = refl
+work_asks (Some (p ∷ [])) = refl
+work_asks (Some (p ∷ q ∷ ps)) = refl
 
 inspect_asks : (o : Option (List Text)) → asks (named_told (codes "inspect") (option_and_then one_row o)) ≡ option_and_then (wish_by inspects) o
 inspect_asks None = refl
@@ -94,11 +111,19 @@ inspect_asks (Some []) = refl
 inspect_asks (Some (p ∷ [])) = refl
 inspect_asks (Some (p ∷ q ∷ ps)) = refl
 
+check_asks : (o : Option (List Text)) → asks (named_told (codes "check") (option_and_then one_row o)) ≡ option_and_then (wish_by checks) o
+check_asks None = refl
+check_asks (Some []) = refl
+check_asks (Some (p ∷ [])) = refl
+check_asks (Some (p ∷ q ∷ ps)) = refl
+
 -- ---- any other first word
 
 record IsNone (w : Text) : Type 0 where
   replay : bytes_eq w (codes "replay") ≡ false
+  work : bytes_eq w (codes "work") ≡ false
   inspect : bytes_eq w (codes "inspect") ≡ false
+  check : bytes_eq w (codes "check") ≡ false
 
 flip : (x y : Text) → bytes_eq x y ≡ false → bytes_eq y x ≡ false
 flip x y e = go (bytes_eq y x) refl
@@ -108,10 +133,10 @@ flip x y e = go (bytes_eq y x) refl
     go false t = sym t
 
 not_met : (w : Text) → IsNone w → subcommand_met names idle w ≡ None
-not_met w n = rw (flip w (codes "replay") n.replay, flip w (codes "inspect") n.inspect) refl
+not_met w n = rw (flip w (codes "replay") n.replay, flip w (codes "work") n.work, flip w (codes "inspect") n.inspect, flip w (codes "check") n.check) refl
 
 no_verb : (w : Text) → IsNone w → command_verb w ≡ None
-no_verb w n = rw (n.replay, n.inspect) refl
+no_verb w n = rw (n.replay, n.work, n.inspect, n.check) refl
 
 behind_mark : (ws : List Text) → told_by_clap (codes "--" ∷ ws) ≡ None
 unfolding clap_on_literals
@@ -134,15 +159,23 @@ abbrev Tells : Text → List Text → Type 0
 Tells w ws = asks (told_by_clap (w ∷ ws)) ≡ command_of (w ∷ ws)
 
 module _ (w : Text) (ws : List Text) (u : IsUtf8 w) (us : AreTexts ws) where
-  by_inspect : (b : Bool) → b ≡ bytes_eq w (codes "inspect") → bytes_eq w (codes "replay") ≡ false → Tells w ws
-  by_inspect true e r = subst (λ (x : Text). Tells x ws) (sym (same_text w (codes "inspect") e)) (ap asks (inspect_told ws ∙ ap (named_told (codes "inspect")) (one_rows (codes "inspect") ws us)) ∙ inspect_asks (params ws))
-  by_inspect false e r =
-      let n : IsNone w = record { replay = r; inspect = sym e } in
+  by_check : (b : Bool) → b ≡ bytes_eq w (codes "check") → bytes_eq w (codes "replay") ≡ false → bytes_eq w (codes "work") ≡ false → bytes_eq w (codes "inspect") ≡ false → Tells w ws
+  by_check true e r k i = subst (λ (x : Text). Tells x ws) (sym (same_text w (codes "check") e)) (ap asks (check_told ws ∙ ap (named_told (codes "check")) (one_rows (codes "check") ws us)) ∙ check_asks (params ws))
+  by_check false e r k i =
+      let n : IsNone w = record { replay = r; work = k; inspect = i; check = sym e } in
       ap asks (none_told w ws n (look w u)) ∙ sym (ap (λ o. option_and_then (λ verb. option_and_then (wish_by verb) (params ws)) o) (no_verb w n))
+
+  by_inspect : (b : Bool) → b ≡ bytes_eq w (codes "inspect") → bytes_eq w (codes "replay") ≡ false → bytes_eq w (codes "work") ≡ false → Tells w ws
+  by_inspect true e r k = subst (λ (x : Text). Tells x ws) (sym (same_text w (codes "inspect") e)) (ap asks (inspect_told ws ∙ ap (named_told (codes "inspect")) (one_rows (codes "inspect") ws us)) ∙ inspect_asks (params ws))
+  by_inspect false e r k = by_check (bytes_eq w (codes "check")) refl r k (sym e)
+
+  by_work : (b : Bool) → b ≡ bytes_eq w (codes "work") → bytes_eq w (codes "replay") ≡ false → Tells w ws
+  by_work true e r = subst (λ (x : Text). Tells x ws) (sym (same_text w (codes "work") e)) (ap asks (work_told ws ∙ ap (named_told (codes "work")) (one_rows (codes "work") ws us)) ∙ work_asks (params ws))
+  by_work false e r = by_inspect (bytes_eq w (codes "inspect")) refl r (sym e)
 
   by_replay : (b : Bool) → b ≡ bytes_eq w (codes "replay") → Tells w ws
   by_replay true e = subst (λ (x : Text). Tells x ws) (sym (same_text w (codes "replay") e)) (ap asks (replay_told ws ∙ ap (named_told (codes "replay")) (none_rows (codes "replay") ws us)) ∙ replay_asks (params ws))
-  by_replay false e = by_inspect (bytes_eq w (codes "inspect")) refl (sym e)
+  by_replay false e = by_work (bytes_eq w (codes "work")) refl (sym e)
 
 pub tells : (ws : List Text) → AreTexts ws → asks (told_by_clap ws) ≡ command_of ws
 unfolding clap_on_literals

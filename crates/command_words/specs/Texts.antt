@@ -15,4 +15,4 @@ help_text =
     ++ codes "7 line too long, 8 nothing to open, 9 out of memory, 10 too many lines.\n")))))))
 
 unfoldable pub version_text : List ℕ
-version_text = codes "cache_tool 0.9 (rattle-kit-13f logic dac8208d650f15bf)\n"
+version_text = codes "cache_tool 0.9 (rattle-kit-13b logic dac8208d650f15bf)\n"

@@ -1,7 +1,7 @@
 // The commands, as `clap` is told them.
 ghost use Rattle.std.specs.Prelude.{◌≡◌, IfOk};
 ghost use Rattle.clap.specs.Words.{app_of, new_app};
-ghost use Rattle.command_words.specs.Line.{bare_app, command_app, named_app, with_command};
+ghost use Rattle.command_words.specs.Line.{bare_app, command_app, one_app, with_command};
 
 use clap::{Arg, Command};
 use std::alloc::{AllocError, Global};
@@ -30,16 +30,12 @@ fn with_plain<'a>(
     Ok(all)
 }
 
-/// Adds a command that takes the name of a device.
-fn with_named<'a>(
-    alloc: Global,
-    above: Command<'a>,
-    verb: &'a str,
-) -> Result<Command<'a>, AllocError>
-    ensures { IfOk result (λ c. app_of c ≡ with_command (app_of above.entry) (named_app verb.now)) }
+/// Adds a command that takes one parameter.
+fn with_one<'a>(alloc: Global, above: Command<'a>, verb: &'a str) -> Result<Command<'a>, AllocError>
+    ensures { IfOk result (λ c. app_of c ≡ with_command (app_of above.entry) (one_app verb.now)) }
 {
-    let name = Arg::new(alloc, "name").required(true);
-    let command = Command::new(alloc, verb).arg(name)?;
+    let parameter = Arg::new(alloc, "parameter").required(true);
+    let command = Command::new(alloc, verb).arg(parameter)?;
     let all = above.subcommand(command)?;
     Ok(all)
 }
@@ -49,6 +45,8 @@ pub(crate) fn line<'a>(alloc: Global) -> Result<Command<'a>, AllocError>
     ensures { IfOk result (λ c. app_of c ≡ command_app) }
 {
     let replay = with_plain(alloc, bare(alloc), "replay")?;
-    let all = with_named(alloc, replay, "inspect")?;
+    let work = with_one(alloc, replay, "work")?;
+    let inspect = with_one(alloc, work, "inspect")?;
+    let all = with_one(alloc, inspect, "check")?;
     Ok(all)
 }

@@ -1,10 +1,10 @@
 // What words ask for, by clap's matches of them.
-ghost use Rattle.std.specs.Prelude.{◌≡◌, IfErr, IfOk, map, option_map, string_bytes};
+ghost use Rattle.std.specs.Prelude.{◌≡◌, IfErr, IfOk, IfSome, map, option_and_then, option_map, string_bytes};
 ghost use Rattle.clap.specs.Words.{found_of, rows_of, subcommand_rows_of};
-ghost use Rattle.command_words.specs.Line.{name_among, told_by_clap, wish_among, wish_in};
-ghost use Rattle.command_words.specs.Words.{MayWantMemory, asked_in_words, command_of, wish_of};
+ghost use Rattle.command_words.specs.Line.{parameter_among, told_by_clap, wish_among, wish_in};
+ghost use Rattle.command_words.specs.Words.{HasFewWorkers, MayWantMemory, asked_in_words, command_of, command_verb, wish_of, wish_of_one};
 
-use crate::command::{Command, lone, named};
+use crate::command::{Command, lone, named, workers};
 use crate::line::line;
 use clap::ArgMatches;
 use clap::error::ErrorKind;
@@ -24,35 +24,54 @@ fn parse<'a>(alloc: Global, words: &'a [String]) -> Result<Option<ArgMatches<'a>
     }
 }
 
-/// The name of a device that the matches have.
-fn name_in<'a>(matches: &ArgMatches<'a>) -> Option<&'a str>
-    ensures { option_map (λ s. s.now) result ≡ name_among (rows_of (found_of matches.now)) }
+/// The parameter that the matches have.
+fn parameter<'a>(matches: &ArgMatches<'a>) -> Option<&'a str>
+    ensures { option_map (λ s. s.now) result ≡ parameter_among (rows_of (found_of matches.now)) }
 {
-    match matches.get_str("name") {
-        Some(word) => named(word),
-        None => None,
-    }
+    matches.get_str("parameter")
 }
 
-/// What a command asks for with these matches.
-fn command_with<'a>(verb: &str, matches: &ArgMatches<'a>) -> Option<Command<'a>>
-    ensures { option_map wish_of result ≡ wish_in (verb.now, rows_of (found_of matches.now)) }
+/// What a command of one parameter asks for.
+fn command_of_one<'a>(verb: &str, word: &'a str) -> Option<Command<'a>>
+    ensures wish { option_map wish_of result ≡ option_and_then (λ v. wish_of_one v word.now) (command_verb verb.now) }
+    ensures few { IfSome result HasFewWorkers }
 {
     if verb == "replay" {
-        return Some(Command::Replay);
+        return None;
+    }
+    if verb == "work" {
+        let workers = workers(word)?;
+        return Some(Command::Work { workers });
     }
     if verb == "inspect" {
-        return match name_in(matches) {
-            Some(name) => Some(Command::Inspect { name }),
-            None => None,
-        };
+        let name = named(word)?;
+        return Some(Command::Inspect { name });
+    }
+    if verb == "check" {
+        let name = named(word)?;
+        return Some(Command::Check { name });
     }
     None
 }
 
+/// What a command asks for with these matches.
+fn command_with<'a>(verb: &str, matches: &ArgMatches<'a>) -> Option<Command<'a>>
+    ensures wish { option_map wish_of result ≡ wish_in (verb.now, rows_of (found_of matches.now)) }
+    ensures few { IfSome result HasFewWorkers }
+{
+    if verb == "replay" {
+        return Some(Command::Replay);
+    }
+    match parameter(matches) {
+        Some(word) => command_of_one(verb, word),
+        None => None,
+    }
+}
+
 /// What the matches ask for.
 fn command_in<'a>(matches: &ArgMatches<'a>) -> Option<Command<'a>>
-    ensures { option_map wish_of result ≡ wish_among (subcommand_rows_of matches.now) }
+    ensures wish { option_map wish_of result ≡ wish_among (subcommand_rows_of matches.now) }
+    ensures few { IfSome result HasFewWorkers }
 {
     match matches.subcommand() {
         Some((verb, inner)) => command_with(verb, inner),
@@ -62,7 +81,8 @@ fn command_in<'a>(matches: &ArgMatches<'a>) -> Option<Command<'a>>
 
 /// What a command and its parameters ask for.
 fn command<'a>(alloc: Global, words: &'a [String]) -> Result<Option<Command<'a>>, AllocError>
-    ensures { IfOk result (λ asked. option_map wish_of asked ≡ command_of (map string_bytes words.now)) }
+    ensures wish { IfOk result (λ asked. option_map wish_of asked ≡ command_of (map string_bytes words.now)) }
+    ensures few { IfOk result (λ asked. IfSome asked HasFewWorkers) }
 {
     match parse(alloc, words)? {
         Some(matches) => Ok(command_in(&matches)),
@@ -73,6 +93,7 @@ fn command<'a>(alloc: Global, words: &'a [String]) -> Result<Option<Command<'a>>
 /// What the words ask for, where they are a command. The one refusal is want of memory.
 pub fn read_words<'a>(alloc: Global, words: &'a [String]) -> Result<Option<Command<'a>>, AllocError>
     ensures asked { IfOk result (λ asked. option_map wish_of asked ≡ asked_in_words words.now) }
+    ensures few { IfOk result (λ asked. IfSome asked HasFewWorkers) }
     ensures wanting { IfErr result (λ _. MayWantMemory (asked_in_words words.now)) }
 {
     if let [word] = words {

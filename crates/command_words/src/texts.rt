@@ -23,5 +23,5 @@ pub fn help_text() -> &'static str
 pub fn version_text() -> &'static str
     ensures { result.now ≡ version_text }
 {
-    "cache_tool 0.9 (rattle-kit-13f logic dac8208d650f15bf)\n"
+    "cache_tool 0.9 (rattle-kit-13b logic dac8208d650f15bf)\n"
 }
