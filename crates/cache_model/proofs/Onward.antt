@@ -2,6 +2,7 @@
 use Rattle.std.proofs.Common.{◌≡◌, ℕ, ◌+◌, ◌≤◌, List, [], ◌∷◌, refl, sym, subst, arith, Bool, true, false}
 use Rattle.std.specs.Prelude.{Option, length, map, max}
 use Rattle.std.proofs.lemmas.Bool.{leb-true, eq-eqb}
+use Rattle.device_log.specs.Calls.{Call}
 use Rattle.tape_base.specs.declared.geometries.Geometry.{Geometry}
 use Rattle.tape_base.specs.Blocks.{blocks_of}
 use Rattle.tape_base.specs.Digest.{digest_of}
@@ -142,8 +143,9 @@ opening_is_sound packed g o h = record {
   known = known_found (max g.content o.floor) o.found o.cursor h.rising;
 }
 
-pub legal_is_sound : (setting : Setting) (courses : List Course) (recs : List Rec) → IsLegal setting courses recs → IsSound (after_all nothing_yet recs)
-legal_is_sound setting courses recs (Legal.IsLegal.begins geometry) = fresh geometry
-legal_is_sound setting courses recs (Legal.IsLegal.opens geometry o opening) = opening_is_sound setting.packed geometry o opening
-legal_is_sound setting courses recs (Legal.IsLegal.steps {before = before} {added = added} course e legal step) =
-    subst IsSound (sym (after_all-append nothing_yet before added)) (later_grown step.grows (legal_is_sound setting _ before legal)).sound
+pub legal_is_sound : (setting : Setting) (past : List Call) (courses : List Course) (recs : List Rec) → IsLegal setting past courses recs → IsSound (after_all nothing_yet recs)
+legal_is_sound setting past courses recs (Legal.IsLegal.begins geometry) = fresh geometry
+legal_is_sound setting past courses recs (Legal.IsLegal.opens geometry o opening) = opening_is_sound setting.packed geometry o opening
+legal_is_sound setting past courses recs (Legal.IsLegal.steps {before = before} {added = added} course e legal step) =
+    subst IsSound (sym (after_all-append nothing_yet before added)) (later_grown step.grows (legal_is_sound setting _ _ before legal)).sound
+legal_is_sound setting past courses recs (Legal.IsLegal.tells call is legal) = legal_is_sound setting _ courses recs legal

@@ -1,12 +1,14 @@
 -- What is told of the bytes of pieces.
-use Rattle.std.specs.Prelude.{ℕ, ◌≡◌, true, IfSome, IsSome, List, Option, Some, length, option_map}
+use Rattle.std.specs.Prelude.{ℕ, ◌≡◌, true, false, if◌then◌else◌, IfSome, IsSome, List, Option, None, Some, length, option_map}
 use Rattle.std.specs.List.{AllByRecursion}
 use Rattle.tape_base.specs.declared.geometries.Geometry.{Geometry}
 use Rattle.tape_base.specs.declared.pieces.PieceId.{PieceId}
 use Rattle.tape_base.specs.Blocks.{blocks_of}
+use Rattle.tape_base.specs.Digest.{digest_of}
 use Rattle.tape_base.specs.Piece.{is_vector}
 use Rattle.doc_header.specs.declared.documents.Doc.{Doc}
 use Rattle.doc_header.specs.Document.{digest_of_document}
+use Rattle.fragment_table.specs.Table.{TableRow, made_row}
 use Rattle.alternate_vector.specs.Alternates.{Stored}
 use Rattle.alternate_vector.specs.Spelling.{IsSpelling, vector_bytes}
 use Rattle.cache_model.specs.State.{Row, State, listed}
@@ -36,15 +38,27 @@ pub record TellsVectors (contents : Contents) : Type 0 where
 abbrev pub doc_of_row : Geometry → Row → ℕ → Doc
 doc_of_row g row start = record { id = row.id; place = row.place; generation = g.generation; pin = row.pin; start = start }
 
--- a piece is recorded as the document with this content
-pub record IsRecordedWith (g : Geometry) (row : Row) (content : Content) : Type 0 where
-  pub digest : row.digest ≡ digest_of_document (doc_of_row g row content.start) content.payload
-  pub blocks : row.blocks ≡ blocks_of (length content.payload)
+-- what is recorded of a piece's payload: of a fragment its length and its digest, of a vector nothing
+abbrev pub payload_recorded : PieceId → List ℕ → Option TableRow
+payload_recorded id bytes = if is_vector id then None else Some (made_row (length bytes) (digest_of bytes).0)
 
--- where a content is told of it; and a vector lists something that can be spelled
+-- a piece is recorded as the document of these bytes, which begin there in the body of its put
+pub record IsRecordedFrom (g : Geometry) (row : Row) (start : ℕ) (bytes : List ℕ) : Type 0 where
+  pub digest : row.digest ≡ digest_of_document (doc_of_row g row start) bytes
+  pub blocks : row.blocks ≡ blocks_of (length bytes)
+  pub payload : row.payload ≡ payload_recorded row.id bytes
+
+-- a piece is recorded as a document with this content; a found vector may have any start
+pub record IsRecordedWith (g : Geometry) (row : Row) (content : Content) : Type 0 where
+  pub start : ℕ
+  pub starts : is_vector row.id ≡ false → start ≡ content.start
+  pub document : IsRecordedFrom g row start content.payload
+
+-- where a content is told of it; and a vector lists something that can be spelled, a fragment nothing
 pub record IsRecordedAs (contents : Contents) (g : Geometry) (row : Row) : Type 0 where
   pub content : IfSome (contents row.id row.alternates) (IsRecordedWith g row)
   pub lists : is_vector row.id ≡ true → IsSome row.alternates
+  pub unlisted : is_vector row.id ≡ false → row.alternates ≡ None
   pub spelled : IfSome row.alternates (λ list. IsSpelling (vector_bytes list) list)
 
 -- so is each piece

@@ -8,7 +8,7 @@ use Rattle.tape_base.specs.declared.pieces.PieceId.{PieceId}
 use Rattle.tape_base.specs.declared.digests.Digest.{Digest}
 use Rattle.tape_base.specs.declared.actors.Actor.{Actor}
 use Rattle.tape_base.specs.declared.geometries.Geometry.{Geometry}
-use Rattle.device_log.specs.Calls.{Call}
+use Rattle.device_log.specs.Calls.{Call, Flipped, Told}
 use Rattle.tape_base.specs.Blocks.{blocks_of}
 use Rattle.tape_base.specs.Digest.{digest_of}
 use Rattle.tape_base.specs.Geometry.{budget_of}
@@ -418,16 +418,21 @@ pub record Course : Type 0 where
   pub intents : List Intent
   pub refused : Option Reason
 
--- the calls that the device made in these steps, the newest first
-abbrev pub calls_of_courses : List Course → List Call
-calls_of_courses [] = []
-calls_of_courses (course ∷ later) = calls_of_courses later ++ course.permit.events
+-- by this call the switch of a device is told something
+abbrev pub IsOfSwitch : Call → Type 0
+IsOfSwitch (Told act) = Unit {0}
+IsOfSwitch (Flipped at byte) = Unit {0}
+IsOfSwitch _ = ⊥
 
--- the records of a session up to the end of a step, from a format or an opening on and by its steps, of a stripe of one
--- setting
-pub data IsLegal (setting : Setting) : List Course → List Rec → Type 0 where
-  begins : (geometry : Geometry) → IsLegal setting [] (format_records geometry)
-  opens : (geometry : Geometry) (o : Opening) → IsOpening setting.packed geometry o → IsLegal setting [] (opened_records geometry o)
-  steps : {courses : List Course} {before added : List Rec} (course : Course) → IsSetBy setting (calls_of_courses courses) course.permit
-      → IsLegal setting courses before → IsStep course.permit (after_all nothing_yet before) course.intents added course.refused
-      → IsLegal setting (courses ++ course ∷ []) (before ++ added)
+-- The records of a session up to the end of a step, from a format or an opening on and by its steps, of a stripe of one
+-- setting, whose device has made these calls by then: those before the session, those of its steps, and between them those
+-- by which its switch was told something.
+pub data IsLegal (setting : Setting) : (past : List Call) → List Course → List Rec → Type 0 where
+  begins : {past : List Call} (geometry : Geometry) → IsLegal setting past [] (format_records geometry)
+  opens : {past : List Call} (geometry : Geometry) (o : Opening) → IsOpening setting.packed geometry o
+      → IsLegal setting past [] (opened_records geometry o)
+  steps : {past : List Call} {courses : List Course} {before added : List Rec} (course : Course) → IsSetBy setting past course.permit
+      → IsLegal setting past courses before → IsStep course.permit (after_all nothing_yet before) course.intents added course.refused
+      → IsLegal setting (course.permit.events ++ past) (courses ++ course ∷ []) (before ++ added)
+  tells : {past : List Call} {courses : List Course} {recs : List Rec} (call : Call) → IsOfSwitch call → IsLegal setting past courses recs
+      → IsLegal setting (call ∷ past) courses recs

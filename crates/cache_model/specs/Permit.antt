@@ -97,8 +97,8 @@ pub record Setting : Type 0 where
   pub packed : Bool
   pub syncs : Bool
 
--- the same of a step, with the moment that pins are weighed by, the calls that the device made in the steps of the session
--- before it, and those that it made in the step itself, the newest first
+-- the same of a step, with the moment that pins are weighed by, the calls that its device made before it, and those that the
+-- device made in the step itself, the newest first
 pub record Permit : Type 0 where
   pub packed : Bool
   pub syncs : Bool
@@ -106,11 +106,11 @@ pub record Permit : Type 0 where
   pub past : List Call
   pub events : List Call
 
--- the step is one of such a session, which has made these calls before it
+-- the step is one of such a session, whose device has made these calls before it
 pub record IsSetBy (setting : Setting) (calls : List Call) (p : Permit) : Type 0 where
   pub packed : p.packed ≡ setting.packed
   pub syncs : p.syncs ≡ setting.syncs
-  pub past : setting.syncs ≡ true → p.past ≡ calls
+  pub past : p.past ≡ calls
 
 -- the value stands in the list, once or more often
 abbrev pub IsAmong : {X : Type 0} → X → List X → Type 0

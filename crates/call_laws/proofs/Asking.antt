@@ -103,14 +103,14 @@ module _ (p : Permit) (s : State) (actor : ℕ) (key : Key) (request : List Fiel
           let over : goes.between.intents ≡ [] = ap (λ (w : Work). w.intents) goes.first.2 ∙ looked goes.added goes.first.0 goes.first.1 in
           subst (λ (is : List Intent). IsPairNext IsPlaced p (after_all s v.before) is) (none_next p _ goes.between goes.rest v.left over goes.behind) v.pair
 
-pub lookups_ask : (IsPlaced : Documents) (before known : Facts) (now : ℕ) (a b : At) (actor : ℕ) (key : Key) (request : List Field) (row : Row) (past : List Call)
+pub lookups_ask : (IsPlaced : Documents) (before known : Facts) (now : ℕ) (a b : At) (actor : ℕ) (key : Key) (request : List Field) (row : Row)
     → (call : ServesFrom IsPlaced now a b (Look actor key request ∷ []) AllDone before known)
-    → before past (state_of a.kept)
+    → before (state_of a.kept)
     → live_vector_of (state_of a.kept) key ≡ Some row → IsWritten (state_of a.kept) row
     → WasAsked (block_of (state_of a.kept).geometry row.place) row.blocks call.calls
-lookups_ask IsPlaced before known now a b actor key request row past call k live written =
-    let p : Permit = permit_of now a.setting past call.calls in
-    elim ((call.does p [] (encloses_own now a.setting past call.calls)).from k) [
+lookups_ask IsPlaced before known now a b actor key request row call k live written =
+    let p : Permit = permit_of now a call.calls in
+    elim ((call.does p [] (encloses_own now a call.calls)).from k) [
       | inl v ↦ of_spent p (state_of a.kept) actor key request row live written call.added v.spends
       | inr pair ↦ of_shown p (state_of a.kept) actor key request row live written IsPlaced call.added pair
     ]

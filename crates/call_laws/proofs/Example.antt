@@ -6,7 +6,7 @@ use Rattle.cache_model.specs.Kept.{state_of}
 use Rattle.cache_model.specs.Permit.{Weigh, Finish, Commit, GiveUp, Intent, Reason}
 use Rattle.cache_model.specs.Legal.{IsQuiet}
 use Rattle.cache_model.specs.Vectors.{AreTold, IsVectorAs}
-use Rattle.call_laws.specs.Moments.{NothingKnown, At, Facts, IsToldAt}
+use Rattle.call_laws.specs.Moments.{NothingKnown, At, Facts}
 use Rattle.call_laws.specs.Progress.{AllDone, FallsShort, IfDone, Leaves, Progress, Stops, in_full}
 use Rattle.call_laws.specs.Serves.{ServesFrom}
 use Rattle.call_laws.specs.Whole.{IsWholeStep}
@@ -16,7 +16,7 @@ use Rattle.call_laws.proofs.Whole.{serves_step}
 
 -- what was asked came there, from vectors that list their alternates, or a pair is shown of one of them
 abbrev ServesAs : (now : ℕ) → (old new : At) → List Intent → Progress → Type 0
-ServesAs now old new asked o = ServesFrom IsVectorAs now old new asked o IsToldAt NothingKnown
+ServesAs now old new asked o = ServesFrom IsVectorAs now old new asked o AreTold NothingKnown
 
 module _ (now put rest fragments : ℕ) (a b c d : At) (Weighed : Facts) where
   -- what a close is asked
@@ -25,7 +25,7 @@ module _ (now put rest fragments : ℕ) (a b c d : At) (Weighed : Facts) where
 
   -- each call, and where it comes; what weighing makes known is what finishing needs
   abbrev Weighs : Progress → Type 0
-  Weighs o = ServesFrom IsVectorAs now a b (Weigh put rest ∷ []) o IsToldAt (IfDone o Weighed)
+  Weighs o = ServesFrom IsVectorAs now a b (Weigh put rest ∷ []) o AreTold (IfDone o Weighed)
 
   abbrev Finishes : Progress → Type 0
   Finishes o = ServesFrom IsVectorAs now b c (Finish put fragments ∷ []) o Weighed NothingKnown
@@ -47,7 +47,7 @@ module _ (now put rest fragments : ℕ) (a b c d : At) (Weighed : Facts) where
 
   -- the first one does
   stopped : (o : Progress) → FallsShort o → Weighs o → ServesAs now a b closes o
-  stopped o short weighs = serves_known NothingKnown (λ past k. tt) (serves_refused weighs short refl)
+  stopped o short weighs = serves_known NothingKnown (λ k. tt) (serves_refused weighs short refl)
 
   -- finishing is two calls, of which the first makes room
   roomed : ServesFrom IsVectorAs now a b (Finish put fragments ∷ []) (Leaves (Finish put fragments ∷ [])) Weighed Weighed → Finishes AllDone
@@ -59,7 +59,7 @@ module _ (now put rest fragments : ℕ) (a b c d : At) (Weighed : Facts) where
       → ServesAs now a c (Weigh put rest ∷ Finish put fragments ∷ Commit put ∷ GiveUp put ∷ []) (Stops why)
   given_up why closing gives = serves_fails (GiveUp put ∷ []) closing gives
 
-  -- a close that is a step of its own, of a stripe that syncs or not
-  whole : (past : List Call) → AreTold (state_of a.kept) → IsQuiet (state_of d.kept)
-      → ServesFrom IsVectorAs now a d closes AllDone IsToldAt IsToldAt → IsWholeStep IsVectorAs now past a d closes None IsToldAt
-  whole past known quiet serves = serves_step None past in_full quiet known serves
+  -- a close that is a step of its own
+  whole : AreTold (state_of a.kept) → IsQuiet (state_of d.kept)
+      → ServesFrom IsVectorAs now a d closes AllDone AreTold AreTold → IsWholeStep IsVectorAs now a d closes None AreTold
+  whole known quiet serves = serves_step None in_full quiet known serves

@@ -28,21 +28,26 @@ state_behind old new a is = ap state_of is ∙ after_all-append old.base old.sin
 
 -- ---- a step
 
-pub encloses_first : {now : ℕ} {setting : Setting} {p : Permit} {earlier : List Call} (c d : List Call) → Encloses now setting p earlier (d ++ c)
-    → Encloses now setting p earlier c
+pub encloses_first : {now : ℕ} {a : At} {p : Permit} {earlier : List Call} (c d : List Call) → Encloses now a p earlier (d ++ c)
+    → Encloses now a p earlier c
 encloses_first {earlier = earlier} c d h = record {
   later = h.later ++ d;
   moment = h.moment;
-  set = h.set;
+  packed = h.packed;
+  syncs = h.syncs;
+  past = h.past;
   events = h.events ∙ (ap (λ calls. h.later ++ calls) (append_assoc d c earlier) ∙ sym (append_assoc h.later d (c ++ earlier)));
 }
 
-pub encloses_later : {now : ℕ} {setting : Setting} {p : Permit} {earlier : List Call} (c d : List Call) → Encloses now setting p earlier (d ++ c)
-    → Encloses now setting p (c ++ earlier) d
-encloses_later {earlier = earlier} c d h = record {
+-- so it is at the moment at which the first of two calls ends
+pub encloses_later : {now : ℕ} {a b : At} {p : Permit} {earlier : List Call} (c d : List Call) → b.setting ≡ a.setting
+    → b.device.past ≡ c ++ a.device.past → Encloses now a p earlier (d ++ c) → Encloses now b p (c ++ earlier) d
+encloses_later {earlier = earlier} c d setting past h = record {
   later = h.later;
   moment = h.moment;
-  set = h.set;
+  packed = h.packed ∙ sym (ap (λ (s : Setting). s.packed) setting);
+  syncs = h.syncs ∙ sym (ap (λ (s : Setting). s.syncs) setting);
+  past = past ∙ (ap (λ calls. c ++ calls) h.past ∙ sym (append_assoc c earlier _));
   events = h.events ∙ ap (λ calls. h.later ++ calls) (append_assoc d c earlier);
 }
 
@@ -76,7 +81,7 @@ happens_both {a} {b} {c} {calls} {more} {added} {others} f l = record {
 
 -- what comes of a call is something else too
 pub call_as : {now : ℕ} {a b : At} {comes others : Upshots}
-    → ((p : Permit) (earlier calls : List Call) (added : List Rec) → Encloses now a.setting p earlier calls → Happens a b calls added
+    → ((p : Permit) (earlier calls : List Call) (added : List Rec) → Encloses now a p earlier calls → Happens a b calls added
     → (let c : InStep = record { step = p; earlier = earlier; calls = calls; state = state_of a.kept; added = added } in comes c → others c))
     → IsCall now a b comes → IsCall now a b others
 call_as law f = record {
@@ -88,7 +93,7 @@ call_as law f = record {
 
 -- what comes of nothing
 pub call_still : {now : ℕ} {a b : At} {comes : Upshots} → IsStillAt a b
-    → ((p : Permit) (earlier : List Call) → Encloses now a.setting p earlier []
+    → ((p : Permit) (earlier : List Call) → Encloses now a p earlier []
     → comes (record { step = p; earlier = earlier; calls = []; state = state_of a.kept; added = [] }))
     → IsCall now a b comes
 call_still still each = record { calls = []; added = []; happens = happens_nothing still; does = λ p earlier step. each p earlier step }
@@ -105,9 +110,8 @@ call_then {now} {a} {b} {c} {first} {last} {all} law f l = record {
   added = f.added ++ l.added;
   happens = happens_both f.happens l.happens;
   does = λ p earlier step.
-      let inside : Encloses now b.setting p (f.calls ++ earlier) l.calls =
-      subst (λ s. Encloses now s p (f.calls ++ earlier) l.calls) (sym f.happens.setting) (encloses_later f.calls l.calls step) in
-      let before : Encloses now a.setting p earlier f.calls = encloses_first f.calls l.calls step in
+      let inside : Encloses now b p (f.calls ++ earlier) l.calls = encloses_later f.calls l.calls f.happens.setting f.happens.past step in
+      let before : Encloses now a p earlier f.calls = encloses_first f.calls l.calls step in
       law p earlier f.calls l.calls f.added l.added (f.does p earlier before)
       (subst (λ s. last (record { step = p; earlier = f.calls ++ earlier; calls = l.calls; state = s; added = l.added }))
       (state_behind a.kept b.kept f.added f.happens.adds) (l.does p (f.calls ++ earlier) inside));

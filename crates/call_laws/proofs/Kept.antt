@@ -15,7 +15,7 @@ use Rattle.cache_model.specs.Vectors.{ArePuts, AreTold, AreVectors, IsVectorAs}
 use Rattle.cache_model.proofs.Onward.{later_group}
 use Rattle.cache_model.proofs.Steps.{after_all-append, grows_by}
 use Rattle.call_laws.specs.Untold.{Untold}
-use Rattle.call_laws.specs.Moments.{At, BothFacts, Facts, IsToldAt, OfState}
+use Rattle.call_laws.specs.Moments.{At, BothFacts, Facts}
 use Rattle.call_laws.specs.Progress.{Progress}
 use Rattle.call_laws.specs.Serves.{Serves, ServesFrom}
 use Rattle.call_laws.specs.Whole.{GroupsKeep, GroupsLeavePuts, GroupsLeaveTold, LeavesListed}
@@ -42,12 +42,12 @@ module _ (P : Documents) (IsSo : State → Type 0) (keep : GroupsKeep P IsSo) wh
   ]
 
   pub serves_keeps : {now : ℕ} {a b : At} {asked : List Intent} {o : Progress} {before known : Facts}
-      → ((past : List Call) → before past (state_of a.kept) → IsSo (state_of a.kept))
-      → ServesFrom P now a b asked o before known → ServesFrom P now a b asked o before (BothFacts (OfState IsSo) known)
+      → (before (state_of a.kept) → IsSo (state_of a.kept))
+      → ServesFrom P now a b asked o before known → ServesFrom P now a b asked o before (BothFacts IsSo known)
   serves_keeps {a = a} {asked = asked} {o = o} first f = call_as (λ p earlier calls added step happens h. record {
     from = λ k. elim (h.from k) [
       | inr pair ↦ inr pair
-      | inl v ↦ elim (grown_keeps (spends_begins p (state_of a.kept) asked added o v.spends).1 (first _ k)) [
+      | inl v ↦ elim (grown_keeps (spends_begins p (state_of a.kept) asked added o v.spends).1 (first k)) [
         | inl kept ↦ inl (record { spends = v.spends; behind = (kept, v.behind) })
         | inr pair ↦ inr pair
       ]
@@ -95,7 +95,7 @@ no_pair p s (i ∷ is) h = h.pair.placed
 
 -- where a device tells its content, and leaves vectors that list their alternates, these are so behind a call
 serves_surely : {now : ℕ} {a b : At} {P : Documents} {asked : List Intent} {o : Progress} {known : Facts} → GroupsLeavePuts → AreVectors (state_of b.kept)
-    → (state_of b.kept).displaced ≡ [] → ServesFrom P now a b asked o IsToldAt known → ServesFrom P now a b asked o IsToldAt (BothFacts IsToldAt known)
+    → (state_of b.kept).displaced ≡ [] → ServesFrom P now a b asked o AreTold known → ServesFrom P now a b asked o AreTold (BothFacts AreTold known)
 serves_surely {a = a} {b = b} {asked = asked} {o = o} leave vectors none f = call_as (λ p earlier calls added step happens h. record {
   from = λ k. elim (h.from k) [
     | inr pair ↦ inr pair
@@ -114,19 +114,19 @@ serves_surely {a = a} {b = b} {asked = asked} {o = o} leave vectors none f = cal
 
 -- a call that needs vectors that list their alternates leaves them so
 pub serves_told : {now : ℕ} {a b : At} {last : Device} {asked : List Intent} {o : Progress} {known : Facts} → GroupsLeaveTold → GroupsLeavePuts
-    → IsSound (state_of a.kept) → LeavesListed last (state_of b.kept) → ServesFrom (Untold last IsVectorAs) now a b asked o IsToldAt known
-    → ServesFrom (Untold last IsVectorAs) now a b asked o IsToldAt (BothFacts IsToldAt known)
+    → IsSound (state_of a.kept) → LeavesListed last (state_of b.kept) → ServesFrom (Untold last IsVectorAs) now a b asked o AreTold known
+    → ServesFrom (Untold last IsVectorAs) now a b asked o AreTold (BothFacts AreTold known)
 serves_told {last = last} {known = known} tell leave sound listed f = elim (tells_or_not last) [
   | inl tells ↦ serves_surely leave (listed.vectors tells) listed.none f
   | inr n ↦ serves_wider IsVectorAs (Untold last IsVectorAs) (untold_of last n)
-      (serves_known (BothFacts IsToldAt known) (λ past k. (k.0.1, k.1))
-      (serves_keeps IsVectorAs StandsTold (told_keep tell) (λ past told. (sound, told)) (serves_wider (Untold last IsVectorAs) IsVectorAs (untold_wider last) f)))
+      (serves_known (BothFacts AreTold known) (λ k. (k.0.1, k.1))
+      (serves_keeps IsVectorAs StandsTold (told_keep tell) (λ told. (sound, told)) (serves_wider (Untold last IsVectorAs) IsVectorAs (untold_wider last) f)))
 ]
 
 -- so it serves
 pub told_serves : {now : ℕ} {a b : At} {asked : List Intent} {o : Progress} {known : Facts} → GroupsLeaveTold → GroupsLeavePuts → IsSound (state_of a.kept)
-    → LeavesListed b.device (state_of b.kept) → ServesFrom (Untold b.device IsVectorAs) now a b asked o IsToldAt known → Serves now a b asked o
-told_serves tell leave sound listed f = serves_known IsToldAt (λ past k. k.0) (serves_told tell leave sound listed f)
+    → LeavesListed b.device (state_of b.kept) → ServesFrom (Untold b.device IsVectorAs) now a b asked o AreTold known → Serves now a b asked o
+told_serves tell leave sound listed f = serves_known AreTold (λ k. k.0) (serves_told tell leave sound listed f)
 
 -- ---- pairs on devices that did not tell their content
 

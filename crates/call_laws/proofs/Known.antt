@@ -1,31 +1,31 @@
 -- What is known before a call and behind it, said in other words.
-use Rattle.std.proofs.Common.{◌≡◌, ℕ, List, [], ◌∷◌, ◌++◌, sym, subst, append_assoc, inl, inr}
+use Rattle.std.proofs.Common.{◌≡◌, ℕ, List, [], ◌∷◌, ◌++◌, sym, subst, inl, inr}
 use Rattle.device_log.specs.Calls.{Call}
 use Rattle.cache_model.specs.State.{Row, State}
 use Rattle.cache_model.specs.Kept.{state_of}
 use Rattle.cache_model.specs.Permit.{Intent, Permit}
 use Rattle.cache_model.specs.Pair.{Documents, IsPairNext, IsPairOf}
-use Rattle.call_laws.specs.Moments.{At, BothFacts, Facts, so_far}
+use Rattle.call_laws.specs.Moments.{At, BothFacts, Facts}
 use Rattle.call_laws.specs.Progress.{Progress}
 use Rattle.call_laws.specs.Serves.{ServesFrom}
 use Rattle.call_laws.proofs.Joined.{call_as, state_behind}
 
 -- more is known before
 pub serves_given : {P : Documents} {now : ℕ} {a b : At} {asked : List Intent} {o : Progress} {before known : Facts} (more : Facts)
-    → ((past : List Call) → more past (state_of a.kept) → before past (state_of a.kept)) → ServesFrom P now a b asked o before known
+    → (more (state_of a.kept) → before (state_of a.kept)) → ServesFrom P now a b asked o before known
     → ServesFrom P now a b asked o more known
-serves_given more law f = call_as (λ p earlier calls added step happens h. record { from = λ k. h.from (law (so_far p earlier) k) }) f
+serves_given more law f = call_as (λ p earlier calls added step happens h. record { from = λ k. h.from (law k) }) f
 
 -- something else is known behind, by what the call left
 pub serves_known : {P : Documents} {now : ℕ} {a b : At} {asked : List Intent} {o : Progress} {before known : Facts} (other : Facts)
-    → ((past : List Call) → known past (state_of b.kept) → other past (state_of b.kept)) → ServesFrom P now a b asked o before known
+    → (known (state_of b.kept) → other (state_of b.kept)) → ServesFrom P now a b asked o before known
     → ServesFrom P now a b asked o before other
 serves_known {a = a} {b = b} {known = known} other law f = call_as (λ p earlier calls added step happens h. record {
   from = λ k. elim (h.from k) [
     | inl v ↦ inl (record {
       spends = v.spends;
-      behind = subst (other (so_far p (calls ++ earlier))) (state_behind a.kept b.kept added happens.adds)
-          (law (so_far p (calls ++ earlier)) (subst (known (so_far p (calls ++ earlier))) (sym (state_behind a.kept b.kept added happens.adds)) v.behind));
+      behind = subst other (state_behind a.kept b.kept added happens.adds)
+          (law (subst known (sym (state_behind a.kept b.kept added happens.adds)) v.behind));
     })
     | inr pair ↦ inr pair
   ];
@@ -33,17 +33,13 @@ serves_known {a = a} {b = b} {known = known} other law f = call_as (λ p earlier
 
 -- what the call leaves as it was, by whatever else is known of it, is known behind too
 pub serves_carries : {P : Documents} {now : ℕ} {a b : At} {asked : List Intent} {o : Progress} {before known : Facts} (carried brought : Facts)
-    → ((past made : List Call) → b.device.past ≡ made ++ a.device.past → carried past (state_of a.kept) → brought (made ++ past) (state_of b.kept))
+    → (carried (state_of a.kept) → brought (state_of b.kept))
     → ServesFrom P now a b asked o before known → ServesFrom P now a b asked o (BothFacts before carried) (BothFacts known brought)
 serves_carries {a = a} {b = b} carried brought law f = call_as (λ p earlier calls added step happens h. record {
   from = λ k. elim (h.from k.0) [
     | inl v ↦ inl (record {
       spends = v.spends;
-      behind = (
-        v.behind,
-        subst (brought (so_far p (calls ++ earlier))) (state_behind a.kept b.kept added happens.adds)
-            (subst (λ past. brought past (state_of b.kept)) (sym (append_assoc calls earlier p.past)) (law (so_far p earlier) calls happens.past k.1)),
-      );
+      behind = (v.behind, subst brought (state_behind a.kept b.kept added happens.adds) (law k.1));
     })
     | inr pair ↦ inr pair
   ];

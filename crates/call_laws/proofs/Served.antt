@@ -1,5 +1,5 @@
 -- What calls did, one behind the other.
-use Rattle.std.proofs.Common.{◌≡◌, ℕ, List, [], ◌∷◌, ◌++◌, sym, subst, append_assoc, inl, inr}
+use Rattle.std.proofs.Common.{◌≡◌, ℕ, List, [], ◌∷◌, ◌++◌, sym, subst, inl, inr}
 use Rattle.device_log.specs.Calls.{Call}
 use Rattle.cache_model.specs.declared.record.Rec.{Rec}
 use Rattle.cache_model.specs.State.{State, after_all}
@@ -7,7 +7,7 @@ use Rattle.cache_model.specs.Kept.{state_of}
 use Rattle.cache_model.specs.Permit.{Intent, Permit, Reason, to_do}
 use Rattle.cache_model.specs.Pair.{Documents, ShowsPair}
 use Rattle.cache_model.proofs.Steps.{after_all-append}
-use Rattle.call_laws.specs.Moments.{At, Facts, IsStillAt, so_far}
+use Rattle.call_laws.specs.Moments.{At, Facts, IsStillAt}
 use Rattle.call_laws.specs.Progress.{AllDone, FallsShort, Leaves, Progress, Spends, Stops, Wants, cleanups}
 use Rattle.call_laws.specs.Serves.{ServesFrom}
 use Rattle.call_laws.proofs.Grown.{shown_fails, shown_first, shown_later, shown_with, spends_begins, spends_fails, spends_fails_again, spends_none, spends_on, spends_part, spends_short}
@@ -71,8 +71,7 @@ joined {a = a} {known = known} law pairs later f l = call_then (λ p earlier cal
       | inr pair ↦ inr (later p (state_of a.kept) added others v.spends pair)
       | inl w ↦ inl (record {
         spends = law p (state_of a.kept) added others v.spends w.spends;
-        behind = subst (λ calls. known (so_far p calls) (after_all (state_of a.kept) (added ++ others))) (sym (append_assoc more calls earlier))
-            (subst (known (so_far p (more ++ (calls ++ earlier)))) (sym (after_all-append (state_of a.kept) added others)) w.behind);
+        behind = subst known (sym (after_all-append (state_of a.kept) added others)) w.behind;
       })
     ]
   ];

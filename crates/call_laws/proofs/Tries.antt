@@ -66,7 +66,7 @@ module _ {P : Documents} {now : ℕ} {a b c : At} {asked : List Intent} {before 
 -- from what never holds anything is served by calls and records that are accounted for
 from_nothing : {P : Documents} {now : ℕ} {a b : At} {asked : List Intent} {o : Progress} {known : Facts} (calls : List Call) (added : List Rec)
     → Happens a b calls added
-    → ServesFrom P now a b asked o (λ past s. ⊥) known
+    → ServesFrom P now a b asked o (λ s. ⊥) known
 from_nothing calls added happens = record { calls = calls; added = added; happens = happens; does = λ p earlier step. record { from = λ k. absurd k } }
 
 -- ---- a pair

@@ -39,8 +39,8 @@ pub data WasAsked (block blocks : ℕ) (calls : List Call) : Type 0 where
 -- pair
 abbrev pub LookupsAsk : Documents → (before known : Facts) → Type 0
 LookupsAsk IsPlaced before known =
-    (now : ℕ) (a b : At) (actor : ℕ) (key : Key) (request : List Field) (row : Row) (past : List Call)
+    (now : ℕ) (a b : At) (actor : ℕ) (key : Key) (request : List Field) (row : Row)
     → (call : ServesFrom IsPlaced now a b (Look actor key request ∷ []) AllDone before known)
-    → before past (state_of a.kept)
+    → before (state_of a.kept)
     → live_vector_of (state_of a.kept) key ≡ Some row → IsWritten (state_of a.kept) row
     → WasAsked (block_of (state_of a.kept).geometry row.place) row.blocks call.calls

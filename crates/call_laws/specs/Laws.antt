@@ -8,10 +8,10 @@ use Rattle.cache_model.specs.Permit.{End, Intent, Permit, Reason, Work}
 use Rattle.cache_model.specs.Legal.{Does, IsQuiet, MayGrow}
 use Rattle.cache_model.specs.Tape.{IsSound}
 use Rattle.cache_model.specs.Pair.{Documents, IsPair}
-use Rattle.cache_model.specs.Vectors.{IsVectorAs}
+use Rattle.cache_model.specs.Vectors.{AreTold, IsVectorAs}
 use Rattle.logged_disk.specs.Device.{DeviceState as Device}
 use Rattle.call_laws.specs.Untold.{Untold}
-use Rattle.call_laws.specs.Moments.{NothingKnown, At, BothFacts, Encloses, Facts, IsStillAt, IsToldAt, OfState, so_far}
+use Rattle.call_laws.specs.Moments.{NothingKnown, At, BothFacts, Encloses, Facts, IsStillAt}
 use Rattle.call_laws.specs.Progress.{AllDone, EndsWith, FallsShort, Leaves, Progress, Stops, Wants, cleanups, left_with, progress_of}
 use Rattle.call_laws.specs.Happens.{Happens}
 use Rattle.call_laws.specs.Serves.{IsCall, Serves, ServesFrom, Upshots}
@@ -116,19 +116,18 @@ NoneServes IsPlaced known = (now : ℕ) (a b : At) (i : Intent) (e : End) → Is
 -- what is known before may be more
 abbrev pub ServesGiven : Documents → (before known other : Facts) → Type 0
 ServesGiven IsPlaced before known other = (now : ℕ) (a b : At) (asked : List Intent) (o : Progress)
-    → ((past : List Call) → other past (state_of a.kept) → before past (state_of a.kept))
+    → (other (state_of a.kept) → before (state_of a.kept))
     → ServesFrom IsPlaced now a b asked o before known → ServesFrom IsPlaced now a b asked o other known
 
 -- what is known behind may be less, by what the call left
 abbrev pub ServesKnown : Documents → (before known other : Facts) → Type 0
 ServesKnown IsPlaced before known other = (now : ℕ) (a b : At) (asked : List Intent) (o : Progress)
-    → ((past : List Call) → known past (state_of b.kept) → other past (state_of b.kept))
+    → (known (state_of b.kept) → other (state_of b.kept))
     → ServesFrom IsPlaced now a b asked o before known → ServesFrom IsPlaced now a b asked o before other
 
--- from one moment to the other this follows from that, behind the calls that were made meanwhile
+-- from one moment to the other this follows from that
 abbrev pub IsBrought : (old new : At) → (carried brought : Facts) → Type 0
-IsBrought old new carried brought = (past made : List Call) → new.device.past ≡ made ++ old.device.past
-    → carried past (state_of old.kept) → brought (made ++ past) (state_of new.kept)
+IsBrought old new carried brought = carried (state_of old.kept) → brought (state_of new.kept)
 
 -- so it is carried over a call, by whatever else is known of that
 abbrev pub ServesCarries : Documents → (before known carried brought : Facts) → Type 0
@@ -145,33 +144,32 @@ ServesWider IsPlaced other before known = (now : ℕ) (a b : At) (asked : List I
 -- what each group of records keeps is kept by a call
 abbrev pub ServesKeeps : Documents → (before known : Facts) → (State → Type 0) → Type 0
 ServesKeeps IsPlaced before known IsSo = (now : ℕ) (a b : At) (asked : List Intent) (o : Progress) → GroupsKeep IsPlaced IsSo
-    → ((past : List Call) → before past (state_of a.kept) → IsSo (state_of a.kept))
-    → ServesFrom IsPlaced now a b asked o before known → ServesFrom IsPlaced now a b asked o before (BothFacts (OfState IsSo) known)
+    → (before (state_of a.kept) → IsSo (state_of a.kept))
+    → ServesFrom IsPlaced now a b asked o before known → ServesFrom IsPlaced now a b asked o before (BothFacts IsSo known)
 
 -- So a call that starts from vectors that list their alternates, on a sound tape, leaves them so, where a device that tells its
 -- content up to a moment leaves them so: on any other device a pair may be shown.
 abbrev pub ServesWhereTold : (known : Facts) → Type 0
 ServesWhereTold known = (now : ℕ) (a b : At) (last : Device) (asked : List Intent) (o : Progress) → GroupsLeaveTold → GroupsLeavePuts
     → IsSound (state_of a.kept) → LeavesListed last (state_of b.kept)
-    → ServesFrom (Untold last IsVectorAs) now a b asked o IsToldAt known
-    → ServesFrom (Untold last IsVectorAs) now a b asked o IsToldAt (BothFacts IsToldAt known)
+    → ServesFrom (Untold last IsVectorAs) now a b asked o AreTold known
+    → ServesFrom (Untold last IsVectorAs) now a b asked o AreTold (BothFacts AreTold known)
 
 -- and serves
 abbrev pub ToldServes : (known : Facts) → Type 0
 ToldServes known = (now : ℕ) (a b : At) (asked : List Intent) (o : Progress) → GroupsLeaveTold → GroupsLeavePuts → IsSound (state_of a.kept)
     → LeavesListed b.device (state_of b.kept)
-    → ServesFrom (Untold b.device IsVectorAs) now a b asked o IsToldAt known → Serves now a b asked o
+    → ServesFrom (Untold b.device IsVectorAs) now a b asked o AreTold known → Serves now a b asked o
 
 -- ---- steps
 
--- a call that leaves nothing of what is asked, and no vector that is not committed, is a step of its own, behind any steps with
--- whose calls that is known which it starts from
+-- a call that leaves nothing of what is asked, and no vector that is not committed, is a step of its own
 abbrev pub ServesStep : Documents → (before known : Facts) → Type 0
 ServesStep IsPlaced before known =
-    (now : ℕ) (a b : At) (asked : List Intent) (o : Progress) (why : Option Reason) (past : List Call) → EndsWith o why
+    (now : ℕ) (a b : At) (asked : List Intent) (o : Progress) (why : Option Reason) → EndsWith o why
     → IsQuiet (state_of b.kept)
-    → before past (state_of a.kept)
-    → ServesFrom IsPlaced now a b asked o before known → IsWholeStep IsPlaced now past a b asked why known
+    → before (state_of a.kept)
+    → ServesFrom IsPlaced now a b asked o before known → IsWholeStep IsPlaced now a b asked why known
 
 -- what records make of some work they make of it with more asked behind it, and something refused before it
 abbrev pub GrowsWithMore : Type 0

@@ -6,8 +6,8 @@ use Rattle.cache_model.specs.State.{State, after_all}
 use Rattle.cache_model.specs.Kept.{state_of}
 use Rattle.cache_model.specs.Permit.{Intent, Permit}
 use Rattle.cache_model.specs.Pair.{Documents, ShowsPair}
-use Rattle.cache_model.specs.Vectors.{IsVectorAs}
-use Rattle.call_laws.specs.Moments.{NothingKnown, At, Encloses, Facts, IsToldAt, so_far}
+use Rattle.cache_model.specs.Vectors.{AreTold, IsVectorAs}
+use Rattle.call_laws.specs.Moments.{NothingKnown, At, Encloses, Facts}
 use Rattle.call_laws.specs.Progress.{Progress, Spends}
 use Rattle.call_laws.specs.Untold.{Untold}
 use Rattle.call_laws.specs.Happens.{Happens}
@@ -30,7 +30,7 @@ pub record IsCall (now : ℕ) (old new : At) (comes : Upshots) : Type 0 where
   pub calls : List Call
   pub added : List Rec
   pub happens : Happens old new calls added
-  pub does : (p : Permit) (earlier : List Call) → Encloses now old.setting p earlier calls
+  pub does : (p : Permit) (earlier : List Call) → Encloses now old p earlier calls
       → comes (record { step = p; earlier = earlier; calls = calls; state = state_of old.kept; added = added })
 
 -- ---- a call that does what it is asked
@@ -38,12 +38,12 @@ pub record IsCall (now : ℕ) (old new : At) (comes : Upshots) : Type 0 where
 -- what is asked has come there, and this is known behind it
 pub record Serving (asked : List Intent) (o : Progress) (known : Facts) (c : InStep) : Type 0 where
   pub spends : Spends c.step c.state asked c.added o
-  pub behind : known (so_far c.step (c.calls ++ c.earlier)) (after_all c.state c.added)
+  pub behind : known (after_all c.state c.added)
 
 -- where this is known before, so it is, or two documents of one SHA-256 are shown some way into the records, by bytes that the
 -- device gave in the step
 pub record Brings (IsPlaced : Documents) (asked : List Intent) (o : Progress) (before known : Facts) (c : InStep) : Type 0 where
-  pub from : before (so_far c.step c.earlier) c.state → Serving asked o known c ⊎ ShowsPair IsPlaced c.step c.state asked c.added
+  pub from : before c.state → Serving asked o known c ⊎ ShowsPair IsPlaced c.step c.state asked c.added
 
 -- a call that was asked this and brought it there, from what is known before to what is known behind
 abbrev pub ServesFrom : Documents → (now : ℕ) → (old new : At) → List Intent → Progress → (before known : Facts) → Type 0
@@ -52,8 +52,8 @@ ServesFrom IsPlaced now old new asked o before known = IsCall now old new (Bring
 -- the same where each vector lists its alternates, before and behind; a pair is one of vectors, on a device that did not tell its
 -- content
 abbrev pub Serves : (now : ℕ) → (old new : At) → List Intent → Progress → Type 0
-Serves now old new asked o = ServesFrom (Untold new.device IsVectorAs) now old new asked o IsToldAt IsToldAt
+Serves now old new asked o = ServesFrom (Untold new.device IsVectorAs) now old new asked o AreTold AreTold
 
 -- the same where nothing is said of what is known behind
 abbrev pub ServesTold : (now : ℕ) → (old new : At) → List Intent → Progress → Type 0
-ServesTold now old new asked o = ServesFrom (Untold new.device IsVectorAs) now old new asked o IsToldAt NothingKnown
+ServesTold now old new asked o = ServesFrom (Untold new.device IsVectorAs) now old new asked o AreTold NothingKnown

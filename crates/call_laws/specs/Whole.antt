@@ -5,7 +5,7 @@ use Rattle.logged_disk.specs.Device.{DeviceState as Device, TellsAll}
 use Rattle.cache_model.specs.declared.record.Rec.{Rec}
 use Rattle.cache_model.specs.State.{State, after_all}
 use Rattle.cache_model.specs.Kept.{state_of}
-use Rattle.cache_model.specs.Permit.{End, Intent, IsSetBy, Permit, Reason}
+use Rattle.cache_model.specs.Permit.{End, Intent, Permit, Reason}
 use Rattle.cache_model.specs.Legal.{Does, IsStep}
 use Rattle.cache_model.specs.Tape.{IsSound}
 use Rattle.cache_model.specs.Pair.{Documents, IsPair, ShowsPair}
@@ -33,14 +33,11 @@ pub record LeavesListed (last : Device) (s : State) : Type 0 where
   pub vectors : TellsAll last → AreVectors s
   pub none : s.displaced ≡ []
 
--- a step of a session whose earlier steps made these calls: it has the calls of this call alone; what it added is legal and
--- this is known behind it, or two documents of one SHA-256 are shown
-pub record IsWholeStep (IsPlaced : Documents) (now : ℕ) (past : List Call) (old new : At) (asked : List Intent) (refused : Option Reason)
-    (known : Facts) : Type 0 where
+-- a step that has the calls of this call alone: what it added is legal and this is known behind it, or two documents of one
+-- SHA-256 are shown
+pub record IsWholeStep (IsPlaced : Documents) (now : ℕ) (old new : At) (asked : List Intent) (refused : Option Reason) (known : Facts) : Type 0 where
   pub calls : List Call
   pub added : List Rec
   pub happens : Happens old new calls added
-  pub set : IsSetBy old.setting past (permit_of now old.setting past calls)
-  pub ends : IsStep (permit_of now old.setting past calls) (state_of old.kept) asked added refused
-      × known (calls ++ past) (state_of new.kept)
-      ⊎ ShowsPair IsPlaced (permit_of now old.setting past calls) (state_of old.kept) asked added
+  pub ends : IsStep (permit_of now old calls) (state_of old.kept) asked added refused × known (state_of new.kept)
+      ⊎ ShowsPair IsPlaced (permit_of now old calls) (state_of old.kept) asked added

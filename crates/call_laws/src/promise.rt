@@ -4,7 +4,7 @@ ghost use Rattle.std.specs.Prelude.{⊤};
 ghost use Rattle.cache_model.specs.Pair.{Documents};
 ghost use Rattle.cache_model.specs.State.{State};
 ghost use Rattle.cache_model.specs.Vectors.{AreTold, IsVectorAs};
-ghost use Rattle.call_laws.specs.Moments.{NothingKnown, Facts, IsToldAt};
+ghost use Rattle.call_laws.specs.Moments.{NothingKnown, Facts};
 ghost use Rattle.call_laws.specs.Serves.{Upshots};
 
 use std::marker::Brand;
@@ -48,11 +48,11 @@ impl Promise for Brand {
 
     ghost other_placed = { IsVectorAs };
 
-    ghost before = { IsToldAt };
+    ghost before = { AreTold };
 
-    ghost between = { IsToldAt };
+    ghost between = { AreTold };
 
-    ghost known = { IsToldAt };
+    ghost known = { AreTold };
 
     ghost more = { NothingKnown };
 

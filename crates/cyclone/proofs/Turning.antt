@@ -42,19 +42,20 @@ below_inserted low high row gone old new h there t all =
     (below_more low high t.left h (all_behind low gone t.left (All-permutation (λ (r : DirRow). r.place < low) old (gone ++ t.left) t.parted all))))
 
 -- a cyclone turns on where blocks were added to its buffer, and all that is entered ends there
-added_turns : (old new : Seen) (piece : List ℕ) → IsTurning old → new.geometry ≡ old.geometry → AddsPiece old.buffer new.buffer piece
+added_turns : (old new : Seen) (piece : List ℕ) → IsTurning old → new.geometry ≡ old.geometry → new.least ≡ old.least → AddsPiece old.buffer new.buffer piece
     → new.window ≡ record old.window { end = next_place_of new.buffer } → new.device ≡ old.device → AllBelow (next_place_of new.buffer) new.rows → IsTurning new
-added_turns old new piece t geometry added window device entered =
+added_turns old new piece t geometry least added window device entered =
     let cursor : new.buffer.cursor ≡ old.buffer.cursor = ap (λ (b : Buffer). b.cursor) added.behind in
     let reserved : new.buffer.reserved ≡ old.buffer.reserved = ap (λ (b : Buffer). b.reserved) added.behind in
     record {
       geometry = ap (λ (w : Window). w.geometry) window ∙ (t.geometry ∙ sym geometry);
       cursor = ap (λ (w : Window). w.cursor) window ∙ (t.cursor ∙ sym cursor);
-      floor = rw (geometry, cursor) (ap (λ (w : Window). w.floor) window ∙ t.floor);
+      floor = rw (geometry, least, cursor) (ap (λ (w : Window). w.floor) window ∙ t.floor);
       end = ap (λ (w : Window). w.end) window;
       reserved = rw geometry (reserved ∙ t.reserved);
       few = rw geometry (omega (arith, added.next, cursor, t.few, t.reserved, added.room));
       from = rw (geometry, cursor) t.from;
+      least = rw (least, cursor) t.least;
       below = rw cursor t.below;
       lap = rw (geometry, cursor) t.lap;
       sized = rw (geometry, device) t.sized;
@@ -67,7 +68,7 @@ pub put_turns : (purges : Bool) (old new : Seen) (doc : Doc) (payload : List ℕ
 put_turns purges old new doc payload t p at size =
     let further : next_place_of new.buffer ≡ next_place_of old.buffer + blocks_of (length payload) = p.buffer.next ∙ ap (λ n. next_place_of old.buffer + n) size in
     let some : 0 < blocks_of (length payload) = omega arith in
-    added_turns old new (document_bytes doc payload) t p.geometry p.buffer p.window p.device
+    added_turns old new (document_bytes doc payload) t p.geometry p.least p.buffer p.window p.device
     (below_inserted (next_place_of old.buffer) (next_place_of new.buffer) _ p.gone old.rows new.rows (omega arith) (omega arith) p.rows t.entered)
 
 below_from : (floor low high : ℕ) (old new : List DirRow) → low ≤ high → IsPermutation (rows_at_or_above floor old) new → AllBelow low old → AllBelow high new
@@ -93,11 +94,12 @@ next_turns old new t b fits behind below =
     record {
       geometry = ap (λ (w : Window). w.geometry) b.window ∙ (t.geometry ∙ sym b.geometry);
       cursor = ap (λ (w : Window). w.cursor) b.window ∙ sym cursor;
-      floor = rw (b.geometry, cursor) (ap (λ (w : Window). w.floor) b.window);
+      floor = rw (b.geometry, b.least, cursor) (ap (λ (w : Window). w.floor) b.window);
       end = ap (λ (w : Window). w.end) b.window ∙ sym empty;
       reserved = rw b.geometry (reserved ∙ t.reserved);
       few = rw b.buffer (omega arith);
       from = rw (b.geometry, cursor) (let from : old.geometry.content ≤ old.buffer.cursor = t.from in omega arith);
+      least = rw (b.least, cursor) (let least : old.least ≤ old.buffer.cursor = t.least in omega arith);
       below = rw cursor below;
       lap = rw (b.geometry, cursor) fits;
       sized = rw (b.geometry, b.device) t.sized;
@@ -128,6 +130,7 @@ taken_turns old new row b t s p same = rw s.same (record {
   reserved = t.reserved;
   few = t.few;
   from = t.from;
+  least = t.least;
   below = t.below;
   lap = t.lap;
   sized = t.sized;
@@ -166,5 +169,5 @@ pub moved_turns : (purges : Bool) (old new : Seen) (id : PieceId) (from : ℕ) (
 moved_turns purges old new id from bytes t m some =
     let low = next_place_of old.buffer in
     let left = below_matched low (row_of_piece old id from) old.rows m.left (has_row (row_of_piece old id from) old.rows) m.taken t.entered in
-    added_turns old new (moved_to low bytes) t m.geometry m.buffer m.window m.device
+    added_turns old new (moved_to low bytes) t m.geometry m.least m.buffer m.window m.device
     (below_inserted low (next_place_of new.buffer) _ m.gone m.left new.rows (omega (arith, m.buffer.next)) (omega (arith, m.buffer.next, some)) m.rows left)

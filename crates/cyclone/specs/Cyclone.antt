@@ -1,6 +1,6 @@
 -- What contracts see of a cyclone: the content area that is written in a circle, the buffer of what
 -- is not written yet, and the directory of what stands on both (Traffic Server guide, "Cache Architecture").
-use Rattle.std.specs.Prelude.{ℕ, ◌≡◌, ◌+◌, ◌*◌, ◌<◌, ◌≤◌, ◌^◌, ◌==◌, not, Bool, List, [], ◌∷◌, length, IsPermutation, All, MatchBool}
+use Rattle.std.specs.Prelude.{ℕ, ◌≡◌, ◌+◌, ◌*◌, ◌<◌, ◌≤◌, ◌^◌, ◌==◌, max, not, Bool, List, [], ◌∷◌, length, IsPermutation, All, MatchBool}
 use Rattle.hex.specs.Hex.{IsBytes}
 use Rattle.tape_base.specs.declared.geometries.Geometry.{Geometry}
 use Rattle.tape_base.specs.declared.pieces.PieceId.{PieceId}
@@ -32,6 +32,8 @@ use Rattle.cyclone.specs.declared.cyclone.Cyclone.{Cyclone}
 -- a cyclone at one moment
 pub record Seen : Type 0 where
   pub geometry : Geometry
+  -- the least place that may be read, wherever the buffer begins
+  pub least : ℕ
   pub buffer : Buffer
   pub window : Window
   -- what the directory stands for
@@ -49,6 +51,7 @@ module _ {D R : Type 0} {d : DiskGhosts D} {r : DirectoryGhosts R} where
   abbrev pub seen_cyclone : Cyclone D R d r → Seen
   seen_cyclone c = record {
     geometry = c.geometry;
+    least = c.least;
     buffer = c.buffer;
     window = r.window c.directory;
     rows = plain_rows (r.rows c.directory);
@@ -58,15 +61,20 @@ module _ {D R : Type 0} {d : DiskGhosts D} {r : DirectoryGhosts R} where
     device = d.state c.disk;
   }
 
+-- the floor: that of the buffer, or the least place of all
+abbrev pub floor_in : Seen → ℕ
+floor_in c = max c.least (floor_of c.geometry c.buffer.cursor)
+
 -- what holds of a cyclone between calls
 pub record IsTurning (c : Seen) : Type 0 where
   pub geometry : c.window.geometry ≡ c.geometry
   pub cursor : c.window.cursor ≡ c.buffer.cursor
-  pub floor : c.window.floor ≡ floor_of c.geometry c.buffer.cursor
+  pub floor : c.window.floor ≡ floor_in c
   pub end : c.window.end ≡ next_place_of c.buffer
   pub reserved : c.buffer.reserved ≡ c.geometry.agg
   pub few : filled_of c.buffer ≤ c.geometry.agg
   pub from : c.geometry.content ≤ c.buffer.cursor
+  pub least : c.least ≤ c.buffer.cursor
   pub below : c.buffer.cursor < 2 ^ 62
   pub lap : FitsInLap c.geometry c.buffer.cursor
   pub sized : device_blocks_of c.geometry ≤ c.device.size
@@ -80,6 +88,7 @@ IsCyclone c = IsTurning (seen_cyclone c)
 -- nothing was put yet
 pub record IsFresh (c : Seen) (g : Geometry) : Type 0 where
   pub geometry : c.geometry ≡ g
+  pub least : c.least ≡ 0
   pub buffer : c.buffer ≡ empty_buffer g.content g.agg
   pub rows : c.rows ≡ []
   pub displaced : c.displaced ≡ none_displaced
@@ -87,6 +96,7 @@ pub record IsFresh (c : Seen) (g : Geometry) : Type 0 where
 -- a document is in the buffer, and its piece in the directory
 pub record IsPut (purges : Bool) (old new : Seen) (doc : Doc) (payload : List ℕ) : Type 0 where
   pub geometry : new.geometry ≡ old.geometry
+  pub least : new.least ≡ old.least
   pub buffer : AddsPiece old.buffer new.buffer (document_bytes doc payload)
   -- the rows that go for it
   pub gone : List DirRow
@@ -140,6 +150,7 @@ pub record EntersCopy (purges : Bool) (old new : Seen) (id : PieceId) (from bloc
 -- in place of the row of where it stood
 pub record IsMoved (purges : Bool) (old new : Seen) (id : PieceId) (from : ℕ) (bytes : List ℕ) : Type 0 where
   pub geometry : new.geometry ≡ old.geometry
+  pub least : new.least ≡ old.least
   pub buffer : AddsPiece old.buffer new.buffer (moved_to (next_place_of old.buffer) bytes)
   -- the rows without that of where it stood
   pub left : List DirRow
@@ -156,13 +167,18 @@ pub record IsMoved (purges : Bool) (old new : Seen) (id : PieceId) (from : ℕ) 
 abbrev pub next_buffer_cursor : Seen → ℕ
 next_buffer_cursor c = next_cursor_of c.geometry c.buffer.cursor (filled_of c.buffer)
 
+-- the floor once it begins
+abbrev pub next_floor : Seen → ℕ
+next_floor c = max c.least (floor_of c.geometry (next_buffer_cursor c))
+
 -- the next buffer begins, and what it may overwrite is out of range
 pub record BeginsNext (old new : Seen) : Type 0 where
   pub geometry : new.geometry ≡ old.geometry
+  pub least : new.least ≡ old.least
   pub buffer : new.buffer ≡ empty_buffer (next_buffer_cursor old) old.buffer.reserved
-  pub window : new.window ≡ record old.window { cursor = next_buffer_cursor old; floor = floor_of old.geometry (next_buffer_cursor old); end = next_buffer_cursor old }
-  pub rows : IsPermutation (rows_at_or_above (floor_of old.geometry (next_buffer_cursor old)) old.rows) new.rows
-  pub stored : IsPermutation (stored_from (floor_of old.geometry (next_buffer_cursor old)) old.stored) new.stored
+  pub window : new.window ≡ record old.window { cursor = next_buffer_cursor old; floor = next_floor old; end = next_buffer_cursor old }
+  pub rows : IsPermutation (rows_at_or_above (next_floor old) old.rows) new.rows
+  pub stored : IsPermutation (stored_from (next_floor old) old.stored) new.stored
   pub displaced : new.displaced ≡ old.displaced
   pub spare : old.spare ≤ new.spare
   pub device : new.device ≡ old.device

@@ -2,7 +2,7 @@
 ghost use Rattle.std.specs.Prelude.{◌≡◌, ◌+◌, ◌-◌, ◌*◌, ◌/◌, ◌<◌, ◌≤◌, ◌^◌, length, IfOk, OnOk, OnErr, IfErr};
 ghost use Rattle.tape_base.specs.Blocks.{blocks_of};
 ghost use Rattle.tape_base.specs.Digest.{digest_of};
-ghost use Rattle.tape_base.specs.Place.{device_blocks_of, floor_of};
+ghost use Rattle.tape_base.specs.Place.{device_blocks_of};
 ghost use Rattle.doc_header.specs.Document.{digest_of_document, document_bytes};
 ghost use Rattle.doc_header.specs.Reading.{document_digest};
 ghost use Rattle.doc_header.specs.Moving.{moved_to};
@@ -28,8 +28,10 @@ use write_cursor::Cursor;
 /// The content area of a device, which is written in a circle.
 #[derive(Drop)]
 pub struct Cyclone<D: Disk, R: Directory + Drop> {
-    geometry: Geometry,
-    disk: D,
+    pub(crate) geometry: Geometry,
+    // The least place that may be read, wherever the buffer begins.
+    least: u64,
+    pub(crate) disk: D,
     directory: R,
     buffer: AggBuffer,
     // Of any device: with it the type carries what `D` and `R` tell of themselves.
@@ -37,7 +39,7 @@ pub struct Cyclone<D: Disk, R: Directory + Drop> {
 }
 
 impl<D: Disk, R: Directory + Drop> Cyclone<D, R> {
-    ghost use Rattle.cyclone.specs.Cyclone.{IsCyclone, HasBuffer, IsFresh, IsPut, EntersDoc, IsMoved, EntersCopy, TakesOutStored, BeginsNext, BlocksStand, ReadsBlocks, SameButRoom, SameButRows, SameTape, WritesBuffer, row_of_piece, next_buffer_cursor, seen_cyclone};
+    ghost use Rattle.cyclone.specs.Cyclone.{IsCyclone, HasBuffer, IsFresh, IsPut, EntersDoc, IsMoved, EntersCopy, TakesOutStored, BeginsNext, BlocksStand, ReadsBlocks, SameButRoom, SameButRows, SameTape, WritesBuffer, row_of_piece, floor_in, next_buffer_cursor, next_floor, seen_cyclone};
 
     /// Lays a device out, and begins an empty cyclone on it, from the start of its second lap on. A
     /// refusal gives the device back.
@@ -57,6 +59,7 @@ impl<D: Disk, R: Directory + Drop> Cyclone<D, R> {
         match lay_out(alloc, &mut disk, &g) {
             Ok(()) => Ok(Cyclone {
                 geometry: g,
+                least: 0,
                 disk,
                 directory,
                 buffer,
@@ -71,6 +74,7 @@ impl<D: Disk, R: Directory + Drop> Cyclone<D, R> {
     {
         let Cyclone {
             geometry: _,
+            least: _,
             disk,
             directory: _directory,
             buffer: _buffer,
@@ -122,10 +126,18 @@ impl<D: Disk, R: Directory + Drop> Cyclone<D, R> {
     /// The least place that may be read.
     pub fn floor(&self) -> u64
         requires { IsCyclone self.now }
-        ensures { result
-            ≡ floor_of (seen_cyclone self.now).geometry (seen_cyclone self.now).buffer.cursor }
+        ensures { result ≡ floor_in (seen_cyclone self.now) }
     {
-        floor_of(&self.geometry, self.buffer.cursor())
+        self.least
+            .max(floor_of(&self.geometry, self.buffer.cursor()))
+    }
+
+    /// The least place that may be read once the next buffer begins, if this one is flushed now.
+    pub fn next_floor(&self) -> u64
+        requires { IsCyclone self.now }
+        ensures { result ≡ next_floor (seen_cyclone self.now) }
+    {
+        self.least.max(floor_of(&self.geometry, self.next_cursor()))
     }
 
     /// Makes room for so many pieces, and on the device for at least so many flushes.
@@ -238,7 +250,7 @@ impl<D: Disk, R: Directory + Drop> Cyclone<D, R> {
         };
         let next = here.plan(&self.geometry, self.buffer.filled());
         self.buffer.begin(next.cursor);
-        self.directory.wrap(next.cursor, next.floor);
+        self.directory.wrap(next.cursor, self.least.max(next.floor));
     }
 
     /// Reads the blocks from a place on, from the buffer where they stand there.

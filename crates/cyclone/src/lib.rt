@@ -2,5 +2,6 @@
 #![tactic(auto)]
 
 mod cyclone;
+mod switching;
 
 pub use cyclone::Cyclone;

@@ -2,7 +2,7 @@
 use Rattle.std.proofs.Common.{◌≡◌, ℕ, ◌+◌, ◌<◌, ◌≤◌, ◌⊎◌, List, [], ◌∷◌, sym, ◌∙◌, ap, subst, arith, inl, inr}
 use Rattle.std.specs.Prelude.{map, nat_le}
 use Rattle.std.specs.List.{AllByRecursion}
-use Rattle.tape_base.specs.Place.{floor_of, block_of}
+use Rattle.tape_base.specs.Place.{block_of}
 use Rattle.device_log.specs.Image.{span}
 use Rattle.logged_disk.specs.Device.{DeviceState as Device, TellsAll, seen as content_of}
 use Rattle.doc_header.specs.Reading.{document_digest}
@@ -10,7 +10,7 @@ use Rattle.dir_table.specs.declared.rows.DirRow.{DirRow}
 use Rattle.dir_table.specs.declared.window.Window.{Window}
 use Rattle.dir_table.specs.Wrap.{rows_at_or_above}
 use Rattle.agg_buffer.specs.Buffer.{Buffer, bytes_at, filled_of}
-use Rattle.cyclone.specs.Cyclone.{Seen, IsTurning, BeginsNext, next_buffer_cursor as cursor_behind}
+use Rattle.cyclone.specs.Cyclone.{Seen, IsTurning, BeginsNext, next_buffer_cursor as cursor_behind, next_floor as floor_behind}
 use Rattle.cache_model.specs.declared.record.Rec.TheVariants as rec
 use Rattle.cache_model.specs.State.{State, Row, cursor_next, floor_next, floor_now, place_now, state_after}
 use Rattle.cache_model.specs.Tape.{AreRising}
@@ -21,7 +21,7 @@ use Rattle.held_pieces.proofs.Intact.{written_intact}
 use Rattle.held_pieces.specs.Held.{IsBuffered, IsBufferedWhereNew, IsHeld, IsIntactWhereWritten, entry_of_piece, times}
 use Rattle.held_pieces.proofs.Entries.{kept, times-filter, times-permutation}
 use Rattle.held_pieces.proofs.Counts.{is_between, later_between}
-use Rattle.held_pieces.proofs.Holding.{AreCounted, counted, end_is, entered, floor_is, next_is, none_behind, unbounded}
+use Rattle.held_pieces.proofs.Holding.{AreCounted, counted, end_is, entered, floor_is, next_floor_is, next_is, none_behind}
 
 -- no piece stands at or behind the next buffer
 pub none_new : (P : Row → Type 0) (cursor low high : ℕ) (rows : List Row) → AreRising low rows high → high ≤ cursor
@@ -74,18 +74,20 @@ module _ (s : State) (c new : Seen) (held : IsHeld s c) (out : IsWrittenOut c) (
   new_filled : filled_of new.buffer ≡ 0
   new_filled = ap filled_of begins.buffer
 
+  low_same : floor_behind c ≡ floor_next s
+  low_same = next_floor_is s c held
+
   new_floor : new.window.floor ≡ floor_next s
-  new_floor = ap (λ (w : Window). w.floor) begins.window
-      ∙ (ap (λ g. floor_of g (cursor_behind c)) held.geometry ∙ (ap (floor_of s.geometry) cursor_is ∙ sym (unbounded s.least (floor_of s.geometry (cursor_next s)) held.least)))
+  new_floor = ap (λ (w : Window). w.floor) begins.window ∙ low_same
 
   new_end : new.window.end ≡ cursor_next s
   new_end = ap (λ (w : Window). w.end) begins.window ∙ cursor_is
 
   abbrev low : ℕ
-  low = floor_of c.geometry (cursor_behind c)
+  low = floor_behind c
 
   low_is : low ≤ floor_next s
-  low_is = omega (arith, ap (λ g. floor_of g (cursor_behind c)) held.geometry ∙ ap (floor_of s.geometry) cursor_is)
+  low_is = omega (arith, low_same)
 
   entries_are : (x : DirRow) → times x new.rows ≡ kept (nat_le low x.place) (times x c.rows)
   entries_are x = times-permutation x (rows_at_or_above low c.rows) new.rows begins.rows ∙ times-filter (nat_le low) x c.rows
@@ -131,7 +133,7 @@ module _ (s : State) (c new : Seen) (held : IsHeld s c) (out : IsWrittenOut c) (
         (λ told. all_intact s.geometry.content s.rows held.sound.rising (held.intact told) held.buffered);
     laps = held.laps;
     faults = subst (λ n. s.fault ≤ n) (sym (ap (λ (d : Device). d.faults) begins.device)) held.faults;
-    least = held.least;
+    least = begins.least ∙ held.least;
   }
 
 pub begun_is_held : (s : State) (c new : Seen) → IsHeld s c → IsWrittenOut c → BeginsNext c new → IsTurning new

@@ -113,7 +113,7 @@ module _ (s t : State) (c new : Seen) (id : PieceId) (row : Row) (held : IsHeld 
     intact = subst (λ (d : Device). TellsAll d → AllByRecursion (IsIntactWhereWritten t (content_of d)) t.rows) (sym (ap (λ (y : Seen). y.device) rest.same)) (left_intact s t (content_of c.device) id gone held.intact);
     laps = rw (gone.geometry, gone.rows) (all_left (IsInLap s.geometry) id s.rows held.laps);
     faults = rw (gone.fault, ap (λ (y : Seen). y.device) rest.same) held.faults;
-    least = gone.least ∙ held.least;
+    least = ap (λ (y : Seen). y.least) rest.same ∙ (held.least ∙ sym gone.least);
   }
 
 pub taken_is_held : (s t : State) (c new : Seen) (id : PieceId) (row : Row) → IsHeld s c → live_row_of s id ≡ Some row → IsWithout s t id
@@ -159,7 +159,7 @@ passed_is_held s t c id held none gone = record {
   intact = left_intact s t (content_of c.device) id gone held.intact;
   laps = rw (gone.geometry, gone.rows) (all_left (IsInLap s.geometry) id s.rows held.laps);
   faults = rw gone.fault held.faults;
-  least = gone.least ∙ held.least;
+  least = held.least ∙ sym gone.least;
 }
 
 -- ---- records that speak of no piece, and a device that changes
@@ -178,7 +178,7 @@ alike_is_held s t c held alike faults = record {
       (each_same_intact s t (content_of c.device) s.rows (sym alike.geometry) (sym alike.cursor) (sym alike.least) (held.intact told));
   laps = rw (alike.geometry, alike.rows) held.laps;
   faults = faults;
-  least = alike.least ∙ held.least;
+  least = held.least ∙ sym alike.least;
 }
 
 -- all that such a device changes is where the buffer is written
@@ -208,7 +208,7 @@ device_may_change s c new held same turning spares = record {
   intact = spared_intact s c new.device held spares;
   laps = held.laps;
   faults = let low : s.fault ≤ c.device.faults = held.faults in omega (arith, low, spares.later);
-  least = held.least;
+  least = ap (λ (y : Seen). y.least) same ∙ held.least;
 }
 
 pub room_may_grow : (s : State) (c new : Seen) → IsHeld s c → SameButRoom c new → IsTurning new → SparesPieces c new.device → IsHeld s new
@@ -223,7 +223,7 @@ room_may_grow s c new held same turning spares = record {
   intact = spared_intact s c new.device held spares;
   laps = held.laps;
   faults = let low : s.fault ≤ c.device.faults = held.faults in omega (arith, low, spares.later);
-  least = held.least;
+  least = ap (λ (y : Seen). y.least) same.same ∙ held.least;
 }
 
 -- a device that shows what it showed spares all pieces

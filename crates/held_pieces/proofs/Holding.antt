@@ -8,9 +8,9 @@ use Rattle.tape_base.specs.Place.{floor_of, next_cursor_of}
 use Rattle.dir_table.specs.declared.rows.DirRow.{DirRow}
 use Rattle.dir_table.specs.Window.{is_in_range}
 use Rattle.agg_buffer.specs.Buffer.{filled_of, next_place_of}
-use Rattle.cyclone.specs.Cyclone.{Seen, IsTurning, next_buffer_cursor as cursor_behind}
+use Rattle.cyclone.specs.Cyclone.{Seen, IsTurning, floor_in, next_buffer_cursor as cursor_behind, next_floor as floor_behind}
 use Rattle.cache_model.specs.Room.{copies_end}
-use Rattle.cache_model.specs.State.{State, cursor_next, floor_now, live_rows, place_now}
+use Rattle.cache_model.specs.State.{State, cursor_next, floor_next, floor_now, live_rows, place_now}
 use Rattle.held_pieces.specs.Held.{IsHeld, SameRows, entry_of_piece, rows_in_range, times}
 use Rattle.held_pieces.proofs.Entries.{kept, times-below, times-entries, times-filter}
 use Rattle.held_pieces.proofs.Counts.{is_between}
@@ -39,13 +39,19 @@ counted s c h = record { each = λ x. sym (in_range_count c x) ∙ (h x ∙ live
 pub entered : (s : State) (c : Seen) → AreCounted s c → SameRows (rows_in_range c) (map (entry_of_piece s.geometry) (live_rows s))
 entered s c h = λ x. in_range_count c x ∙ (h.each x ∙ sym (live_count s s.geometry x))
 
--- where no opening bounds the floor it is that of a buffer
-pub unbounded : (least floor : ℕ) → least ≡ 0 → max least floor ≡ floor
-unbounded least floor none = omega (arith, none)
+-- the floor of a buffer that begins there, by both
+floor_at : (s : State) (c : Seen) (here there : ℕ) → IsHeld s c → here ≡ there
+    → max c.least (floor_of c.geometry here) ≡ max s.least (floor_of s.geometry there)
+floor_at s c here there h same =
+    ap (λ n. max n (floor_of c.geometry here)) h.least
+    ∙ (ap (λ g. max s.least (floor_of g here)) h.geometry ∙ ap (λ n. max s.least (floor_of s.geometry n)) same)
+
+pub floor_held : (s : State) (c : Seen) → IsHeld s c → floor_in c ≡ floor_now s
+floor_held s c h = floor_at s c c.buffer.cursor s.cursor h h.cursor
 
 -- the range of a cyclone that holds the records
 pub floor_is : (s : State) (c : Seen) → IsHeld s c → c.window.floor ≡ floor_now s
-floor_is s c h = h.turning.floor ∙ (ap (λ g. floor_of g c.buffer.cursor) h.geometry ∙ (ap (floor_of s.geometry) h.cursor ∙ sym (unbounded s.least (floor_of s.geometry s.cursor) h.least)))
+floor_is s c h = h.turning.floor ∙ floor_held s c h
 
 pub end_is : (s : State) (c : Seen) → IsHeld s c → c.window.end ≡ place_now s
 end_is s c h = h.turning.end ∙ (ap (λ n. n + filled_of c.buffer) h.cursor ∙ ap (λ n. s.cursor + n) h.filled)
@@ -59,6 +65,9 @@ pub next_is : (s : State) (c : Seen) → IsHeld s c → cursor_behind c ≡ curs
 next_is s c h =
     ap (λ g. next_cursor_of g c.buffer.cursor (filled_of c.buffer)) h.geometry
     ∙ (ap (λ n. next_cursor_of s.geometry n (filled_of c.buffer)) h.cursor ∙ ap (next_cursor_of s.geometry s.cursor) h.filled)
+
+pub next_floor_is : (s : State) (c : Seen) → IsHeld s c → floor_behind c ≡ floor_next s
+next_floor_is s c h = floor_at s c (cursor_behind c) (cursor_next s) h (next_is s c h)
 
 -- where the copies in it end at the latest
 pub copies_end_is : (s : State) (c : Seen) (g : Geometry) → IsHeld s c → g ≡ c.geometry → cursor_behind c + budget_of g ≡ copies_end s

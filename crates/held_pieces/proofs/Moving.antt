@@ -243,7 +243,7 @@ module _ (packed : Bool) (s : State) (c new : Seen) (id : PieceId) (row : Row) (
         (each_same_intact s after (content_of c.device) others refl refl refl (all_left (IsIntactWhereWritten s (content_of c.device)) id s.rows (held.intact told))) not_written);
     laps = each_push (IsInLap s.geometry) others copy (all_left (IsInLap s.geometry) id s.rows held.laps) in_lap;
     faults = subst (λ n. s.fault ≤ n) (sym (ap (λ (d : Device). d.faults) moved.device)) held.faults;
-    least = held.least;
+    least = moved.least ∙ held.least;
   }
 
   pub moved_is_held : IsHeld (state_after s (moved_to_here s id row bytes)) new

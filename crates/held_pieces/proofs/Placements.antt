@@ -89,6 +89,7 @@ nothing_goes x gone left rows none parted =
 -- a document is in the buffer, and its piece in the directory, from which no row goes
 pub record IsAdded (c new : Seen) (doc : Doc) (payload : List ℕ) : Type 0 where
   pub geometry : new.geometry ≡ c.geometry
+  pub least : new.least ≡ c.least
   pub buffer : AddsPiece c.buffer new.buffer (document_bytes doc payload)
   pub rows : IsPermutation (row_of_key c.geometry (key_of_piece doc.id) doc.place ∷ c.rows) new.rows
   pub window : new.window ≡ record c.window { end = next_place_of new.buffer }
@@ -199,7 +200,7 @@ module _ (s : State) (c new : Seen) (doc : Doc) (payload : List ℕ) (digest : D
         (λ told. subst (AllByRecursion (IsIntactWhereWritten after (content_of c.device))) (sym rows_are) (each_push (IsIntactWhereWritten after (content_of c.device)) s.rows row (each_same_intact s after (content_of c.device) s.rows refl refl refl (held.intact told)) not_written));
     laps = subst (AllByRecursion (IsInLap s.geometry)) (sym rows_are) (each_push (IsInLap s.geometry) s.rows row held.laps in_lap);
     faults = subst (λ n. s.fault ≤ n) (sym (ap (λ (d : Device). d.faults) put.device)) held.faults;
-    least = held.least;
+    least = put.least ∙ held.least;
   }
 
 pub added_is_held : (s : State) (c new : Seen) (doc : Doc) (payload : List ℕ) (digest : Digest) (pin : ℕ) → IsHeld s c → IsPlaceable s doc payload digest

@@ -81,6 +81,7 @@ fewer_turning c gone left t parted =
       reserved = t.reserved;
       few = t.few;
       from = t.from;
+      least = t.least;
       below = t.below;
       lap = t.lap;
       sized = t.sized;
@@ -327,7 +328,7 @@ module _ (purges : Bool) (s : State) (c new : Seen) (doc : Doc) (payload : List 
   }
 
   added : IsAdded (with_rows c put.rows.left) new doc payload
-  added = record { geometry = put.geometry; buffer = put.buffer; rows = put.rows.entered; window = put.window; device = put.device }
+  added = record { geometry = put.geometry; least = put.least; buffer = put.buffer; rows = put.rows.entered; window = put.window; device = put.device }
 
   held_behind : IsHeld (placed_behind s new doc payload digest) new
   held_behind =

@@ -15,7 +15,7 @@ use Rattle.held_pieces.specs.Held.{IsHeld, times}
 pub fresh_is_held : (g : Geometry) (c : Seen) → IsFresh c g → IsTurning c → IsHeld (after_all nothing_yet (format_records g)) c
 fresh_is_held g c fresh turning = record {
   turning = turning;
-  sound = legal_is_sound (record { packed = false; syncs = false }) [] (format_records g) (Legal.IsLegal.begins g);
+  sound = legal_is_sound (record { packed = false; syncs = false }) [] [] (format_records g) (Legal.IsLegal.begins g);
   geometry = fresh.geometry;
   cursor = ap (λ (b : Buffer). b.cursor) fresh.buffer;
   filled = ap filled_of fresh.buffer;
@@ -24,5 +24,5 @@ fresh_is_held g c fresh turning = record {
   intact = λ told. tt;
   laps = tt;
   faults = omega arith;
-  least = refl;
+  least = fresh.least;
 }

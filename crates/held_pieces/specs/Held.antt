@@ -73,5 +73,4 @@ pub record IsHeld (s : State) (c : Seen) : Type 0 where
   pub intact : TellsAll c.device → AllByRecursion (IsIntactWhereWritten s (content_of c.device)) s.rows
   pub laps : AllByRecursion (IsInLap s.geometry) s.rows
   pub faults : s.fault ≤ c.device.faults
-  -- the session began with a format: no opening bounds the floor
-  pub least : s.least ≡ 0
+  pub least : c.least ≡ s.least

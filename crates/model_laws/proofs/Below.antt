@@ -3,6 +3,7 @@ use Rattle.std.proofs.Common.{◌≡◌, ◌⊎◌, ℕ, ◌+◌, ◌<◌, ◌�
 use Rattle.std.specs.Prelude.{Option, length, map, max, option_to_list}
 use Rattle.std.specs.List.{AllByRecursion}
 use Rattle.std.proofs.lemmas.Bool.{leb-false}
+use Rattle.device_log.specs.Calls.{Call}
 use Rattle.tape_base.specs.declared.digests.Digest.{Digest}
 use Rattle.tape_base.specs.declared.geometries.Geometry.{Geometry}
 use Rattle.tape_base.specs.declared.pieces.PieceId.{PieceId}
@@ -284,22 +285,23 @@ opening_below : (packed : Bool) (g : Geometry) (o : Opening) → IsOpening packe
 opening_below packed g o h =
     ((found_below (max g.content o.floor) o.found o.cursor h.rising h.copy.below, (h.copy.below, tt)), omega (arith, h.copy.below))
 
-stays_below : (setting : Setting) (courses : List Course) (recs : List Rec) → IsLegal setting courses recs → StaysBelow nothing_yet recs
-stays_below setting courses recs (Legal.IsLegal.begins geometry) = format_below geometry
-stays_below setting courses recs (Legal.IsLegal.opens geometry o opening) = opening_below setting.packed geometry o opening
-stays_below setting courses recs (Legal.IsLegal.steps {before = before} {added = added} course e legal step) =
-    let first : StaysBelow nothing_yet before = stays_below setting _ before legal in
-    behind_below nothing_yet before added first.0 (grown_below step.grows (legal_is_sound setting _ before legal) first.1)
+stays_below : (setting : Setting) (past : List Call) (courses : List Course) (recs : List Rec) → IsLegal setting past courses recs → StaysBelow nothing_yet recs
+stays_below setting past courses recs (Legal.IsLegal.begins geometry) = format_below geometry
+stays_below setting past courses recs (Legal.IsLegal.opens geometry o opening) = opening_below setting.packed geometry o opening
+stays_below setting past courses recs (Legal.IsLegal.steps {before = before} {added = added} course e legal step) =
+    let first : StaysBelow nothing_yet before = stays_below setting _ _ before legal in
+    behind_below nothing_yet before added first.0 (grown_below step.grows (legal_is_sound setting _ _ before legal) first.1)
+stays_below setting past courses recs (Legal.IsLegal.tells call is legal) = stays_below setting _ courses recs legal
 
-pub places_stay_below : (setting : Setting) (courses : List Course) (recs : List Rec) → IsLegal setting courses recs → AllAlong EndsBelow nothing_yet recs
-places_stay_below setting courses recs legal = (stays_below setting courses recs legal).0
+pub places_stay_below : (setting : Setting) (past : List Call) (courses : List Course) (recs : List Rec) → IsLegal setting past courses recs → AllAlong EndsBelow nothing_yet recs
+places_stay_below setting past courses recs legal = (stays_below setting past courses recs legal).0
 
 rows_below : (low : ℕ) (rows : List Row) (high : ℕ) → AreRising low rows high → high < limit → AllByRecursion RowBelow rows
 rows_below low [] high h below = tt
 rows_below low (row ∷ rows) high h below = (omega (arith, h.2, below), rows_below (row.place + 1) rows high h.3 below)
 
-pub legal_is_below : (setting : Setting) (courses : List Course) (recs : List Rec) → IsLegal setting courses recs → IsBelow (after_all nothing_yet recs)
-legal_is_below setting courses recs legal =
+pub legal_is_below : (setting : Setting) (past : List Call) (courses : List Course) (recs : List Rec) → IsLegal setting past courses recs → IsBelow (after_all nothing_yet recs)
+legal_is_below setting past courses recs legal =
     let s : State = after_all nothing_yet recs in
-    let below : place_now s < limit = (stays_below setting courses recs legal).1 in
-    record { buffer = below; rows = rows_below s.geometry.content s.rows (place_now s) (legal_is_sound setting courses recs legal).rising below }
+    let below : place_now s < limit = (stays_below setting past courses recs legal).1 in
+    record { buffer = below; rows = rows_below s.geometry.content s.rows (place_now s) (legal_is_sound setting past courses recs legal).rising below }

@@ -4,6 +4,7 @@ use Rattle.std.specs.Prelude.{Option, Some, None, if◌then◌else◌, map, opti
 use Rattle.std.specs.List.{AllByRecursion, flat_map}
 use Rattle.std.specs.Map.{lookup}
 use Rattle.std.proofs.lemmas.Bool.{eqb-true}
+use Rattle.device_log.specs.Calls.{Call}
 use Rattle.tape_base.specs.declared.digests.Digest.{Digest}
 use Rattle.tape_base.specs.declared.geometries.Geometry.{Geometry}
 use Rattle.tape_base.specs.declared.keys.Key.{Key}
@@ -430,17 +431,18 @@ counted_opening packed s geometry o opening = record {
 
 -- ---- each chronicle
 
-pub legal_counted : (setting : Setting) (courses : List Course) (recs : List Rec) → IsLegal setting courses recs → VectorsAreCounted (after_all nothing_yet recs)
-legal_counted setting courses recs (Legal.IsLegal.begins geometry) = counted_format nothing_yet geometry
-legal_counted setting courses recs (Legal.IsLegal.opens geometry o opening) = counted_opening setting.packed nothing_yet geometry o opening
-legal_counted setting courses recs (Legal.IsLegal.steps {courses = earlier} {before = before} {added = added} course e legal step) =
+pub legal_counted : (setting : Setting) (past : List Call) (courses : List Course) (recs : List Rec) → IsLegal setting past courses recs → VectorsAreCounted (after_all nothing_yet recs)
+legal_counted setting past courses recs (Legal.IsLegal.begins geometry) = counted_format nothing_yet geometry
+legal_counted setting past courses recs (Legal.IsLegal.opens geometry o opening) = counted_opening setting.packed nothing_yet geometry o opening
+legal_counted setting past courses recs (Legal.IsLegal.steps {courses = earlier} {before = before} {added = added} course e legal step) =
     subst VectorsAreCounted (sym (after_all-append nothing_yet before added))
-    (counted_step course.permit (after_all nothing_yet before) course.intents added course.refused (legal_counted setting earlier before legal) step)
+    (counted_step course.permit (after_all nothing_yet before) course.intents added course.refused (legal_counted setting _ earlier before legal) step)
+legal_counted setting past courses recs (Legal.IsLegal.tells call is legal) = legal_counted setting _ courses recs legal
 
-pub count_is_listed : (setting : Setting) (courses : List Course) (recs : List Rec) (key : Key) (put : ℕ) → IsLegal setting courses recs
+pub count_is_listed : (setting : Setting) (past : List Call) (courses : List Course) (recs : List Rec) (key : Key) (put : ℕ) → IsLegal setting past courses recs
     → last_vector (after_all nothing_yet recs) key ≡ Some (Complete put)
     → VectorIsCounted (after_all nothing_yet recs) (vector_piece key put)
-count_is_listed setting courses recs key put legal last = (legal_counted setting courses recs legal).counted key put last
+count_is_listed setting past courses recs key put legal last = (legal_counted setting past courses recs legal).counted key put last
 
 -- a row that is live stands
 stands_by : (s : State) (row old : Row) (b : Bool) → is_live s old ≡ b → (if b then Some old else None) ≡ Some row → (old ≡ row) × (is_live s row ≡ true)
@@ -461,7 +463,7 @@ told_count s key request h u =
     let misses : lookup_verdict s key request ≡ read.Miss (cause.NoMatch (count_of_vector s (vector_piece key u.put))) = rw (u.none_matches, u.none_writes, u.last, u.live) refl in
     misses ∙ ap (λ n. read.Miss (cause.NoMatch n)) (count ∙ ap length (sym list))
 
-pub unanswered_is_counted : (setting : Setting) (courses : List Course) (recs : List Rec) (key : Key) (request : List Field) → IsLegal setting courses recs
+pub unanswered_is_counted : (setting : Setting) (past : List Call) (courses : List Course) (recs : List Rec) (key : Key) (request : List Field) → IsLegal setting past courses recs
     → IsUnanswered (after_all nothing_yet recs) key request
     → lookup_verdict (after_all nothing_yet recs) key request ≡ read.Miss (cause.NoMatch (length (alternates_of (after_all nothing_yet recs) key)))
-unanswered_is_counted setting courses recs key request legal u = told_count (after_all nothing_yet recs) key request (legal_counted setting courses recs legal) u
+unanswered_is_counted setting past courses recs key request legal u = told_count (after_all nothing_yet recs) key request (legal_counted setting past courses recs legal) u

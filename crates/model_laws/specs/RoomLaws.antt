@@ -1,6 +1,7 @@
 -- What an entry displaces, and that each segment has room for what is live of it.
 use Rattle.std.specs.Prelude.{ℕ, ◌≡◌, ◌≢◌, ◌⊎◌, ◌+◌, ◌*◌, ◌/◌, Bool, true, false, List, [], ◌∷◌, ◌++◌, length, Option, AllPairs, Contains}
 use Rattle.std.specs.List.{AllByRecursion}
+use Rattle.device_log.specs.Calls.{Call}
 use Rattle.tape_base.specs.declared.pieces.PieceId.{PieceId}
 use Rattle.tape_base.specs.declared.digests.Digest.{Digest}
 use Rattle.cache_model.specs.declared.record.Rec.{Rec}
@@ -77,7 +78,7 @@ StepFits = (p : Permit) (s : State) (intents : List Intent) (added : List Rec) (
 
 -- so it is in each legal chronicle
 abbrev pub LegalFits : Type 0
-LegalFits = (setting : Setting) (courses : List Course) (recs : List Rec) → setting.packed ≡ true → IsLegal setting courses recs → AllFit (after_all nothing_yet recs)
+LegalFits = (setting : Setting) (past : List Call) (courses : List Course) (recs : List Rec) → setting.packed ≡ true → IsLegal setting past courses recs → AllFit (after_all nothing_yet recs)
 
 -- ---- the copies of a flush
 

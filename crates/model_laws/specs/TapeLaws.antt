@@ -1,6 +1,7 @@
 -- Each legal chronicle keeps its tape sound, and its places below the limit.
 use Rattle.std.specs.Prelude.{◌≡◌, ◌+◌, ◌<◌, ◌≤◌, List, Option, Some, Bool}
 use Rattle.std.specs.List.{AllByRecursion}
+use Rattle.device_log.specs.Calls.{Call}
 use Rattle.tape_base.specs.declared.pieces.PieceId.{PieceId}
 use Rattle.cache_model.specs.declared.findings.FoundRow.{FoundRow}
 use Rattle.cache_model.specs.declared.record.Rec.{Rec}
@@ -17,7 +18,7 @@ use Rattle.cache_model.specs.Tape.{IsSound}
 
 -- each legal chronicle is sound
 abbrev pub LegalIsSound : Type 0
-LegalIsSound = (setting : Setting) (courses : List Course) (recs : List Rec) → IsLegal setting courses recs → IsSound (after_all nothing_yet recs)
+LegalIsSound = (setting : Setting) (past : List Call) (courses : List Course) (recs : List Rec) → IsLegal setting past courses recs → IsSound (after_all nothing_yet recs)
 
 -- so is what an opening takes up, whatever the session before it was
 abbrev pub OpeningsAreSound : Type 0
@@ -52,7 +53,7 @@ EndsBelow s _ = Unit {0}
 
 -- so it is of each record of a legal chronicle
 abbrev pub PlacesStayBelow : Type 0
-PlacesStayBelow = (setting : Setting) (courses : List Course) (recs : List Rec) → IsLegal setting courses recs
+PlacesStayBelow = (setting : Setting) (past : List Call) (courses : List Course) (recs : List Rec) → IsLegal setting past courses recs
     → AllAlong EndsBelow nothing_yet recs
 
 -- the buffer ends below the limit, and so do all pieces that stand
@@ -62,5 +63,5 @@ pub record IsBelow (s : State) : Type 0 where
 
 -- so it is behind each legal chronicle
 abbrev pub LegalIsBelow : Type 0
-LegalIsBelow = (setting : Setting) (courses : List Course) (recs : List Rec) → IsLegal setting courses recs
+LegalIsBelow = (setting : Setting) (past : List Call) (courses : List Course) (recs : List Rec) → IsLegal setting past courses recs
     → IsBelow (after_all nothing_yet recs)

@@ -14,3 +14,4 @@ pub mod Kept
 pub mod Due
 pub mod Results
 pub mod NoneDisplaced
+pub mod Documents

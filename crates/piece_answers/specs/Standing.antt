@@ -1,22 +1,27 @@
 -- Which bytes stand for a piece where the device tells its content: its document, in the buffer or on the device.
-use Rattle.std.specs.Prelude.{ℕ, ◌≡◌, ◌<◌, ◌≤◌, ◌^◌, IfSome, List, [], ◌∷◌, length}
+use Rattle.std.specs.Prelude.{ℕ, ◌≡◌, ◌<◌, ◌≤◌, ◌^◌, false, IfSome, List, [], ◌∷◌, Option, Some, length}
 use Rattle.std.specs.List.{AllByRecursion}
 use Rattle.tape_base.specs.declared.geometries.Geometry.{Geometry}
 use Rattle.tape_base.specs.declared.pieces.PieceId.{PieceId}
+use Rattle.tape_base.specs.Piece.{is_vector}
 use Rattle.tape_base.specs.Place.{block_of}
 use Rattle.device_log.specs.Image.{Image, span}
 use Rattle.logged_disk.specs.Device.{DeviceState as Device, TellsAll, seen as content_of}
 use Rattle.doc_header.specs.Moving.{BeginsWith}
+use Rattle.alternate_vector.specs.Alternates.{Stored}
 use Rattle.agg_buffer.specs.Buffer.{Buffer, bytes_at}
 use Rattle.cyclone.specs.Cyclone.{Seen}
 use Rattle.cache_model.specs.State.{Row, State, floor_now}
 use Rattle.cache_model.specs.Outcomes.{Copied, Outcome}
-use Rattle.cache_model.specs.Contents.{AreRecordedAs, Content, Contents, IsToldAs, doc_of_row}
+use Rattle.cache_model.specs.Contents.{AreRecordedAs, Content, Contents, IsRecordedFrom, IsToldAs, doc_of_row}
 
--- bytes begin with the document of a piece with this content
+-- bytes begin with the document as which a piece is recorded, with this content; a found vector may have any start
 pub record BeginsAs (g : Geometry) (row : Row) (bytes : List ℕ) (content : Content) : Type 0 where
+  pub start : ℕ
+  pub starts : is_vector row.id ≡ false → start ≡ content.start
   pub few : length content.payload < 2 ^ 32
-  pub begins : BeginsWith bytes (doc_of_row g row content.start) content.payload
+  pub document : IsRecordedFrom g row start content.payload
+  pub begins : BeginsWith bytes (doc_of_row g row start) content.payload
 
 -- so they do where a content is told of the piece
 abbrev pub HasContent : Contents → Geometry → Row → List ℕ → Type 0
@@ -36,6 +41,15 @@ pub record AreStanding (contents : Contents) (s : State) (c : Seen) : Type 0 whe
   pub buffered : TellsAll c.device → AllByRecursion (StandsInBuffer contents s.geometry c.buffer) s.rows
   pub written : TellsAll c.device → AllByRecursion (StandsOnDevice contents s (content_of c.device)) s.rows
   pub recorded : TellsAll c.device → AreRecordedAs contents s
+
+-- of every piece it is told what it has
+abbrev pub contents_of_all : (PieceId → Content) → Contents
+contents_of_all content id alternates = Some (content id)
+
+-- each piece, also a fragment, stands as a document of some content, where the device tells its own
+pub record AreDocuments (s : State) (c : Seen) : Type 0 where
+  pub content : PieceId → Content
+  pub stand : AreStanding (contents_of_all content) s c
 
 -- what is told of a piece that is placed is what it is placed with, where the device tells its content
 abbrev pub IsToldPlaced : Device → State → PieceId → ℕ → List ℕ → Contents → Type 0

@@ -14,7 +14,7 @@ use Rattle.fragment_table.specs.Table.{made_row}
 use Rattle.alternate_vector.specs.Alternates.{Stored}
 use Rattle.alternate_vector.specs.Spelling.{IsSpelling}
 use Rattle.cache_model.specs.declared.findings.FoundRow.{FoundRow}
-use Rattle.cache_model.specs.Contents.{Content, Contents, IsRecordedWith, contents_of_vectors, doc_of_row}
+use Rattle.cache_model.specs.Contents.{Content, Contents, IsRecordedFrom, contents_of_vectors, doc_of_row}
 use Rattle.cache_model.specs.Opening.{Opening}
 use Rattle.cache_model.specs.State.{Row, row_of_found}
 use Rattle.reopening.specs.Documents.{document_at, standing_of}
@@ -64,7 +64,7 @@ pub record StandsRecorded (a : Area) (c : Image) (row : Row) (x : Content) : Typ
   pub fits : Fits (doc_of_row a.geometry row x.start) x.payload
   pub lap : row.place + row.blocks ≤ lap_end_of a.geometry row.place
   pub begins : BeginsWith (span c (block_of_place a row.place) row.blocks) (doc_of_row a.geometry row x.start) x.payload
-  pub recorded : IsRecordedWith a.geometry row x
+  pub recorded : IsRecordedFrom a.geometry row x.start x.payload
   pub fragment : is_vector row.id ≡ false → IsFragmentRow row x
   pub vector : is_vector row.id ≡ true → IsListingRow row x
 

@@ -17,5 +17,8 @@ pub use laws::{
     marks_are_taken_up, one_copy_decides, openings_may_begin, pieces_are_kept_by_name,
     places_suffice, rows_are_kept, windows_are_apart,
 };
-pub use newest::Newest;
+pub use newest::{Newest, bound_of};
 pub use reader::{OpenFault, Opened, open_image};
+pub use rows::rows_told;
+pub use slices::{blocks_of_length, length_told};
+pub use standing::{is_inside, judged};

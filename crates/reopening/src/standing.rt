@@ -20,7 +20,8 @@ use std::alloc::{AllocError, Global};
 use stripe_header::{Area, CopyState};
 use tape_base::{Digest, Geometry, Key, PieceId, lap, lap_end};
 
-fn is_inside(g: &Geometry, cursor: u64, place: u64, blocks: u64) -> bool
+/// Whether a document of so many blocks ends within half a buffer, its lap and, in the cursor's lap, the cursor.
+pub fn is_inside(g: &Geometry, cursor: u64, place: u64, blocks: u64) -> bool
     requires cursor { cursor < 2 ^ 62 }
     requires place { place < 2 ^ 62 }
     requires blocks { blocks < 2 ^ 40 }

@@ -2,6 +2,7 @@
 use Rattle.std.proofs.Common.{◌≡◌, ℕ, ◌+◌, ◌<◌, ◌≤◌, ◌==◌, List, [], ◌∷◌, ◌++◌, length, refl, sym, ◌∙◌, ap, subst, arith, Bool, true, false}
 use Rattle.std.specs.Prelude.{Option, Some, None, if◌then◌else◌, filter, map, not, find, nat_le, option_map, option_to_list, unwrap_or}
 use Rattle.std.specs.List.{AllByRecursion}
+use Rattle.device_log.specs.Calls.{Call}
 use Rattle.tape_base.specs.declared.digests.Digest.{Digest}
 use Rattle.tape_base.specs.declared.geometries.Geometry.{Geometry}
 use Rattle.tape_base.specs.declared.keys.Key.{Key}
@@ -311,11 +312,12 @@ found_begun g o (f ∷ found) each puts = (
   found_begun g o found each.1 puts.1,
 )
 
-pub legal_begun : (setting : Setting) (courses : List Course) (recs : List Rec) → IsLegal setting courses recs → AreOfBegun (after_all nothing_yet recs)
-legal_begun setting courses recs (Legal.IsLegal.begins geometry) =
+pub legal_begun : (setting : Setting) (past : List Call) (courses : List Course) (recs : List Rec) → IsLegal setting past courses recs → AreOfBegun (after_all nothing_yet recs)
+legal_begun setting past courses recs (Legal.IsLegal.begins geometry) =
     record { some = omega arith; puts = tt; rows = tt; displaced = tt; marks = (tt, tt) }
-legal_begun setting courses recs (Legal.IsLegal.opens geometry o opening) =
+legal_begun setting past courses recs (Legal.IsLegal.opens geometry o opening) =
     let rows : AllByRecursion (IsOfBegun o.next_put) (map row_of_found o.found) = found_begun geometry o o.found opening.each opening.puts in
     record { some = opening.copy.number.0; puts = tt; rows = rows; displaced = tt; marks = (rows, tt) }
-legal_begun setting courses recs (Legal.IsLegal.steps {courses = earlier} {before = before} {added = added} course e legal step) =
-    subst AreOfBegun (sym (after_all-append nothing_yet before added)) (begun_grown step.grows (legal_begun setting earlier before legal))
+legal_begun setting past courses recs (Legal.IsLegal.steps {courses = earlier} {before = before} {added = added} course e legal step) =
+    subst AreOfBegun (sym (after_all-append nothing_yet before added)) (begun_grown step.grows (legal_begun setting _ earlier before legal))
+legal_begun setting past courses recs (Legal.IsLegal.tells call is legal) = legal_begun setting _ courses recs legal

@@ -1,6 +1,7 @@
 -- Each segment has slots for its live pieces through whole sessions, and each copy of a flush has a slot.
 use Rattle.std.proofs.Common.{◌≡◌, ◌⊎◌, ℕ, List, [], ◌∷◌, ◌++◌, refl, sym, ◌∙◌, subst, arith, inl, inr, true}
 use Rattle.std.specs.Prelude.{Option, length}
+use Rattle.device_log.specs.Calls.{Call}
 use Rattle.tape_base.specs.declared.geometries.Geometry.{Geometry}
 use Rattle.tape_base.specs.declared.pieces.PieceId.{PieceId}
 use Rattle.tape_base.specs.declared.digests.Digest.{Digest}
@@ -151,9 +152,10 @@ step_fits p s intents added why packed h fit step = grown_fits packed h fit step
 fresh_fits : (geometry : Geometry) → AllFit (after_all nothing_yet (format_records geometry))
 fresh_fits geometry segment = omega arith
 
-pub legal_fits : (setting : Setting) (courses : List Course) (recs : List Rec) → setting.packed ≡ true → IsLegal setting courses recs → AllFit (after_all nothing_yet recs)
-legal_fits setting courses recs on (Legal.IsLegal.begins geometry) = fresh_fits geometry
-legal_fits setting courses recs on (Legal.IsLegal.opens geometry o opening) = λ segment. opening.fits on segment
-legal_fits setting courses recs on (Legal.IsLegal.steps {before = before} {added = added} course e legal step) =
+pub legal_fits : (setting : Setting) (past : List Call) (courses : List Course) (recs : List Rec) → setting.packed ≡ true → IsLegal setting past courses recs → AllFit (after_all nothing_yet recs)
+legal_fits setting past courses recs on (Legal.IsLegal.begins geometry) = fresh_fits geometry
+legal_fits setting past courses recs on (Legal.IsLegal.opens geometry o opening) = λ segment. opening.fits on segment
+legal_fits setting past courses recs on (Legal.IsLegal.steps {before = before} {added = added} course e legal step) =
     subst AllFit (sym (after_all-append nothing_yet before added))
-    (step_fits course.permit (after_all nothing_yet before) course.intents added course.refused (e.packed ∙ on) (legal_is_sound setting _ before legal) (legal_fits setting _ before on legal) step)
+    (step_fits course.permit (after_all nothing_yet before) course.intents added course.refused (e.packed ∙ on) (legal_is_sound setting _ _ before legal) (legal_fits setting _ _ before on legal) step)
+legal_fits setting past courses recs on (Legal.IsLegal.tells call is legal) = legal_fits setting _ courses recs on legal

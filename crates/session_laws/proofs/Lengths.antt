@@ -3,6 +3,7 @@ use Rattle.std.proofs.Common.{◌≡◌, ◌⊎◌, ℕ, ◌+◌, ◌-◌, ◌<�
 use Rattle.std.specs.Prelude.{Option, Some, None, IfSome, if◌then◌else◌, filter, find, map, nat_le, option_map, option_to_list, slice_get, unwrap_or}
 use Rattle.std.specs.List.{AllByRecursion}
 use Rattle.std.proofs.lemmas.Bool.{eq-eqb, eqb-true, ne_eqb}
+use Rattle.device_log.specs.Calls.{Call}
 use Rattle.tape_base.specs.declared.digests.Digest.{Digest}
 use Rattle.tape_base.specs.declared.keys.Key.{Key}
 use Rattle.tape_base.specs.declared.pieces.PieceId.{PieceId}
@@ -543,14 +544,14 @@ found_stated o lengths x y mx my list is key =
     (all_as (StatesLength fy.0) (StatesFragment (row_of_found fy.0)) (λ a length_is put some few entry there.
     found_payload fy.0 entry (is_vector fy.0.id) (length_is put some entry there)) list (states list (ap (λ (r : Row). r.alternates) (sym fx.2) ∙ is) turned))
 
-legal_all : (setting : Setting) (courses : List Course) (recs : List Rec) → IsLegal setting courses recs → HasAll (after_all nothing_yet recs)
-legal_all setting courses recs (Legal.IsLegal.begins geometry) = record {
+legal_all : (setting : Setting) (past : List Call) (courses : List Course) (recs : List Rec) → IsLegal setting past courses recs → HasAll (after_all nothing_yet recs)
+legal_all setting past courses recs (Legal.IsLegal.begins geometry) = record {
   lengths = record { stated = λ x y mx my. absurd mx; closed = λ x list m is. absurd m; marks = (tt, tt) };
-  cut = (legal_counted setting courses recs (Legal.IsLegal.begins geometry), payloads_are_cut setting courses recs (Legal.IsLegal.begins geometry));
-  one = legal_one setting courses recs (Legal.IsLegal.begins geometry);
-  begun = legal_begun setting courses recs (Legal.IsLegal.begins geometry);
+  cut = (legal_counted setting past courses recs (Legal.IsLegal.begins geometry), payloads_are_cut setting past courses recs (Legal.IsLegal.begins geometry));
+  one = legal_one setting past courses recs (Legal.IsLegal.begins geometry);
+  begun = legal_begun setting past courses recs (Legal.IsLegal.begins geometry);
 }
-legal_all setting courses recs (Legal.IsLegal.opens geometry o opening) =
+legal_all setting past courses recs (Legal.IsLegal.opens geometry o opening) =
     let stated = found_stated o opening.lengths in
     let rows : List Row = map row_of_found o.found in
     record {
@@ -562,15 +563,16 @@ legal_all setting courses recs (Legal.IsLegal.opens geometry o opening) =
           tt,
         );
       };
-      cut = (legal_counted setting courses recs (Legal.IsLegal.opens geometry o opening), payloads_are_cut setting courses recs (Legal.IsLegal.opens geometry o opening));
-      one = legal_one setting courses recs (Legal.IsLegal.opens geometry o opening);
-      begun = legal_begun setting courses recs (Legal.IsLegal.opens geometry o opening);
+      cut = (legal_counted setting past courses recs (Legal.IsLegal.opens geometry o opening), payloads_are_cut setting past courses recs (Legal.IsLegal.opens geometry o opening));
+      one = legal_one setting past courses recs (Legal.IsLegal.opens geometry o opening);
+      begun = legal_begun setting past courses recs (Legal.IsLegal.opens geometry o opening);
     } where
       all_closed : (list : List Stored) → AllByRecursion (IsClosed (after_all nothing_yet recs)) list
       all_closed [] = tt
       all_closed (a ∷ list) = ((λ w found now. none_is found), all_closed list)
-legal_all setting courses recs (Legal.IsLegal.steps {courses = earlier} {before = before} {added = added} course e legal step) =
-    subst HasAll (sym (after_all-append nothing_yet before added)) (all_grown step.grows (legal_all setting earlier before legal))
+legal_all setting past courses recs (Legal.IsLegal.steps {courses = earlier} {before = before} {added = added} course e legal step) =
+    subst HasAll (sym (after_all-append nothing_yet before added)) (all_grown step.grows (legal_all setting _ earlier before legal))
+legal_all setting past courses recs (Legal.IsLegal.tells call is legal) = legal_all setting _ courses recs legal
 
 -- ---- all of it
 
@@ -581,6 +583,6 @@ openable (m ∷ marks) begun one lengths =
     (record { begun = begun.0; one = one.0; lengths = lengths.0 }, openable marks begun.1 one.1 lengths.1)
 
 pub marks_are_openable : MarksAreOpenable
-marks_are_openable setting courses recs legal =
-    let all = legal_all setting courses recs legal in
+marks_are_openable setting past courses recs legal =
+    let all = legal_all setting past courses recs legal in
     openable (after_all nothing_yet recs).marks all.begun.marks all.one.marks all.lengths.marks

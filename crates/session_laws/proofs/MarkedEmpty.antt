@@ -2,6 +2,7 @@
 use Rattle.std.proofs.Common.{◌≡◌, ℕ, ◌<◌, ◌⊎◌, List, [], ◌∷◌, refl, sym, ◌∙◌, ap, subst, arith, inl, inr, Bool, true, false}
 use Rattle.std.specs.Prelude.{Option, ◌&&◌, if◌then◌else◌}
 use Rattle.std.specs.List.{AllByRecursion}
+use Rattle.device_log.specs.Calls.{Call}
 use Rattle.cache_model.specs.declared.record.Rec.{Rec}
 use Rattle.cache_model.specs.declared.record.Rec.TheVariants as rec
 use Rattle.cache_model.specs.State.{State, after_all, is_clean_sync, nothing_yet, state_after}
@@ -133,8 +134,9 @@ grown_empty on empty nothing = empty
 grown_empty {p} {s} {w} on empty (more {rest = tail} added between one others) =
     subst IsMarkedEmpty (sym (after_all-append s added tail)) (grown_empty on (advanced_empty p s w.intents w.refused added between on empty one) others)
 
-pub marked_is_empty : (setting : Setting) (courses : List Course) (recs : List Rec) → setting.syncs ≡ true → IsLegal setting courses recs → IsMarkedEmpty (after_all nothing_yet recs)
-marked_is_empty setting courses recs on (Legal.IsLegal.begins geometry) = λ marked. refl
-marked_is_empty setting courses recs on (Legal.IsLegal.opens geometry o opening) = λ marked. refl
-marked_is_empty setting courses recs on (Legal.IsLegal.steps {before = before} {added = added} course set legal step) =
-    subst IsMarkedEmpty (sym (after_all-append nothing_yet before added)) (grown_empty (set.syncs ∙ on) (marked_is_empty setting _ before on legal) step.grows)
+pub marked_is_empty : (setting : Setting) (past : List Call) (courses : List Course) (recs : List Rec) → setting.syncs ≡ true → IsLegal setting past courses recs → IsMarkedEmpty (after_all nothing_yet recs)
+marked_is_empty setting past courses recs on (Legal.IsLegal.begins geometry) = λ marked. refl
+marked_is_empty setting past courses recs on (Legal.IsLegal.opens geometry o opening) = λ marked. refl
+marked_is_empty setting past courses recs on (Legal.IsLegal.steps {before = before} {added = added} course set legal step) =
+    subst IsMarkedEmpty (sym (after_all-append nothing_yet before added)) (grown_empty (set.syncs ∙ on) (marked_is_empty setting _ _ before on legal) step.grows)
+marked_is_empty setting past courses recs on (Legal.IsLegal.tells call is legal) = marked_is_empty setting _ courses recs on legal

@@ -7,6 +7,7 @@ use Rattle.std.proofs.lemmas.Bool.{and_from, eq-eqb, eqb-true, false_from_ne_tru
 use Rattle.std.proofs.lemmas.List.Elements.{All-nil, All-cons}
 use Rattle.std.proofs.lemmas.List.Kept.{AllPairs-cons}
 use Rattle.std.proofs.lemmas.List.Quantifiers.{all_pairs_remove}
+use Rattle.device_log.specs.Calls.{Call}
 use Rattle.tape_base.specs.declared.digests.Digest.{Digest}
 use Rattle.tape_base.specs.declared.keys.Key.{Key}
 use Rattle.tape_base.specs.declared.pieces.PieceId.{PieceId}
@@ -391,15 +392,16 @@ found_last (f ∷ found) pairs =
           (found_last found (all_pairs_remove AreOfTwoKeys (row_of_found f ∷ map row_of_found found) 0 (omega arith) pairs)),
     )
 
-pub legal_one : (setting : Setting) (courses : List Course) (recs : List Rec) → IsLegal setting courses recs → HasOneVector (after_all nothing_yet recs)
-legal_one setting courses recs (Legal.IsLegal.begins geometry) =
+pub legal_one : (setting : Setting) (past : List Call) (courses : List Course) (recs : List Rec) → IsLegal setting past courses recs → HasOneVector (after_all nothing_yet recs)
+legal_one setting past courses recs (Legal.IsLegal.begins geometry) =
     record { last = tt; apart = tt; marks = (record { apart = tt; keys = no_pairs [] }, tt) }
-legal_one setting courses recs (Legal.IsLegal.opens geometry o opening) =
+legal_one setting past courses recs (Legal.IsLegal.opens geometry o opening) =
     let vectors : List (Key × LastVector) = flat_map vector_of_found o.found in
     record {
       last = all_as (IsLast vectors) (IsLastOrWaits None vectors) (λ row last vector. inr (last vector)) (map row_of_found o.found) (found_last o.found opening.keys);
       apart = opening.apart;
       marks = (record { apart = opening.apart; keys = opening.keys }, tt);
     }
-legal_one setting courses recs (Legal.IsLegal.steps {courses = earlier} {before = before} {added = added} course e legal step) =
-    subst HasOneVector (sym (after_all-append nothing_yet before added)) (grown step.grows (legal_one setting earlier before legal))
+legal_one setting past courses recs (Legal.IsLegal.steps {courses = earlier} {before = before} {added = added} course e legal step) =
+    subst HasOneVector (sym (after_all-append nothing_yet before added)) (grown step.grows (legal_one setting _ earlier before legal))
+legal_one setting past courses recs (Legal.IsLegal.tells call is legal) = legal_one setting _ courses recs legal

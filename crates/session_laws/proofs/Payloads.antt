@@ -3,6 +3,7 @@ use Rattle.std.proofs.Common.{◌≡◌, ℕ, zero, suc, ◌+◌, ◌-◌, ◌<�
 use Rattle.std.specs.Prelude.{Option, Some, None, if◌then◌else◌, find, map, option_map, slice_get, ◌==◌}
 use Rattle.std.specs.List.{AllByRecursion}
 use Rattle.std.proofs.lemmas.Bool.{eqb-true, eq-eqb}
+use Rattle.device_log.specs.Calls.{Call}
 use Rattle.tape_base.specs.declared.digests.Digest.{Digest}
 use Rattle.tape_base.specs.declared.geometries.Geometry.{Geometry}
 use Rattle.tape_base.specs.declared.keys.Key.{Key}
@@ -343,24 +344,25 @@ begun_found g o id row each few found =
     let before = found_row (λ (r : Row). r.id.index ≤ most_fragments → r.id.put < o.next_put) id (map row_of_found o.found) row (earlier_row g o o.found each) found in
     subst (λ (i : PieceId). i.index ≤ most_fragments → i.put < o.next_put) own before few
 
-pub payloads_are_cut : (setting : Setting) (courses : List Course) (recs : List Rec) → IsLegal setting courses recs → AreCut (after_all nothing_yet recs)
-payloads_are_cut setting courses recs (Legal.IsLegal.begins geometry) = record {
+pub payloads_are_cut : (setting : Setting) (past : List Call) (courses : List Course) (recs : List Rec) → IsLegal setting past courses recs → AreCut (after_all nothing_yet recs)
+payloads_are_cut setting past courses recs (Legal.IsLegal.begins geometry) = record {
   own = (λ id row w fragment few found has_it. none_is found);
   begun = (λ id row fragment few found. none_is found);
   known = (λ none id row fragment found. none_is found);
 }
-payloads_are_cut setting courses recs (Legal.IsLegal.opens geometry o opening) = record {
+payloads_are_cut setting past courses recs (Legal.IsLegal.opens geometry o opening) = record {
   own = (λ id row w fragment few found has_it. none_is has_it);
   begun = (λ id row fragment few found. begun_found geometry o id row opening.each few found);
   known = (λ none id row fragment found. none_is (sym none));
 }
-payloads_are_cut setting courses recs (Legal.IsLegal.steps {courses = earlier} {before = before} {added = added} course e legal step) =
+payloads_are_cut setting past courses recs (Legal.IsLegal.steps {courses = earlier} {before = before} {added = added} course e legal step) =
     subst AreCut (sym (after_all-append nothing_yet before added))
-    (cut_grown step.grows (legal_counted setting earlier before legal, payloads_are_cut setting earlier before legal)).1
+    (cut_grown step.grows (legal_counted setting _ earlier before legal, payloads_are_cut setting _ earlier before legal)).1
+payloads_are_cut setting past courses recs (Legal.IsLegal.tells call is legal) = payloads_are_cut setting _ courses recs legal
 
-pub formatted_are_cut : (setting : Setting) (courses : List Course) (recs : List Rec) (id : PieceId) (row : Row) → IsLegal setting courses recs
+pub formatted_are_cut : (setting : Setting) (past : List Call) (courses : List Course) (recs : List Rec) (id : PieceId) (row : Row) → IsLegal setting past courses recs
     → (after_all nothing_yet recs).opened ≡ None → is_vector id ≡ false → row_of (after_all nothing_yet recs) id ≡ Some row → PutHasCut (after_all nothing_yet recs) id row
-formatted_are_cut setting courses recs id row legal none fragment found =
-    let h : AreCut (after_all nothing_yet recs) = payloads_are_cut setting courses recs legal in
+formatted_are_cut setting past courses recs id row legal none fragment found =
+    let h : AreCut (after_all nothing_yet recs) = payloads_are_cut setting past courses recs legal in
     let k = h.known none id row fragment found in
     record { w = k.1.0; put = k.1.1; cut = h.own id row k.1.0 fragment k.0 found k.1.1 }

@@ -1,6 +1,7 @@
 -- Each sync of a group takes the next serial, so that the last sync of a session has the greatest.
 use Rattle.std.proofs.Common.{◌≡◌, ℕ, ◌+◌, ◌<◌, ◌⊎◌, inl, inr, List, [], ◌∷◌, ◌++◌, append_assoc, refl, sym, ◌∙◌, ap, subst, arith, Bool, true, false}
 use Rattle.std.specs.Prelude.{Option, if◌then◌else◌}
+use Rattle.device_log.specs.Calls.{Call}
 use Rattle.cache_model.specs.declared.record.Rec.{Rec}
 use Rattle.cache_model.specs.declared.record.Rec.TheVariants as rec
 use Rattle.cache_model.specs.State.{State, Mark, Row, after_all, cursor_next, nothing_yet, state_after, AllAlong}
@@ -186,8 +187,9 @@ grown_rises nothing = tt
 grown_rises {p} {s} {w} (more {rest = tail} added between one others) =
     along_append IsNextSerial s added tail (advanced_rises p s w.intents w.refused added between one) (grown_rises others)
 
-pub legal_serials_rise : (setting : Setting) (courses : List Course) (recs : List Rec) → IsLegal setting courses recs → IsHeadGreatest (after_all nothing_yet recs)
-legal_serials_rise setting courses recs (Legal.IsLegal.begins geometry) = (omega arith, tt)
-legal_serials_rise setting courses recs (Legal.IsLegal.opens geometry o opening) = (omega arith, tt)
-legal_serials_rise setting courses recs (Legal.IsLegal.steps {before = before} {added = added} course e legal step) =
-    subst IsHeadGreatest (sym (after_all-append nothing_yet before added)) (rises (after_all nothing_yet before) added (legal_serials_rise setting _ before legal) (grown_rises step.grows))
+pub legal_serials_rise : (setting : Setting) (past : List Call) (courses : List Course) (recs : List Rec) → IsLegal setting past courses recs → IsHeadGreatest (after_all nothing_yet recs)
+legal_serials_rise setting past courses recs (Legal.IsLegal.begins geometry) = (omega arith, tt)
+legal_serials_rise setting past courses recs (Legal.IsLegal.opens geometry o opening) = (omega arith, tt)
+legal_serials_rise setting past courses recs (Legal.IsLegal.steps {before = before} {added = added} course e legal step) =
+    subst IsHeadGreatest (sym (after_all-append nothing_yet before added)) (rises (after_all nothing_yet before) added (legal_serials_rise setting _ _ before legal) (grown_rises step.grows))
+legal_serials_rise setting past courses recs (Legal.IsLegal.tells call is legal) = legal_serials_rise setting _ courses recs legal

@@ -2,6 +2,7 @@
 -- with another.
 use Rattle.std.specs.Prelude.{◌≡◌, ◌≤◌, ◌<◌, ℕ, false, AllPairs, List, Some, None, ◌-◌, true, IfSome, slice_get}
 use Rattle.std.specs.List.{AllByRecursion}
+use Rattle.device_log.specs.Calls.{Call}
 use Rattle.tape_base.specs.Key.{same_key}
 use Rattle.tape_base.specs.Piece.{is_vector}
 use Rattle.fragment_table.specs.Table.{TableRow}
@@ -54,5 +55,5 @@ pub record IsOpenable (m : Mark) : Type 0 where
 
 -- in each legal chronicle each sync is such
 abbrev pub MarksAreOpenable : Type 0
-MarksAreOpenable = (setting : Setting) (courses : List Course) (recs : List Rec) → IsLegal setting courses recs
+MarksAreOpenable = (setting : Setting) (past : List Call) (courses : List Course) (recs : List Rec) → IsLegal setting past courses recs
     → AllByRecursion IsOpenable (after_all nothing_yet recs).marks

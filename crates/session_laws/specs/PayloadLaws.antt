@@ -1,5 +1,6 @@
 -- What the payload of a fragment is: that which its put has cut.
 use Rattle.std.specs.Prelude.{◌≡◌, ◌-◌, ◌<◌, ◌≤◌, false, List, Some, None, slice_get}
+use Rattle.device_log.specs.Calls.{Call}
 use Rattle.tape_base.specs.declared.pieces.PieceId.{PieceId}
 use Rattle.tape_base.specs.Piece.{is_vector}
 use Rattle.fragment_table.specs.Table.{TableRow}
@@ -26,7 +27,7 @@ pub record AreCut (s : State) : Type 0 where
 
 -- in each legal chronicle a fragment of a put of the session has the payload that this has cut
 abbrev pub PayloadsAreCut : Type 0
-PayloadsAreCut = (setting : Setting) (courses : List Course) (recs : List Rec) → IsLegal setting courses recs
+PayloadsAreCut = (setting : Setting) (past : List Call) (courses : List Course) (recs : List Rec) → IsLegal setting past courses recs
     → AreCut (after_all nothing_yet recs)
 
 -- the put of a fragment, which has cut its payload
@@ -37,6 +38,6 @@ pub record PutHasCut (s : State) (id : PieceId) (row : Row) : Type 0 where
 
 -- behind a format each fragment that stands has such a put
 abbrev pub FormattedAreCut : Type 0
-FormattedAreCut = (setting : Setting) (courses : List Course) (recs : List Rec) (id : PieceId) (row : Row) → IsLegal setting courses recs
+FormattedAreCut = (setting : Setting) (past : List Call) (courses : List Course) (recs : List Rec) (id : PieceId) (row : Row) → IsLegal setting past courses recs
     → (after_all nothing_yet recs).opened ≡ None → is_vector id ≡ false → row_of (after_all nothing_yet recs) id ≡ Some row
     → PutHasCut (after_all nothing_yet recs) id row

@@ -3,6 +3,7 @@ use Rattle.std.proofs.Common.{◌≡◌, ℕ, ◌+◌, ◌^◌, ◌<◌, ◌≤�
 use Rattle.std.specs.Prelude.{Option, Some}
 use Rattle.std.proofs.lemmas.Bool.{eqb-true}
 use Rattle.std.proofs.lemmas.List.{append-nil}
+use Rattle.device_log.specs.Calls.{Call}
 use Rattle.tape_base.specs.declared.digests.Digest.{Digest}
 use Rattle.tape_base.specs.declared.geometries.Geometry.{Geometry}
 use Rattle.tape_base.specs.declared.keys.Key.{Key}
@@ -290,18 +291,19 @@ told_opening s geometry o vectors =
 pub openings_tell : (packed : Bool) (s : State) (geometry : Geometry) (o : Opening) → IsOpening packed geometry o → AreTold (after_all s (opened_records geometry o))
 openings_tell packed s geometry o opening = told_opening s geometry o opening.vectors
 
-told_legal : (setting : Setting) (courses : List Course) (recs : List Rec) → IsLegal setting courses recs → AreTold (after_all nothing_yet recs) ⊎ IsShownIn courses recs
-told_legal setting courses recs (Legal.IsLegal.begins geometry) = inl (told_format nothing_yet geometry)
-told_legal setting courses recs (Legal.IsLegal.opens geometry o opening) = inl (told_opening nothing_yet geometry o opening.vectors)
-told_legal setting courses recs (Legal.IsLegal.steps {courses = earlier} {before = before} {added = added} course e legal step) =
-    elim (told_legal setting earlier before legal) [
+told_legal : (setting : Setting) (past : List Call) (courses : List Course) (recs : List Rec) → IsLegal setting past courses recs → AreTold (after_all nothing_yet recs) ⊎ IsShownIn courses recs
+told_legal setting past courses recs (Legal.IsLegal.begins geometry) = inl (told_format nothing_yet geometry)
+told_legal setting past courses recs (Legal.IsLegal.opens geometry o opening) = inl (told_opening nothing_yet geometry o opening.vectors)
+told_legal setting past courses recs (Legal.IsLegal.steps {courses = earlier} {before = before} {added = added} course e legal step) =
+    elim (told_legal setting _ earlier before legal) [
       | inr v ↦ inr (shown_before earlier course before added v)
-      | inl told ↦ elim (told_step course.permit (after_all nothing_yet before) course.intents added course.refused (legal_is_sound setting earlier before legal) told step) [
+      | inl told ↦ elim (told_step course.permit (after_all nothing_yet before) course.intents added course.refused (legal_is_sound setting _ earlier before legal) told step) [
         | inl last ↦ inl (subst AreTold (sym (after_all-append nothing_yet before added)) last)
         | inr v ↦ inr (shown_last earlier course before added v)
       ]
     ]
+told_legal setting past courses recs (Legal.IsLegal.tells call is legal) = told_legal setting _ courses recs legal
 
-pub vectors_are_kept : (setting : Setting) (courses : List Course) (recs : List Rec) → IsLegal setting courses recs
+pub vectors_are_kept : (setting : Setting) (past : List Call) (courses : List Course) (recs : List Rec) → IsLegal setting past courses recs
     → AreVectors (after_all nothing_yet recs) ⊎ IsShownIn courses recs
-vectors_are_kept setting courses recs legal = elim (told_legal setting courses recs legal) [ inl told ↦ inl told.vectors | inr v ↦ inr v ]
+vectors_are_kept setting past courses recs legal = elim (told_legal setting past courses recs legal) [ inl told ↦ inl told.vectors | inr v ↦ inr v ]

@@ -2,6 +2,7 @@
 -- clean mark holds back (directory syncs: Apache Traffic Server guide, Cache Architecture).
 use Rattle.std.specs.Prelude.{ℕ, ◌≡◌, ◌<◌, Bool, true, false, List, ◌∷◌, ◌++◌, Option, Some, None}
 use Rattle.std.specs.List.{AllByRecursion}
+use Rattle.device_log.specs.Calls.{Call}
 use Rattle.cache_model.specs.declared.record.Rec.{Rec}
 use Rattle.cache_model.specs.declared.record.Rec.TheVariants as rec
 use Rattle.cache_model.specs.State.{State, Mark, after_all, cursor_next, floor_next, nothing_yet, AllAlong}
@@ -74,7 +75,7 @@ MarkedStaysEmpty = (p : Permit) (s : State) (i : Intent) (added : List Rec) (e :
 
 -- and so it is behind each legal chronicle of one
 abbrev pub MarkedIsEmpty : Type 0
-MarkedIsEmpty = (setting : Setting) (courses : List Course) (recs : List Rec) → setting.syncs ≡ true → IsLegal setting courses recs
+MarkedIsEmpty = (setting : Setting) (past : List Call) (courses : List Course) (recs : List Rec) → setting.syncs ≡ true → IsLegal setting past courses recs
     → IsMarkedEmpty (after_all nothing_yet recs)
 
 -- ---- before the next buffer begins
@@ -228,5 +229,5 @@ SerialsRise = (p : Permit) (s : State) (i : Intent) (added : List Rec) (e : End)
 
 -- and so it is behind each legal chronicle
 abbrev pub LegalSerialsRise : Type 0
-LegalSerialsRise = (setting : Setting) (courses : List Course) (recs : List Rec) → IsLegal setting courses recs
+LegalSerialsRise = (setting : Setting) (past : List Call) (courses : List Course) (recs : List Rec) → IsLegal setting past courses recs
     → IsHeadGreatest (after_all nothing_yet recs)

@@ -1,5 +1,6 @@
 -- What records leave of vectors: each lists its alternates, or two documents of one SHA-256 are shown.
 use Rattle.std.specs.Prelude.{ℕ, ◌≡◌, ◌<◌, ◌≤◌, ◌⊎◌, ◌++◌, Bool, false, List, [], length, Option, Some, None, unwrap_or}
+use Rattle.device_log.specs.Calls.{Call}
 use Rattle.tape_base.specs.declared.geometries.Geometry.{Geometry}
 use Rattle.tape_base.specs.declared.keys.Key.{Key}
 use Rattle.tape_base.specs.declared.pieces.PieceId.{PieceId}
@@ -62,7 +63,7 @@ pub record IsShownIn (courses : List Course) (recs : List Rec) : Type 0 where
 
 -- in each legal chronicle each vector lists its alternates, or a step shows two documents of one SHA-256
 abbrev pub VectorsAreKept : Type 0
-VectorsAreKept = (setting : Setting) (courses : List Course) (recs : List Rec) → IsLegal setting courses recs
+VectorsAreKept = (setting : Setting) (past : List Call) (courses : List Course) (recs : List Rec) → IsLegal setting past courses recs
     → AreVectors (after_all nothing_yet recs) ⊎ IsShownIn courses recs
 
 -- where the vector of a put's alternate alone is a piece, so is the vector that the put is to have
@@ -107,7 +108,7 @@ StepsCount = (p : Permit) (s : State) (intents : List Intent) (added : List Rec)
 
 -- in each legal chronicle the last vector of a key lists as many alternates as are told of it, where it stands
 abbrev pub CountIsListed : Type 0
-CountIsListed = (setting : Setting) (courses : List Course) (recs : List Rec) (key : Key) (put : ℕ) → IsLegal setting courses recs
+CountIsListed = (setting : Setting) (past : List Call) (courses : List Course) (recs : List Rec) (key : Key) (put : ℕ) → IsLegal setting past courses recs
     → last_vector (after_all nothing_yet recs) key ≡ Some (Complete put)
     → VectorIsCounted (after_all nothing_yet recs) (vector_piece key put)
 
@@ -122,7 +123,7 @@ pub record IsUnanswered (s : State) (key : Key) (request : List Field) : Type 0 
 
 -- in each legal chronicle such a request is missed, and told how many alternates the key has
 abbrev pub UnansweredIsCounted : Type 0
-UnansweredIsCounted = (setting : Setting) (courses : List Course) (recs : List Rec) (key : Key) (request : List Field)
-    → IsLegal setting courses recs
+UnansweredIsCounted = (setting : Setting) (past : List Call) (courses : List Course) (recs : List Rec) (key : Key) (request : List Field)
+    → IsLegal setting past courses recs
     → (let s : State = after_all nothing_yet recs in
     IsUnanswered s key request → lookup_verdict s key request ≡ read.Miss (cause.NoMatch (length (alternates_of s key))))

@@ -10,11 +10,11 @@ use Rattle.cache_model.specs.Kept.{Kept, state_of}
 use Rattle.cache_model.specs.Legal.{is_writing, vector_length}
 use Rattle.cache_model.specs.Permit.{Commit, Exhausted, Faulted, Finish, Intent, Lost, Permit, TooLarge, Weigh}
 use Rattle.cache_model.specs.ToRead.{to_read}
-use Rattle.cache_model.specs.Vectors.{IsVectorAs}
+use Rattle.cache_model.specs.Vectors.{AreTold, IsVectorAs}
 use Rattle.cache_model.specs.Verdict.{cuts_of, live_vector_of}
 use Rattle.call_laws.specs.Untold.{Untold}
 use Rattle.cache_model.specs.Contents.{Contents}
-use Rattle.call_laws.specs.Moments.{At, IsToldAt}
+use Rattle.call_laws.specs.Moments.{At}
 use Rattle.call_laws.specs.Progress.{AllDone, Leaves, Progress, Spends, Stops}
 use Rattle.call_laws.specs.Serves.{ServesFrom}
 use Rattle.cache_answers.specs.declared.answers.Refusal.{Refusal}
@@ -94,7 +94,7 @@ weighs s w row rest found key vector live =
 module _ (packed : Bool) (k l : Kept) (d e : Device) (now : ℕ) (w : Writer) (accounted : IsAccounted d.past e.past k l) where
   abbrev Served : List Intent → Progress → Result Receipt Refusal → Type 0
   Served asked o result =
-      ServesFrom (Untold e IsVectorAs) now (at_by packed k d) (at_by packed l e) asked o IsToldAt (NumberAtClose (written_as w) result)
+      ServesFrom (Untold e IsVectorAs) now (at_by packed k d) (at_by packed l e) asked o AreTold (NumberAtClose (written_as w) result)
 
   -- what is asked of an open put comes there, in each step that covers the call; or a pair is shown
   comes : (o : Progress) (result : Result Receipt Refusal) → writers.IsStripeWriterOf (state_of k) w → is_writing (state_of k) w.put ≡ true
@@ -103,11 +103,11 @@ module _ (packed : Bool) (k l : Kept) (d e : Device) (now : ℕ) (w : Writer) (a
   comes o result own writing law h =
       let row = open_put (put_of (state_of k) w.put) writing in
       subst (λ is. Served is o result) (asks_are w)
-      (serves_by accounted (closing.asked_of_closing w) o IsToldAt accounted.added accounted.adds
-      (λ p past packs moment step told. elim (h.does p packs moment step told) [
+      (serves_by accounted (closing.asked_of_closing w) o AreTold accounted.added accounted.adds
+      (λ p packs moment step told. elim (h.does p packs moment step told) [
         | inl closed ↦ inl (
           law p accounted.added (subst (closes.Spent p (state_of k) w result) (same_added k l closed.added accounted.added closed.adds accounted.adds) closed.does),
-          λ later. number_at (state_of l) w result closed.number,
+          number_at (state_of l) w result closed.number,
         )
         | inr pair ↦ inr (shows_asked _ accounted.added
             (λ vector live. weighs (state_of k) w row.0 (length w.gathered.items) row.1 (own row.0 row.1 row.2).key_is vector live) pair)
@@ -149,7 +149,7 @@ module _ (packed : Bool) (k l : Kept) (d e : Device) (now : ℕ) (w : Writer) (a
 
   -- of one that is not nothing is asked
   pub not_open_serves : is_writing (state_of k) w.put ≡ false → l ≡ k → Served own_asks (Leaves own_asks) (Err refusal.NoSuchWriter)
-  not_open_serves none same = all_left accounted own_asks IsToldAt same (λ later. tt)
+  not_open_serves none same = all_left accounted own_asks AreTold same tt
 
 -- nothing was done
 pub nothing_closed : (k : Kept) (d : Device) → IsAccounted d.past d.past k k

@@ -11,7 +11,7 @@ use Rattle.cache_model.specs.Kept.{Kept, state_of, with_records}
 use Rattle.cache_model.specs.Permit.{Exhausted, Fails, Faulted, Intent, ManyFragments, Overflow, Reason}
 use Rattle.cache_model.specs.Room.{placed_record}
 use Rattle.cache_model.specs.Contents.{Contents}
-use Rattle.call_laws.specs.Moments.{IsToldAt}
+use Rattle.cache_model.specs.Vectors.{AreTold}
 use Rattle.call_laws.specs.Progress.{AllDone, Leaves, Progress, Stops}
 use Rattle.call_laws.specs.Serves.{ServesTold}
 use Rattle.call_laws.proofs.Grown.{one_spends}
@@ -106,9 +106,9 @@ module _ (packed : Bool) (k l : Kept) (d e : Device) (now : ℕ) (w : Writer) (b
       → MatchBool b ((placed : Placed) × CutsNextAsAsked packed now (state_of k) d.past e w (gathered_behind w bytes n) added (Ok placed)) (added ≡ [])
       → Served (cut_asks (state_of k) w bytes b (gathered_behind w bytes n)) AllDone
   took n added adds true h =
-      serves_by accounted (cuts_fragment w (gathered_behind w bytes n) ∷ []) AllDone IsToldAt added adds
-      (λ p past packs moment step told. inl (one_done (h.1.does p packs moment step), λ later. tt))
-  took n added adds false h = all_left accounted [] IsToldAt (subst (λ recs. l ≡ with_records k recs) h adds ∙ nothing_more k) (λ later. tt)
+      serves_by accounted (cuts_fragment w (gathered_behind w bytes n) ∷ []) AllDone AreTold added adds
+      (λ p packs moment step told. inl (one_done (h.1.does p packs moment step), tt))
+  took n added adds false h = all_left accounted [] AreTold (subst (λ recs. l ≡ with_records k recs) h adds ∙ nothing_more k) tt
 
   stopped : (why : Reason) (end : Result Placed Stop) (added : List Rec) → place_end end ≡ Fails why → l ≡ with_records k added
       → writes.IsCuttingInStripe (state_of k) w bytes
@@ -117,15 +117,15 @@ module _ (packed : Bool) (k l : Kept) (d e : Device) (now : ℕ) (w : Writer) (b
   stopped why end added is adds cutting h =
       let payload = payload_cut_next (state_of k) w bytes in
       subst (λ them. Served them (Stops why)) (sym (cutting_asks (state_of k) w bytes cutting))
-      (serves_by accounted (cuts_fragment w payload ∷ []) (Stops why) IsToldAt added adds
-      (λ p past packs moment step told. inl (
+      (serves_by accounted (cuts_fragment w payload ∷ []) (Stops why) AreTold added adds
+      (λ p packs moment step told. inl (
         one_fails why
             (subst (SpendsFirst p (state_of k) (cuts_fragment w payload) added) is (h.does p packs moment step)),
-        λ later. tt,
+        tt,
       )))
 
   left : (added : List Rec) → l ≡ with_records k added → added ≡ [] → Served own_asks (Leaves own_asks)
-  left added adds none = all_left accounted own_asks IsToldAt (subst (λ recs. l ≡ with_records k recs) none adds ∙ nothing_more k) (λ later. tt)
+  left added adds none = all_left accounted own_asks AreTold (subst (λ recs. l ≡ with_records k recs) none adds ∙ nothing_more k) tt
 
   pub write_serves : (result : Result ℕ Refusal) → WritesWhere (state_of k) w bytes result → WritesAsAsked packed now k l d.past e w bytes result
       → Served own_asks (progress_at w.put own_asks result)
@@ -138,8 +138,8 @@ module _ (packed : Bool) (k l : Kept) (d e : Device) (now : ℕ) (w : Writer) (b
   write_serves (Err (refusal.Exhausted number)) is h = stopped Exhausted (Err (stop.Exhausted number)) h.added refl h.adds is h.does
   write_serves (Err refusal.TooManyFragments) is h =
       subst (λ them. Served them (Stops (ManyFragments w.put))) (sym (over_asks (state_of k) w bytes is.0 is.1 is.2))
-      (serves_by accounted (Overflow w.put ∷ []) (Stops (ManyFragments w.put)) IsToldAt h.added h.adds
-      (λ p past packs moment step told. inl (one_spends p (state_of k) (Overflow w.put) h.added (Fails (ManyFragments w.put)) (h.does.1 p), λ later. tt)))
+      (serves_by accounted (Overflow w.put ∷ []) (Stops (ManyFragments w.put)) AreTold h.added h.adds
+      (λ p packs moment step told. inl (one_spends p (state_of k) (Overflow w.put) h.added (Fails (ManyFragments w.put)) (h.does.1 p), tt)))
   write_serves (Err refusal.NoSuchWriter) is h = left h.added h.adds h.does
   write_serves (Err refusal.Sealed) is h = left h.added h.adds h.does
   write_serves (Err (refusal.Memory error)) is h = left h.added h.adds h.does

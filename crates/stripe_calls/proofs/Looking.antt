@@ -17,7 +17,6 @@ use Rattle.cache_model.specs.Kept.{Kept, state_of, with_records}
 use Rattle.cache_model.specs.Permit.{Done, Intent, IsAmong, Look, StopReading}
 use Rattle.cache_model.specs.Verdict.{live_vector_of}
 use Rattle.call_laws.specs.Untold.{Untold}
-use Rattle.call_laws.specs.Moments.{IsToldAt}
 use Rattle.call_laws.specs.Progress.{AllDone}
 use Rattle.call_laws.specs.Serves.{ServesFrom, ServesTold}
 use Rattle.call_laws.proofs.Grown.{one_spends}
@@ -28,7 +27,7 @@ use Rattle.stripe_read.specs.declared.reader.Reader.{Reader}
 use Rattle.stripe_read.specs.Lookups as lookups
 use Rattle.stripe_read.specs.Lookups.{IfOpened, Opens, TellsOpened, answer_of_opened}
 use Rattle.stripe_read.specs.Readers as readers
-use Rattle.cache_model.specs.Vectors.{IsVectorAs}
+use Rattle.cache_model.specs.Vectors.{AreTold, IsVectorAs}
 use Rattle.cache_calls.specs.Actors.{IsOpenReader, IsReaderOf}
 use Rattle.cache_calls.specs.Adds.{AddsAll}
 use Rattle.cache_calls.specs.Asked.{unless_wanting}
@@ -106,19 +105,19 @@ module _ (packed : Bool) (k l : Kept) (d e : Device) (who : Actor) (key : Key) (
   Found result = IfOk result (Opens (state_of k) (state_of l) d e who key request)
 
   pub look_serves : (now : ℕ) → IsAccounted d.past e.past k l → (result : Result (Opened Reader) AllocError) → Added result → Found result → OnErr result (l ≡ k)
-      → ServesFrom (Untold e IsVectorAs) now (at_by packed k d) (at_by packed l e) asked (unless_wanting asked result) IsToldAt
+      → ServesFrom (Untold e IsVectorAs) now (at_by packed k d) (at_by packed l e) asked (unless_wanting asked result) AreTold
       (HasItsTable reading_as result)
   look_serves now accounted (Ok given) adds h same =
       let added : List Rec = lookups.opening_adds (state_of k) who key request (answer_of_opened given) in
-      serves_by accounted asked AllDone IsToldAt added adds
-      (λ p past packs moment step told. elim (h.does p step told.vectors) [
+      serves_by accounted asked AllDone AreTold added adds
+      (λ p packs moment step told. elim (h.does p step told.vectors) [
         | inl v ↦ inl (
           one_spends p (state_of k) (Look who.0 key request) added Done v.0,
-          λ later. if_reader (readers.IsStripeReaderOf (state_of l)) (λ r. IsReaderOf (state_of l) (reading_as r)) (table_as (state_of l)) given v.1,
+          if_reader (readers.IsStripeReaderOf (state_of l)) (λ r. IsReaderOf (state_of l) (reading_as r)) (table_as (state_of l)) given v.1,
         )
         | inr pair ↦ inr (shows_asked [] added (λ row vector. vector) pair)
       ])
-  look_serves now accounted (Err error) adds h same = all_left accounted asked IsToldAt same (λ later. tt)
+  look_serves now accounted (Err error) adds h same = all_left accounted asked AreTold same tt
 
   pub look_gives : (result : Result (Opened Reader) AllocError) → Added result → Found result → IfOk result (IfOpened (readers.IsOpenStripeReader (state_of l)))
       → IfOk result (TellsOpened (state_of k).next_reader) → OnErr result (l ≡ k)
@@ -144,8 +143,8 @@ module _ (packed : Bool) (k l : Kept) (d e : Device) (r : Reader) where
       → readers.ReaderClosesAsAsked (state_of k) r → IfErr result (λ back. l ≡ k)
       → ServesTold now (at_by packed k d) (at_by packed l e) (StopReading r.reader ∷ []) (unless_wanting (StopReading r.reader ∷ []) result)
   close_reader_serves now accounted (Ok u) adds does same =
-      group_serves accounted (StopReading r.reader) Done IsToldAt (rec.ReadClosed r.reader ∷ []) adds (λ p packs moment step. does p)
-  close_reader_serves now accounted (Err back) adds does same = all_left accounted (StopReading r.reader ∷ []) IsToldAt same (λ later. tt)
+      group_serves accounted (StopReading r.reader) Done AreTold (rec.ReadClosed r.reader ∷ []) adds (λ p packs moment step. does p)
+  close_reader_serves now accounted (Err back) adds does same = all_left accounted (StopReading r.reader ∷ []) AreTold same tt
 
   pub close_reader_gives : (result : Result (Unit {0}) (AllocError × Reader)) → Closed result → IfErr result (λ back. l ≡ k) → IfErr result (λ back. back.1 ≡ r)
       → ClosesReader reading_as (at_by packed k d) (at_by packed l e) r result

@@ -12,7 +12,8 @@ use Rattle.cache_model.specs.Kept.{Kept, state_of, with_records}
 use Rattle.cache_model.specs.Permit.{Done, Exhausted, Fails, GiveUp, Intent, ManyWriters, Write}
 use Rattle.cache_model.specs.Legal.{Does, DoesWrite}
 use Rattle.cache_model.specs.Room.{limit}
-use Rattle.call_laws.specs.Moments.{IsToldAt, permit_of}
+use Rattle.cache_model.specs.Vectors.{AreTold}
+use Rattle.call_laws.specs.Moments.{permit_of}
 use Rattle.call_laws.specs.Serves.{ServesTold}
 use Rattle.cache_answers.specs.declared.answers.Refusal.{Refusal}
 use Rattle.cache_answers.specs.declared.answers.Refusal.TheVariants as refusal
@@ -53,12 +54,12 @@ module _ (packed : Bool) (k l : Kept) (d e : Device) (who : Actor) (key : Key) (
     pub open_serves : (result : Result Writer Refusal) → OnOk result (l ≡ with_records k (opened ∷ [])) → OnErr result (l ≡ k) → Opens result
         → ServesTold now (at_by packed k d) (at_by packed l e) asked (progress_at (state_of k).next_put asked result)
     open_serves (Ok w) adds same does =
-        group_serves accounted (Write who.0 key request response pin) Done IsToldAt (opened ∷ []) adds (λ p packs moment step. does.1 p)
+        group_serves accounted (Write who.0 key request response pin) Done AreTold (opened ∷ []) adds (λ p packs moment step. does.1 p)
     open_serves (Err refusal.TooManyWriters) adds same does =
-        group_serves accounted (Write who.0 key request response pin) (Fails ManyWriters) IsToldAt [] (adds_none k l same) (λ p packs moment step. does.1 p)
+        group_serves accounted (Write who.0 key request response pin) (Fails ManyWriters) AreTold [] (adds_none k l same) (λ p packs moment step. does.1 p)
     open_serves (Err (refusal.Exhausted number)) adds same does =
-        group_serves accounted (Write who.0 key request response pin) (Fails Exhausted) IsToldAt [] (adds_none k l same) (λ p packs moment step. does.1 p)
-    open_serves (Err (refusal.Memory error)) adds same does = all_left accounted asked IsToldAt same (λ later. tt)
+        group_serves accounted (Write who.0 key request response pin) (Fails Exhausted) AreTold [] (adds_none k l same) (λ p packs moment step. does.1 p)
+    open_serves (Err (refusal.Memory error)) adds same does = all_left accounted asked AreTold same tt
     open_serves (Err _) adds same does = absurd does
 
   has_number : calls.HasPutNumber (state_of k) → HasNumber (state_of k)
@@ -73,7 +74,7 @@ module _ (packed : Bool) (k l : Kept) (d e : Device) (who : Actor) (key : Key) (
   }
   open_gives (Err refusal.TooManyWriters) adds same does writer empty unsealed still = record { answers = (same, does.0); still = still }
   open_gives (Err (refusal.Exhausted number)) adds same does writer empty unsealed still =
-      let over : limit ≤ (state_of k).next_put + 1 = at_the_end (does.1 (permit_of 0 (unsynced_setting packed) [] [])) in
+      let over : limit ≤ (state_of k).next_put + 1 = at_the_end (does.1 (permit_of 0 (at_by packed k d) [])) in
       record { answers = (same, (does.0, subst (λ n. limit ≤ n) (sym does.0) over)); still = still }
   open_gives (Err (refusal.Memory error)) adds same does writer empty unsealed still = record { answers = (same, has_number does); still = still }
   open_gives (Err _) adds same does writer empty unsealed still = absurd does
@@ -98,10 +99,10 @@ module _ (packed : Bool) (k l : Kept) (d e : Device) (w : Writer) where
         → AbortsAsAsked (state_of k) w.put w.key result
         → ServesTold now (at_by packed k d) (at_by packed l e) (GiveUp w.put ∷ []) (given_up_at w.put result)
     abort_serves (Ok n) adds is does =
-        group_serves accounted (GiveUp w.put) Done IsToldAt (rec.Aborted w.put w.key ∷ []) (given_up n is.0 adds)
+        group_serves accounted (GiveUp w.put) Done AreTold (rec.Aborted w.put w.key ∷ []) (given_up n is.0 adds)
         (λ p packs moment step. subst (λ put. Does p (state_of k) (GiveUp w.put) (rec.Aborted put w.key ∷ []) Done) is.0 (does p))
-    abort_serves (Err refusal.NoSuchWriter) adds is does = group_serves accounted (GiveUp w.put) Done IsToldAt [] adds (λ p packs moment step. does p)
-    abort_serves (Err (refusal.Memory error)) adds is does = all_left accounted (GiveUp w.put ∷ []) IsToldAt (as_it_was adds) (λ later. tt)
+    abort_serves (Err refusal.NoSuchWriter) adds is does = group_serves accounted (GiveUp w.put) Done AreTold [] adds (λ p packs moment step. does p)
+    abort_serves (Err (refusal.Memory error)) adds is does = all_left accounted (GiveUp w.put ∷ []) AreTold (as_it_was adds) tt
     abort_serves (Err _) adds is does = absurd is
 
   pub abort_gives : (result : Result ℕ Refusal) → l ≡ with_records k (abort_adds w.key result) → AbortsWhere (state_of k) w.put result

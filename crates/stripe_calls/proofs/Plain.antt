@@ -10,7 +10,7 @@ use Rattle.cache_model.specs.Kept.{Kept, state_of, with_records}
 use Rattle.cache_model.specs.Legal.{IsQuiet}
 use Rattle.cache_model.specs.Permit.{Done, Exhausted, Fails, Faulted, Flush, Remove}
 use Rattle.cache_model.specs.Room.{is_flush_exhausted}
-use Rattle.call_laws.specs.Moments.{IsToldAt}
+use Rattle.cache_model.specs.Vectors.{AreTold}
 use Rattle.call_laws.specs.Serves.{ServesTold}
 use Rattle.call_laws.proofs.Joined.{state_behind}
 use Rattle.cache_answers.specs.declared.answers.Flushed.{Flushed}
@@ -46,8 +46,8 @@ module _ (packed : Bool) (k l : Kept) (d e : Device) (key : Key) where
       → IfOk result (RemovesAsIsAsked (state_of k) key) → OnErr result (l ≡ k)
       → ServesTold now (at_by packed k d) (at_by packed l e) (Remove key ∷ []) (unless_wanting (Remove key ∷ []) result)
   remove_serves now accounted (Ok answer) adds does same =
-      group_serves accounted (Remove key) Done IsToldAt (removal_adds key answer) adds (λ p packs moment step. does p)
-  remove_serves now accounted (Err error) adds does same = all_left accounted (Remove key ∷ []) IsToldAt same (λ later. tt)
+      group_serves accounted (Remove key) Done AreTold (removal_adds key answer) adds (λ p packs moment step. does p)
+  remove_serves now accounted (Err error) adds does same = all_left accounted (Remove key ∷ []) AreTold same tt
 
   pub remove_gives : (result : Result Removal AllocError) → Added result → IfOk result (RemovesWhere (state_of k) key) → OnErr result (l ≡ k)
       → Removes (at_by packed k d) (at_by packed l e) key result
@@ -66,10 +66,10 @@ module _ (packed : Bool) (k l : Kept) (d e : Device) (now : ℕ) where
 
   pub flush_serves : IsAccounted d.past e.past k l → (result : Result Flushed Refusal) → Does result
       → ServesTold now (at_by packed k d) (at_by packed l e) (Flush ∷ []) (progress_at 0 (Flush ∷ []) result)
-  flush_serves accounted (Ok flushed) h = group_serves accounted Flush Done IsToldAt h.added h.adds (λ p packs. h.does p)
-  flush_serves accounted (Err (refusal.DeviceFault count)) h = group_serves accounted Flush (Fails (Faulted count)) IsToldAt h.added h.adds (λ p packs. h.does p)
-  flush_serves accounted (Err (refusal.Exhausted number)) h = group_serves accounted Flush (Fails Exhausted) IsToldAt h.added h.adds (λ p packs. h.does p)
-  flush_serves accounted (Err (refusal.Memory error)) h = all_left accounted (Flush ∷ []) IsToldAt h (λ later. tt)
+  flush_serves accounted (Ok flushed) h = group_serves accounted Flush Done AreTold h.added h.adds (λ p packs. h.does p)
+  flush_serves accounted (Err (refusal.DeviceFault count)) h = group_serves accounted Flush (Fails (Faulted count)) AreTold h.added h.adds (λ p packs. h.does p)
+  flush_serves accounted (Err (refusal.Exhausted number)) h = group_serves accounted Flush (Fails Exhausted) AreTold h.added h.adds (λ p packs. h.does p)
+  flush_serves accounted (Err (refusal.Memory error)) h = all_left accounted (Flush ∷ []) AreTold h tt
   flush_serves accounted (Err _) h = absurd h
 
   sound : (r : Result Flushed Stop) → FlushesAsAsked now k l d.past e r → AddsSoundly IsOfFlush (at_by packed k d) (at_by packed l e)

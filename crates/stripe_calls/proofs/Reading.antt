@@ -138,11 +138,11 @@ module _ (packed : Bool) (k l : Kept) (old new : Seen) (r : Reader) where
   next_serves now into accounted (Ok given) adds h same =
       let added : List Rec = nexts.reading_adds (state_of k) r given in
       serves_by accounted asked AllDone (IsToldTo (reading_as r)) added adds
-      (λ p past packs moment step told. inl (one_spends p (state_of k) (ReadOn r.reader) added Done (h.does p step (table_is (state_of k) r told.1)), λ later. tt))
-  next_serves now into accounted (Err error) adds h same = all_left accounted asked (IsToldTo (reading_as r)) same (λ later. tt)
+      (λ p packs moment step told. inl (one_spends p (state_of k) (ReadOn r.reader) added Done (h.does p step (table_is (state_of k) r told.1)), tt))
+  next_serves now into accounted (Err error) adds h same = all_left accounted asked (IsToldTo (reading_as r)) same tt
 
   is_given : (given : NextPiece) (into : List ℕ) → ReadsOn (state_of k) old new r given into → IsGivenInEachStep (at_by packed k d) (at_by packed l e) (reading_as r) given into
-  is_given given into h = λ now p earlier calls past step. given_so p (state_of k) r given into (h.gives p (covers_in d.past e.past past step))
+  is_given given into h = λ now p earlier calls past step. given_so p (state_of k) r given into (h.gives p (covers_in refl d.past e.past past step))
 
   pub next_gives : (into : List ℕ) (result : Result NextPiece AllocError) → Added result → Read result into → OnErr result (l ≡ k)
       → ReadsNext (at_by packed k d) (at_by packed l e) (reading_as r) result into

@@ -17,7 +17,7 @@ use Rattle.cache_model.specs.Pair.{Documents, IsKeyPair, IsPair, ShowsPair}
 use Rattle.cache_model.specs.ToRead.{asked_for, to_read}
 use Rattle.cache_model.specs.Vectors.{IsVectorAs}
 use Rattle.call_laws.specs.Untold.{Untold}
-use Rattle.call_laws.specs.Moments.{Encloses, Facts, NothingKnown, so_far}
+use Rattle.call_laws.specs.Moments.{At, Encloses, Facts, NothingKnown}
 use Rattle.call_laws.specs.Progress.{AllDone, Leaves, Progress, Spends, Stops, progress_of, refused_work}
 use Rattle.call_laws.specs.Serves.{ServesFrom}
 use Rattle.call_laws.proofs.Grown.{one_spends}
@@ -48,10 +48,10 @@ all_are P [] each = tt
 all_are P (x ∷ xs) each = (each x (inl refl), all_are P xs (λ y h. each y (inr h)))
 
 -- what has the calls of a call covers it
-pub covers_in : {packed : Bool} {now : ℕ} {p : Permit} {earlier calls : List Call} (before after : List Call) → after ≡ calls ++ before
-    → Encloses now (unsynced_setting packed) p earlier calls → Covers p before after
-covers_in {p = p} {earlier = earlier} {calls = calls} before after is h = record {
-  unsynced = h.set.syncs;
+pub covers_in : {now : ℕ} {a : At} {p : Permit} {earlier calls : List Call} → a.setting.syncs ≡ false → (before after : List Call) → after ≡ calls ++ before
+    → Encloses now a p earlier calls → Covers p before after
+covers_in {p = p} {earlier = earlier} {calls = calls} plain before after is h = record {
+  unsynced = h.syncs ∙ plain;
   knows = λ made there. subst (λ cs. AllByRecursion (λ call. IsAmong call p.events) cs) (sym (made_is before after made calls is there)) own;
 }
   where
@@ -113,9 +113,9 @@ shows_asked {P} {p} {s} {key} {i} rest added reads h = record {
 -- What a call brings in each step, where this is known before: what is asked there, and what is known behind; or a pair, on a
 -- device that did not tell its content.
 abbrev pub Brings : (packed : Bool) (now : ℕ) (k l : Kept) (d e : Device) → List Intent → Progress → (before known : Facts) → List Rec → Type 0
-Brings packed now k l d e asked o before known added = (p : Permit) (past : List Call) → p.packed ≡ packed → p.now ≡ now → Covers p d.past e.past
-    → before past (state_of k)
-    → (Spends p (state_of k) asked added o × ((later : List Call) → known later (state_of l))) ⊎ ShowsPair (Untold e IsVectorAs) p (state_of k) asked added
+Brings packed now k l d e asked o before known added = (p : Permit) → p.packed ≡ packed → p.now ≡ now → Covers p d.past e.past
+    → before (state_of k)
+    → (Spends p (state_of k) asked added o × known (state_of l)) ⊎ ShowsPair (Untold e IsVectorAs) p (state_of k) asked added
 
 module _ {packed : Bool} {k l : Kept} {d e : Device} (accounted : IsAccounted d.past e.past k l) where
   pub serves_by : {now : ℕ} {known : Facts} (asked : List Intent) (o : Progress) (before : Facts) (added : List Rec) → l ≡ with_records k added
@@ -129,10 +129,10 @@ module _ {packed : Bool} {k l : Kept} {d e : Device} (accounted : IsAccounted d.
         added = added;
         happens = happens_plainly calls added refl refl accounted.faults.past adds effects;
         does = λ p earlier step. record {
-          from = λ told. elim (law p (so_far p earlier) step.set.packed step.moment (covers_in d.past e.past accounted.faults.past step) told) [
+          from = λ told. elim (law p step.packed step.moment (covers_in refl d.past e.past accounted.faults.past step) told) [
             | inl v ↦ inl (record {
               spends = v.0;
-              behind = subst (known (so_far p (calls ++ earlier))) (state_behind k l added adds) (v.1 (so_far p (calls ++ earlier)));
+              behind = subst known (state_behind k l added adds) v.1;
             })
             | inr pair ↦ inr pair
           ];
@@ -144,10 +144,10 @@ module _ {packed : Bool} {k l : Kept} {d e : Device} (accounted : IsAccounted d.
       → ((p : Permit) → p.packed ≡ packed → p.now ≡ now → Covers p d.past e.past → Does p (state_of k) i added end)
       → ServesFrom (Untold e IsVectorAs) now (at_by packed k d) (at_by packed l e) (i ∷ []) (progress_of i end) before NothingKnown
   group_serves i end before added adds law = serves_by (i ∷ []) (progress_of i end) before added adds
-      (λ p past packs moment step told. inl (one_spends p (state_of k) i added end (law p packs moment step), λ later. tt))
+      (λ p packs moment step told. inl (one_spends p (state_of k) i added end (law p packs moment step), tt))
 
   -- no record, and all is left
-  pub all_left : {now : ℕ} {known : Facts} (asked : List Intent) (before : Facts) → l ≡ k → ((later : List Call) → known later (state_of l))
+  pub all_left : {now : ℕ} {known : Facts} (asked : List Intent) (before : Facts) → l ≡ k → known (state_of l)
       → ServesFrom (Untold e IsVectorAs) now (at_by packed k d) (at_by packed l e) asked (Leaves asked) before known
   all_left asked before same behind =
-      serves_by asked (Leaves asked) before [] (adds_none k l same) (λ p past packs moment step told. inl (nothing, behind))
+      serves_by asked (Leaves asked) before [] (adds_none k l same) (λ p packs moment step told. inl (nothing, behind))

@@ -3,6 +3,7 @@
 
 mod begins;
 mod cache;
+mod powered;
 mod seam;
 
 pub use cache::StripeCache;

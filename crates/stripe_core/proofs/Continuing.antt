@@ -20,6 +20,7 @@ use Rattle.piece_answers.specs.Standing.{AreStanding}
 use Rattle.stripe_answers.specs.Named.{IsNamed}
 use Rattle.stripe_core.specs.Stripe.{IsSpared, IsStripe, kept_in, seen_in, state_in}
 use Rattle.stripe_core.proofs.Between.{accounted_none, accounted_then, between-trans, between_same}
+use Rattle.piece_answers.proofs.Documents.{documents_stay}
 
 -- a device that stays counts no less
 pub no_less : (a b : Device) → b ≡ a → a.faults ≤ b.faults
@@ -69,6 +70,7 @@ module _ {D R C : Type 0} {d : DiskGhosts D} {r : DirectoryGhosts R} {c : Chroni
           ahead = subst (λ (k : Kept). IsMadeFor (state_of k).geometry u.ahead) (sym kept) ahead;
           none = ap (λ (k : Kept). (state_of k).displaced) kept ∙ stripe.none;
           vectors = stands contents_of_vectors stripe.vectors;
+          documents = documents_stay stripe.documents stands;
           numbered = subst (λ (k : Kept). (state_of k).next_reader < count_of k) (sym kept) stripe.numbered;
         };
         between = between_same (seen_in t).device (seen_in u).device (kept_in t) (kept_in u) device kept;

@@ -2,6 +2,7 @@ mod Rowed
 mod Sparing
 mod Doings
 mod Ready
+mod Switched
 mod Asked
 mod Making
 pub mod Between

@@ -1,6 +1,7 @@
 pub mod Stripe
 pub mod Between
 pub mod Calls
+pub mod Switch
 pub use Rattle.stripe_pieces.specs.Pieces
 pub use Rattle.piece_answers.specs.Standing
 pub use Rattle.held_pieces.specs.Still

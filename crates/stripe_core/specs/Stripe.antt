@@ -19,7 +19,7 @@ use Rattle.stripe_core.specs.declared.stripe.Stripe.{Stripe}
 use Rattle.std.specs.declared.alloc.Global.{Global}
 use Rattle.cache_model.specs.Contents.{contents_of_vectors}
 use Rattle.piece_answers.specs.Ahead.{IsMadeFor}
-use Rattle.piece_answers.specs.Standing.{AreStanding}
+use Rattle.piece_answers.specs.Standing.{AreDocuments, AreStanding}
 use Rattle.stripe_answers.specs.Named.{IsNamed}
 use Rattle.stripe_pieces.specs.Units.{entries_of_unit, records_of_unit}
 use Rattle.stripe_pieces.specs.Pieces.{ArePieces, kept_now, seen_now, state_now}
@@ -80,6 +80,8 @@ pub record IsStripe {D R C : Type 0} {d : DiskGhosts D} {r : DirectoryGhosts R} 
   pub none : (state_in t).displaced ≡ []
   -- where the device tells its content each vector spells what it lists
   pub vectors : AreStanding contents_of_vectors (state_in t) (seen_in t)
+  -- and each piece stands as some document
+  pub documents : AreDocuments (state_in t) (seen_in t)
   -- each reader has a record
   pub numbered : (state_in t).next_reader < count_of (kept_in t)
 

@@ -3,6 +3,7 @@
 
 mod acting;
 mod stripe;
+mod switching;
 
 pub use piece_answers::{Found, Placed, Stop};
 pub use stripe::Stripe;

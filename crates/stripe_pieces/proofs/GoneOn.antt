@@ -27,9 +27,12 @@ module _ (k mid : Kept) (c seen : Seen) (told : List Rec) (held : IsHeld (state_
   geometry_stays : t.geometry ≡ s.geometry
   geometry_stays = sym mid_held.geometry ∙ (ap (λ (y : Seen). y.geometry) rest.same ∙ held.geometry)
 
+  least_stays : t.least ≡ s.least
+  least_stays = sym mid_held.least ∙ (ap (λ (y : Seen). y.least) rest.same ∙ held.least)
+
   floor_stays : floor_next t ≡ floor_next s
   floor_stays =
-      ap (λ n. max n (floor_of t.geometry (cursor_next t))) (mid_held.least ∙ sym held.least)
+      ap (λ n. max n (floor_of t.geometry (cursor_next t))) least_stays
       ∙ (ap (λ g. max s.least (floor_of g (cursor_next t))) geometry_stays ∙ ap (λ n. max s.least (floor_of s.geometry n)) cursor_stays)
 
   abbrev began : Rec

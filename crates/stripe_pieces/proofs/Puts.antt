@@ -8,6 +8,7 @@ use Rattle.tape_base.specs.declared.digests.Digest.{Digest}
 use Rattle.tape_base.specs.Blocks.{blocks_of}
 use Rattle.tape_base.specs.Digest.{digest_of}
 use Rattle.tape_base.specs.Piece.{is_vector, key_of_piece}
+use Rattle.fragment_table.specs.Table.{made_row}
 use Rattle.doc_header.specs.declared.documents.Doc.{Doc}
 use Rattle.doc_header.specs.Document.{digest_of_document, document_bytes}
 use Rattle.doc_header.specs.Reading.{document_digest}
@@ -35,7 +36,7 @@ use Rattle.piece_answers.specs.Standing.{AreStanding, IsToldPlaced}
 use Rattle.piece_answers.proofs.RecordsAdded.{with_records-append}
 use Rattle.held_pieces.proofs.Going.{alike_is_held}
 use Rattle.held_pieces.proofs.Purging.{placed_is_held}
-use Rattle.stripe_pieces.proofs.StandingPlaced.{standing_placed, told_alike}
+use Rattle.stripe_pieces.proofs.StandingPlaced.{WasCutLast, standing_placed, told_alike}
 use Rattle.stripe_pieces.proofs.Telling.{state_behind}
 
 -- ---- what a cut leaves
@@ -87,6 +88,12 @@ cut_listed : (vector : Bool) (s : State) (put index length : ℕ) (digest : Dige
     → (if vector then Some (list_of_put (after_all s (cut_where vector put index length digest)) put) else None) ≡ (if vector then Some (list_of_put s put) else None)
 cut_listed true s put index length digest = refl
 cut_listed false s put index length digest = refl
+
+-- a fragment was cut last
+cut_is_last : (vector : Bool) (s : State) (put index : ℕ) (payload : List ℕ) (cut : Digest) → cut ≡ digest_of payload → vector ≡ false
+    → (after_all s (cut_where vector put index (length payload) cut)).last_cut ≡ Some (made_row (length payload) (digest_of payload).0)
+cut_is_last true s put index payload cut same fragment = absurd (cc fragment)
+cut_is_last false s put index payload cut same fragment = ap (λ (d : Digest). Some (made_row (length payload) d.0)) same
 
 -- what is told of the pieces stands as before
 cut_stands : (contents : Contents) (vector : Bool) (s : State) (c : Seen) (put index length : ℕ) (digest : Digest) → AreStanding contents s c
@@ -185,7 +192,7 @@ module _ (purges : Bool) (k cut_of displaced_in last : Kept) (c new : Seen) (doc
       subst (λ t. AreStanding contents t new) (sym last_is)
       (standing_placed contents purges mid c new doc payload digest (cut_is_held vector s c doc.id.put doc.id.index (length payload) cut held)
       (cut_is_placeable vector s doc payload cut digest doc.id.put doc.id.index (length payload) placeable) cut_at few
-      put.document put.put put.turning mid_said
+      put.document (cut_is_last vector s doc.id.put doc.id.index payload cut put.payload_is) put.put put.turning mid_said
       (cut_stands contents vector s c doc.id.put doc.id.index (length payload) cut stands))
 
   pub put_adds : PutsIn purges k last doc.id doc.pin doc.start payload

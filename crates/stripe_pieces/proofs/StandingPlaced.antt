@@ -1,5 +1,5 @@
 -- What is told of pieces goes on to stand where one is placed, behind what its entry displaces, and where one is copied.
-use Rattle.std.proofs.Common.{◌≡◌, ℕ, ◌+◌, ◌*◌, ◌≤◌, ◌^◌, List, [], ◌∷◌, ◌++◌, refl, sym, ◌∙◌, ap, subst, arith, Bool, false, Option, Some, None, length}
+use Rattle.std.proofs.Common.{◌≡◌, ℕ, ◌+◌, ◌*◌, ◌≤◌, ◌^◌, List, [], ◌∷◌, ◌++◌, refl, sym, ◌∙◌, ap, subst, arith, Bool, true, false, Option, Some, None, length}
 use Rattle.std.specs.Prelude.{if◌then◌else◌, IfSome, map, option_to_list, replicate}
 use Rattle.std.specs.List.{AllByRecursion}
 use Rattle.std.proofs.lemmas.List.{length-append, take_at}
@@ -8,7 +8,9 @@ use Rattle.tape_base.specs.declared.geometries.Geometry.{Geometry}
 use Rattle.tape_base.specs.declared.pieces.PieceId.{PieceId}
 use Rattle.tape_base.specs.declared.digests.Digest.{Digest}
 use Rattle.tape_base.specs.Blocks.{blocks_of}
+use Rattle.tape_base.specs.Digest.{digest_of}
 use Rattle.tape_base.specs.Piece.{is_vector}
+use Rattle.fragment_table.specs.Table.{TableRow, made_row}
 use Rattle.alternate_vector.specs.Spelling.{IsSpelling, vector_bytes}
 use Rattle.alternate_vector.proofs.Loops.{each_push}
 use Rattle.device_log.specs.Image.{Image}
@@ -29,7 +31,7 @@ use Rattle.cache_model.specs.State.{Row, State, after_all, list_of_put, listed, 
 use Rattle.cache_model.specs.Kept.{Kept, state_of, with_records}
 use Rattle.cache_model.specs.Room.{doc_at}
 use Rattle.cache_model.proofs.Lists.{found_row}
-use Rattle.cache_model.specs.Contents.{Content, Contents, IsRecordedAs, IsRecordedWith, IsToldAs, doc_of_row}
+use Rattle.cache_model.specs.Contents.{Content, Contents, IsRecordedAs, IsRecordedFrom, IsRecordedWith, IsToldAs, doc_of_row, payload_recorded}
 use Rattle.stripe_pieces.specs.Copying.{IsCopyable, IsToldRow, copied_record}
 use Rattle.cache_model.specs.Displacing.{AreOfDisplacement, IsOfDisplacement}
 use Rattle.held_pieces.specs.Displaced.{displaced_from, displaced_of, displaced_piece, last_at}
@@ -72,22 +74,23 @@ displaced_rows : (P : Row → Type 0) (s : State) (recs : List Rec) → AreOfDis
 displaced_rows P s [] kinds all = all
 displaced_rows P s (r ∷ recs) kinds all = displaced_rows P (state_after s r) recs kinds.1 (one_left P s r kinds.0 all)
 
--- the tape is the same
+-- the tape is the same, and the fragment that was cut last
 record SameTape (s t : State) : Type 0 where
   geometry : t.geometry ≡ s.geometry
   cursor : t.cursor ≡ s.cursor
   least : t.least ≡ s.least
+  last_cut : t.last_cut ≡ s.last_cut
 
 one_tape : (s : State) (r : Rec) → IsOfDisplacement r → SameTape s (state_after s r)
-one_tape s (rec.Displaced piece segment live) h = record { geometry = refl; cursor = refl; least = refl }
+one_tape s (rec.Displaced piece segment live) h = record { geometry = refl; cursor = refl; least = refl; last_cut = refl }
 one_tape s _ h = absurd h
 
 displaced_tape : (s : State) (recs : List Rec) → AreOfDisplacement recs → SameTape s (after_all s recs)
-displaced_tape s [] kinds = record { geometry = refl; cursor = refl; least = refl }
+displaced_tape s [] kinds = record { geometry = refl; cursor = refl; least = refl; last_cut = refl }
 displaced_tape s (r ∷ recs) kinds =
     let first : SameTape s (state_after s r) = one_tape s r kinds.0 in
     let rest : SameTape (state_after s r) (after_all (state_after s r) recs) = displaced_tape (state_after s r) recs kinds.1 in
-    record { geometry = rest.geometry ∙ first.geometry; cursor = rest.cursor ∙ first.cursor; least = rest.least ∙ first.least }
+    record { geometry = rest.geometry ∙ first.geometry; cursor = rest.cursor ∙ first.cursor; least = rest.least ∙ first.least; last_cut = rest.last_cut ∙ first.last_cut }
 
 -- ---- the other pieces
 
@@ -116,6 +119,16 @@ still_on_device contents s t content (row ∷ rows) same all = (one, still_on_de
 
 -- ---- a piece is placed
 
+-- a fragment that is placed is the one that was cut last
+abbrev pub WasCutLast : State → PieceId → List ℕ → Type 0
+WasCutLast s id payload = is_vector id ≡ false → s.last_cut ≡ Some (made_row (length payload) (digest_of payload).0)
+
+-- so what is recorded of its payload is right
+cut_as_recorded : (vector : Bool) (last cut : Option TableRow) → (vector ≡ false → last ≡ cut)
+    → (if vector then None else last) ≡ (if vector then None else cut)
+cut_as_recorded true last cut same = refl
+cut_as_recorded false last cut same = same refl
+
 -- the bytes of a document begin with it
 own_begins : (doc : Doc) (payload : List ℕ) → BeginsWith (document_bytes doc payload) doc payload
 own_begins doc payload =
@@ -125,7 +138,8 @@ own_begins doc payload =
 
 module _ (contents : Contents) (purges : Bool) (s : State) (c new : Seen) (doc : Doc) (payload : List ℕ) (digest : Digest)
     (held : IsHeld s c) (placeable : IsPlaceable s doc payload digest) (at : doc ≡ doc_at s doc.id doc.pin doc.start)
-    (few : length payload ≤ 2 ^ 31) (document : digest ≡ digest_of_document doc payload) (put : IsPut purges c new doc payload)
+    (few : length payload ≤ 2 ^ 31) (document : digest ≡ digest_of_document doc payload) (cut : WasCutLast s doc.id payload)
+    (put : IsPut purges c new doc payload)
     (told : IsToldPlaced new.device s doc.id doc.start payload contents) (stands : AreStanding contents s c) where
   abbrev size : ℕ
   size = blocks_of (length payload)
@@ -161,9 +175,21 @@ module _ (contents : Contents) (purges : Bool) (s : State) (c new : Seen) (doc :
   doc_is : doc ≡ doc_of_row mid.geometry row doc.start
   doc_is = at ∙ ap (λ (g : Geometry). doc_of_row g row doc.start) (sym tape.geometry)
 
+  -- it is recorded as its document
+  own_document : IsRecordedFrom mid.geometry row doc.start payload
+  own_document = record {
+    digest = document ∙ ap (λ d. digest_of_document d payload) doc_is;
+    blocks = refl;
+    payload = cut_as_recorded (is_vector doc.id) mid.last_cut (Some (made_row (length payload) (digest_of payload).0))
+        (λ fragment. tape.last_cut ∙ cut fragment);
+  }
+
   own_content : BeginsAs mid.geometry row (bytes_at new.buffer (place_now s) size) (record { start = doc.start; payload = payload })
   own_content = record {
+    start = doc.start;
+    starts = λ fragment. refl;
     few = omega (arith, few);
+    document = own_document;
     begins = subst (λ bytes. BeginsWith bytes (doc_of_row mid.geometry row doc.start) payload) (sym own_bytes)
         (subst (λ d. BeginsWith (document_bytes doc payload) d payload) doc_is (own_begins doc payload));
   }
@@ -177,15 +203,15 @@ module _ (contents : Contents) (purges : Bool) (s : State) (c new : Seen) (doc :
       IfSome_then (contents doc.id (listed mid doc.id)) (as_told tells).content
       (λ x is. subst (BeginsAs mid.geometry row (bytes_at new.buffer (place_now s) size)) (sym is) own_content)
 
-  -- it is recorded as its document
   own_record : IsRecordedWith mid.geometry row (record { start = doc.start; payload = payload })
-  own_record = record { digest = document ∙ ap (λ d. digest_of_document d payload) doc_is; blocks = refl }
+  own_record = record { start = doc.start; starts = λ fragment. refl; document = own_document }
 
   own_recorded : TellsAll new.device → IsRecordedAs contents mid.geometry row
   own_recorded = λ tells. record {
     content = IfSome_then (contents doc.id (listed mid doc.id)) (as_told tells).content
         (λ x is. subst (IsRecordedWith mid.geometry row) (sym is) own_record);
     lists = λ vector. rw vector refl;
+    unlisted = λ fragment. rw fragment refl;
     spelled = (as_told tells).spelled;
   }
 
@@ -213,7 +239,7 @@ module _ (contents : Contents) (purges : Bool) (s : State) (c new : Seen) (doc :
     written = λ tells.
         placed_rows (StandsOnDevice contents after (content_of new.device))
         (still_on_device contents s after (content_of new.device) s.rows
-        (record { geometry = tape.geometry; cursor = tape.cursor; least = tape.least })
+        (record { geometry = tape.geometry; cursor = tape.cursor; least = tape.least; last_cut = tape.last_cut })
         (subst (λ d. AllByRecursion (StandsOnDevice contents s (content_of d)) s.rows) (sym put.device) (stands.written (before tells))))
         not_on_device;
     recorded = λ tells.
@@ -224,18 +250,13 @@ module _ (contents : Contents) (purges : Bool) (s : State) (c new : Seen) (doc :
 
 pub standing_placed : (contents : Contents) (purges : Bool) (s : State) (c new : Seen) (doc : Doc) (payload : List ℕ) (digest : Digest)
     → IsHeld s c → IsPlaceable s doc payload digest → doc ≡ doc_at s doc.id doc.pin doc.start → length payload ≤ 2 ^ 31
-    → digest ≡ digest_of_document doc payload → IsPut purges c new doc payload → IsTurning new
+    → digest ≡ digest_of_document doc payload → WasCutLast s doc.id payload → IsPut purges c new doc payload → IsTurning new
     → IsToldPlaced new.device s doc.id doc.start payload contents → AreStanding contents s c
     → AreStanding contents (placed_behind s new doc payload digest) new
-standing_placed contents purges s c new doc payload digest held placeable at few document put turning told stands =
-    placed_here contents purges s c new doc payload digest held placeable at few document put told stands
+standing_placed contents purges s c new doc payload digest held placeable at few document cut put turning told stands =
+    placed_here contents purges s c new doc payload digest held placeable at few document cut put told stands
 
 -- ---- a piece is copied
-
--- where two things are said of what is there
-both_then : {X : Type 0} {P Q R : X → Type 0} (o : Option X) → IfSome o P → IfSome o Q → ((x : X) → P x → Q x → R x) → IfSome o R
-both_then None p q f = tt
-both_then (Some x) p q f = f x p q
 
 module _ (contents : Contents) (packed : Bool) (s : State) (c new : Seen) (x : Candidate) (bytes : List ℕ) (held : IsHeld s c)
     (copyable : IsCopyable packed s x bytes) (moved : IsMoved packed c new x.id x.place bytes)
@@ -271,29 +292,36 @@ module _ (contents : Contents) (packed : Bool) (s : State) (c new : Seen) (x : C
       ∙ (ap (λ n. bytes_at new.buffer (next_place_of c.buffer) n) (sym size_is)
       ∙ (moved.buffer.readable ∙ ap (λ p. moved_to p bytes) next_is))
 
+  -- it is recorded as the document at its new place, and else as before
+  copy_document : (content : Content) (is : BeginsAs s.geometry old bytes content) → IsRecordedFrom s.geometry copy is.start content.payload
+  copy_document content is = record {
+    digest = moved_is_recorded_lem (place_now s) bytes (doc_of_row s.geometry old is.start) content.payload is.few is.begins;
+    blocks = is.document.blocks;
+    payload = is.document.payload;
+  }
+
   copy_in_buffer : TellsAll new.device → StandsInBuffer contents s.geometry new.buffer copy
   copy_in_buffer = λ tells above.
       IfSome_then (contents old.id old.alternates) (told (subst TellsAll moved.device tells) old copyable.movable.found)
       (λ content is. record {
+        start = is.start;
+        starts = is.starts;
         few = is.few;
-        begins = subst (λ l. BeginsWith l (doc_of_row s.geometry copy content.start) content.payload) (sym its_bytes)
-            (moved_is_spelled_lem (place_now s) bytes (doc_of_row s.geometry old content.start) content.payload is.begins);
+        document = copy_document content is;
+        begins = subst (λ l. BeginsWith l (doc_of_row s.geometry copy is.start) content.payload) (sym its_bytes)
+            (moved_is_spelled_lem (place_now s) bytes (doc_of_row s.geometry old is.start) content.payload is.begins);
       })
 
-  -- it is recorded as the document at its new place, with as many blocks as before
   copy_recorded : TellsAll new.device → IsRecordedAs contents s.geometry copy
   copy_recorded = λ tells.
       let before : TellsAll c.device = subst TellsAll moved.device tells in
       let was : IsRecordedAs contents s.geometry old =
       found_row (IsRecordedAs contents s.geometry) x.id s.rows old (stands.recorded before) copyable.movable.found in
       record {
-        content = both_then (contents old.id old.alternates) was.content (told before old copyable.movable.found)
-            (λ (content : Content) recorded begins. record {
-              digest = moved_is_recorded_lem (place_now s) bytes (doc_of_row s.geometry old content.start) content.payload
-                  begins.few begins.begins;
-              blocks = recorded.blocks;
-            });
+        content = IfSome_then (contents old.id old.alternates) (told before old copyable.movable.found)
+            (λ content is. record { start = is.start; starts = is.starts; document = copy_document content is });
         lists = was.lists;
+        unlisted = was.unlisted;
         spelled = was.spelled;
       }
 

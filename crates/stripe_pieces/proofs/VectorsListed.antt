@@ -19,7 +19,7 @@ vector_listed s row small h = λ vector. by row.alternates refl (h.lists vector)
       → IfSome o (λ list. IsSpelling (vector_bytes list) list) → (list : List Stored) × IsVectorRow s row list
   by None is some content spelled = cc some
   by (Some list) is some content spelled =
-      (list, record { start = 0; lists = is; spelled = spelled; digest = content.digest; blocks = content.blocks; small = small })
+      (list, record { start = content.start; lists = is; spelled = spelled; digest = content.document.digest; blocks = content.document.blocks; small = small })
 
 each_listed : (s : State) (rows : List Row) → AllByRecursion (IsInLap s.geometry) rows → AllByRecursion (IsRecordedAs contents_of_vectors s.geometry) rows
     → AllByRecursion (IsListed s) rows

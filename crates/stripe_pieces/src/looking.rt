@@ -19,7 +19,7 @@ use logged_disk::Disk;
 use piece_answers::{Ahead, Fate};
 use stripe_actors::Actors;
 use stripe_due::find_due;
-use tape_base::{BLOCK, floor_of};
+use tape_base::BLOCK;
 
 impl<D: Disk, R: Directory + Drop, C: Chronicle> Pieces<D, R, C> {
     ghost use Rattle.stripe_pieces.specs.Pieces.{ArePieces, seen_now, state_now};
@@ -35,9 +35,8 @@ impl<D: Disk, R: Directory + Drop, C: Chronicle> Pieces<D, R, C> {
         ensures looks { LooksAhead now (state_now self.old) (seen_now self.old).device
             (seen_now self.new).device ahead.new }
     {
-        let g = self.cyclone.geometry();
-        let next = floor_of(g, self.cyclone.next_cursor());
-        let budget = g.agg / 2;
+        let next = self.cyclone.next_floor();
+        let budget = self.cyclone.geometry().agg / 2;
         find_due(
             &self.chronicle,
             actors,

@@ -1,12 +1,12 @@
 use Rattle.std.proofs.Common.{ℕ, ◌≡◌, ◌∙◌, refl, ap, subst, arith}
-use Rattle.std.specs.Prelude.{IsPermutation}
+use Rattle.std.specs.Prelude.{IsPermutation, max}
 use Rattle.tape_base.specs.Place.{floor_of, next_cursor_of}
 use Rattle.agg_buffer.specs.Buffer.{empty_buffer, next_place_of}
 use Rattle.dir_table.specs.declared.window.Window.{Window}
 use Rattle.dir_table.specs.Wrap.{stored_from}
 use Rattle.dir_table.proofs.Plainly.{plain_from}
 use Rattle.write_cursor.specs.Plan.{FitsInLap}
-use Rattle.cyclone.specs.Cyclone.{next_buffer_cursor, seen_cyclone}
+use Rattle.cyclone.specs.Cyclone.{next_buffer_cursor, next_floor, seen_cyclone}
 use Rattle.cyclone.proofs.Turning.{next_turns, stored_below}
 use Rattle.cyclone.proofs.cyclone.Cyclone.begin_next.Goals as goal
 
@@ -25,15 +25,16 @@ returns-clause-begins g c =
     let after = g.R.Directory.rows c.wrap.new.self in
     let next : c.plan-next.result.cursor ≡ next_buffer_cursor old =
     c.plan-next.ensures.cursor ∙ (ap (λ n. next_cursor_of geometry n c.filled.result) c.cursor-cursor.ensures ∙ ap (λ n. next_cursor_of geometry c.args.self.now.buffer.cursor n) c.filled.ensures.filled) in
-    let floor : c.plan-next.result.floor ≡ floor_of geometry (next_buffer_cursor old) = c.plan-next.ensures.floor
-    ∙ ap (floor_of geometry) next in
+    let floor : c.max.result ≡ next_floor old =
+    c.max.ensures ∙ ap (max old.least) (c.plan-next.ensures.floor ∙ ap (floor_of geometry) next) in
     let stored = subst (λ (n : ℕ). IsPermutation (stored_from n before) after) floor c.wrap.ensures.rows in
     record {
       geometry = refl;
+      least = refl;
       buffer = c.begin.ensures ∙ ap (λ n. empty_buffer n c.args.self.now.buffer.reserved) next;
       window = c.wrap.ensures.window
           ∙ (λ i. let w : Window = record old.window { cursor = next i; floor = floor i; end = next i } in w);
-      rows = plain_from (floor_of geometry (next_buffer_cursor old)) before after stored;
+      rows = plain_from (next_floor old) before after stored;
       stored = stored;
       displaced = c.wrap.ensures.displaced;
       spare = c.wrap.ensures.spare;

@@ -32,6 +32,7 @@ returns-clause-moved g c =
     omega (arith, c.next_place-place.ensures.place, c.put_moved.ensures.size, c.put_moved.ensures.added.next) in
     record {
       geometry = refl;
+      least = refl;
       buffer = c.put_moved.ensures.added;
       left = plain_rows left;
       taken = takes_out (row_of_piece old id c.args.from) old.rows (plain_rows left) c.delete.result

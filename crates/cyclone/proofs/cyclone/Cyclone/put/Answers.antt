@@ -46,6 +46,7 @@ returns-clause-put g c =
     let there : plain_row enters.row ≡ row = rw (sym c.requires.turns.geometry, sym c.of_piece.ensures) enters.is.there in
     record {
       geometry = refl;
+      least = refl;
       buffer = c.put_document.ensures.added;
       gone = plain_rows enters.gone;
       rows = subst (λ (r : DirRow). TakesRow r (plain_rows enters.gone) (plain_rows stored) (plain_rows after)) there

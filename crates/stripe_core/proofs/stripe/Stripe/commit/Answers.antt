@@ -17,6 +17,7 @@ use Rattle.stripe_core.proofs.Between.{between-tells}
 use Rattle.stripe_core.proofs.Continuing.{no_less}
 use Rattle.piece_answers.proofs.NoneDisplaced.{none_behind}
 use Rattle.stripe_core.proofs.Ready.{one_record_ready}
+use Rattle.piece_answers.proofs.Documents.{documents_stay}
 use Rattle.stripe_core.proofs.stripe.Stripe.commit.Goals as goal
 
 pub returns : goal.returns
@@ -48,6 +49,7 @@ returns g c =
           ahead = made_behind kept after told c.args.self.now.ahead c.commit.ensures.adds refl c.requires.stripe.ahead;
           none = none_behind kept after told c.commit.ensures.adds refl c.requires.stripe.none;
           vectors = c.commit.ensures.pieces.contents contents_of_vectors tt c.requires.stripe.vectors;
+          documents = documents_stay c.requires.stripe.documents (λ contents. c.commit.ensures.pieces.contents contents tt);
           numbered = numbered_by kept after (told ∷ []) 0 c.commit.ensures.adds (omega (arith, reader)) (omega arith)
               c.requires.stripe.numbered;
         };

@@ -17,6 +17,7 @@ use Rattle.stripe_core.proofs.Between.{between-adds, between-trans}
 use Rattle.piece_answers.proofs.NoneDisplaced.{find_displaces, none_with}
 use Rattle.stripe_core.proofs.Ready.{ready_with}
 use Rattle.stripe_core.proofs.Stills.{still_shows}
+use Rattle.piece_answers.proofs.Documents.{documents_stay}
 use Rattle.stripe_core.proofs.stripe.Stripe.find_piece.Goals as goal
 
 pub returns-in_err-take_unit : goal.returns-in_err-take_unit
@@ -57,6 +58,7 @@ returns g c =
           none = none_with kept _ adds c.find.ensures.adds (find_displaces taken c.args.id c.find.result)
               c.take_unit.ensures.continues.stripe.none;
           vectors = c.find.ensures.pieces.contents contents_of_vectors tt c.take_unit.ensures.continues.stripe.vectors;
+          documents = documents_stay c.take_unit.ensures.continues.stripe.documents (λ contents. c.find.ensures.pieces.contents contents tt);
           numbered = numbered_others kept _ adds c.find.ensures.adds (find_are_others taken c.args.id c.find.result)
               c.take_unit.ensures.continues.stripe.numbered;
         };

@@ -17,6 +17,7 @@ use Rattle.stripe_core.proofs.Between.{between-adds, between-trans}
 use Rattle.piece_answers.proofs.NoneDisplaced.{flush_displaces, none_with}
 use Rattle.stripe_core.proofs.Ready.{ready_to_flush}
 use Rattle.stripe_core.proofs.Stills.{still_as, still_then}
+use Rattle.piece_answers.proofs.Documents.{documents_stay}
 use Rattle.stripe_core.proofs.stripe.Stripe.flush.Goals as goal
 
 pub returns-in_err-take_unit : goal.returns-in_err-take_unit
@@ -66,6 +67,8 @@ returns-in-Ok g c =
               c.flush.ensures.keeps.pieces.held c.flush.ensures.keeps.uses.same c.flush.ensures.keeps.ahead;
           none = none_with kept _ does.added does.adds (flush_displaces does.added does.kinds) c.take_unit.ensures.continues.stripe.none;
           vectors = c.flush.ensures.keeps.pieces.contents contents_of_vectors tt c.take_unit.ensures.continues.stripe.vectors;
+          documents = documents_stay c.take_unit.ensures.continues.stripe.documents
+              (λ contents. c.flush.ensures.keeps.pieces.contents contents tt);
           numbered = numbered_others kept _ does.added does.adds others c.take_unit.ensures.continues.stripe.numbered;
         };
         between = between-trans _ _ _ _ _ _ c.take_unit.ensures.continues.between
@@ -123,6 +126,8 @@ returns-in-Err g c =
               c.flush.ensures.keeps.pieces.held c.flush.ensures.keeps.uses.same c.flush.ensures.keeps.ahead;
           none = none_with kept _ does.added does.adds (flush_displaces does.added does.kinds) c.take_unit.ensures.continues.stripe.none;
           vectors = c.flush.ensures.keeps.pieces.contents contents_of_vectors tt c.take_unit.ensures.continues.stripe.vectors;
+          documents = documents_stay c.take_unit.ensures.continues.stripe.documents
+              (λ contents. c.flush.ensures.keeps.pieces.contents contents tt);
           numbered = numbered_others kept _ does.added does.adds others c.take_unit.ensures.continues.stripe.numbered;
         };
         between = between-trans _ _ _ _ _ _ c.take_unit.ensures.continues.between

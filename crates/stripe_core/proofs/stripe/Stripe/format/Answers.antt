@@ -1,7 +1,8 @@
-use Rattle.std.proofs.Common.{sym, subst, refl, arith}
+use Rattle.std.proofs.Common.{[], sym, subst, refl, arith}
 use Rattle.cache_model.specs.Kept.{state_of}
 use Rattle.cache_model.specs.Contents.{contents_of_vectors}
 use Rattle.stripe_actors.specs.Actors.{AreActors}
+use Rattle.piece_answers.specs.Standing.{contents_of_all}
 use Rattle.stripe_core.proofs.stripe.Stripe.format.Goals as goal
 
 pub returns-in-Ok-format-clause-formatted : goal.returns-in-Ok-format-clause-formatted
@@ -16,6 +17,10 @@ returns-in-Ok-format-clause-formatted g c = record {
     ahead = rw c.in-Ok-format.ensures.formatted.records c.in-Ok.ensures;
     none = rw c.in-Ok-format.ensures.formatted.records refl;
     vectors = c.in-Ok-format.ensures.formatted.contents contents_of_vectors;
+    documents = record {
+      content = λ id. record { start = 0; payload = [] };
+      stand = c.in-Ok-format.ensures.formatted.contents (contents_of_all (λ id. record { start = 0; payload = [] }));
+    };
     numbered = rw c.in-Ok-format.ensures.formatted.records (omega arith);
   };
   records = c.in-Ok-format.ensures.formatted.records;

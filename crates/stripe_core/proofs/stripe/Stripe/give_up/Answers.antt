@@ -11,6 +11,7 @@ use Rattle.stripe_core.proofs.Sparing.{made_behind, numbered_by}
 use Rattle.stripe_answers.proofs.Naming.{named_aborted, named_behind}
 use Rattle.stripe_core.proofs.Between.{between-tells}
 use Rattle.piece_answers.proofs.NoneDisplaced.{none_behind}
+use Rattle.piece_answers.proofs.Documents.{documents_stay}
 use Rattle.stripe_core.proofs.stripe.Stripe.give_up.Goals as goal
 
 pub returns : goal.returns
@@ -38,6 +39,8 @@ returns g c =
           none = none_behind kept after told c.aborted.ensures.kept refl c.requires.stripe.none;
           vectors = standing_behind kept after before told c.aborted.ensures.kept tt leaves c.requires.stripe.pieces
               contents_of_vectors tt c.requires.stripe.vectors;
+          documents = documents_stay c.requires.stripe.documents
+              (λ contents. standing_behind kept after before told c.aborted.ensures.kept tt leaves c.requires.stripe.pieces contents tt);
           numbered = numbered_by kept after (told ∷ []) 0 c.aborted.ensures.kept (omega (arith, reader)) (omega arith)
               c.requires.stripe.numbered;
         };

@@ -9,6 +9,7 @@ use Rattle.stripe_answers.proofs.Naming.{name_left, named_behind}
 use Rattle.stripe_core.proofs.Sparing.{actors_with, made_behind, numbered_others}
 use Rattle.piece_answers.proofs.NoneDisplaced.{none_behind}
 use Rattle.stripe_core.proofs.Ready.{one_record_ready}
+use Rattle.piece_answers.proofs.Documents.{documents_stay}
 use Rattle.stripe_core.proofs.stripe.Stripe.mark_damaged.Goals as goal
 
 pub returns : goal.returns
@@ -27,6 +28,7 @@ returns g c =
         ahead = made_behind kept _ told c.args.self.now.ahead c.damage.ensures.keeps.adds refl c.requires.stripe.ahead;
         none = none_behind kept _ told c.damage.ensures.keeps.adds refl c.requires.stripe.none;
         vectors = c.damage.ensures.keeps.pieces.contents contents_of_vectors tt c.requires.stripe.vectors;
+        documents = documents_stay c.requires.stripe.documents (λ contents. c.damage.ensures.keeps.pieces.contents contents tt);
         numbered = numbered_others kept _ (told ∷ []) c.damage.ensures.keeps.adds (refl, tt) c.requires.stripe.numbered;
       };
       adds = λ place live.

@@ -10,6 +10,7 @@ use Rattle.stripe_core.proofs.Sparing.{made_behind, numbered_by}
 use Rattle.stripe_answers.proofs.Naming.{answer_leaves_names, named_behind}
 use Rattle.stripe_core.proofs.Between.{answer_tells_no_fault, answer_tells_none, between-tells}
 use Rattle.piece_answers.proofs.NoneDisplaced.{answer_displaces, none_behind}
+use Rattle.piece_answers.proofs.Documents.{documents_stay}
 use Rattle.stripe_core.proofs.stripe.Stripe.note.Goals as goal
 
 pub returns : goal.returns
@@ -41,6 +42,9 @@ returns g c =
           vectors = standing_behind kept (g.C.Chronicle.kept c.answered.new.chronicle) before told c.answered.ensures.kept
               (answer_leaves_tape c.args.reader c.args.answer) leaves c.requires.stripe.pieces contents_of_vectors tt
               c.requires.stripe.vectors;
+          documents = documents_stay c.requires.stripe.documents
+              (λ contents. standing_behind kept (g.C.Chronicle.kept c.answered.new.chronicle) before told c.answered.ensures.kept
+              (answer_leaves_tape c.args.reader c.args.answer) leaves c.requires.stripe.pieces contents tt);
           numbered = numbered_by kept (g.C.Chronicle.kept c.answered.new.chronicle) (told ∷ []) 0 c.answered.ensures.kept
               (omega (arith, reader)) (omega arith) c.requires.stripe.numbered;
         };

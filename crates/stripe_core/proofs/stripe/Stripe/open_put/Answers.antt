@@ -24,6 +24,7 @@ use Rattle.stripe_answers.proofs.Naming.{named_behind, named_opened}
 use Rattle.stripe_core.proofs.Between.{between-tells}
 use Rattle.stripe_core.proofs.Continuing.{continues_beside, continues_same}
 use Rattle.piece_answers.proofs.NoneDisplaced.{none_behind}
+use Rattle.piece_answers.proofs.Documents.{documents_stay}
 use Rattle.stripe_core.proofs.stripe.Stripe.open_put.Goals as goal
 
 -- what was opened, by the lines that were asked
@@ -123,6 +124,8 @@ returns-in-Ok g c =
           none = none_behind kept after told is refl c.requires.resting.stripe.none;
           vectors = standing_behind kept after before told is tt leaves c.requires.resting.stripe.pieces
               contents_of_vectors tt c.requires.resting.stripe.vectors;
+          documents = documents_stay c.requires.resting.stripe.documents
+              (λ contents. standing_behind kept after before told is tt leaves c.requires.resting.stripe.pieces contents tt);
           numbered = numbered_by kept after (told ∷ []) 0 is (omega (arith, reader)) (omega arith) c.requires.resting.stripe.numbered;
         };
         between = between-tells _ _ kept after (told ∷ []) refl is refl (refl, tt);

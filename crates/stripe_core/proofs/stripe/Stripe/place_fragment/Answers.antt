@@ -1,4 +1,4 @@
-use Rattle.std.specs.Prelude.{nat_lt}
+use Rattle.std.specs.Prelude.{nat_lt, Option, Some, option_map, unwrap_or}
 use Rattle.std.proofs.Common.{◌≡◌, ◌++◌, Err, sym, ◌∙◌, ap, subst, refl, arith, length, true, false}
 use Rattle.std.proofs.lemmas.Result.{err_from_is_err_and}
 use Rattle.cache_model.specs.State.{State, after_all}
@@ -13,14 +13,27 @@ use Rattle.stripe_core.specs.Stripe.{AnswersOrWants, HasMemory, Wanting, flushes
 use Rattle.stripe_core.proofs.Asked.{stop_has_memory, stop_wants_none}
 use Rattle.piece_answers.proofs.RecordsAdded.{state_of-with_records}
 use Rattle.piece_answers.proofs.Displacing.{displaced_puts, pushed_kinds}
-use Rattle.stripe_answers.proofs.Naming.{displaced_leaves, begun_put, flush_leaves, fragment_named, fragment_new, named_with}
+use Rattle.stripe_answers.proofs.Naming.{displaced_leaves, begun_put, flush_leaves, fragment_named, fragment_new, fragment_nowhere, named_with}
 use Rattle.stripe_core.proofs.Sparing.{actors_with, answers_stop, flush_is_others, fragment_actors, fragment_readers, made_still, no_vector_id, numbered_by, numbered_others, placed_state, room_for_it, spent_by}
 use Rattle.stripe_core.proofs.Between.{between-adds}
 use Rattle.stripe_core.proofs.Continuing.{continues_beside, continues_with}
 use Rattle.piece_answers.proofs.NoneDisplaced.{flush_displaces, none_placed, none_with, told_fragment}
 use Rattle.stripe_core.proofs.Ready.{ready_to_flush}
 use Rattle.stripe_core.proofs.Stills.{still_wanting}
+use Rattle.piece_answers.proofs.Documents.{documents_placed, documents_stay}
+use Rattle.cache_model.specs.State.{PutRow}
+use Rattle.cache_model.specs.Verdict.{is_open}
+use Rattle.stripe_actors.proofs.Telling.{writing_is_open}
 use Rattle.stripe_core.proofs.stripe.Stripe.place_fragment.Goals as goal
+
+-- the put of a fragment that comes next is open
+pub cut-requires-clause-open : goal.cut-requires-clause-open
+cut-requires-clause-open g c =
+    let s = state_in c.args.self.now in
+    let row : PutRow = c.requires.fragment.w in
+    let writing = c.requires.fragment.next.writing in
+    writing_is_open s _ (c.reserve_cut.ensures.step s c.requires.taken.stripe.actors) c.args.id.put
+    ∙ (ap (λ (o : Option PutRow). unwrap_or (option_map is_open o) false) writing.found ∙ rw writing.is_open refl)
 
 pub returns-in_err-reserve_cut : goal.returns-in_err-reserve_cut
 returns-in_err-reserve_cut g c =
@@ -88,6 +101,10 @@ returns-in-Ok g c =
               ∙ none_placed purges (after_all s shape.room) id c.args.pin c.args.start payload shape.piece shape.are;
           vectors = c.in-Ok.ensures.keeps.pieces.contents contents_of_vectors
               (λ tells. told_fragment s id c.args.start payload kind) c.requires.taken.stripe.vectors;
+          documents = documents_placed id c.args.start payload
+              (fragment_nowhere s id c.args.pin c.args.start payload c.requires.fragment c.requires.taken.stripe.named)
+              (λ tells. (told_fragment s id c.args.start payload kind).spelled) c.requires.taken.stripe.documents
+              c.in-Ok.ensures.keeps.pieces.contents;
           numbered =
               let same : (state_of new).next_reader ≡ s.next_reader =
               ap (λ (t : State). t.next_reader) behind ∙ fragment_readers purges s id c.args.pin c.args.start payload shape.room shape.piece
@@ -135,6 +152,7 @@ returns-in-Err g c =
               c.place_fragment.ensures.keeps.uses.same c.place_fragment.ensures.keeps.ahead;
           none = none_with kept _ does.added does.adds (flush_displaces does.added shape.kinds) c.requires.taken.stripe.none;
           vectors = c.in-Err.ensures.keeps.pieces.contents contents_of_vectors tt c.requires.taken.stripe.vectors;
+          documents = documents_stay c.requires.taken.stripe.documents (λ contents. c.in-Err.ensures.keeps.pieces.contents contents tt);
           numbered = numbered_others kept _ does.added does.adds others c.requires.taken.stripe.numbered;
         };
         between = between-adds _ _ kept _ does.added does.adds c.place_fragment.ensures.keeps.uses.goes does.faults does.unharmed;

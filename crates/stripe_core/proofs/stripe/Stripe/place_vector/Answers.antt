@@ -12,12 +12,13 @@ use Rattle.stripe_core.specs.Stripe.{AnswersOrWants, flushes_in, kept_in, seen_i
 use Rattle.stripe_core.proofs.Between.{between-tells}
 use Rattle.piece_answers.proofs.Groups.{no_damage_adds, place_quiet, vector_group}
 use Rattle.piece_answers.proofs.Displacing.{displaced_puts, pushed_kinds}
-use Rattle.stripe_answers.proofs.Naming.{displaced_leaves, begun_put, named_with, vector_named, vector_new}
+use Rattle.stripe_answers.proofs.Naming.{displaced_leaves, begun_put, named_with, vector_named, vector_new, vector_nowhere}
 use Rattle.piece_answers.proofs.RecordsAdded.{state_of-with_records}
 use Rattle.stripe_core.proofs.Sparing.{actors_with, answers_stop, made_still, numbered_others, spent_calm, vector_others, vector_state}
 use Rattle.stripe_core.proofs.Continuing.{no_less}
 use Rattle.piece_answers.proofs.NoneDisplaced.{none_placed, none_with}
 use Rattle.stripe_core.proofs.Ready.{ready_with}
+use Rattle.piece_answers.proofs.Documents.{documents_placed, documents_stay}
 use Rattle.stripe_core.proofs.stripe.Stripe.place_vector.Goals as goal
 
 pub returns-in-Ok : goal.returns-in-Ok
@@ -56,6 +57,10 @@ returns-in-Ok g c =
               ∙ none_placed purges s id c.args.pin c.args.start payload places.added are;
           vectors = c.in-Ok.ensures.keeps.pieces.contents contents_of_vectors
               (λ tells. c.requires.spelled (subst TellsAll c.place.ensures.keeps.still tells)) c.requires.taken.stripe.vectors;
+          documents = documents_placed id c.args.start payload
+              (vector_nowhere s id c.args.start payload c.requires.vector kind c.requires.taken.stripe.named)
+              (λ tells. (c.requires.spelled (subst TellsAll c.place.ensures.keeps.still tells)).spelled) c.requires.taken.stripe.documents
+              c.in-Ok.ensures.keeps.pieces.contents;
           numbered = numbered_others kept _ places.added places.adds others c.requires.taken.stripe.numbered;
         };
         between = between-tells _ _ kept _ places.added c.place.ensures.keeps.still places.adds
@@ -102,6 +107,7 @@ returns-in-Err g c =
               c.place.ensures.keeps.uses.same stripe.ahead;
           none = none_with kept _ [] nothing tt stripe.none;
           vectors = c.in-Err.ensures.keeps.pieces.contents contents_of_vectors tt stripe.vectors;
+          documents = documents_stay stripe.documents (λ contents. c.in-Err.ensures.keeps.pieces.contents contents tt);
           numbered = numbered_others kept _ [] nothing tt stripe.numbered;
         };
         between = between-tells _ _ kept _ [] c.place.ensures.keeps.still nothing refl tt;

@@ -16,6 +16,7 @@ use Rattle.stripe_core.proofs.Sparing.{made_behind, numbered_by, one_told}
 use Rattle.stripe_core.proofs.Between.{between-tells, between-trans}
 use Rattle.stripe_core.proofs.Continuing.{continues_beside, continues_then}
 use Rattle.piece_answers.proofs.NoneDisplaced.{none_behind}
+use Rattle.piece_answers.proofs.Documents.{documents_stay}
 use Rattle.stripe_core.proofs.stripe.Stripe.start_read.Goals as goal
 
 pub returns-in_err-take_unit : goal.returns-in_err-take_unit
@@ -85,6 +86,9 @@ returns g c =
           none = none_behind kept after told c.read_opened.ensures.kept refl c.take_unit.ensures.continues.stripe.none;
           vectors = standing_behind kept after (seen_in c.take_unit.new.self) told c.read_opened.ensures.kept tt leaves
               c.take_unit.ensures.continues.stripe.pieces contents_of_vectors tt c.take_unit.ensures.continues.stripe.vectors;
+          documents = documents_stay c.take_unit.ensures.continues.stripe.documents
+              (λ contents. standing_behind kept after (seen_in c.take_unit.new.self) told c.read_opened.ensures.kept tt leaves
+              c.take_unit.ensures.continues.stripe.pieces contents tt);
           numbered = numbered_by kept after (told ∷ []) 1 c.read_opened.ensures.kept (omega (arith, reader, number)) (omega arith)
               c.take_unit.ensures.continues.stripe.numbered;
         };

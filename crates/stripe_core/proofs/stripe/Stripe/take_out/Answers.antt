@@ -10,6 +10,7 @@ use Rattle.stripe_core.proofs.Between.{between-tells}
 use Rattle.stripe_core.proofs.Continuing.{no_less}
 use Rattle.piece_answers.proofs.NoneDisplaced.{none_behind}
 use Rattle.stripe_core.proofs.Ready.{one_record_ready}
+use Rattle.piece_answers.proofs.Documents.{documents_stay}
 use Rattle.stripe_core.proofs.stripe.Stripe.take_out.Goals as goal
 
 pub returns : goal.returns
@@ -30,6 +31,7 @@ returns g c =
           ahead = made_behind kept _ told c.args.self.now.ahead c.remove-put.ensures.keeps.adds refl c.requires.resting.stripe.ahead;
           none = none_behind kept _ told c.remove-put.ensures.keeps.adds refl c.requires.resting.stripe.none;
           vectors = c.remove-put.ensures.keeps.pieces.contents contents_of_vectors tt c.requires.resting.stripe.vectors;
+          documents = documents_stay c.requires.resting.stripe.documents (λ contents. c.remove-put.ensures.keeps.pieces.contents contents tt);
           numbered = numbered_others kept _ (told ∷ []) c.remove-put.ensures.keeps.adds (refl, tt) c.requires.resting.stripe.numbered;
         };
         between = between-tells _ _ kept _ (told ∷ []) c.remove-put.ensures.keeps.still c.remove-put.ensures.keeps.adds refl (refl, tt);

@@ -35,6 +35,7 @@ returns g c =
           ahead = continues.stripe.ahead;
           none = continues.stripe.none;
           vectors = continues.stripe.vectors;
+          documents = continues.stripe.documents;
           numbered = continues.stripe.numbered;
         };
         between = continues.between;
