@@ -15,7 +15,7 @@ use Rattle.script_grammar.specs.declared.step.Step.{Step}
 use Rattle.script_grammar.specs.declared.answer.StepAnswer.{StepAnswer}
 use Rattle.script_grammar.specs.Grammar.{reading_of}
 use Rattle.script_run.specs.Run.{Harm, Run, fresh}
-use Rattle.script_run.specs.Turn.{Turn}
+use Rattle.script_run.specs.Turn.{Turn, calls_in}
 use Rattle.script_run.specs.Asked.{asked}
 use Rattle.script_run.specs.Behind.{after_line, after_reading, harm_in, harm_of, harm_of_format, harms_of}
 use Rattle.script_run.specs.Takes.{IsRun, ReadingTakes, SessionTakes, run_after}
@@ -47,7 +47,7 @@ step_length : (run : Run) (turn : Turn) {st : Step} {said : StepAnswer} {after :
 step_length run turn {st = st} (stays bad same none) = begun_none _ _ (begins_session st) same refl
 step_length run turn {st = st} (waits at same none) = begun_none _ _ (begins_session st) same refl
 step_length run turn {st = st} (works s same e takes) =
-    begun_none _ _ (begins_session st) same (session_length run.ended run.calls (harm_in (turn.device.events ++ run.calls) (after_all s turn.added)) run.state s e)
+    begun_none _ _ (begins_session st) same (session_length run.ended run.calls (harm_in (calls_in turn ++ run.calls) (after_all s turn.added)) run.state s e)
 step_length run turn {st = st} (begins name g begun is) = begun_one (harms_of run) (harm_in turn.device.events (after_all nothing_yet turn.added)) (begins_session st) begun
 step_length run turn {st = st} (fails name count begun is refuses) =
     ap length (append-nil (harms_of run ++ harm_of_format turn.device.events count ∷ []))
@@ -110,9 +110,9 @@ seen_at (x ∷ hs) h [] d later s n = absurd (omega (arith, n))
 seen_at (x ∷ hs) h (y ∷ earlier) d later s n = seen_at hs h earlier d later s.1 (omega (arith, n))
 
 module _ (law : DamageStays) (ds : List Device) where
-  session_seen : (run : Run) (s : State) (turn : Turn) (st : Step) → SessionTakes run s turn st → (d : Device) → IsSeen (harm_in (turn.device.events ++ run.calls) (after_all s turn.added)) d → IsSeen (harm_in run.calls s) d
+  session_seen : (run : Run) (s : State) (turn : Turn) (st : Step) → SessionTakes run s turn st → (d : Device) → IsSeen (harm_in (calls_in turn ++ run.calls) (after_all s turn.added)) d → IsSeen (harm_in run.calls s) d
   session_seen run s turn st takes d h = record {
-    calls = goes_on run.calls (turn.device.events ++ run.calls) d.past (record { later = turn.device.events; is = refl }) h.calls;
+    calls = goes_on run.calls (calls_in turn ++ run.calls) d.past (record { later = calls_in turn; is = refl }) h.calls;
     unharmed = λ tells. false_from_ne_true (has_damage s) (λ e. no_truth (sym (law turn.device s (asked run s st) turn.added turn.refused takes.legal e) ∙ h.unharmed tells));
   }
 
@@ -121,7 +121,7 @@ module _ (law : DamageStays) (ds : List Device) where
   goes_seen run turn (waits at same none) h = h
   goes_seen run turn {st = st} (works s same e takes) h =
       subst (λ (x : Option State). AreSeen (run.ended ++ harm_of run.calls x) ds) (sym e)
-      (last_seen run.ended (harm_in (turn.device.events ++ run.calls) (after_all s turn.added)) (harm_in run.calls s) ds (session_seen run s turn st takes) h)
+      (last_seen run.ended (harm_in (calls_in turn ++ run.calls) (after_all s turn.added)) (harm_in run.calls s) ds (session_seen run s turn st takes) h)
   goes_seen run turn (begins name g same is) h = front_seen (harms_of run) (harm_in turn.device.events (after_all nothing_yet turn.added) ∷ []) ds h
   goes_seen run turn (fails name count same is refuses) h =
       front_seen (harms_of run) (harm_of_format turn.device.events count ∷ []) ds (front_seen (harms_of run ++ harm_of_format turn.device.events count ∷ []) [] ds h)

@@ -239,6 +239,9 @@ asks_none run s (step.Next actor) = inr (has_none (reader_by run actor) _ (λ n.
 asks_none run s (step.Done actor) = inr (has_none (reader_by run actor) _ (λ n. (tt, tt)))
 asks_none run s step.Flush = inr (tt, tt)
 asks_none run s (step.Now moment) = inr tt
+asks_none run s (step.Fail nth) = inr tt
+asks_none run s (step.StopAfter calls) = inr tt
+asks_none run s (step.Flip place byte) = inr tt
 
 -- ---- a removal
 
@@ -439,6 +442,9 @@ module _ (run : Run) (s : State) (turn : Turn) (none : (w : PutRow) → put_of s
   puts_of (step.Remove key) legal = absurd (idle_asked _ (tt, tt) legal)
   puts_of step.Flush legal = absurd (idle_asked _ (tt, tt) legal)
   puts_of (step.Now moment) legal = absurd (nothing_asked legal)
+  puts_of (step.Fail nth) legal = absurd (nothing_asked legal)
+  puts_of (step.StopAfter calls) legal = absurd (nothing_asked legal)
+  puts_of (step.Flip place byte) legal = absurd (nothing_asked legal)
 
 -- ---- completed
 

@@ -1,5 +1,6 @@
 -- No line answers a count of faults above that of its device.
 use Rattle.std.proofs.Common.{◌≡◌, ℕ, ◌+◌, ◌≤◌, List, [], ◌∷◌, ◌++◌, length, refl, sym, ◌∙◌, ap, subst, arith, length-append, append-nil, inl, inr}
+use Rattle.script_grammar.specs.declared.answer.StepAnswer.TheVariants as answer
 use Rattle.std.specs.Prelude.{Option, Some, None, option_map, IsSome, if◌then◌else◌, is_none}
 use Rattle.std.proofs.lemmas.List.{append_cancel_left}
 use Rattle.tape_base.specs.declared.geometries.BadGeometry.{BadGeometry}
@@ -12,7 +13,7 @@ use Rattle.script_grammar.specs.declared.answer.StepAnswer.{StepAnswer}
 use Rattle.script_grammar.specs.Grammar.{reading_of}
 use Rattle.script_run.specs.Run.{Harm, loosened, no_harm}
 use Rattle.script_run.specs.Ledger.{IsReached}
-use Rattle.run_promise.specs.Outline.{IsAnswered, Outline, all_told, blank_outline, count_in, outline_after, raised, told_of, IsFormatAnswer, attached, begun, with_told_count}
+use Rattle.run_promise.specs.Outline.{IsAnswered, Outline, all_told, blank_outline, count_in, outline_after, raised, told_of, IsFormatAnswer, IsSwitchAnswer, attached, begun, with_told_count}
 use Rattle.run_promise.specs.Lines.{AreAnswered, IsReadAs, outline_of, outline_read}
 use Rattle.headline.specs.Account.{Account, AreBack, ComeBackFrom, RunAnswers, RunLogs, sessions_begun, IsDeviceAt, IsDeviceOf}
 use Rattle.account_laws.proofs.Devices.{come_within}
@@ -59,11 +60,19 @@ module _ (l : RunLogs) (lines : List (List ℕ)) (device : Device) where
       let reached = device_of l (all_told o) h (sessions_begun lines + 1) device back at (omega (arith, begun)) in
       omega (arith, reached.counted, ap count_in fault.2)
 
+  -- a line for a switch tells no fault
+  switch_counts : (told said : StepAnswer) → count_in told ≡ 0 → IsSwitchAnswer told said → count_in said ≤ device.faults
+  switch_counts told said none (inl is) = none_is (count_in said) (ap count_in is ∙ none)
+  switch_counts told said none (inr is) = none_is (count_in said) (ap count_in is)
+
   step_counts : (o : Outline) (asks : Step) (said : StepAnswer) → IsAnswered o asks said → ComeBackFrom l (all_told (outline_after o asks said)) → IsDeviceOf l lines asks device
       → sessions_begun lines ≡ length (all_told o) → count_in said ≤ device.faults
   step_counts o (step.Format name segments buckets content agg reach fragment generation alternates) said is come at begun =
       format_counts o name content agg said (first_refusal segments buckets content agg reach fragment alternates) is.fixed come at begun
   step_counts o (step.Now moment) said is come at begun = none_is (count_in said) (ap count_in is.fixed)
+  step_counts o (step.Fail nth) said is come at begun = switch_counts answer.Armed said refl is.fixed
+  step_counts o (step.StopAfter calls) said is come at begun = switch_counts answer.Armed said refl is.fixed
+  step_counts o (step.Flip place byte) said is come at begun = switch_counts answer.Flipped said refl is.fixed
   step_counts o _ said is come at begun = session_counts o.ended o.session (count_in said) (is.session tt) come at begun
 
 pub counts_are_reached : (l : RunLogs) (a : Account l) (lines : List (List ℕ)) (asks : Step) (said : StepAnswer) (device : Device) → RunAnswers a lines asks said → IsDeviceOf l lines asks device

@@ -1,6 +1,7 @@
 -- What was told of devices, and the devices that came back.
 use Rattle.std.proofs.Common.{◌≡◌, ℕ, ◌≤◌, List, [], ◌∷◌, ◌++◌, refl, sym, ◌∙◌, ap, true, arith, inl, inr, append_assoc}
-use Rattle.std.specs.Prelude.{map}
+use Rattle.std.specs.Prelude.{Bool, map}
+use Rattle.std.specs.List.{AllByRecursion}
 use Rattle.std.proofs.lemmas.Bool.{false_from_ne_true}
 use Rattle.device_log.specs.Calls.{Call}
 use Rattle.logged_disk.specs.Device.{DeviceState as Device}
@@ -24,6 +25,7 @@ pub record IsWithin (x y : Harm) : Type 0 where
   pub faults : x.fault ≤ y.fault
   pub damage : x.damaged ≡ true → y.damaged ≡ true
   pub calls : GoesOnFrom x.calls y.calls
+  pub switches : (has : Bool) → AllByRecursion (λ told. has ≡ told) y.switches → AllByRecursion (λ told. has ≡ told) x.switches
 
 -- so it is of each of these, and more devices are told of behind them
 abbrev pub AreWithin : List Harm → List Harm → Type 0
@@ -32,16 +34,17 @@ AreWithin (x ∷ xs) [] = ⊥
 AreWithin (x ∷ xs) (y ∷ ys) = IsWithin x y × AreWithin xs ys
 
 pub within_self : (x : Harm) → IsWithin x x
-within_self x = record { faults = omega arith; damage = λ e. e; calls = goes_on_none x.calls }
+within_self x = record { faults = omega arith; damage = λ e. e; calls = goes_on_none x.calls; switches = λ has h. h }
 
 pub within_loosened : (x : Harm) → IsWithin x (loosened x)
-within_loosened x = record { faults = omega arith; damage = λ e. e; calls = goes_on_none x.calls }
+within_loosened x = record { faults = omega arith; damage = λ e. e; calls = goes_on_none x.calls; switches = λ has h. h }
 
 within_trans : (x y z : Harm) → IsWithin x y → IsWithin y z → IsWithin x z
 within_trans x y z h g = record {
   faults = omega (arith, h.faults, g.faults);
   damage = λ e. g.damage (h.damage e);
   calls = goes_on x.calls y.calls z.calls h.calls g.calls;
+  switches = λ has told. h.switches has (g.switches has told);
 }
 
 pub all_within_trans : (xs ys zs : List Harm) → AreWithin xs ys → AreWithin ys zs → AreWithin xs zs
@@ -75,6 +78,7 @@ reached_within x y d w h = record {
   all = λ no. cc;
   counted = omega (arith, w.faults, h.counted);
   unharmed = λ tells. false_from_ne_true x.damaged (λ e. no_truth (sym (w.damage e) ∙ h.unharmed tells));
+  switched = w.switches d.has_switch h.switched;
 }
 
 pub back_within : (xs ys : List Harm) (ds : List Device) → AreWithin xs ys → AreBack ys ds → AreBack xs ds
@@ -84,7 +88,7 @@ back_within (x ∷ xs) (y ∷ ys) [] w h = absurd h
 back_within (x ∷ xs) (y ∷ ys) (d ∷ ds) w h = (reached_within x y d w.0 h.0, back_within xs ys ds w.1 h.1)
 
 reached_loosely : (x : Harm) (d : Device) → IsReached x d → IsReached (loosened x) d
-reached_loosely x d h = record { made = h.made; all = λ no. cc; counted = h.counted; unharmed = h.unharmed }
+reached_loosely x d h = record { made = h.made; all = λ no. cc; counted = h.counted; unharmed = h.unharmed; switched = h.switched }
 
 back_reached : (xs : List Harm) (ds : List Device) → AreReached xs ds → AreBack xs ds
 back_reached [] ds h = tt

@@ -13,10 +13,10 @@ use Rattle.script_grammar.specs.declared.answer.StepAnswer.{StepAnswer}
 use Rattle.script_grammar.specs.declared.answer.StepAnswer.TheVariants as answer
 use Rattle.script_grammar.specs.Grammar.{reading_of}
 use Rattle.script_run.specs.Run.{Harm, Run, fresh, loosened, no_harm}
-use Rattle.script_run.specs.Turn.{Turn}
+use Rattle.script_run.specs.Turn.{Turn, calls_in}
 use Rattle.script_run.specs.Behind.{harm_in, harm_of, harms_of}
 use Rattle.script_run.specs.Takes.{run_after}
-use Rattle.run_promise.specs.Outline.{Outline, all_told, begun, begun_by, count_in, doubted, outline_in, raised, told_of, with_calls_of, with_told_count, IsAnswered, IsFormatAnswer, attached, outline_after}
+use Rattle.run_promise.specs.Outline.{Outline, all_told, begun, begun_by, count_in, doubted, outline_in, raised, told_of, with_calls_of, with_told_count, IsAnswered, IsFormatAnswer, attached, has_switch_in, outline_after, switch_told, switched, with_told_switch}
 use Rattle.run_promise.specs.Lines.{AreAnswered, IsReadAs, outline_of, outline_read}
 use Rattle.run_promise.specs.Story.{ShownAlong, DevicesTold, all_in}
 use Rattle.headline.specs.Account.{ComeBackFrom, RunLogs, begun_in, doubted_harms, sessions_begun}
@@ -26,7 +26,7 @@ use Rattle.account_laws.proofs.Devices.{AreWithin, IsWithin, all_within_self, al
 -- ---- more is told behind each line
 
 raised_within : (count : ℕ) (h : Harm) → IsWithin h (raised count h)
-raised_within count h = record { faults = omega arith; damage = λ e. e; calls = goes_on_none h.calls }
+raised_within count h = record { faults = omega arith; damage = λ e. e; calls = goes_on_none h.calls; switches = λ has told. told }
 
 own_within : (count : ℕ) (session : Option Harm) → AreWithin (told_of session) (told_of (option_map (raised count) session))
 own_within count None = tt
@@ -34,6 +34,15 @@ own_within count (Some h) = (raised_within count h, tt)
 
 joined_within : (o : Outline) (count : ℕ) → AreWithin (all_told o) (all_told (with_told_count o count))
 joined_within o count = within_behind o.ended (told_of o.session) (told_of (option_map (raised count) o.session)) (own_within count o.session)
+
+-- of its switch too
+own_switched : (has : Bool) (session : Option Harm) → AreWithin (told_of session) (told_of (option_map (switched has) session))
+own_switched has None = tt
+own_switched has (Some h) = (record { faults = omega arith; damage = λ e. e; calls = goes_on_none h.calls; switches = λ is told. told.1 }, tt)
+
+switch_within : (told : Option Bool) (o : Outline) → AreWithin (all_told o) (all_told (with_told_switch told o))
+switch_within None o = all_within_self (all_told o)
+switch_within (Some has) o = within_behind o.ended (told_of o.session) (told_of (option_map (switched has) o.session)) (own_switched has o.session)
 
 attached_within : (o : Outline) (name : List ℕ) (said : StepAnswer) → AreWithin (all_told o) (all_told (attached o name said))
 attached_within o name (answer.DeviceFault count took) =
@@ -52,7 +61,10 @@ begun_by_within o _ said = all_within_self (all_told o)
 read_within : (o : Outline) (read : LineAnswer) (said : Option StepAnswer) → AreWithin (all_told o) (all_told (outline_read o read said))
 read_within o (line.Step step) (Some said) =
     let next : Outline = begun_by o step said in
-    all_within_trans (all_told o) (all_told next) (all_told (with_told_count next (count_in said))) (begun_by_within o step said) (joined_within next (count_in said))
+    let counted : Outline = with_told_count next (count_in said) in
+    all_within_trans (all_told o) (all_told counted) (all_told (outline_after o step said))
+    (all_within_trans (all_told o) (all_told next) (all_told counted) (begun_by_within o step said) (joined_within next (count_in said)))
+    (switch_within (switch_told step said) counted)
 read_within o (line.Step step) None = all_within_self (all_told o)
 read_within o line.Nothing said = all_within_self (all_told o)
 read_within o (line.Bad fault) said = all_within_self (all_told o)
@@ -68,16 +80,16 @@ outline_within o (bytes ∷ lines) (said ∷ answers) =
 doubted_told : (calls : List Call) (state : Option State)
     → AreWithin (map doubt (harm_of calls state)) (told_of (option_map doubt (option_map (λ s. loosened (harm_in calls s)) state)))
 doubted_told calls None = tt
-doubted_told calls (Some s) = (record { faults = omega arith; damage = λ e. e; calls = goes_on_none calls }, tt)
+doubted_told calls (Some s) = (record { faults = omega arith; damage = λ e. e; calls = goes_on_none calls; switches = λ has told. told }, tt)
 
 doubted_calls : (calls made : List Call) (state : Option State) → AreWithin (harm_of calls state) (map doubt (harm_of (made ++ calls) state))
 doubted_calls calls made None = tt
-doubted_calls calls made (Some s) = (record { faults = omega arith; damage = λ e. refl; calls = record { later = made; is = refl } }, tt)
+doubted_calls calls made (Some s) = (record { faults = omega arith; damage = λ e. refl; calls = record { later = made; is = refl }; switches = λ has told. told }, tt)
 
 called_within : (run : Run) (turn : Turn) → AreWithin (harms_of run) (doubted_harms (with_calls_of run turn))
 called_within run turn =
-    within_behind run.ended (harm_of run.calls run.state) (map doubt (harm_of (turn.device.events ++ run.calls) run.state))
-    (doubted_calls run.calls turn.device.events run.state)
+    within_behind run.ended (harm_of run.calls run.state) (map doubt (harm_of (calls_in turn ++ run.calls) run.state))
+    (doubted_calls run.calls (calls_in turn) run.state)
 
 doubted_within : (run : Run) → AreWithin (doubted_harms run) (all_told (doubted (outline_in run)))
 doubted_within run =
@@ -108,6 +120,14 @@ own_length : (count : ℕ) (session : Option Harm) → length (told_of (option_m
 own_length count None = refl
 own_length count (Some h) = refl
 
+switch_length : (told : Option Bool) (o : Outline) → length (all_told (with_told_switch told o)) ≡ length (all_told o)
+switch_length None o = refl
+switch_length (Some has) o = same_length o.ended (told_of (option_map (switched has) o.session)) (told_of o.session) (own_switch_length has o.session)
+  where
+    own_switch_length : (has : Bool) (session : Option Harm) → length (told_of (option_map (switched has) session)) ≡ length (told_of session)
+    own_switch_length has None = refl
+    own_switch_length has (Some h) = refl
+
 attached_length : (o : Outline) (name : List ℕ) (said : StepAnswer) → length (all_told (attached o name said)) ≡ length (all_told o) + 1
 attached_length o name (answer.DeviceFault count took) =
     ap length (append-nil (all_told o ++ raised count no_harm ∷ [])) ∙ length-append (all_told o) (raised count no_harm ∷ [])
@@ -126,8 +146,9 @@ begun_by_length o _ said = omega arith
 pub read_length : (o : Outline) (read : LineAnswer) (said : Option StepAnswer) → IsReadAs o read said → length (all_told (outline_read o read said)) ≡ length (all_told o) + begun_in read
 read_length o (line.Step step) (Some said) is =
     let next : Outline = begun_by o step said in
-    same_length next.ended (told_of (option_map (raised (count_in said)) next.session)) (told_of next.session) (own_length (count_in said) next.session)
-    ∙ begun_by_length o step said
+    switch_length (switch_told step said) (with_told_count next (count_in said))
+    ∙ (same_length next.ended (told_of (option_map (raised (count_in said)) next.session)) (told_of next.session) (own_length (count_in said) next.session)
+    ∙ begun_by_length o step said)
 read_length o (line.Step step) None is = absurd is
 read_length o line.Nothing said is = omega arith
 read_length o (line.Bad fault) said is = absurd is
@@ -172,10 +193,28 @@ format_none o name content agg said None (inr fault) e =
     inr (subst (λ x. EndsFaulted (with_told_count (attached o name x) (count_in x)).ended) (sym fault.2)
     (record { front = all_told o; harm = raised fault.0 no_harm; is = refl; faulted = omega (arith, fault.1) }))
 
+-- nor by a line for a switch
+none_told : (has : Bool) (session : Option Harm) → option_map (switched has) session ≡ None → session ≡ None
+none_told has None e = refl
+none_told has (Some h) e = absurd cc
+
+none_switched : (o : Outline) (said : StepAnswer) → (with_told_switch (Some (has_switch_in said)) (with_told_count o (count_in said))).session ≡ None
+    → BeginsNone o (with_told_switch (Some (has_switch_in said)) (with_told_count o (count_in said))) 0
+    ⊎ EndsFaulted (with_told_switch (Some (has_switch_in said)) (with_told_count o (count_in said))).ended
+none_switched o said e =
+    inl (record {
+      session = none_raised (count_in said) o.session (none_told (has_switch_in said) (option_map (raised (count_in said)) o.session) e);
+      none = refl;
+      ended = refl;
+    })
+
 step_none : (o : Outline) (step : Step) (said : StepAnswer) → IsAnswered o step said → (outline_after o step said).session ≡ None
     → BeginsNone o (outline_after o step said) (begun_in (line.Step step)) ⊎ EndsFaulted (outline_after o step said).ended
 step_none o (step.Format name segments buckets content agg reach fragment generation alternates) said is e =
     format_none o name content agg said (first_refusal segments buckets content agg reach fragment alternates) is.fixed e
+step_none o (step.Fail nth) said is e = none_switched o said e
+step_none o (step.StopAfter calls) said is e = none_switched o said e
+step_none o (step.Flip place byte) said is e = none_switched o said e
 step_none o _ said is e = inl (record { session = none_raised (count_in said) o.session e; none = refl; ended = refl })
 
 read_none : (o : Outline) (read : LineAnswer) (said : Option StepAnswer) → IsReadAs o read said → (outline_read o read said).session ≡ None

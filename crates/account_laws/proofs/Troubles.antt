@@ -22,7 +22,7 @@ use Rattle.script_grammar.specs.declared.step.Step.{Step}
 use Rattle.device_log.specs.Calls.{RefusedCall}
 use Rattle.script_run.specs.Goes.{begins_session}
 use Rattle.script_run.specs.Run.{Harm, Run, fresh}
-use Rattle.script_run.specs.Turn.{Turn}
+use Rattle.script_run.specs.Turn.{Turn, calls_in}
 use Rattle.script_run.specs.Asked.{asked}
 use Rattle.script_run.specs.Answers.{session_said}
 use Rattle.script_run.specs.Behind.{after_step, harm_in, harm_of, harms_of, harm_of_format}
@@ -52,7 +52,7 @@ module _ (l : RunLogs) (a : Account l) (lines : List (List ℕ)) (asks : Step) (
   On = OnSession Before f.turn Before.state asks
 
   -- the harm of the session behind the line, and that of those before it
-  behind_is : (on : On) → harms_of (after_step Before f.turn asks) ≡ Before.ended ++ harm_in (f.turn.device.events ++ Before.calls) (after_all on.s f.turn.added) ∷ []
+  behind_is : (on : On) → harms_of (after_step Before f.turn asks) ≡ Before.ended ++ harm_in (calls_in f.turn ++ Before.calls) (after_all on.s f.turn.added) ∷ []
   behind_is on = ap harms_of on.next
 
   begun_is : (on : On) → sessions_begun lines ≡ length Before.ended + 1
@@ -75,9 +75,9 @@ module _ (l : RunLogs) (a : Account l) (lines : List (List ℕ)) (asks : Step) (
       none_more : (n : ℕ) (b : Bool) → b ≡ false → n + (if b then 1 else 0) ≡ n
       none_more n b e = subst (λ x. n + (if x then 1 else 0) ≡ n) (sym e) (omega arith)
 
-  pub line_seen : (law : DamageStays) (device : Device) → IsDeviceBehind l lines device → (on : On) → IsSeen (harm_in (f.turn.device.events ++ Before.calls) (after_all on.s f.turn.added)) device
+  pub line_seen : (law : DamageStays) (device : Device) → IsDeviceBehind l lines device → (on : On) → IsSeen (harm_in (calls_in f.turn ++ Before.calls) (after_all on.s f.turn.added)) device
   line_seen law device at on =
-      device_seen l (sessions_begun lines) device Before.ended (harm_in (f.turn.device.events ++ Before.calls) (after_all on.s f.turn.added)) come.devices come.returned
+      device_seen l (sessions_begun lines) device Before.ended (harm_in (calls_in f.turn ++ Before.calls) (after_all on.s f.turn.added)) come.devices come.returned
       (subst (λ (hs : List Harm). AreSeen hs come.devices) (behind_is on) (seen_behind law)) at (begun_is on)
 
   -- a format whose device refused a call is answered of that one, which made no other
@@ -204,7 +204,12 @@ faults_were_refused recorded law l a lines asks count took device at which =
           let fault = recorded run on.s f.turn asks count took on.takes (losses l a lines asks said f on) (sym (answer_is l a lines asks said f on)) in
           record {
             did = did_before l a lines asks said f;
-            made = subst (λ b. LogHasCalls f.turn.device.events (if b then [] else run.calls) device) (sym on.session) (record { newer = seen.calls.later; is = seen.calls.is });
+            made = subst (λ b. LogHasCalls f.turn.device.events (if b then [] else run.calls) device) (sym on.session) (record {
+              newer = seen.calls.later ++ f.turn.told;
+              is = seen.calls.is
+                  ∙ (ap (λ calls. seen.calls.later ++ calls) (append_assoc f.turn.told f.turn.device.events run.calls)
+                  ∙ sym (append_assoc seen.calls.later f.turn.told (f.turn.device.events ++ run.calls)));
+            });
             asked = fault.counted.0;
             refused = fault.counted.1;
           }

@@ -87,3 +87,14 @@ pub enum NextPiece {
     NotYet { cut: u32 },
     Broken(Cause),
 }
+
+/// What the switch of a cache's device is told.
+#[derive(Clone, Copy, Debug, PartialEq, Eq)]
+pub enum SwitchOrder {
+    /// The nth read, write or sync from now on fails, or the first one for 0.
+    Fail { nth: u64 },
+    /// So many reads, writes and syncs pass, and all later ones fail until a cut.
+    StopAfter { calls: u64 },
+    /// The lowest bit of one byte of the block of a place is turned: of its last byte from 511 on.
+    Flip { place: u64, byte: u32 },
+}

@@ -3,4 +3,4 @@
 
 mod answers;
 
-pub use answers::{Flushed, NextPiece, Opened, Receipt, Refusal, Removal};
+pub use answers::{Flushed, NextPiece, Opened, Receipt, Refusal, Removal, SwitchOrder};

@@ -15,13 +15,13 @@ use Rattle.cache_model.specs.declared.record.Rec.{Rec}
 use Rattle.cache_model.specs.declared.record.Rec.TheVariants as rec
 use Rattle.cache_model.specs.State.{Closed, GivenUp, Open, PutRow, Row, State, Writing, after_all, opened_put, put_of, state_after, with_cut}
 use Rattle.cache_model.specs.Kept.{state_of}
-use Rattle.cache_model.specs.Permit.{Setting}
+use Rattle.cache_model.specs.Permit.{Permit, Setting}
 use Rattle.cache_model.specs.Room.{MayDisplace, displaced_record, placed_record}
 use Rattle.cache_model.specs.Verdict.{is_open}
 use Rattle.cache_model.proofs.ByNumber.{find-changed}
 use Rattle.cache_model.proofs.Found.{no_truth}
 use Rattle.cache_model.proofs.Steps.{after_all-append}
-use Rattle.call_laws.specs.Moments.{At, permit_of}
+use Rattle.call_laws.specs.Moments.{At}
 use Rattle.call_laws.proofs.Joined.{state_behind}
 use Rattle.cache_calls.specs.Actors.{IsAtHand, IsWriterOf, WriterSeen}
 use Rattle.cache_model.specs.Subjects.{IsOfFlush}
@@ -92,7 +92,8 @@ displaced_leave segment live (row ∷ rows) s = displaced_leave segment live row
 pushed_leave : (setting : Setting) (s t : State) (id : PieceId) (displaced : List Rec) → IsPushedOut setting s id displaced
     → (after_all t displaced).puts ≡ t.puts
 pushed_leave setting s t id displaced pushed =
-    let m : MayDisplace (permit_of 0 setting [] []) s id displaced = pushed (permit_of 0 setting [] []) refl in
+    let p : Permit = record { packed = setting.packed; syncs = setting.syncs; now = 0; past = []; events = [] } in
+    let m : MayDisplace p s id displaced = pushed p refl in
     subst (λ (recs : List Rec). (after_all t recs).puts ≡ t.puts) (sym m.is) (displaced_leave _ _ m.purged t)
 
 abbrev row_for : List ℕ → TableRow

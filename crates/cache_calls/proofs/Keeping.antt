@@ -1,9 +1,8 @@
--- What every call keeps is kept by several, and a plain cache has steps.
+-- What every call keeps is kept by several.
 use Rattle.std.proofs.Common.{◌≡◌, true, false, refl, sym, ◌∙◌, arith}
 use Rattle.logged_disk.proofs.GoingOn.{goes_further, stays_put}
 use Rattle.call_laws.specs.Moments.{At}
-use Rattle.call_laws.proofs.Whole.{encloses_own}
-use Rattle.cache_calls.specs.Keeping.{Goes, IsUnharmed, KeepsUnharmed, PlainHasSteps}
+use Rattle.cache_calls.specs.Keeping.{Goes, IsUnharmed, KeepsUnharmed}
 
 module _ {S : Type 0} {at : S → At} {holds : S → Type 0} where
   pub goes_still : (a : S) → holds a → Goes at holds a a
@@ -25,6 +24,3 @@ module _ {S : Type 0} {at : S → At} {holds : S → Type 0} where
     goes_on = goes_then first.goes_on next.goes_on;
     unharmed = λ (u : IsUnharmed (at a)). next.unharmed (first.unharmed u);
   }
-
-pub plain_has_steps : PlainHasSteps
-plain_has_steps setting plain now past calls = encloses_own now setting past calls

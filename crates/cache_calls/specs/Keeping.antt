@@ -27,11 +27,6 @@ FallBelow high (n ∷ ns) = (n < high) × FallBelow n ns
 pub record IsPlain (setting : Setting) : Type 0 where
   pub syncs : setting.syncs ≡ false
 
--- such a cache has a step of any calls, at each moment and behind any others: what is said of each step is said of one
-abbrev pub PlainHasSteps : Type 0
-PlainHasSteps = (setting : Setting) → IsPlain setting → (now : ℕ) (past calls : List Call)
-    → Encloses now setting (permit_of now setting past calls) [] calls
-
 -- one of these whose directory displaces (`packed`) or not
 abbrev pub unsynced_setting : Bool → Setting
 unsynced_setting packed = record { packed = packed; syncs = false }
@@ -51,6 +46,10 @@ pub record IsAtRest (a : At) : Type 0 where
   pub readers : FallBelow (state_at a).next_reader (map (λ (r : ReaderRow). r.reader) (state_at a).readers)
   pub plain : IsPlain a.setting
 
+-- any calls from a moment on are those of a step: what is said of each step is said of one
+abbrev pub CallsHaveSteps : Type 0
+CallsHaveSteps = (now : ℕ) (a : At) (calls : List Call) → Encloses now a (permit_of now a calls) [] calls
+
 -- ---- behind a call
 
 -- where the device tells its content, no piece was told as damaged
@@ -67,6 +66,12 @@ pub record Goes {S : Type 0} (at : S → At) (holds : S → Type 0) (old new : S
   pub setting : (at new).setting ≡ (at old).setting
   pub goes : IsAfter (at old).device (at new).device
   pub later : (at old).device.faults ≤ (at new).device.faults
+
+-- a cache rests on: the same holds between calls, its setting is the same, and nothing was recorded
+pub record RestsOn {S : Type 0} (at : S → At) (holds : S → Type 0) (old new : S) : Type 0 where
+  pub holds_then : holds new
+  pub setting : (at new).setting ≡ (at old).setting
+  pub kept : (at new).kept ≡ (at old).kept
 
 -- and what it tells is not harmed
 pub record KeepsUnharmed {S : Type 0} (at : S → At) (holds : S → Type 0) (old new : S) : Type 0 where

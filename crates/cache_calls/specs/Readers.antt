@@ -21,7 +21,8 @@ use Rattle.cache_model.specs.Permit.{Permit}
 use Rattle.cache_model.specs.Given.{IsDocumentOf}
 use Rattle.cache_model.specs.Legal.{IsAsListed, IsUnlike, answer_record, live_next}
 use Rattle.cache_model.specs.Troubles.{cause_records}
-use Rattle.call_laws.specs.Moments.{At, BothFacts, Encloses, Facts, IsToldAt, OfState}
+use Rattle.cache_model.specs.Vectors.{AreTold}
+use Rattle.call_laws.specs.Moments.{At, BothFacts, Encloses, Facts}
 use Rattle.cache_answers.specs.declared.answers.NextPiece.{NextPiece}
 use Rattle.cache_answers.specs.declared.answers.NextPiece.TheVariants as piece
 use Rattle.cache_answers.specs.declared.answers.Opened.{Opened}
@@ -96,13 +97,13 @@ OpensReader seen old new who key request (Err e) = IsAsItWas old new
 
 -- the reader has the fragments of the records: known behind a lookup where no pair is shown
 abbrev pub HasItsTable : {R : Type 0} → (R → ReaderSeen) → Result (Opened R) AllocError → Facts
-HasItsTable seen result = OfState (λ t. IfOk result (IfReader (λ r. IsReaderOf t (seen r))))
+HasItsTable seen result t = IfOk result (IfReader (λ r. IsReaderOf t (seen r)))
 
 -- ---- a reader reads on
 
 -- vectors list their alternates, and the reader has the fragments of the records
 abbrev pub IsToldTo : ReaderSeen → Facts
-IsToldTo r = BothFacts IsToldAt (OfState (λ s. IsReaderOf s r))
+IsToldTo r = BothFacts AreTold (λ s. IsReaderOf s r)
 
 -- an answer as it is recorded, where the fragment is listed with that length
 abbrev pub noted : ℕ → NextPiece → NextAnswer
@@ -144,7 +145,7 @@ IsGivenAs p s r _ into = Unit {0}
 -- so it is in each step that has the calls of this one
 abbrev pub IsGivenInEachStep : (old new : At) → ReaderSeen → NextPiece → List ℕ → Type 0
 IsGivenInEachStep old new r answer into = (now : ℕ) (p : Permit) (earlier calls : List Call) → new.device.past ≡ calls ++ old.device.past
-    → Encloses now old.setting p earlier calls → IsGivenAs p (state_at old) r answer into
+    → Encloses now old p earlier calls → IsGivenAs p (state_at old) r answer into
 
 -- the cause for which it breaks is that of the records before, or is no fault but one that was recorded now
 abbrev pub IsCountedBreak : (old new : At) → ReaderSeen → NextPiece → Type 0

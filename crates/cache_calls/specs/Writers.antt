@@ -20,7 +20,7 @@ use Rattle.cache_model.specs.Permit.{Permit, Setting}
 use Rattle.cache_model.specs.Room.{MayDisplace, has_room, limit, placed_record}
 use Rattle.cache_model.specs.Limits.{ReachesLimit}
 use Rattle.cache_model.specs.Live.{LiveBefore}
-use Rattle.call_laws.specs.Moments.{At, Facts, OfState}
+use Rattle.call_laws.specs.Moments.{At, Facts}
 use Rattle.cache_answers.specs.declared.answers.Receipt.{Receipt}
 use Rattle.cache_answers.specs.declared.answers.Refusal.{Refusal}
 use Rattle.cache_answers.specs.declared.answers.Refusal.TheVariants as refusal
@@ -199,7 +199,7 @@ bytes_next t w = if length (cuts_of t w.put) == length (rows_at_close w) then ve
 
 -- at the end of the tape the number is that of this piece: known behind a close where no pair is shown
 abbrev pub NumberAtClose : WriterSeen → Result Receipt Refusal → Facts
-NumberAtClose w result = OfState (λ t. IfErr result (StopsAtLimit t (bytes_next t w)))
+NumberAtClose w result t = IfErr result (StopsAtLimit t (bytes_next t w))
 
 -- a writer that the device or the end of the tape refused takes no more bytes; for want of memory it is as before
 abbrev pub SealsWhere : (old new : WriterSeen) → Result Receipt Refusal → Type 0

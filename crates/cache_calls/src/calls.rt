@@ -4,10 +4,10 @@ ghost use Rattle.tape_base.specs.Geometry.{budget_of};
 ghost use Rattle.cache_model.specs.Legal.{is_writing};
 ghost use Rattle.cache_model.specs.Permit.{Flush, GiveUp, Look, ReadOn, Remove, StopReading, Write};
 ghost use Rattle.logged_disk.specs.Device.{TellsAll};
-ghost use Rattle.cache_model.specs.Vectors.{AreVectors, IsVectorAs};
+ghost use Rattle.cache_model.specs.Vectors.{AreTold, AreVectors, IsVectorAs};
 ghost use Rattle.call_laws.specs.Untold.{Untold};
 ghost use Rattle.cache_model.specs.Contents.{AnyContents, AreRecordedAs, Contents};
-ghost use Rattle.call_laws.specs.Moments.{At, IsToldAt, NothingKnown};
+ghost use Rattle.call_laws.specs.Moments.{At, NothingKnown};
 ghost use Rattle.call_laws.specs.Serves.{ServesFrom, ServesTold};
 ghost use Rattle.cache_calls.specs.Actors.{IsOpenReader, IsWriterOf, ReaderSeen, WriterSeen};
 ghost use Rattle.cache_model.specs.Subjects.{IsOfFlush, IsOfPut, IsOfReader};
@@ -111,7 +111,7 @@ pub trait Calls {
         ensures serves { let asked = close_asks (state_at (at self.old)) (written writer.old) in
             ServesFrom (Untold (at self.new).device IsVectorAs) now (at self.old) (at self.new) asked
             (progress_at (written writer.old).put asked result)
-            IsToldAt (NumberAtClose (written writer.old) result) }
+            AreTold (NumberAtClose (written writer.old) result) }
         ensures gives { Closes (at self.old) (at self.new) (written writer.old) result }
         ensures stands { StaysStanding stands (IsToldClosed (state_at (at self.new))
             (written writer.old)) self.old self.new }
@@ -166,7 +166,7 @@ pub trait Calls {
         requires { holds self.old }
         ensures serves { let asked = Look actor.0 key request ∷ [] in
             (now : ℕ) → ServesFrom (Untold (at self.new).device IsVectorAs) now (at self.old) (at self.new) asked
-            (unless_wanting asked result) IsToldAt (HasItsTable reading result) }
+            (unless_wanting asked result) AreTold (HasItsTable reading result) }
         ensures gives { OpensReader reading (at self.old) (at self.new) actor key request result }
         ensures stands { StaysStanding stands AnyContents self.old self.new }
         ensures keeps { KeepsUnharmed at holds self.old self.new }

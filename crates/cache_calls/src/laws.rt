@@ -1,7 +1,7 @@
 // Laws of calls, each the contract of a function with an empty body.
 ghost use Rattle.cache_calls.specs.Adds.{AddedFaultsAreRefusals};
 ghost use Rattle.cache_calls.specs.Others.{OthersStay, ReadersStay, ReadsLeaveOthers, WritersStay};
-ghost use Rattle.cache_calls.specs.Keeping.{GoesBehindCalls, KeepOn, PlainHasSteps};
+ghost use Rattle.cache_calls.specs.Keeping.{GoesBehindCalls, KeepOn, CallsHaveSteps};
 
 use crate::calls::Calls;
 
@@ -11,9 +11,9 @@ pub fn calls_keep<S: Calls>()
     ensures keeps { KeepOn S.at S.holds }
 {}
 
-/// A cache that does not sync has a step of any calls.
-pub fn plain_has_steps()
-    ensures { PlainHasSteps }
+/// Any calls from a moment on are those of a step.
+pub fn calls_have_steps()
+    ensures { CallsHaveSteps }
 {}
 
 /// A fault that a call added is a call of its device that was refused, with that count.

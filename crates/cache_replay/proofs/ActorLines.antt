@@ -9,19 +9,21 @@ use Rattle.actor_table.specs.Table.{TableSeen, number_of_name, slot_of_actor, wi
 use Rattle.cache_model.specs.Kept.{state_of}
 use Rattle.cache_model.specs.State.{State}
 use Rattle.call_laws.specs.Untold.{Untold}
-use Rattle.call_laws.specs.Moments.{IsToldAt, permit_of}
+use Rattle.call_laws.specs.Moments.{permit_of}
 use Rattle.call_laws.specs.Progress.{in_full}
 use Rattle.call_laws.specs.Whole.{IsWholeStep}
 use Rattle.call_laws.proofs.Served.{serves_still}
-use Rattle.cache_model.specs.Vectors.{IsVectorAs}
+use Rattle.cache_model.specs.Vectors.{AreTold, IsVectorAs}
 use Rattle.cache_calls.specs.declared.calls.Calls.{Ghosts as CallsGhosts}
 use Rattle.cache_calls.specs.Adds.{IsAsItWas}
 use Rattle.cache_calls.specs.Keeping.{Goes, IsAtRest, KeepsUnharmed, state_at}
 use Rattle.cache_calls.proofs.Keeping.{goes_still}
 use Rattle.script_grammar.specs.declared.step.Step.{Step}
+use Rattle.script_grammar.specs.declared.step.Step.TheVariants as step
 use Rattle.script_grammar.specs.declared.answer.StepAnswer.{StepAnswer}
 use Rattle.script_run.specs.Run.{Run, Stream, actor_of, held_by, with_value, Holding as Held}
 use Rattle.script_run.specs.Asked.{asked}
+use Rattle.script_run.specs.Switch.{order_of_step}
 use Rattle.script_run.specs.Turn.{Turn}
 use Rattle.script_run.specs.Answers.{session_said}
 use Rattle.script_run.specs.Behind.{actors_behind, held_behind, holds_behind, in_session, streams_behind}
@@ -115,6 +117,15 @@ held_still run s t step name actor holds m =
     ap (λ (f : ℕ → Option Held). f m) (held_is run s t step name actor)
     ∙ (ap (λ (x : Option Held). with_value run.held n x m) holds ∙ with_same run.held n m (m == n) refl)
 
+-- ---- what tells no switch
+
+-- a line of an actor
+pub no_order : (asks : Step) (name : List ℕ) → actor_of asks ≡ Some name → order_of_step asks ≡ None
+no_order (step.Fail nth) name is = cc
+no_order (step.StopAfter calls) name is = cc
+no_order (step.Flip place byte) name is = cc
+no_order _ name is = refl
+
 -- ---- what does nothing
 
 -- beside a run it is asked nothing, and this is its answer
@@ -178,10 +189,10 @@ module _ {S W R : Type 0} {c : CallsGhosts S W R} where
     still_moves : (run : Run) (said : StepAnswer) → PlaysPart run part before → DoesNothing run (state_in_part part) step name said
         → MovesOrShows run step (at_in part) (at_in part) said
     still_moves run said plays none =
-        let w : IsWholeStep (Untold (at_in part).device IsVectorAs) run.now [] (at_in part) (at_in part) [] None IsToldAt =
+        let w : IsWholeStep (Untold (at_in part).device IsVectorAs) run.now (at_in part) (at_in part) [] None AreTold =
         serves_whole None in_full active.part_is.plain active.part_is.rest.quiet plays.at.told (serves_still [] (record { kept = refl; past = refl; setting = refl })) in
-        let turn : Turn = record { added = w.added; refused = None; device = permit_of run.now (at_in part).setting [] w.calls; given = [] } in
-        moves_line run step (at_in part) (at_in part) run.now active.part_is.plain refl [] None [] said none.asks w (none.own turn refl) (λ known. none.says turn)
+        let turn : Turn = record { added = w.added; refused = None; device = permit_of run.now (at_in part) w.calls; given = []; told = [] } in
+        moves_line run step (at_in part) (at_in part) run.now active.part_is.plain refl [] None [] said none.asks (no_order step name actor) w (none.own turn refl) (λ known. none.says turn)
 
     -- what stands is as it was: the records are, and so is what writers took
     module _ (run : Run) (said : StepAnswer) (plays : PlaysPart run part before)

@@ -57,7 +57,7 @@ module _ {S W R : Type 0} {c : CallsGhosts S W R} (geometry : Geometry) (device 
   -- nothing was told of its device
   begun_reached : AreReached (loosened no_harm ∷ []) (return_of (Some part))
   begun_reached =
-      (record { made = record { later = (at_in part).device.past; is = sym (append-nil (at_in part).device.past) }; all = λ no. cc; counted = omega arith; unharmed = λ trusted. refl }, tt)
+      (record { made = record { later = (at_in part).device.past; is = sym (append-nil (at_in part).device.past) }; all = λ no. cc; counted = omega arith; unharmed = λ trusted. refl; switched = tt }, tt)
 
   begun_plays : (run : Run) (name : List ℕ) (calls : List Call) (slots : ℕ → Option HoldingSeen) → ((n : ℕ) → slots n ≡ None)
       → PlaysIn (with_format run name calls (format_records geometry)) (state_in_part part) slots

@@ -14,9 +14,9 @@ use Rattle.cache_model.specs.State.{PutRow, State, after_all, fragment_piece, pu
 use Rattle.cache_model.specs.Verdict.{cause_of_piece, cuts_of}
 use Rattle.cache_model.specs.Permit.{Commit, Exhausted, Faulted, Finish, Intent, Lost, Permit, Reason, TooLarge, Weigh, to_do}
 use Rattle.cache_model.specs.Legal.{IsQuiet, MayGrow, is_writing}
-use Rattle.cache_model.specs.Vectors.{IsVectorAs}
+use Rattle.cache_model.specs.Vectors.{AreTold, IsVectorAs}
 use Rattle.call_laws.specs.Untold.{Untold}
-use Rattle.call_laws.specs.Moments.{At, Facts, IsToldAt}
+use Rattle.call_laws.specs.Moments.{At, Facts}
 use Rattle.call_laws.specs.Progress as progress
 use Rattle.call_laws.specs.Progress.{AllDone, EndsWith, Progress, Stops}
 use Rattle.call_laws.specs.Serves.{ServesFrom}
@@ -164,7 +164,7 @@ module _ (now : ℕ) (a b : At) (plain : a.setting ≡ plain_setting) (quiet : I
       ∙ (ap (λ (bytes : List ℕ). close_intents w.put (length w.cuts) bytes) (gathered_at run name s w played own) ∙ same_asks w))
 
   closed_moves : {o : Progress} {known : Facts} (why : Option Reason) (said_ : StepAnswer) → EndsWith o why
-      → ServesFrom (Untold b.device IsVectorAs) now a b (ending_asks w) o IsToldAt known
+      → ServesFrom (Untold b.device IsVectorAs) now a b (ending_asks w) o AreTold known
       → (Ended why → (stream : Stream) → IsStreamOf stream w → is_writing t w.put ≡ true → IsStreamOf (sealed_by why stream) last)
       → (Ended why → said t None why (put_said t w.put) ≡ said_)
       → WriterDoes now a b ClosesLine w left (Some said_)
@@ -187,7 +187,7 @@ module _ (now : ℕ) (a b : At) (plain : a.setting ≡ plain_setting) (quiet : I
 
   -- each answer
   closes_open : {known : Facts} (result : Result Receipt Refusal) → ClosesOpen a b w result
-      → ServesFrom (Untold b.device IsVectorAs) now a b (ending_asks w) (progress_at w.put (ending_asks w) result) IsToldAt known → SealsWhere w last result
+      → ServesFrom (Untold b.device IsVectorAs) now a b (ending_asks w) (progress_at w.put (ending_asks w) result) AreTold known → SealsWhere w last result
       → WriterDoes now a b ClosesLine w left (closed_answer result)
   closes_open (Ok receipt) how serves seals = closed_moves None (answer.Put receipt.put receipt.length receipt.fragments) progress.EndsWith.in_full serves
       (λ end_ stream of o. clashes (is_writing t w.put) end_.0 o) (λ end_. complete_said t w receipt (key_of s w.put) how end_)
@@ -222,11 +222,11 @@ closes_as_open a b w (Err refusal.Sealed) writing how = how.1
 pub closes_line : {known : Facts} (now : ℕ) (a b : At) → a.setting ≡ plain_setting → IsQuiet (state_at b) → (w last : WriterSeen) (left : Option WriterSeen)
     → IsOpenWriter (state_at a) w
     → KeepsRest w last ⊎ CutsRest w last → LeftOpen (state_at b) last left → (result : Result Receipt Refusal) → ClosesAs a b w result
-    → ServesFrom (Untold b.device IsVectorAs) now a b (close_asks (state_at a) w) (progress_at w.put (close_asks (state_at a) w) result) IsToldAt known → SealsWhere w last result
+    → ServesFrom (Untold b.device IsVectorAs) now a b (close_asks (state_at a) w) (progress_at w.put (close_asks (state_at a) w) result) AreTold known → SealsWhere w last result
     → WriterDoes now a b ClosesLine w left (closed_answer result)
 closes_line {known} now a b plain quiet w last left own rested open_left result how serves seals =
     closes_open now a b plain quiet w last left own rested open_left result (closes_as_open a b w result own.writing how)
-    (subst (λ is. ServesFrom (Untold b.device IsVectorAs) now a b is (progress_at w.put is result) IsToldAt known) (asks_ending (state_at a) w own.writing) serves) seals
+    (subst (λ is. ServesFrom (Untold b.device IsVectorAs) now a b is (progress_at w.put is result) AreTold known) (asks_ending (state_at a) w own.writing) serves) seals
 
 -- ---- the count that is told
 

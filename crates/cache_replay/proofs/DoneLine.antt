@@ -69,7 +69,7 @@ module _ {S W R : Type 0} {c : CallsGhosts S W R} where
     moves run plays =
         let reads = reads_with run old before name n number plays r taken.had in
         moves_line run (step.Done name) (at_in old) (at_in new) run.now active.part_is.plain refl (StopReading r.reader ∷ []) None [] answer.Done
-        (ap (λ (o : Option ℕ). asks.asks_if_has o (λ reader. StopReading reader ∷ [])) reads)
+        (ap (λ (o : Option ℕ). asks.asks_if_has o (λ reader. StopReading reader ∷ [])) reads) refl
         (serves_whole None in_full active.part_is.plain rest.quiet plays.at.told (serves run.now)) refl
         (λ known. ap (λ (o : Option ℕ). says.if_has o (λ reader. answer.Done)) reads)
 

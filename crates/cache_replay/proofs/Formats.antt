@@ -20,6 +20,7 @@ use Rattle.stripe_copies.specs.declared.format.FormatFault.TheVariants as fault
 use Rattle.std.specs.declared.alloc.AllocError.{AllocError}
 use Rattle.logged_disk.specs.Device.{DeviceState as Device, IsAfter}
 use Rattle.logged_disk.proofs.GoingOn.{stays_put}
+use Rattle.cache_replay.proofs.OnPart.{later_device}
 use Rattle.device_bay.specs.Calls.{BayCall, Gave, TookBack, names_of, out_of, refusals_of, returned_by}
 use Rattle.device_bay.specs.Bay.{IsNewDevice}
 use Rattle.cache_model.specs.Legal.{format_records}
@@ -65,7 +66,7 @@ reach_more (other ∷ harms) (x ∷ devices) harm d reached h = (h.0, reach_more
 
 -- nothing is told of a device that made no call
 none_reached : (d : Device) → d.past ≡ [] → IsReached no_harm d
-none_reached d none = record { made = record { later = []; is = none }; all = λ yes. none; counted = omega arith; unharmed = λ trusted. refl }
+none_reached d none = record { made = record { later = []; is = none }; all = λ yes. none; counted = omega arith; unharmed = λ trusted. refl; switched = tt }
 
 -- so much is told of the last one
 last_reached : (harms : List Harm) (harm other : Harm) (devices : List Device) → ((d : Device) → IsReached harm d → IsReached other d) → AreReached (harms ++ harm ∷ []) devices
@@ -83,7 +84,7 @@ failed_loosely before after harms calls count names deals = record {
     devices = deals.back.devices;
     returned = deals.back.returned;
     reached = last_reached harms (harm_of_format calls count) (raised count no_harm) deals.back.devices
-        (λ d h. record { made = record { later = d.past; is = sym (append-nil d.past) }; all = λ no. cc; counted = omega (arith, h.counted); unharmed = λ tells. refl })
+        (λ d h. record { made = record { later = d.past; is = sym (append-nil d.past) }; all = λ no. cc; counted = omega (arith, h.counted); unharmed = λ tells. refl; switched = tt })
         deals.back.reached;
   };
   attached = deals.attached;
@@ -92,7 +93,7 @@ failed_loosely before after harms calls count names deals = record {
 -- a device that was attached goes on as another one
 later_behind : (own : List Device) (old new : Device) → IsLaterDevice old new → AreLater (own ++ old ∷ []) (own ++ new ∷ [])
 later_behind [] old new later = (later, tt)
-later_behind (d ∷ own) old new later = (record { faults = omega arith; goes = stays_put d }, later_behind own old new later)
+later_behind (d ∷ own) old new later = (later_device (omega arith) (stays_put d), later_behind own old new later)
 
 -- the device that was attached goes on, and that of the session before comes back
 tried_order : (own : List Device) (device back : Device) (name : List ℕ) (blocks : ℕ) (before given after : List BayCall) → IsLaterDevice device back → given ≡ Gave name blocks ∷ before
@@ -113,11 +114,11 @@ first_floor_is segments buckets content agg reach fragment generation alternates
 
 -- a format that was done, with these calls of its device
 abbrev format_turn : Geometry → List Call → Turn
-format_turn g calls = record { added = format_records g; refused = None; device = record no_turn.device { events = calls }; given = [] }
+format_turn g calls = record { added = format_records g; refused = None; device = record no_turn.device { events = calls }; given = []; told = [] }
 
 -- one whose device refused one of these calls
 abbrev failed_turn : List Call → ℕ → Turn
-failed_turn calls count = record { added = rec.Fault count ∷ []; refused = Some (Faulted count); device = record no_turn.device { events = calls }; given = [] }
+failed_turn calls count = record { added = rec.Fault count ∷ []; refused = Some (Faulted count); device = record no_turn.device { events = calls }; given = []; told = [] }
 
 -- ---- the calls of a format
 
@@ -176,7 +177,7 @@ module _ {S W R : Type 0} {c : CallsGhosts S W R} where
   format_refused run name segments buckets content agg reach fragment generation alternates number bad session ledger is numbered plays = record {
     moves = record {
       turn = no_turn;
-      takes = subst (λ o. FormatTakes no_turn segments buckets content agg reach fragment generation alternates o) (sym is) refl;
+      takes = subst (λ o. FormatTakes no_turn segments buckets content agg reach fragment generation alternates o) (sym is) (refl, refl);
       plays = subst (λ o. Plays (after_format run no_turn name o) session) (sym is) plays;
       says = ap (format_said no_turn) is ∙ ap (λ n. answer.Refused (refused.Geometry n) None) (sym numbered);
     };
@@ -197,7 +198,7 @@ module _ {S W R : Type 0} {c : CallsGhosts S W R} where
   format_done run name segments buckets content agg reach fragment generation alternates g calls floor new before now is floored laid numbers plays deals = record {
     moves = record {
       turn = format_turn g calls;
-      takes = subst (λ o. FormatTakes (format_turn g calls) segments buckets content agg reach fragment generation alternates o) (sym is) (g, numbers, (refl, laid));
+      takes = subst (λ o. FormatTakes (format_turn g calls) segments buckets content agg reach fragment generation alternates o) (sym is) (g, numbers, (refl, laid), refl);
       plays = subst (λ o. Plays (after_format run (format_turn g calls) name o) new) (sym is) plays;
       says = ap (format_said (format_turn g calls)) is ∙ ap (λ n. answer.Formatted 1 g.content n) (sym floored);
     };
@@ -221,7 +222,7 @@ module _ {S W R : Type 0} {c : CallsGhosts S W R} where
       record {
         moves = record {
           turn = turn;
-          takes = subst (λ o. FormatTakes turn segments buckets content agg reach fragment generation alternates o) (sym is) (g, numbers, (refl, failed.some, failed.stopped));
+          takes = subst (λ o. FormatTakes turn segments buckets content agg reach fragment generation alternates o) (sym is) (g, numbers, (refl, failed.some, failed.stopped), refl);
           plays = subst (λ o. Plays (after_format run turn name o) new) (sym is) (failed.plays run plays);
           says = ap (format_said turn) is;
         };
@@ -276,7 +277,7 @@ module _ {S W R : Type 0} {c : CallsGhosts S W R} where
     names = names;
     order = subst (λ o. KeepsOrder (return_in old) before (return_of o) after) (sym is)
         (tried_order (return_in old) device (at_in part).device name (device_blocks_of geometry) before given after
-        (record { faults = omega (arith, attached.faults); goes = begins.laid.goes }) gave attached (gives.order ((at_in part).device ∷ [])));
+        (later_device (omega (arith, attached.faults)) begins.laid.goes) gave attached (gives.order ((at_in part).device ∷ [])));
     refusals = gives.refusals ∙ ap refusals_of gave;
   }
 
@@ -291,7 +292,7 @@ module _ {S W R : Type 0} {c : CallsGhosts S W R} where
     came_order : IsAfter device back → KeepsOrder (return_in old) before (return_in new) after
     came_order goes = subst (λ o. KeepsOrder (return_in old) before (return_of o) after) (sym none)
         (order_then (return_in old) (back ∷ []) [] before ended after
-        (tried_order (return_in old) device back name (device_blocks_of geometry) before given ended (record { faults = omega (arith, attached.faults); goes = goes }) gave attached (gives.order (back ∷ [])))
+        (tried_order (return_in old) device back name (device_blocks_of geometry) before given ended (later_device (omega (arith, attached.faults)) goes) gave attached (gives.order (back ∷ [])))
         (order_took back [] ended after took))
 
     -- one that wanted memory, and made no call
@@ -328,7 +329,7 @@ module _ {S W R : Type 0} {c : CallsGhosts S W R} where
             plays = λ run plays. none_plays new none slots old run name back.past count names now plays;
             deals = λ harms reached.
                 format_left harms (return_in old) name (device_blocks_of geometry) (harm_of_format back.past count) back before given ended after
-                (record { made = record { later = []; is = refl }; all = λ yes. refl; counted = omega (arith, refused.unlaid.counted); unharmed = λ tells. refl }) reached gave gives took;
+                (record { made = record { later = []; is = refl }; all = λ yes. refl; counted = omega (arith, refused.unlaid.counted); unharmed = λ tells. refl; switched = tt }) reached gave gives took;
           };
           left = tt;
           stop = tt;

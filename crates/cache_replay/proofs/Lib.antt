@@ -33,6 +33,7 @@ mod PutsGrown
 mod ReaderLines
 mod ReadsOn
 mod Stood
+mod SwitchLines
 mod ToldFrom
 mod ToldWriters
 pub mod Unharming

@@ -28,11 +28,11 @@ use Rattle.cache_calls.specs.declared.calls.Calls.{Ghosts as CallsGhosts}
 use Rattle.cache_answers.specs.declared.answers.NextPiece.{NextPiece}
 use Rattle.cache_answers.specs.declared.answers.NextPiece.TheVariants as piece
 use Rattle.cache_calls.specs.Actors.{IsOpenReader, IsReaderOf, ReaderSeen, as_row, row_by}
-use Rattle.cache_calls.specs.Keeping.{IsAtRest, IsPlain, StaysUnharmed, plain_setting, state_at}
+use Rattle.cache_calls.specs.Keeping.{IsAtRest, StaysUnharmed, plain_setting, state_at}
 use Rattle.cache_calls.specs.Standing.{GivesAsTold}
 use Rattle.cache_model.specs.Troubles.{cause_records}
 use Rattle.cache_calls.specs.Readers.{HasRead, IsFragment, IsGivenAs, IsGivenInEachStep, IsToldTo, listed_length, next_trouble, noted, read_adds}
-use Rattle.cache_calls.proofs.Keeping.{plain_has_steps}
+use Rattle.call_laws.proofs.Whole.{encloses_own}
 use Rattle.script_grammar.specs.declared.step.Step.TheVariants as step
 use Rattle.script_grammar.specs.declared.answer.StepAnswer.{StepAnswer}
 use Rattle.script_grammar.specs.declared.answer.StepAnswer.TheVariants as answer
@@ -50,7 +50,7 @@ use Rattle.cache_replay.specs.ReaderLines.{IsReadBy, IsWithin, NextEnds, ReadsOn
 use Rattle.line_calls.specs.Standing.{OwnStands, own_contents}
 use Rattle.cache_replay.proofs.Frames.{same_added}
 use Rattle.line_calls.proofs.OwnContents.{given_is_own, tells_own}
-use Rattle.line_calls.proofs.Whole.{moves_line, serves_whole, shows_line}
+use Rattle.line_calls.proofs.Whole.{left_by, moves_line, serves_whole, shows_line}
 
 -- ---- what the reader was told
 
@@ -89,14 +89,14 @@ given_within p s r (piece.NotYet cut) into h = tt
 given_within p s r (piece.Broken why) into h = tt
 
 -- by the step that has the calls of this one alone
-given_in : (now : ℕ) (a b : At) (r : ReaderSeen) (given : NextPiece) (into : List ℕ) (calls : List Call) → IsPlain a.setting → b.device.past ≡ calls ++ a.device.past
-    → IsGivenInEachStep a b r given into → IsGivenAs (permit_of now a.setting [] calls) (state_at a) r given into
-given_in now a b r given into calls plain past is = is now (permit_of now a.setting [] calls) [] calls past (plain_has_steps a.setting plain now [] calls)
+given_in : (now : ℕ) (a b : At) (r : ReaderSeen) (given : NextPiece) (into : List ℕ) (calls : List Call) → b.device.past ≡ calls ++ a.device.past
+    → IsGivenInEachStep a b r given into → IsGivenAs (permit_of now a calls) (state_at a) r given into
+given_in now a b r given into calls past is = is now (permit_of now a calls) [] calls past (encloses_own now a calls)
 
-pub read_within : (a b : At) (r : ReaderSeen) (given : NextPiece) (into : List ℕ) (calls : List Call) (added : List Rec) → IsPlain a.setting → Happens a b calls added
+pub read_within : (a b : At) (r : ReaderSeen) (given : NextPiece) (into : List ℕ) (calls : List Call) (added : List Rec) → Happens a b calls added
     → HasRead a b r given into → IsWithin given into
-read_within a b r given into calls added plain happens read =
-    given_within (permit_of 0 a.setting [] calls) (state_at a) r given into (given_in 0 a b r given into calls plain happens.past read.given)
+read_within a b r given into calls added happens read =
+    given_within (permit_of 0 a calls) (state_at a) r given into (given_in 0 a b r given into calls happens.past read.given)
 
 -- ---- what comes of it beside a run
 
@@ -114,7 +114,7 @@ untold_pair IsPlaced last p s row none h =
 module _ {S W R : Type 0} (c : CallsGhosts S W R) (old new : S) (r later : ReaderSeen) (plain : (c.at old).setting ≡ plain_setting) (first : 1 ≤ r.next)
     (run : Run) (name : List ℕ) (by : IsReadBy run name (state_at (c.at old)) r) (stands : OwnStands run.streams (state_at (c.at old)) (c.stands old))
     (keeps : IsReaderOf (state_at (c.at new)) later)
-    (w : IsWholeStep (Untold (c.at new).device IsVectorAs) run.now [] (c.at old) (c.at new) (ReadOn r.reader ∷ []) None NothingKnown) where
+    (w : IsWholeStep (Untold (c.at new).device IsVectorAs) run.now (c.at old) (c.at new) (ReadOn r.reader ∷ []) None NothingKnown) where
   abbrev a : At
   a = c.at old
 
@@ -125,7 +125,7 @@ module _ {S W R : Type 0} (c : CallsGhosts S W R) (old new : S) (r later : Reade
   asked_is = ap (λ (o : Option ℕ). asks.asks_if_has o (λ reader. ReadOn reader ∷ [])) by.held
 
   abbrev permit : Permit
-  permit = permit_of run.now a.setting [] w.calls
+  permit = permit_of run.now a w.calls
 
   moves_with : (given : NextPiece) (bytes : List ℕ) (said : StepAnswer) → w.added ≡ read_adds (state_at a) r given
       → IsPiece run (state_at a) r.reader bytes (told_in (answer_record r.reader (noted (listed_length (state_at a) r) given) ∷ []))
@@ -133,8 +133,8 @@ module _ {S W R : Type 0} (c : CallsGhosts S W R) (old new : S) (r later : Reade
       → NextEnds run name a b later said
   moves_with given bytes said adds whose answers =
       let told : told_in w.added ≡ told_in (answer_record r.reader (noted (listed_length (state_at a) r) given) ∷ []) = ap told_in adds ∙ told_last (state_at a) r given in
-      let turn : Turn = record { added = w.added; refused = None; device = permit; given = bytes } in
-      elim (moves_line run (step.Next name) a b run.now plain refl (ReadOn r.reader ∷ []) None bytes said asked_is w
+      let turn : Turn = record { added = w.added; refused = None; device = permit; given = bytes; told = [] } in
+      elim (moves_line run (step.Next name) a b run.now plain refl (ReadOn r.reader ∷ []) None bytes said asked_is refl w
       (subst (IsNextPiece run (state_at a) turn) (sym by.held) (subst (IsPiece run (state_at a) r.reader bytes) (sym told) whose))
       (λ known. ap (λ (o : Option ℕ). says.if_has o (λ reader. says.next_said bytes (told_in w.added))) by.held ∙ (ap (says.next_said bytes) told ∙ answers))) [
         | inl m ↦ inl (record { moves = m; keeps = keeps })
@@ -144,7 +144,8 @@ module _ {S W R : Type 0} (c : CallsGhosts S W R) (old new : S) (r later : Reade
   shows_other : (row : Row) → to_read (state_at a) (ReadOn r.reader) ≡ Some row → (TellsAll b.device → ⊥) → IsPairOf (IsPlacedAs run.streams) permit (state_at a) row
       → ShowsIn run (step.Next name) a b
   shows_other row reads none pair =
-      shows_line run (step.Next name) a b run.now plain refl (ReadOn r.reader ∷ []) w.calls w.added asked_is w.happens.past (record {
+      shows_line run (step.Next name) a b run.now plain refl (ReadOn r.reader ∷ []) w.calls w.added asked_is refl w.happens.past
+      (left_by run (step.Next name) a b run.now plain refl w.calls w.added w.happens) (record {
         before = [];
         rest = w.added;
         left = to_do (ReadOn r.reader ∷ []);
@@ -181,17 +182,17 @@ module _ {S W R : Type 0} (c : CallsGhosts S W R) (old new : S) (r later : Reade
   ends_with (piece.Broken why) into adds h exact = moves_with (piece.Broken why) [] (says.broken_said why) adds refl refl
 
 module _ {S W R : Type 0} (c : CallsGhosts S W R) where
-  pub next_ends : (old new : S) (r later : ReaderSeen) (given : NextPiece) (into : List ℕ) → (c.at old).setting ≡ plain_setting → IsPlain (c.at old).setting → IsAtRest (c.at new)
+  pub next_ends : (old new : S) (r later : ReaderSeen) (given : NextPiece) (into : List ℕ) → (c.at old).setting ≡ plain_setting → IsAtRest (c.at new)
       → 1 ≤ r.next → ((now : ℕ) → ServesFrom (Untold (c.at new).device IsVectorAs) now (c.at old) (c.at new) (ReadOn r.reader ∷ []) AllDone (IsToldTo r) NothingKnown)
       → HasRead (c.at old) (c.at new) r given into → GivesAsTold c.at c.stands old new r (Ok given) into → (IsReaderOf (state_at (c.at old)) r → IsReaderOf (state_at (c.at new)) later)
       → (run : Run) (name : List ℕ) → IsReadBy run name (state_at (c.at old)) r → OwnStands run.streams (state_at (c.at old)) (c.stands old)
       → NextEnds run name (c.at old) (c.at new) later (next_answer given into)
-  next_ends old new r later given into setting plain rest first serves read exact keeps run name by stands =
+  next_ends old new r later given into setting rest first serves read exact keeps run name by stands =
       let a : At = c.at old in
-      let w : IsWholeStep (Untold (c.at new).device IsVectorAs) run.now [] a (c.at new) (ReadOn r.reader ∷ []) None NothingKnown =
+      let w : IsWholeStep (Untold (c.at new).device IsVectorAs) run.now a (c.at new) (ReadOn r.reader ∷ []) None NothingKnown =
       serves_whole None in_full setting rest.quiet (by.told, by.reader) (serves run.now) in
       ends_with c old new r later setting first run name by stands (keeps by.reader) w given into
-      (same_added a.kept (c.at new).kept w.added (read_adds (state_at a) r given) w.happens.adds read.adds) (given_in run.now a (c.at new) r given into w.calls plain w.happens.past read.given)
+      (same_added a.kept (c.at new).kept w.added (read_adds (state_at a) r given) w.happens.adds read.adds) (given_in run.now a (c.at new) r given into w.calls w.happens.past read.given)
       exact
 
   -- where memory was wanting it is answered nothing

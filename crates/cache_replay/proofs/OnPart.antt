@@ -1,7 +1,9 @@
 -- A line on a part and its actors, as a line on a session.
-use Rattle.std.proofs.Common.{◌≡◌, ◌++◌, inl, inr, refl, sym, ◌∙◌, ap, subst, length, Result, Ok, Err}
+use Rattle.std.proofs.Common.{◌≡◌, ◌≤◌, ◌++◌, inl, inr, refl, sym, ◌∙◌, ap, subst, length, Result, Ok, Err}
 use Rattle.std.specs.Prelude.{Some, IfErr, IfOk}
 use Rattle.cache_model.specs.State.{State, after_all}
+use Rattle.logged_disk.specs.Device.{DeviceState as Device, IsAfter}
+use Rattle.logged_disk.proofs.GoingOn.{told_before}
 use Rattle.cache_calls.specs.declared.calls.Calls.{Ghosts as CallsGhosts}
 use Rattle.cache_calls.specs.Keeping.{Goes, IsUnharmed, StaysUnharmed}
 use Rattle.actor_table.specs.Table.{TableSeen}
@@ -9,17 +11,17 @@ use Rattle.script_grammar.specs.declared.step.Step.{Step}
 use Rattle.script_grammar.specs.declared.step.Step.TheVariants as step
 use Rattle.script_grammar.specs.declared.answer.StepAnswer.{StepAnswer}
 use Rattle.script_run.specs.Run.{Run}
-use Rattle.script_run.specs.Turn.{Turn}
+use Rattle.script_run.specs.Turn.{Turn, calls_in}
 use Rattle.script_run.specs.Answers.{session_said, step_said}
 use Rattle.script_run.specs.Behind as then
 use Rattle.script_run.specs.Behind.{in_session}
-use Rattle.script_run.specs.Takes.{SessionTakes, StepShows, Takes}
+use Rattle.script_run.specs.Takes.{SessionTakes, ShowsBehind, StepShows, Takes, TakesBehind}
 use Rattle.cache_replay.specs.declared.session.ActorHolding.{ActorHolding}
 use Rattle.cache_replay.specs.declared.session.Part.{Part}
 use Rattle.cache_replay.specs.declared.session.Session.{Session}
 use Rattle.cache_replay.specs.declared.stop.Stop.{Stop}
 use Rattle.cache_replay.specs.declared.stop.Stop.TheVariants.{Memory}
-use Rattle.cache_replay.specs.Session.{AreLater, IsActive, IsAt, IsSession, at_in, past_of, return_of, slots_in, state_in_part}
+use Rattle.cache_replay.specs.Session.{AreLater, IsLaterDevice, IsActive, IsAt, IsSession, at_in, past_of, return_of, slots_in, state_in_part}
 use Rattle.line_calls.specs.Moves.{ShowsIn}
 use Rattle.cache_replay.specs.Plays.{CallsAt, IsUnharmedAt, OwnStandsAt, PartEnds, PartMoves, Plays, PlaysAt, PlaysPart}
 use Rattle.cache_replay.specs.Plays.{StepEnds, StepMoves, StepPair}
@@ -39,6 +41,16 @@ pub on_session : (step : Step) → NeedsSession step → IsOnSession step
 on_session (step.Format name segments buckets content agg reach fragment generation alternates) needs = absurd needs
 on_session (step.Now moment) needs = absurd needs
 on_session _ needs = record { takes = λ run s turn h. h; says = λ run s turn. refl; behind = λ run s turn. refl }
+
+-- a device that goes on is a later one
+pub later_device : {old new : Device} → old.faults ≤ new.faults → IsAfter old new → IsLaterDevice old new
+later_device {old} {new} faults goes = record {
+  faults = faults;
+  number = goes.number;
+  switch = goes.switch;
+  made = record { later = goes.made; is = goes.past };
+  tells = told_before old new goes;
+}
 
 module _ {S W R : Type 0} {c : CallsGhosts S W R} where
   -- ---- a session that has a part
@@ -79,7 +91,7 @@ module _ {S W R : Type 0} {c : CallsGhosts S W R} where
         on.behind run s turn ∙ ap (λ t. in_session run s t turn step) (sym m.moves.state) in
         record {
           turn = turn;
-          takes = subst (λ o. Takes run turn o step) (sym state) (on.takes run s turn m.moves.takes);
+          takes = subst (λ o. Takes run turn o step) (sym state) (on.takes run s turn (subst (λ calls. TakesBehind calls run s turn step) (part_calls run session before was plays.calls) m.moves.takes));
           plays = subst (λ o. Plays (then.behind run turn o step) behind_it) (sym state)
               (subst (λ r. Plays r behind_it) (sym later) (record {
                 names = m.plays.names;
@@ -87,7 +99,7 @@ module _ {S W R : Type 0} {c : CallsGhosts S W R} where
                 at = m.plays.at;
                 unharmed = stays (part_unharmed session before was plays.unharmed);
                 stands = m.plays.stands;
-                calls = m.moves.calls ∙ ap (λ older. turn.device.events ++ older) (part_calls run session before was plays.calls);
+                calls = m.moves.calls ∙ ap (λ older. calls_in turn ++ older) (part_calls run session before was plays.calls);
               }));
           says = subst (λ o. step_said run turn o step ≡ said) (sym state)
               (on.says run s turn ∙ (ap (λ t. session_said run s t turn step) (sym m.moves.state) ∙ m.moves.says));
@@ -97,8 +109,9 @@ module _ {S W R : Type 0} {c : CallsGhosts S W R} where
     pub shown : (run : Run) (step : Step) → Plays run session → ShowsIn run step (at_in before) (at_in after) → StepPair run step behind_it
     shown run step plays h = record {
       turn = h.turn;
-      shows = subst (λ o. StepShows run h.turn o step) (sym (part_plays run session before was plays).at.state) h.shows;
-      calls = h.calls ∙ ap (λ older. h.turn.device.events ++ older) (part_calls run session before was plays.calls);
+      shows = subst (λ o. StepShows run h.turn o step) (sym (part_plays run session before was plays).at.state)
+          (subst (λ calls. ShowsBehind calls run (state_in_part before) h.turn step) (part_calls run session before was plays.calls) h.shows);
+      calls = h.calls ∙ ap (λ older. calls_in h.turn ++ older) (part_calls run session before was plays.calls);
       untold = h.untold;
     }
 
@@ -109,7 +122,7 @@ module _ {S W R : Type 0} {c : CallsGhosts S W R} where
 
     -- its device goes on
     pub device_goes : Goes c.at c.holds before.cache after.cache → AreLater (return_of session.part) (return_of (Some after))
-    device_goes goes = subst (λ o. AreLater (return_of o) (return_of (Some after))) (sym was) (record { faults = goes.later; goes = goes.goes }, tt)
+    device_goes goes = subst (λ o. AreLater (return_of o) (return_of (Some after))) (sym was) (later_device goes.later goes.goes, tt)
 
     -- a session with a part has one device
     pub same_devices : length (return_of behind_it.part) ≡ length (return_of session.part)

@@ -8,10 +8,9 @@ use Rattle.alternate_vector.specs.Field.{Field}
 use Rattle.actor_table.specs.Table.{TableSeen, number_of_name, with_actor}
 use Rattle.cache_model.specs.State.{ReaderRow, State, after_all, reader_of}
 use Rattle.cache_model.specs.Permit.{Look}
-use Rattle.cache_model.specs.Vectors.{IsVectorAs}
+use Rattle.cache_model.specs.Vectors.{AreTold, IsVectorAs}
 use Rattle.call_laws.specs.Untold.{Untold}
 use Rattle.cache_model.specs.Contents.{AnyContents}
-use Rattle.call_laws.specs.Moments.{IsToldAt}
 use Rattle.call_laws.specs.Progress.{AllDone, in_full}
 use Rattle.call_laws.specs.Serves.{ServesFrom}
 use Rattle.call_laws.specs.Whole.{IsWholeStep}
@@ -48,7 +47,7 @@ use Rattle.cache_replay.proofs.Free.{no_next_reader, others_read_older}
 use Rattle.line_calls.proofs.Lookups.{miss_reads, open_finds}
 use Rattle.cache_replay.proofs.ReaderLines.{Turns, as_run, holds_none, none_some, reader_ends, turns_active}
 use Rattle.cache_replay.proofs.Stood.{IsLawful}
-use Rattle.line_calls.proofs.Whole.{moves_line, serves_whole, shows_line, shows_piece}
+use Rattle.line_calls.proofs.Whole.{left_by, moves_line, serves_whole, shows_line, shows_piece}
 
 -- ---- what opened
 
@@ -118,8 +117,8 @@ module _ {S W R : Type 0} {c : CallsGhosts S W R} where
       (active : IsActive old (slots_of c before)) (keeps : KeepsUnharmed c.at c.holds old.cache new.cache) (rest : IsAtRest (at_in new))
       (stays : StaysStanding c.stands AnyContents old.cache new.cache) (page : length new.page.items ≡ length old.page.items)
       (looked : HasLooked c.reading (at_in old) (at_in new) who key request given) (own : AddsOnly (IsOfReader (state_in_part old).next_reader) (at_in old) (at_in new))
-      (serves : (now : ℕ) → ServesFrom (Untold (at_in new).device IsVectorAs) now (at_in old) (at_in new) (Look who.0 key request ∷ []) AllDone IsToldAt
-      (λ calls t. IfReader (λ r. IsReaderOf t (c.reading r)) given)) where
+      (serves : (now : ℕ) → ServesFrom (Untold (at_in new).device IsVectorAs) now (at_in old) (at_in new) (Look who.0 key request ∷ []) AllDone AreTold
+      (λ t. IfReader (λ r. IsReaderOf t (c.reading r)) given)) where
     turns : Turns (state_in_part old).next_reader (state_in_part old) (state_in_part new) (slots_of c before) (slots_of c after) n (seen_opened c.reading given)
     turns = record {
       leaves = reader_leaves (state_in_part old).next_reader (at_in old) (at_in new) own;
@@ -143,23 +142,24 @@ module _ {S W R : Type 0} {c : CallsGhosts S W R} where
           ap (λ (o : Option running.Holding). asks.asks_if_free o (Look (number_of_name run.actors name) key request ∷ [])) nobody
           ∙ ap (λ m. Look m key request ∷ []) (ap (λ all. number_of_name all name) plays.names ∙ (sym number ∙ sym who_is))
 
-      moves : (w : IsWholeStep (Untold (at_in new).device IsVectorAs) run.now [] (at_in old) (at_in new) (Look who.0 key request ∷ []) None (λ calls t. IfReader (λ r. IsReaderOf t (c.reading r)) given))
+      moves : (w : IsWholeStep (Untold (at_in new).device IsVectorAs) run.now (at_in old) (at_in new) (Look who.0 key request ∷ []) None (λ t. IfReader (λ r. IsReaderOf t (c.reading r)) given))
           → IfReader (λ r. IsReaderOf (state_in_part new) (c.reading r)) given
           → MovesOrShows run (step.OpenRead name key request) (at_in old) (at_in new) (opened_answer given)
       moves w table =
           moves_line run (step.OpenRead name key request) (at_in old) (at_in new) run.now active.part_is.plain refl (Look who.0 key request ∷ []) None [] (opened_answer given)
-          asked_is w refl (λ known.
+          asked_is refl w refl (λ known.
           ap (λ (o : Option running.Holding). says.if_free o (says.lookup_said (state_in_part new) (state_in_part old).next_reader (lookup_in w.added))) nobody
           ∙ (ap (says.lookup_said (state_in_part new) (state_in_part old).next_reader)
           (ap lookup_in (same_added (at_in old).kept (at_in new).kept w.added (open_adds (state_in_part old) who key request (answer_in given)) w.happens.adds looked.adds)
           ∙ open_finds (state_in_part old) who key request (answer_in given))
           ∙ opened_says c.reading (state_in_part new) (state_in_part old).next_reader given looked.tells table))
 
-      ends_with : (w : IsWholeStep (Untold (at_in new).device IsVectorAs) run.now [] (at_in old) (at_in new) (Look who.0 key request ∷ []) None (λ calls t. IfReader (λ r. IsReaderOf t (c.reading r)) given))
+      ends_with : (w : IsWholeStep (Untold (at_in new).device IsVectorAs) run.now (at_in old) (at_in new) (Look who.0 key request ∷ []) None (λ t. IfReader (λ r. IsReaderOf t (c.reading r)) given))
           → PartEnds run (step.OpenRead name key request) old new after (opened_answer given)
       ends_with w = elim w.ends [
         | inr pair ↦ inr (shows_line run (step.OpenRead name key request) (at_in old) (at_in new) run.now active.part_is.plain refl (Look who.0 key request ∷ []) w.calls w.added
-            asked_is w.happens.past (shows_piece run.streams (at_in new).device _ (state_in_part old) (Look who.0 key request ∷ []) w.added pair))
+            asked_is refl w.happens.past (left_by run (step.OpenRead name key request) (at_in old) (at_in new) run.now active.part_is.plain refl w.calls w.added w.happens)
+            (shows_piece run.streams (at_in new).device _ (state_in_part old) (Look who.0 key request ∷ []) w.added pair))
         | inl v ↦ elim (moves w v.1) [
           | inr pair ↦ inr pair
           | inl m ↦

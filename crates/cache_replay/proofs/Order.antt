@@ -1,12 +1,10 @@
 -- The devices of a bay come back in the order in which they were attached.
 use Rattle.std.proofs.Common.{◌≡◌, ℕ, suc, ◌+◌, ◌++◌, List, [], ◌∷◌, length, refl, sym, ◌∙◌, ap, subst, arith}
 use Rattle.std.proofs.lemmas.List.{append-nil, append_assoc, length_push, length-append}
-use Rattle.device_log.specs.Faults.{is_untold}
-use Rattle.logged_disk.specs.Device.{DeviceState as Device, IsAfter, has_flip, has_cut}
-use Rattle.logged_disk.proofs.GoingOn.{goes_further}
+use Rattle.logged_disk.specs.Device.{DeviceState as Device}
 use Rattle.device_bay.specs.Calls.{BayCall, Gave, RefusedAttach, TookBack, Gift, gifts_of, number_behind, returned_by}
 use Rattle.device_bay.specs.Bay.{IsNewDevice, Refuses}
-use Rattle.script_run.specs.Ledger.{AreLast, AreLeftAlone, AreNumbered, InOrder, IsLeftAlone, KeepsOrder}
+use Rattle.script_run.specs.Ledger.{AreLast, AreNumbered, InOrder, KeepsOrder}
 use Rattle.cache_replay.specs.Session.{AreLater}
 
 -- ---- numbers
@@ -24,62 +22,9 @@ numbered_later : (given : ℕ) (old new : List Device) → AreLater old new → 
 numbered_later given [] [] later h = tt
 numbered_later given [] (e ∷ new) later h = absurd later
 numbered_later given (d ∷ old) [] later h = absurd later
-numbered_later given (d ∷ old) (e ∷ new) later h = (later.0.goes.number ∙ h.0, numbered_later (given + 1) old new later.1 h.1)
+numbered_later given (d ∷ old) (e ∷ new) later h = (later.0.number ∙ h.0, numbered_later (given + 1) old new later.1 h.1)
 
--- ---- devices that were left alone
-
-none_called : IsLeftAlone []
-unfolding is_untold has_cut has_flip
-none_called = record { untold = refl; uncut = refl; unturned = refl }
-
--- the device as it was before all its calls
-abbrev unasked : Device → Device
-unasked d = record {
-  size = d.size;
-  trust = d.trust;
-  number = d.number;
-  has_switch = d.has_switch;
-  settled = d.settled;
-  first = d.first;
-  past = [];
-  faults = d.faults;
-  calls = d.calls;
-  blocks = d.blocks;
-}
-
--- a device that was left alone went on from there
-went_on : (d : Device) → IsLeftAlone d.past → IsAfter (unasked d) d
-went_on d alone = record {
-  size = refl;
-  trust = omega arith;
-  number = refl;
-  switch = refl;
-  settled = refl;
-  first = refl;
-  made = d.past;
-  past = sym (append-nil d.past);
-  unturned = alone.unturned;
-  untold = alone.untold;
-  uncut = alone.uncut;
-}
-
--- a device that goes on is left alone still
-alone_still : (old new : Device) → IsAfter old new → IsLeftAlone old.past → IsLeftAlone new.past
-alone_still old new goes alone =
-    let on : IsAfter (unasked old) new = goes_further (unasked old) old new (went_on old alone) goes in
-    let all : new.past ≡ on.made = on.past ∙ append-nil on.made in
-    subst IsLeftAlone (sym all) (record { untold = on.untold; uncut = on.uncut; unturned = on.unturned })
-
-alone_append : (front back : List Device) → AreLeftAlone front → AreLeftAlone back → AreLeftAlone (front ++ back)
-alone_append [] back h k = k
-alone_append (device ∷ front) back h k = (h.0, alone_append front back h.1 k)
-
--- so it is of several
-alone_later : (old new : List Device) → AreLater old new → AreLeftAlone old → AreLeftAlone new
-alone_later [] [] later h = tt
-alone_later [] (e ∷ new) later h = absurd later
-alone_later (d ∷ old) [] later h = absurd later
-alone_later (d ∷ old) (e ∷ new) later h = (alone_still d e later.0.goes h.0, alone_later old new later.1 h.1)
+-- ---- how many there are
 
 as_many : (old new : List Device) → AreLater old new → length new ≡ length old
 as_many [] [] later = refl
@@ -98,7 +43,6 @@ none_back given own old new same last = record {
   devices = [];
   returned = same ∙ sym (append-nil (returned_by old));
   numbered = tt;
-  alone = tt;
   rest = last_at given (given + length {A = Device} []) own new (omega arith) last;
 }
 
@@ -106,7 +50,6 @@ none_back given own old new same last = record {
 pub order_stays : (old new : List Device) (past : List BayCall) → AreLater old new → KeepsOrder old past new past
 order_stays old new past later given last = none_back given new past past refl (record {
   numbered = numbered_later given old new later last.numbered;
-  alone = alone_later old new later last.alone;
   all = last.all ∙ ap (λ n. given + n) (sym (as_many old new later));
 })
 
@@ -119,7 +62,7 @@ order_as own old new is = subst (KeepsOrder own old own) (sym is) (order_same ow
 -- an attach was refused
 pub order_refused : (own : List Device) (name : List ℕ) (blocks count : ℕ) (old new : List BayCall) → Refuses name blocks count old new → KeepsOrder own old own new
 order_refused own name blocks count old new refuses = subst (KeepsOrder own old own) (sym refuses.past) (λ given last.
-    none_back given own old (RefusedAttach name blocks count ∷ old) refl (record { numbered = last.numbered; alone = last.alone; all = last.all }))
+    none_back given own old (RefusedAttach name blocks count ∷ old) refl (record { numbered = last.numbered; all = last.all }))
 
 -- the last one came back
 pub order_closed : (front own : List Device) (old new : List BayCall) → KeepsOrder (front ++ []) old own new → KeepsOrder front old own new
@@ -133,8 +76,7 @@ order_took device own old new is given last =
       devices = device ∷ [];
       returned = refl;
       numbered = (last.numbered.0, tt);
-      alone = (last.alone.0, tt);
-      rest = record { numbered = last.numbered.1; alone = last.alone.1; all = omega (arith, before) };
+      rest = record { numbered = last.numbered.1; all = omega (arith, before) };
     })
 
 -- one more was attached
@@ -145,7 +87,6 @@ order_gave device own name blocks old new is attached given last =
     let before : length (gifts_of old) ≡ given + length own = last.all in
     subst (InOrder given (own ++ device ∷ []) old) (sym is) (none_back given (own ++ device ∷ []) old (Gave name blocks ∷ old) refl (record {
       numbered = numbered_append given own (device ∷ []) last.numbered (attached.number_is ∙ ap number_behind before, tt);
-      alone = alone_append own (device ∷ []) last.alone (subst IsLeftAlone (sym attached.past_is) none_called, tt);
       all = omega (arith, before, length_push (gifts_of old) gift, length_push own device);
     }))
 
@@ -157,11 +98,10 @@ order_then a b c p q r front back given last =
       devices = first.devices ++ second.devices;
       returned = second.returned ∙ (ap (λ l. l ++ second.devices) first.returned ∙ append_assoc (returned_by p) first.devices second.devices);
       numbered = numbered_append given first.devices second.devices first.numbered second.numbered;
-      alone = alone_append first.devices second.devices first.alone second.alone;
       rest = last_at (given + length first.devices + length second.devices) (given + length (first.devices ++ second.devices)) c r
           (omega (arith, length-append first.devices second.devices)) second.rest;
     }
 
 -- nothing is out that was attached behind all
 pub none_out : (past : List BayCall) → AreLast (length (gifts_of past)) [] past
-none_out past = record { numbered = tt; alone = tt; all = omega arith }
+none_out past = record { numbered = tt; all = omega arith }

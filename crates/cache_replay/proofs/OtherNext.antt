@@ -34,12 +34,12 @@ next_stays s r first (inr other) streams owned reader = absurd (none_other s str
 
 -- the step has the calls up to the first of them
 first_step : (now : ℕ) (first mid new : At) (p : Permit) → IsAfter mid.device new.device → (calls : List Call) → mid.device.past ≡ calls ++ first.device.past
-    → HasCalls now first new p → Encloses now first.setting p [] calls
+    → HasCalls now first new p → Encloses now first p [] calls
 first_step now first mid new p goes calls past has =
     let same : has.calls ≡ goes.made ++ calls =
     append_cancel_right has.calls (goes.made ++ calls) first.device.past
     (sym has.past ∙ (goes.past ∙ (ap (λ xs. goes.made ++ xs) past ∙ sym (append_assoc goes.made calls first.device.past)))) in
-    encloses_first calls goes.made (subst (λ made. Encloses now first.setting p [] made) same has.step)
+    encloses_first calls goes.made (subst (λ made. Encloses now first p [] made) same has.step)
 
 pub has_first : (now : ℕ) (first mid new : At) (p : Permit) → IsAfter mid.device new.device → (calls : List Call) → mid.device.past ≡ calls ++ first.device.past
     → HasCalls now first new p → HasCalls now first mid p

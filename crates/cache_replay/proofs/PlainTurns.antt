@@ -82,7 +82,7 @@ module _ {S W R : Type 0} {c : CallsGhosts S W R} where
       → (run : Run) → run.now ≡ now → AreTold (state_in_part old) → MovesOrShows run (step.Remove key) (at_in old) (at_in new) said
   removes now old new key added said part rest serves adds says run moment told =
       let w = serves_whole None in_full part.plain rest.quiet told serves in
-      moves_line run (step.Remove key) (at_in old) (at_in new) now part.plain moment {known = NothingKnown} (Remove key ∷ []) None [] said refl w refl
+      moves_line run (step.Remove key) (at_in old) (at_in new) now part.plain moment {known = NothingKnown} (Remove key ∷ []) None [] said refl refl w refl
       (λ known. ap (remove_said (state_in_part old) key)
       (same_added (at_in old).kept (at_in new).kept w.added added w.happens.adds adds) ∙ says)
 
@@ -149,7 +149,7 @@ module _ {S W R : Type 0} {c : CallsGhosts S W R} (now : ℕ) (old new : Part S 
       → Rattle.script_run.specs.Answers.flush_said (state_in_part old) (state_in_part new) why ≡ said
       → (run : Run) → run.now ≡ now → AreTold (state_in_part old) → MovesOrShows run step.Flush (at_in old) (at_in new) said
   flush_moves o why said ends serves says run moment told =
-      moves_line run step.Flush (at_in old) (at_in new) now part.plain moment {known = NothingKnown} (Flush ∷ []) why [] said refl
+      moves_line run step.Flush (at_in old) (at_in new) now part.plain moment {known = NothingKnown} (Flush ∷ []) why [] said refl refl
       (serves_whole why ends part.plain rest.quiet told serves) refl (λ known. says)
 
   flush_ends : (result : Result Flushed Refusal) → ServesTold now (at_in old) (at_in new) (Flush ∷ []) (progress_at 0 (Flush ∷ []) result)

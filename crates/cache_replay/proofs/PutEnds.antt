@@ -11,7 +11,8 @@ use Rattle.cache_model.specs.Permit.{Exhausted, Faulted, Intent, Lost, ManyFragm
 use Rattle.cache_model.specs.Legal.{MayGrow, is_writing}
 use Rattle.cache_model.specs.Pair.{Documents}
 use Rattle.logged_disk.specs.Device.{TellsAll}
-use Rattle.call_laws.specs.Moments.{At, Facts, IsToldAt, OfState}
+use Rattle.cache_model.specs.Vectors.{AreTold}
+use Rattle.call_laws.specs.Moments.{At, Facts}
 use Rattle.call_laws.specs.Progress.{AllDone, Progress, Spends, Stops, cleanups}
 use Rattle.call_laws.specs.Serves.{Serves, ServesFrom}
 use Rattle.call_laws.proofs.Joined.{call_as}
@@ -47,7 +48,7 @@ closing_cleans_none put cut (byte ∷ rest) = refl
 -- something else is known behind a call, by what it did of what it was asked
 pub serves_tells : {P : Documents} {now : ℕ} {a b : At} {asked : List Intent} {o : Progress} {before known : Facts} (IsSo : State → Type 0)
     → ((p : Permit) (added : List Rec) → Spends p (state_of a.kept) asked added o → IsSo (after_all (state_of a.kept) added))
-    → ServesFrom P now a b asked o before known → ServesFrom P now a b asked o before (OfState IsSo)
+    → ServesFrom P now a b asked o before known → ServesFrom P now a b asked o before IsSo
 serves_tells IsSo law f = call_as (λ p earlier calls added step happens h. record {
   from = λ k. elim (h.from k) [
     | inl v ↦ inl (record { spends = v.spends; behind = law p added v.spends })
@@ -93,25 +94,25 @@ module _ (now : ℕ) (old mid new : At) (w v : WriterSeen) (body : List ℕ) (fr
       ∙ (ap (λ n. close_intents w.put n v.gathered) rows_are ∙ ap (close_intents w.put (whole_fragments f body)) rest_is))
 
   -- what is known behind the close
-  tells_closed : (result : Result Receipt Refusal) → (o : Progress) → ServesFrom (PairsAt new) now mid new (ending_asks v) o IsToldAt (IsFilledAs v.put result)
+  tells_closed : (result : Result Receipt Refusal) → (o : Progress) → ServesFrom (PairsAt new) now mid new (ending_asks v) o AreTold (IsFilledAs v.put result)
       → Serves now old mid (feed_intents f w.put 0 body) AllDone → o ≡ progress_with (reason_of v.put result)
-      → ServesFrom (PairsAt new) now old new (body_intents f w.put body) (progress_with (reason_of w.put result)) IsToldAt (IsFilledAs w.put result)
+      → ServesFrom (PairsAt new) now old new (body_intents f w.put body) (progress_with (reason_of w.put result)) AreTold (IsFilledAs w.put result)
   tells_closed result o serves feeds is =
-      subst (λ q. ServesFrom (PairsAt new) now old new (body_intents f w.put body) (progress_with (reason_of q result)) IsToldAt (IsFilledAs q result)) number
-      (subst (λ x. ServesFrom (PairsAt new) now old new (body_intents f w.put body) x IsToldAt (IsFilledAs v.put result)) is
-      (serves_then (serves_later new told feeds) (subst (λ (is : List Intent). ServesFrom (PairsAt new) now mid new is o IsToldAt (IsFilledAs v.put result)) closes_are serves)))
+      subst (λ q. ServesFrom (PairsAt new) now old new (body_intents f w.put body) (progress_with (reason_of q result)) AreTold (IsFilledAs q result)) number
+      (subst (λ x. ServesFrom (PairsAt new) now old new (body_intents f w.put body) x AreTold (IsFilledAs v.put result)) is
+      (serves_then (serves_later new told feeds) (subst (λ (is : List Intent). ServesFrom (PairsAt new) now mid new is o AreTold (IsFilledAs v.put result)) closes_are serves)))
 
   module _ (feeds : Serves now old mid (feed_intents f w.put 0 body) AllDone) where
     -- refused for what only the answer tells
     refuses : {known : Facts} (why : Refusal) (reason : Reason) → reason_of v.put (Err why) ≡ Some reason
         → ((t : State) → Says t v.put (Err why) × PutIsOver t v.put (Err why))
-        → ServesFrom (PairsAt new) now mid new (ending_asks v) (Stops reason) IsToldAt known
-        → ServesFrom (PairsAt new) now old new (body_intents f w.put body) (progress_with (reason_of w.put (Err why))) IsToldAt (IsFilledAs w.put (Err why))
+        → ServesFrom (PairsAt new) now mid new (ending_asks v) (Stops reason) AreTold known
+        → ServesFrom (PairsAt new) now old new (body_intents f w.put body) (progress_with (reason_of w.put (Err why))) AreTold (IsFilledAs w.put (Err why))
     refuses why reason is says serves =
-        tells_closed (Err why) (Stops reason) (serves_known (IsFilledAs v.put (Err why)) (λ past k. says (state_of new.kept)) serves) feeds (sym (ap progress_with is))
+        tells_closed (Err why) (Stops reason) (serves_known (IsFilledAs v.put (Err why)) (λ k. says (state_of new.kept)) serves) feeds (sym (ap progress_with is))
 
     by_answer : {known : Facts} (result : Result Receipt Refusal) → Closes mid new v result
-        → ServesFrom (PairsAt new) now mid new (ending_asks v) (progress_at v.put (ending_asks v) result) IsToldAt known → FillsWhere now old new w body result
+        → ServesFrom (PairsAt new) now mid new (ending_asks v) (progress_at v.put (ending_asks v) result) AreTold known → FillsWhere now old new w body result
     by_answer (Ok receipt) gives serves =
         tells_closed (Ok receipt) AllDone
         (serves_tells (λ t. Says t v.put (Ok receipt) × PutIsOver t v.put (Ok receipt)) (λ p added spends.
@@ -123,10 +124,10 @@ module _ (now : ℕ) (old mid new : At) (w v : WriterSeen) (body : List ℕ) (fr
       where
         lost_closes : {known : Facts} (index : ℕ) (why : Cause)
             → why ≡ cause_of_piece (state_at new) (fragment_piece v.key v.put index)
-            → ServesFrom (PairsAt new) now mid new (ending_asks v) (Stops (Lost v.put index)) IsToldAt known
-            → ServesFrom (PairsAt new) now mid new (ending_asks v) (Stops (Lost v.put index)) IsToldAt (IsFilledAs v.put (Err (refusal.Lost index why)))
+            → ServesFrom (PairsAt new) now mid new (ending_asks v) (Stops (Lost v.put index)) AreTold known
+            → ServesFrom (PairsAt new) now mid new (ending_asks v) (Stops (Lost v.put index)) AreTold (IsFilledAs v.put (Err (refusal.Lost index why)))
         lost_closes index why is serves =
-            serves_known (IsFilledAs v.put (Err (refusal.Lost index why))) (λ past (end : IsEnded (Some (Lost v.put index)) (state_at new) v.put (rows_at_close v) (Some v.key)).
+            serves_known (IsFilledAs v.put (Err (refusal.Lost index why))) (λ (end : IsEnded (Some (Lost v.put index)) (state_at new) v.put (rows_at_close v) (Some v.key)).
             (lost_said (state_at new) v index why is end, end.0))
             (serves_tells (λ t. IsEnded (Some (Lost v.put index)) t v.put (rows_at_close v) (Some v.key))
             (λ p added spends. ends_as p (state_at mid) v added (Some (Lost v.put index)) own spends) serves)
@@ -139,14 +140,14 @@ module _ (now : ℕ) (old mid new : At) (w v : WriterSeen) (body : List ℕ) (fr
     by_answer (Err refusal.Sealed) gives serves = absurd gives.1
 
   pub closes_fill : {known : Facts} (result : Result Receipt Refusal) → FeedsAsAsked now old mid w body None → Closes mid new v result
-      → ServesFrom (PairsAt new) now mid new (close_asks (state_at mid) v) (progress_at v.put (close_asks (state_at mid) v) result) IsToldAt known
+      → ServesFrom (PairsAt new) now mid new (close_asks (state_at mid) v) (progress_at v.put (close_asks (state_at mid) v) result) AreTold known
       → FillsWhere now old new w body result
   closes_fill {known} result fed gives serves =
       by_answer
       (subst (λ (is : List Intent). Serves now old mid is AllDone) (ap (λ (rows : List TableRow). feed_intents f w.put (length rows) (w.gathered ++ body)) fresh.cuts
       ∙ ap (λ xs. feed_intents f w.put 0 (xs ++ body)) fresh.gathered) fed.serves)
       result gives
-      (subst (λ (is : List Intent). ServesFrom (PairsAt new) now mid new is (progress_at v.put is result) IsToldAt known) (asks_ending (state_at mid) v own.writing) serves)
+      (subst (λ (is : List Intent). ServesFrom (PairsAt new) now mid new is (progress_at v.put is result) AreTold known) (asks_ending (state_at mid) v own.writing) serves)
 
 -- what a refusal has wherever that holds, it has where this does
 pub err_when : {X E M N : Type 0} (P : E → Type 0) (result : Result X E) → (N → M) → IfErr result (λ why. M → P why) → IfErr result (λ why. N → P why)
@@ -169,9 +170,9 @@ module _ (now : ℕ) (old new : At) (w : WriterSeen) (body : List ℕ) (fresh : 
 
   stops : (why : Refusal) (reason : Reason) → FeedsAsAsked now old new w body (Some why) → feed_progress w.put (Some why) ≡ Stops reason
       → ((t : State) → Says t w.put (Err why) × PutIsOver t w.put (Err why))
-      → ServesFrom (PairsAt new) now old new (body_intents g w.put body) (Stops reason) IsToldAt (IsFilledAs w.put (Err why))
+      → ServesFrom (PairsAt new) now old new (body_intents g w.put body) (Stops reason) AreTold (IsFilledAs w.put (Err why))
   stops why reason fed is says =
-      serves_known (IsFilledAs w.put (Err why)) (λ past k. says (state_of new.kept))
+      serves_known (IsFilledAs w.put (Err why)) (λ k. says (state_of new.kept))
       (serves_short (close_intents w.put (whole_fragments g body) (rest_behind g body)) (record { short = refl })
       (closing_cleans_none w.put (whole_fragments g body) (rest_behind g body))
       (subst (λ (is : List Intent). Serves now old new is (Stops reason)) (ap (λ (rows : List TableRow). feed_intents g w.put (length rows) (w.gathered ++ body)) fresh.cuts

@@ -7,7 +7,6 @@ use Rattle.cache_model.specs.Permit.{Reason}
 use Rattle.cache_model.specs.Vectors.{AreTold, IsVectorAs}
 use Rattle.call_laws.specs.Untold.{Untold}
 use Rattle.cache_model.specs.Contents.{TellsVectors}
-use Rattle.call_laws.specs.Moments.{IsToldAt}
 use Rattle.call_laws.specs.Progress
 use Rattle.call_laws.specs.Progress.{EndsWith}
 use Rattle.call_laws.specs.Serves.{ServesFrom}
@@ -64,11 +63,11 @@ module _ {S W R : Type 0} {c : CallsGhosts S W R} (now : ℕ) (old new : Part S 
   moves : (result : Result Receipt Refusal)
       → ServesFrom (Untold (at_in new).device IsVectorAs) now (at_in old) (at_in new)
       (put_intents (state_in_part old) key body request response)
-      (progress_with (reason_of put result)) IsToldAt (IsSaidAs put result)
+      (progress_with (reason_of put result)) AreTold (IsSaidAs put result)
       → (run : Run) → run.now ≡ now → AreTold (state_in_part old) → MovesOrShows run line (at_in old) (at_in new) (receipt_answer result)
   moves result serves run moment told =
       moves_line run line (at_in old) (at_in new) now part.plain moment {known = IsSaidAs put result} (put_intents (state_in_part old) key body request response)
-      (reason_of put result) [] (receipt_answer result) refl (serves_whole (reason_of put result) (ends_with (reason_of put result)) part.plain rest.quiet told serves) refl
+      (reason_of put result) [] (receipt_answer result) refl refl (serves_whole (reason_of put result) (ends_with (reason_of put result)) part.plain rest.quiet told serves) refl
       (λ known. known)
 
   puts : (result : Result Receipt Refusal) → PutsWhere now (at_in old) (at_in new) key body request response result

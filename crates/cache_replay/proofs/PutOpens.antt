@@ -11,7 +11,8 @@ use Rattle.cache_model.specs.Legal.{DoesGiveUp, IsQuiet, is_writing}
 use Rattle.cache_model.specs.Tape.{IsSound}
 use Rattle.logged_disk.specs.Device.{TellsAll}
 use Rattle.step_laws.proofs.ToldGroups.{told_group}
-use Rattle.call_laws.specs.Moments.{At, IsToldAt, NothingKnown}
+use Rattle.cache_model.specs.Vectors.{AreTold}
+use Rattle.call_laws.specs.Moments.{At, NothingKnown}
 use Rattle.call_laws.specs.Progress.{AllDone, Stops, cleanups}
 use Rattle.call_laws.specs.Serves.{ServesFrom, ServesTold}
 use Rattle.call_laws.specs.Whole.{LeavesListed}
@@ -67,12 +68,12 @@ module _ (old mid : At) (who : Actor) (key : Key) (request response : List Field
       let same : ending_intents (state_at mid) w.put body ≡ ending_intents s s.next_put body =
       ap (λ (x : State). ending_intents x w.put body) there ∙ ap (λ n. ending_intents s n body) begun.put in
       unless_as result
-      (λ (f : ServesFrom (PairsAt new) now mid new (ending_intents (state_at mid) w.put body) (progress_with (reason_of w.put result)) IsToldAt (IsSaidAs w.put result)).
+      (λ (f : ServesFrom (PairsAt new) now mid new (ending_intents (state_at mid) w.put body) (progress_with (reason_of w.put result)) AreTold (IsSaidAs w.put result)).
       subst (λ n. ServesFrom (PairsAt new) now old new (Write n key request response 0 ∷ ending_intents s s.next_put body)
-      (progress_with (reason_of s.next_put result)) IsToldAt (IsSaidAs s.next_put result)) nobody
+      (progress_with (reason_of s.next_put result)) AreTold (IsSaidAs s.next_put result)) nobody
       (serves_first (serves_later new told (told_serves told_group leave_puts sound listed opens))
-      (subst (λ q. ServesFrom (PairsAt new) now mid new (ending_intents s s.next_put body) (progress_with (reason_of q result)) IsToldAt (IsSaidAs q result)) begun.put
-      (subst (λ (is : List Intent). ServesFrom (PairsAt new) now mid new is (progress_with (reason_of w.put result)) IsToldAt (IsSaidAs w.put result)) same f)))) ends
+      (subst (λ q. ServesFrom (PairsAt new) now mid new (ending_intents s s.next_put body) (progress_with (reason_of q result)) AreTold (IsSaidAs q result)) begun.put
+      (subst (λ (is : List Intent). ServesFrom (PairsAt new) now mid new is (progress_with (reason_of w.put result)) AreTold (IsSaidAs w.put result)) same f)))) ends
 
 -- ---- it is not opened
 
@@ -93,14 +94,14 @@ module _ (now : ℕ) (old new : At) (rest : IsAtRest old) (quiet : IsQuiet (stat
 
   stops : (why : Refusal) (reason : Reason) → ((t : State) → Says t put (Err why))
       → ServesTold now old new (Write who.0 key request response 0 ∷ []) (Stops reason)
-      → ServesFrom (PairsAt new) now old new (put_intents (state_at old) key body request response) (Stops reason) IsToldAt (IsSaidAs put (Err why))
+      → ServesFrom (PairsAt new) now old new (put_intents (state_at old) key body request response) (Stops reason) AreTold (IsSaidAs put (Err why))
   stops why reason says serves =
       let none : is_writing (state_at new) put ≡ false = ap (λ k. is_writing (state_of k) put) same ∙ next_is_free old rest in
       let ending : List Intent = ending_intents (state_at old) put body in
-      subst (λ n. ServesFrom (PairsAt new) now old new (Write n key request response 0 ∷ ending) (Stops reason) IsToldAt (IsSaidAs put (Err why))) nobody
+      subst (λ n. ServesFrom (PairsAt new) now old new (Write n key request response 0 ∷ ending) (Stops reason) AreTold (IsSaidAs put (Err why))) nobody
       (serves_fails ending serves
       (subst (λ (is : List Intent). ServesFrom (PairsAt new) now new new is AllDone NothingKnown (IsSaidAs put (Err why))) (sym (ending_cleaned (state_at old) put body))
-      (serves_known (IsSaidAs put (Err why)) (λ past k. says (state_at new))
+      (serves_known (IsSaidAs put (Err why)) (λ k. says (state_at new))
       (serves_none (GiveUp put) Done (record { kept = refl; past = refl; setting = refl }) (λ p. DoesGiveUp.over quiet none refl)))))
 
   pub puts_refused : (why : Refusal) → OpensNone (state_at old) why

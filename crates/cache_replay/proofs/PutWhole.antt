@@ -9,7 +9,8 @@ use Rattle.cache_model.specs.Tape.{IsSound}
 use Rattle.cache_model.specs.Pair.{Documents}
 use Rattle.logged_disk.specs.Device.{TellsAll}
 use Rattle.step_laws.proofs.ToldGroups.{told_group}
-use Rattle.call_laws.specs.Moments.{At, Facts, IsToldAt, OfState}
+use Rattle.cache_model.specs.Vectors.{AreTold}
+use Rattle.call_laws.specs.Moments.{At, Facts}
 use Rattle.call_laws.specs.Progress.{AllDone}
 use Rattle.call_laws.specs.Serves.{ServesFrom, ServesTold}
 use Rattle.call_laws.specs.Whole.{LeavesListed}
@@ -55,7 +56,7 @@ serves_ending (Some why) put f l = serves_fails (GiveUp put ∷ []) f l
 
 -- a put that is over, by what is known, is not given up
 over_serves : (now : ℕ) (a : At) (put : ℕ) (known : State → Type 0) → IsQuiet (state_at a)
-    → ServesFrom (PairsAt a) now a a (GiveUp put ∷ []) AllDone (OfState (λ t. known t × (is_writing t put ≡ false))) (OfState known)
+    → ServesFrom (PairsAt a) now a a (GiveUp put ∷ []) AllDone (λ t. known t × (is_writing t put ≡ false)) known
 over_serves now a put known quiet = call_still (record { kept = refl; past = refl; setting = refl }) (λ p earlier step. record {
   from = λ k. inl (record {
     spends = one_spends p (state_at a) (GiveUp put) [] Done (DoesGiveUp.over quiet k.1 refl);
@@ -90,10 +91,10 @@ module _ (now : ℕ) (old mid new : At) (w v : WriterSeen) (body : List ℕ) (so
       → (Says (state_at mid) w.put (Err why) → PutIsOver (state_at mid) w.put (Err why) → Says (state_at new) w.put (Err why))
       → ServesTold now mid new (GiveUp w.put ∷ []) AllDone → BodyEndsWhere now old new w.put body (Err why)
   ends_with why fills says gives =
-      unless_as (Err why) (λ (f : ServesFrom (PairsAt mid) now old mid _ (progress_with (reason_of w.put (Err why))) IsToldAt (IsFilledAs w.put (Err why))).
+      unless_as (Err why) (λ (f : ServesFrom (PairsAt mid) now old mid _ (progress_with (reason_of w.put (Err why))) AreTold (IsFilledAs w.put (Err why))).
       serves_ending (reason_of w.put (Err why)) w.put (serves_later new told (serves_told told_group leave_puts sound listed f))
-      (serves_known (IsSaidAs w.put (Err why)) (λ past k. k.1)
-      (serves_carries (IsFilledAs w.put (Err why)) (IsSaidAs w.put (Err why)) (λ past made calls k. says k.0 k.1) gives))) fills
+      (serves_known (IsSaidAs w.put (Err why)) (λ k. k.1)
+      (serves_carries (IsFilledAs w.put (Err why)) (IsSaidAs w.put (Err why)) (λ k. says k.0 k.1) gives))) fills
 
   gives_up : (end : Result ℕ Refusal) (why : Refusal) → FillsWhere now old mid w body (Err why) → GivesUp mid new v end
       → ServesTold now mid new (GiveUp v.put ∷ []) (given_up_at v.put end) → BodyEndsWhere now old new w.put body (Err (unless_memory end why))

@@ -18,6 +18,7 @@ use Rattle.script_run.specs.Asked.{asked}
 use Rattle.script_run.specs.Behind.{Streams, streams_behind}
 use Rattle.script_run.specs.Own.{AreOwn, ArePayloadsOwn, AreWriting, IsPlacedAs}
 use Rattle.script_run.specs.Takes.{streams_with}
+use Rattle.script_run.proofs.Alone.{shows_taken}
 use Rattle.script_run.proofs.Cuts.{HaveCut, have_same}
 use Rattle.script_run.proofs.Fragments.{own_is_kept}
 use Rattle.script_run.proofs.Stepping.{steps_keep}
@@ -123,7 +124,7 @@ module _ {S W R : Type 0} {c : CallsGhosts S W R} (run : Run) (step : Step) (old
     shown_so untold pair = record {
       turn = m.turn;
       calls = m.calls;
-      shows = record { packs = m.takes.packs; unsynced = m.takes.unsynced; moment = m.takes.moment; shows = pair };
+      shows = shows_taken (at_in old).device.past run s m.turn step m.takes pair;
       untold = untold;
     }
 

@@ -22,7 +22,7 @@ pub reached_loosely : (harms : List Harm) (devices : List Device) → AreReached
 reached_loosely [] [] h = tt
 reached_loosely [] (d ∷ devices) h = absurd h
 reached_loosely (harm ∷ harms) [] h = absurd h
-reached_loosely (harm ∷ harms) (d ∷ devices) h = (record { made = h.0.made; all = λ no. cc; counted = h.0.counted; unharmed = h.0.unharmed }, reached_loosely harms devices h.1)
+reached_loosely (harm ∷ harms) (d ∷ devices) h = (record { made = h.0.made; all = λ no. cc; counted = h.0.counted; unharmed = h.0.unharmed; switched = h.0.switched }, reached_loosely harms devices h.1)
 
 -- the outline of a run tells of its session what the run does
 same_own : (calls : List Call) (state : Option State) → told_of (option_map (λ s. loosened (harm_in calls s)) state) ≡ map loosened (harm_of calls state)
@@ -31,7 +31,7 @@ same_own calls (Some s) = refl
 
 one_reached : (a : At) (calls : List Call) → a.device.past ≡ calls → (state_at a).fault ≤ a.device.faults → IsUnharmed a
     → AreReached (harm_in calls (state_at a) ∷ []) (a.device ∷ [])
-one_reached a calls are counted h = (record { made = record { later = []; is = are }; all = λ yes. are; counted = counted; unharmed = λ trusted. h.unharmed trusted }, tt)
+one_reached a calls are counted h = (record { made = record { later = []; is = are }; all = λ yes. are; counted = counted; unharmed = λ trusted. h.unharmed trusted; switched = tt }, tt)
 
 module _ {S W R : Type 0} {c : CallsGhosts S W R} where
   reached_at : (run : Run) (part : Option (Part S W R c)) (slots : ℕ → Option HoldingSeen) → IsAt part slots → PlaysAt run part slots → IsUnharmedAt part

@@ -24,7 +24,6 @@ use Rattle.cache_model.proofs.Steps.{after_all-append, all_append, grows_by}
 use Rattle.step_laws.proofs.Told.{told_aside}
 use Rattle.call_laws.specs.Untold.{Untold}
 use Rattle.cache_model.specs.Contents.{AnyContents}
-use Rattle.call_laws.specs.Moments.{IsToldAt, OfState}
 use Rattle.call_laws.specs.Progress.{AllDone}
 use Rattle.call_laws.specs.Serves.{ServesFrom, Upshots}
 use Rattle.call_laws.proofs.Joined.{call_as, state_behind}
@@ -134,7 +133,7 @@ module _ {S W R : Type 0} (c : CallsGhosts S W R) (a b : S) (rest : IsAtRest (c.
 
   -- it was served at any moment, and this is known behind it
   abbrev Looked : (Known : State → Type 0) → Type 0
-  Looked Known = (now : ℕ) → ServesFrom Listed now (c.at a) (c.at b) (look_of ∷ []) AllDone IsToldAt (OfState Known)
+  Looked Known = (now : ℕ) → ServesFrom Listed now (c.at a) (c.at b) (look_of ∷ []) AllDone AreTold Known
 
   -- what comes of it
   looked_then : (all : Run → Upshots) (Known : State → Type 0) (x : ReadAnswer) → (c.at b).kept ≡ with_records (c.at a).kept (adds_of x) → Looked Known

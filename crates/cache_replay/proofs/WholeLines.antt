@@ -17,7 +17,7 @@ use Rattle.cache_calls.specs.declared.calls.Calls.{Ghosts as CallsGhosts}
 use Rattle.cache_model.specs.Subjects.{IsOfReader}
 use Rattle.cache_calls.specs.Adds.{AddsOnly}
 use Rattle.cache_calls.specs.Keeping.{IsAtRest, StaysUnharmed, plain_setting, state_at}
-use Rattle.cache_calls.proofs.Keeping.{plain_has_steps}
+use Rattle.call_laws.proofs.Whole.{encloses_own}
 use Rattle.cache_calls.proofs.Others.{reads_leave_others}
 use Rattle.script_grammar.specs.declared.answer.StepAnswer.{StepAnswer}
 use Rattle.script_grammar.specs.declared.step.Step.TheVariants as step
@@ -27,7 +27,7 @@ use Rattle.script_run.specs.Own.{AreOwn}
 use Rattle.cache_replay.specs.Getting.{GetIsAnswered, StaysSound}
 use Rattle.line_calls.specs.Moves.{MovesOrShows, ShowsIn}
 use Rattle.line_calls.specs.Standing.{OwnStands}
-use Rattle.line_calls.proofs.Whole.{shows_line, turn_by}
+use Rattle.line_calls.proofs.Whole.{left_by, shows_line, turn_by}
 
 module _ {S W R : Type 0} (c : CallsGhosts S W R) (run : Run) (now : ℕ) (a b : S) (key : Key) (request : List Field) (plain : (c.at a).setting ≡ plain_setting)
     (moment : run.now ≡ now) (rest : IsAtRest (c.at a)) (told : AreTold (state_at (c.at a))) (own : AreOwn (state_at (c.at a)) run.streams)
@@ -41,15 +41,17 @@ module _ {S W R : Type 0} (c : CallsGhosts S W R) (run : Run) (now : ℕ) (a b :
   line_gets given said quiet answered =
       let call = answered now run in
       let there : state_at (c.at b) ≡ after_all (state_at (c.at a)) call.added = state_behind (c.at a).kept (c.at b).kept call.added call.happens.adds in
-      elim (call.does (permit_of now (c.at a).setting [] call.calls) [] (plain_has_steps (c.at a).setting rest.plain now [] call.calls)
+      elim (call.does (permit_of now (c.at a) call.calls) [] (encloses_own now (c.at a) call.calls)
       (record { told = told; own = own }) standing) [
-        | inr pair ↦ inr (shows_line run (step.Get key request) (c.at a) (c.at b) now plain moment asks call.calls call.added refl call.happens.past pair)
+        | inr pair ↦ inr (shows_line run (step.Get key request) (c.at a) (c.at b) now plain moment asks call.calls call.added refl refl call.happens.past
+            (left_by run (step.Get key request) (c.at a) (c.at b) now plain moment call.calls call.added call.happens) pair)
         | inl way ↦ inl (record {
           turn = turn_by run (step.Get key request) (c.at a) (c.at b) now plain moment call.added None call.calls given;
           takes = record {
             packs = ap (λ (setting : Setting). setting.packed) plain;
             unsynced = ap (λ (setting : Setting). setting.syncs) plain;
             moment = sym moment;
+            past = refl;
             legal = record {
               grows = way.grows;
               quiet = subst IsQuiet there quiet;
@@ -57,6 +59,7 @@ module _ {S W R : Type 0} (c : CallsGhosts S W R) (run : Run) (now : ℕ) (a b :
               effects = call.happens.effects;
             };
             own = way.body;
+            switch = refl;
           };
           calls = call.happens.past;
           state = there;
@@ -68,10 +71,11 @@ module _ {S W R : Type 0} (c : CallsGhosts S W R) (run : Run) (now : ℕ) (a b :
   pub line_stays : IsAfter (c.at a).device (c.at b).device → StaysSound c a a b asks
       → StaysUnharmed (c.at a) (c.at b) ⊎ ShowsIn run (step.Get key request) (c.at a) (c.at b)
   line_stays goes sound =
-      elim (sound now run (permit_of now (c.at a).setting [] goes.made) (record { told = told; own = own }) standing
-      (record { calls = goes.made; past = goes.past; step = plain_has_steps (c.at a).setting rest.plain now [] goes.made })) [
+      elim (sound now run (permit_of now (c.at a) goes.made) (record { told = told; own = own }) standing
+      (record { calls = goes.made; past = goes.past; step = encloses_own now (c.at a) goes.made })) [
         | inl kept ↦ inl kept
-        | inr shows ↦ inr (shows_line run (step.Get key request) (c.at a) (c.at b) now plain moment asks goes.made shows.added refl goes.past shows.shows)
+        | inr shows ↦ inr (shows_line run (step.Get key request) (c.at a) (c.at b) now plain moment asks goes.made shows.added refl refl goes.past
+            (record { untold = goes.untold; uncut = goes.uncut; unturned = goes.unturned }) shows.shows)
       ]
 
 -- ---- the page

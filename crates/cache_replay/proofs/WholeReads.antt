@@ -47,10 +47,10 @@ use Rattle.cache_answers.specs.declared.answers.NextPiece.TheVariants as piece
 use Rattle.cache_calls.specs.Actors.{IsReaderOf, ReaderSeen, as_row, row_by}
 use Rattle.cache_model.specs.Subjects.{IsOfReader}
 use Rattle.cache_calls.specs.Adds.{AddsOnly}
-use Rattle.cache_calls.specs.Keeping.{IsAtRest, IsPlain, state_at}
+use Rattle.cache_calls.specs.Keeping.{IsAtRest, state_at}
 use Rattle.cache_calls.specs.Readers.{GoesOnReading, HasRead, IsBehindAnswer, IsFragment, IsGivenAs, IsToldTo, ReaderGoesOn, listed_length, next_trouble, noted, read_adds}
 use Rattle.cache_calls.specs.Standing.{GivesAsTold, GivesPayload, StaysStanding}
-use Rattle.cache_calls.proofs.Keeping.{plain_has_steps}
+use Rattle.call_laws.proofs.Whole.{encloses_own}
 use Rattle.cache_calls.proofs.Others.{reads_leave_others}
 use Rattle.script_run.specs.Run.{Run, Stream}
 use Rattle.script_run.specs.Turn.{is_told, later, lookup_in, told_in}
@@ -577,10 +577,10 @@ rows_cut s r (Some rows) entry e hit cut =
 
 -- ---- the fragment in the step of its call alone
 
-module _ {a b : At} {r : ReaderSeen} {index size : ℕ} {into : List ℕ} (reads : HasRead a b r (piece.Piece index size) into) (plain : IsPlain a.setting)
+module _ {a b : At} {r : ReaderSeen} {index size : ℕ} {into : List ℕ} (reads : HasRead a b r (piece.Piece index size) into)
     (made : List Call) (past : b.device.past ≡ made ++ a.device.past) where
-  fragment_of : IsFragment (permit_of 0 a.setting [] made) (state_at a) r index size into
-  fragment_of = reads.given 0 (permit_of 0 a.setting [] made) [] made past (plain_has_steps a.setting plain 0 [] made)
+  fragment_of : IsFragment (permit_of 0 a made) (state_at a) r index size into
+  fragment_of = reads.given 0 (permit_of 0 a made) [] made past (encloses_own 0 a made)
 
   pub taken_is : length (take size into) ≡ size
   taken_is = let f = fragment_of in ap length f.document.payload ∙ sym f.document.size_is

@@ -26,6 +26,7 @@ use Rattle.script_run.specs.Asked.{asked, feed_intents}
 use Rattle.script_run.specs.Behind.{holds_behind, still_open, streams_behind}
 use Rattle.script_run.specs.Run.{Run, HoldsWriter, gathered_of, put_in, put_written_by}
 use Rattle.script_run.specs.Takes.{GivesOwn, streams_with}
+use Rattle.script_run.specs.Switch.{order_of_step}
 use Rattle.script_run.specs.Turn.{Turn}
 use Rattle.script_run.proofs.Ended.{IsFoundOpen, open_row}
 use Rattle.cache_replay.specs.Feeding.{feed_asks}
@@ -33,7 +34,7 @@ use Rattle.cache_replay.specs.Plays.{IsStreamOf}
 use Rattle.cache_replay.specs.Session.{IsOpenWriter}
 use Rattle.cache_replay.specs.WriterLines.{ClosesLine, FeedsLine, GivesUpLine, IsPlayed, IsWriterLeft, OpensLine, WriterDoes, WriterEnds, WriterLine, step_of_writer, writes_in}
 use Rattle.line_calls.proofs.Owned.{writer_is_ended}
-use Rattle.line_calls.proofs.Whole.{serves_whole, shows_line, shows_piece, takes_line, turn_by}
+use Rattle.line_calls.proofs.Whole.{left_by, serves_whole, shows_line, shows_piece, takes_line, turn_by}
 
 -- ---- the put of an actor
 
@@ -78,26 +79,34 @@ given_none ClosesLine run s name turn h = h
 given_none GivesUpLine run s name turn h = h
 given_none (OpensLine key pin request response) run s name turn h = h
 
+-- it tells no switch anything
+silent : (line : WriterLine) (name : List ℕ) → order_of_step (step_of_writer line name) ≡ None
+silent (FeedsLine body) name = refl
+silent ClosesLine name = refl
+silent GivesUpLine name = refl
+silent (OpensLine key pin request response) name = refl
+
 module _ (run : Run) (name : List ℕ) (a b : At) (now : ℕ) (plain : a.setting ≡ plain_setting) (moment : run.now ≡ now) (line : WriterLine) where
   pub writer_ends : {known : Facts} (is : List Intent) (why : Option Reason) (left : Option WriterSeen) (said : StepAnswer)
       → asked run (state_at a) (step_of_writer line name) ≡ is
-      → (w : IsWholeStep (Untold b.device IsVectorAs) now [] a b is why known)
-      → (IsStep (permit_of now a.setting [] w.calls) (state_at a) is w.added why → state_at b ≡ after_all (state_at a) w.added
-      → known (w.calls ++ []) (state_at b)
+      → (w : IsWholeStep (Untold b.device IsVectorAs) now a b is why known)
+      → (IsStep (permit_of now a w.calls) (state_at a) is w.added why → state_at b ≡ after_all (state_at a) w.added
+      → known (state_at b)
       → IsBehind run name a b line (turn_by run (step_of_writer line name) a b now plain moment w.added why w.calls []) left said)
       → WriterEnds run name a b line left said
   writer_ends is why left said same w then_ =
-      let p = permit_of now a.setting [] w.calls in
+      let p = permit_of now a w.calls in
       let turn : Turn = turn_by run (step_of_writer line name) a b now plain moment w.added why w.calls [] in
       elim w.ends [
-        | inr pair ↦ inr (shows_line run (step_of_writer line name) a b now plain moment is w.calls w.added same w.happens.past
+        | inr pair ↦ inr (shows_line run (step_of_writer line name) a b now plain moment is w.calls w.added same (silent line name) w.happens.past
+            (left_by run (step_of_writer line name) a b now plain moment w.calls w.added w.happens)
             (shows_piece (streams_with run (state_at a) (step_of_writer line name)) b.device p (state_at a) is w.added pair))
         | inl v ↦
             let behind : IsBehind run name a b line turn left said = then_ v.0 (state_behind a.kept b.kept w.added w.happens.adds) v.1 in
             inl (record {
               moves = record {
                 turn = turn;
-                takes = takes_line run (step_of_writer line name) a b now plain moment is why [] same w (given_none line run (state_at a) name turn refl) v.0;
+                takes = takes_line run (step_of_writer line name) a b now plain moment is why [] same (silent line name) w (given_none line run (state_at a) name turn refl) v.0;
                 calls = w.happens.past;
                 state = state_behind a.kept b.kept w.added w.happens.adds;
                 says = behind.says;

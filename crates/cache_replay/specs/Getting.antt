@@ -72,7 +72,7 @@ Knowing stands last run asks comes = λ (k : InStep). IsKnownTo run k.state → 
 pub record HasCalls (now : ℕ) (old new : At) (p : Permit) : Type 0 where
   pub calls : List Call
   pub past : new.device.past ≡ calls ++ old.device.past
-  pub step : Encloses now old.setting p [] calls
+  pub step : Encloses now old p [] calls
 
 -- some records show such a pair in a step
 pub record ShowsBy (run : Run) (last : Device) (p : Permit) (s : State) (asks : List Intent) : Type 0 where

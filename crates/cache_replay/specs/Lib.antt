@@ -3,6 +3,7 @@ pub mod Replies
 pub mod Session
 pub mod Plays
 pub mod OneLine
+pub mod Switching
 pub mod Deals
 pub mod Feeding
 pub mod Putting

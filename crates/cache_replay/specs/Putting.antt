@@ -5,9 +5,9 @@ use Rattle.alternate_vector.specs.Field.{Field}
 use Rattle.cache_model.specs.State.{State}
 use Rattle.cache_model.specs.Permit.{Exhausted, Faulted, GiveUp, Intent, Lost, ManyFragments, ManyWriters, Reason, TooLarge}
 use Rattle.cache_model.specs.Legal.{is_writing}
-use Rattle.cache_model.specs.Vectors.{IsVectorAs}
+use Rattle.cache_model.specs.Vectors.{AreTold, IsVectorAs}
 use Rattle.call_laws.specs.Untold.{Untold}
-use Rattle.call_laws.specs.Moments.{At, Facts, IsToldAt, OfState}
+use Rattle.call_laws.specs.Moments.{At, Facts}
 use Rattle.call_laws.specs.Progress.{AllDone, Progress, Stops}
 use Rattle.call_laws.specs.Serves.{ServesFrom}
 use Rattle.cache_answers.specs.declared.answers.Receipt.{Receipt}
@@ -67,13 +67,13 @@ pub record IsFreshWriter (w : WriterSeen) : Type 0 where
 
 -- known behind it, unless two documents of one SHA-256 are shown: what is told of the put
 abbrev pub IsFilledAs : ℕ → Result Receipt Refusal → Facts
-IsFilledAs put result = OfState (λ t. Says t put result × PutIsOver t put result)
+IsFilledAs put result t = Says t put result × PutIsOver t put result
 
 -- a body is fed and closed as far as that comes, with this answer
 abbrev pub FillsWhere : (now : ℕ) (old new : At) → WriterSeen → List ℕ → Result Receipt Refusal → Type 0
 FillsWhere now old new w body result = UnlessMemory result
     (ServesFrom (Untold new.device IsVectorAs) now old new (body_intents (state_at old).geometry.fragment w.put body) (progress_with (reason_of w.put result))
-    IsToldAt (IsFilledAs w.put result))
+    AreTold (IsFilledAs w.put result))
 
 -- ---- a body that is put, with the put given up where it is still open
 
@@ -83,13 +83,13 @@ ending_intents s put body = body_intents s.geometry.fragment put body ++ GiveUp 
 
 -- known behind it: what is told of the put
 abbrev pub IsSaidAs : ℕ → Result Receipt Refusal → Facts
-IsSaidAs put result = OfState (λ t. Says t put result)
+IsSaidAs put result t = Says t put result
 
 -- all that was done or refused, with this answer
 abbrev pub BodyEndsWhere : (now : ℕ) (old new : At) → ℕ → List ℕ → Result Receipt Refusal → Type 0
 BodyEndsWhere now old new put body result = UnlessMemory result
     (ServesFrom (Untold new.device IsVectorAs) now old new (ending_intents (state_at old) put body) (progress_with (reason_of put result))
-    IsToldAt (IsSaidAs put result))
+    AreTold (IsSaidAs put result))
 
 -- why a body was refused, unless memory was wanting to give its put up
 abbrev pub unless_memory : Result ℕ Refusal → Refusal → Refusal
@@ -102,7 +102,7 @@ unless_memory end why = why
 abbrev pub PutsWhere : (now : ℕ) (old new : At) → Key → List ℕ → (request response : List Field) → Result Receipt Refusal → Type 0
 PutsWhere now old new key body request response result = UnlessMemory result
     (ServesFrom (Untold new.device IsVectorAs) now old new (put_intents (state_at old) key body request response)
-    (progress_with (reason_of (state_at old).next_put result)) IsToldAt (IsSaidAs (state_at old).next_put result))
+    (progress_with (reason_of (state_at old).next_put result)) AreTold (IsSaidAs (state_at old).next_put result))
 
 -- whose records there are, and that no answer tells a count to which the device has not come
 pub record TellsOfPut (old new : At) (put : ℕ) (result : Result Receipt Refusal) : Type 0 where

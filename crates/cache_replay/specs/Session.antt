@@ -2,7 +2,7 @@
 use Rattle.std.specs.Prelude.{ℕ, ◌≡◌, ◌*◌, ◌≤◌, ⊤, true, List, [], ◌∷◌, length, Option, Some, None, IfSome, option_map}
 use Rattle.tape_base.specs.Geometry.{budget_of}
 use Rattle.device_log.specs.Calls.{Call}
-use Rattle.logged_disk.specs.Device.{DeviceState as Device, IsAfter}
+use Rattle.logged_disk.specs.Device.{DeviceState as Device, TellsAll}
 use Rattle.cache_model.specs.State.{State, put_of, reader_of}
 use Rattle.cache_model.specs.Legal.{is_writing}
 use Rattle.call_laws.specs.Moments.{At}
@@ -11,6 +11,7 @@ use Rattle.cache_calls.specs.Actors.{IsOpenReader, IsWriterOf, ReaderSeen, Write
 use Rattle.cache_calls.specs.Keeping.{IsAtRest, plain_setting, state_at}
 use Rattle.actor_table.specs.Table.{TableSeen, slot_of_actor}
 use Rattle.script_grammar.specs.declared.answer.StepAnswer.{StepAnswer}
+use Rattle.script_run.specs.Ledger.{GoesOnFrom}
 use Rattle.script_run.specs.Losses.{NoLossIsAFault}
 use Rattle.cache_replay.specs.declared.session.ActorHolding.{ActorHolding}
 use Rattle.cache_replay.specs.declared.session.ActorHolding.TheVariants as holding
@@ -125,10 +126,13 @@ module _ {S W R : Type 0} {c : CallsGhosts S W R} where
 
 -- ---- a device that goes on
 
--- it counts no less than before, and is the same but for what it was called for since
+-- it is the same device, behind more calls: it counts no less than before, and tells its content only where it did before
 pub record IsLaterDevice (old new : Device) : Type 0 where
   pub faults : old.faults ≤ new.faults
-  pub goes : IsAfter old new
+  pub number : new.number ≡ old.number
+  pub switch : new.has_switch ≡ old.has_switch
+  pub made : GoesOnFrom old.past new.past
+  pub tells : TellsAll new → TellsAll old
 
 -- so it is of the device of a session, where there is one
 abbrev pub AreLater : List Device → List Device → Type 0

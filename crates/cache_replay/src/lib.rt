@@ -12,6 +12,7 @@ mod reader_lines;
 mod session;
 mod stepping;
 mod stop;
+mod switch_lines;
 mod writer_lines;
 
 pub use beginning::{begin, close, plays_reach};

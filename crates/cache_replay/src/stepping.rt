@@ -1,9 +1,10 @@
 // The steps of a script, whatever they are.
-ghost use Rattle.std.specs.Prelude.{◌≡◌, ◌-◌, ◌^◌, ◌<◌, ◌≤◌, ◌↔◌, true, length};
+ghost use Rattle.std.specs.Prelude.{◌≡◌, ◌-◌, ◌^◌, ◌<◌, ◌≤◌, ◌↔◌, true, false, length};
 ghost use Rattle.device_bay.specs.Calls.{out_of};
 ghost use Rattle.script_grammar.specs.declared.answer.StepAnswer.TheVariants as answer;
 ghost use Rattle.script_grammar.specs.declared.step.Step.TheVariants as step;
 ghost use Rattle.script_run.specs.Run.{Run};
+ghost use Rattle.script_run.specs.Switch.{is_of_switch};
 ghost use Rattle.cache_replay.specs.Deals.{AnswersStep};
 ghost use Rattle.cache_replay.specs.OneLine.{AnswersLine};
 ghost use Rattle.cache_replay.specs.Plays.{Plays, StepMoves};
@@ -17,13 +18,14 @@ use crate::put_line::put_line;
 use crate::reader_lines::{done_line, next_line, open_read_line};
 use crate::session::Session;
 use crate::stop::Stop;
+use crate::switch_lines::switch_line;
 use crate::writer_lines::{abort_line, close_line, data_line, open_write_line};
-use cache_calls::{Calls, Formats};
+use cache_calls::{Calls, Formats, Powered, SwitchOrder};
 use device_bay::Bay;
 use script_grammar::{Step, StepAnswer};
 
 /// Does a step, and says what came of it.
-pub fn step<B: Bay, S: Formats<B::Dev>>(
+pub fn step<B: Bay, S: Formats<B::Dev> + Powered>(
     session: &mut Session<S>,
     bay: &mut B,
     step: Step,
@@ -59,6 +61,9 @@ pub fn step<B: Bay, S: Formats<B::Dev>>(
             alternates,
         ),
         Step::Now { moment } => Ok(now_line(session, moment)),
+        Step::Fail { nth } => switch_line(session, SwitchOrder::Fail { nth }),
+        Step::StopAfter { calls } => switch_line(session, SwitchOrder::StopAfter { calls }),
+        Step::Flip { place, byte } => switch_line(session, SwitchOrder::Flip { place, byte }),
         other => in_session(session, other),
     }
 }
@@ -84,11 +89,12 @@ pub fn takes_actors<S: Calls>(session: &Session<S>) -> bool
     session.actors.len() < u32::MAX as usize
 }
 
-/// Does a step that works on a session, with no bay at hand.
+/// Does a step that works on a session, with no bay at hand, and is not for the switch of its device.
 pub fn in_session<S: Calls>(session: &mut Session<S>, step: Step) -> Result<StepAnswer, Stop>
     requires session { IsSession session.old }
     requires few { length (names_in session.old) < 2 ^ 32 - 1 }
     requires needs { NeedsSession step }
+    requires switch { is_of_switch step ≡ false }
     ensures line { AnswersLine step session.old session.new result }
 {
     match step {
@@ -120,5 +126,8 @@ pub fn in_session<S: Calls>(session: &mut Session<S>, step: Step) -> Result<Step
         Step::Flush => flush_line(session),
         Step::Format { .. } => Err(Stop::NoCache),
         Step::Now { .. } => Err(Stop::NoCache),
+        Step::Fail { .. } => Err(Stop::NoCache),
+        Step::StopAfter { .. } => Err(Stop::NoCache),
+        Step::Flip { .. } => Err(Stop::NoCache),
     }
 }

@@ -50,7 +50,8 @@ pub fn cache_main<S: Source, K: Sink, B: Bay>(
     // No attach was refused but the one that ended the run, if one did.
     ensures refusals { RefusesAs (asked_in_words words.now) (refusals_of (B.past bay.old)) (refusals_of (B.past bay.new)) result }
 
-    // No switch was told anything, so each device that has one refused nothing and told its content to the end.
+    // Each device that has a switch which was told nothing, and of which no bit was turned, refused nothing and told its content to
+    // the end.
     ensures steady { ComeBackSteady (returned_by (B.past bay.old)) (returned_by (B.past bay.new)) }
 {
     run_words::<S, K, B, Cache<B::Dev>>(alloc, words, source, sink, bay)

@@ -27,6 +27,7 @@ use Rattle.script_grammar.specs.declared.step.Step.TheVariants as step
 use Rattle.script_grammar.specs.declared.answer.Refused.TheVariants as refused
 use Rattle.script_grammar.specs.declared.answer.StepAnswer.{StepAnswer}
 use Rattle.script_grammar.specs.declared.answer.StepAnswer.TheVariants as answer
+use Rattle.device_log.specs.Calls.{Call}
 use Rattle.script_run.specs.Run.{Holding, Run, fresh, gathered_of, held_by, put_written_by, reader_by}
 use Rattle.script_run.specs.Asked
 use Rattle.script_run.specs.Asked.{asked, close_intents, count_with, cut_intents, feed_intents, put_intents, rest_intents}
@@ -468,6 +469,10 @@ module _ (run : Run) (turn : Turn) (index : ℕ) (why : Cause) (took : Option �
   done_loses None h = cc
   done_loses (Some n) h = cc
 
+  switch_loses : (told : List Call) (x : StepAnswer) → (SaysSo x → ⊥) → SaysSo (Answers.switch_said told x) → ⊥
+  switch_loses [] x other h = cc
+  switch_loses (call ∷ told) x other h = other h
+
   state_loses : (asks : Step) (o : Option State) → run.state ≡ o → Takes run turn o asks → SaysSo (step_said run turn o asks) → LosesHere run turn asks index why
   state_loses (step.Format name segments buckets content agg reach fragment generation alternates) o e takes h =
       absurd (format_loses_none (after_all nothing_yet []) index why took turn (first_refusal segments buckets content agg reach fragment alternates) h)
@@ -486,6 +491,9 @@ module _ (run : Run) (turn : Turn) (index : ℕ) (why : Cause) (took : Option �
   state_loses (step.Remove key) (Some s) e takes h = absurd (removal_loses_none s index why took s key turn.added h)
   state_loses step.Flush (Some s) e takes h =
       absurd (none_ends s (Flush ∷ []) (by_refusal (after_all s turn.added) index why took None turn.refused _ (λ x. cc) h) (λ m. (tt, tt)) takes.legal)
+  state_loses (step.Fail nth) (Some s) e takes h = absurd (switch_loses turn.told answer.Armed (λ x. cc) h)
+  state_loses (step.StopAfter calls) (Some s) e takes h = absurd (switch_loses turn.told answer.Armed (λ x. cc) h)
+  state_loses (step.Flip place byte) (Some s) e takes h = absurd (switch_loses turn.told answer.Flipped (λ x. cc) h)
   state_loses _ None e takes h = absurd takes
 
   loses_here : (asks : Step) → StepTakes run turn asks → Answer index why took ≡ step_answer run turn asks → LosesHere run turn asks index why

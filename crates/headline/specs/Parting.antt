@@ -11,7 +11,7 @@ use Rattle.script_run.specs.Run.{fresh}
 use Rattle.script_run.specs.Turn.{Turn}
 use Rattle.script_run.specs.Takes.{IsRun, output_of}
 use Rattle.script_laws.specs.Agreeing.{AreSame}
-use Rattle.script_laws.specs.Parting.{AreUntroubled, DisplacesPiece, LinesPart}
+use Rattle.script_laws.specs.Parting.{AreToldApart, AreUntroubled, DisplacesPiece, LinesPart}
 use Rattle.run_promise.specs.Lines.{answers_of}
 use Rattle.run_promise.specs.declared.status.Status.TheVariants as status
 use Rattle.run_promise.specs.Story.{Taken}
@@ -28,11 +28,13 @@ pub record MeetsRefusal (turn : Turn) : Type 0 where
   pub refused : IsAmong (RefusedCall asked count) turn.device.events
   pub recorded : IsAmong (rec.Fault count) turn.added
 
--- the device of the one turn or of the other refused a call, or both displaced a piece
+-- the device of the one turn or of the other refused a call, or both displaced a piece, or only one of the two has the switch
+-- that the line is for
 pub data MeetTrouble (one other : Turn) : Type 0 where
   one_refuses : MeetsRefusal one → MeetTrouble one other
   other_refuses : MeetsRefusal other → MeetTrouble one other
   each_displaces : DisplacesPiece one → DisplacesPiece other → MeetTrouble one other
+  one_has_no_switch : AreToldApart one other → MeetTrouble one other
 
 -- a run comes to this line: none of the lines before it recorded trouble, and what they print the sink took first, behind what
 -- it had

@@ -138,7 +138,7 @@ module _ (old new : At) (w : WriterSeen) (payload : List ℕ) (c : CutsAs old ne
   placed = placed_record room (piece_cut_next w) w.pin (total_length w.cuts) (length payload) payload
 
   pushed_left : SamePuts cut (after_all cut c.displaced)
-  pushed_left = let p : Permit = permit_of 0 old.setting [] [] in pushed_leave p room cut (piece_cut_next w) c.displaced (c.pushed p refl)
+  pushed_left = let p : Permit = permit_of 0 old [] in pushed_leave p room cut (piece_cut_next w) c.displaced (c.pushed p refl)
 
   cut_state : state_at new ≡ state_after (after_all cut c.displaced) placed
   cut_state =

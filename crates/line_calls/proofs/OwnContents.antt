@@ -11,7 +11,8 @@ use Rattle.tape_base.specs.Piece.{is_vector}
 use Rattle.cache_model.specs.State.{Row, State, fragment_piece, live_row_of}
 use Rattle.cache_model.specs.Verdict.{next_piece, next_row}
 use Rattle.cache_model.specs.Legal.{live_next}
-use Rattle.cache_model.specs.Contents.{AreRecordedAs, Content, IsRecordedAs, spelled_content}
+use Rattle.cache_model.specs.Contents.{AreRecordedAs, Content, IsRecordedAs, doc_of_row, spelled_content}
+use Rattle.doc_header.specs.Document.{digest_of_document}
 use Rattle.cache_answers.specs.declared.answers.NextPiece.TheVariants as piece
 use Rattle.cache_calls.specs.Actors.{ReaderSeen, as_row}
 use Rattle.cache_calls.specs.Standing.{GivesPayload}
@@ -55,7 +56,14 @@ own_rows s streams (row ∷ rows) payloads listed recorded = (
         let f = payloads.0 some in
         let none : (row.id.index == 0) ≡ false = no_vector row.id.index some in
         let is = rw none at recorded.0.content in
-        record { w = f.w; found = f.found; cut = f.cut; payload = f.payload; digest = is.digest },
+        let body : List ℕ = (piece_content s.geometry.fragment (streams row.id.put).bytes row.id.index).payload in
+        record {
+          w = f.w;
+          found = f.found;
+          cut = f.cut;
+          payload = f.payload;
+          digest = is.document.digest ∙ ap (λ (n : ℕ). digest_of_document (doc_of_row s.geometry row n) body) (is.starts none);
+        },
     listed.0,
   ),
   own_rows s streams rows payloads.1 listed.1 recorded.1,

@@ -174,6 +174,9 @@ module _ (laws : OfSteps) (n : ℕ) (run : Run) (s : State) (turn : Turn) (stand
   step_line (step.Remove key) e keeps takes = asked_line (step.Remove key) takes (tt, tt)
   step_line step.Flush e keeps takes = asked_line step.Flush takes (tt, tt)
   step_line (step.Now at) e keeps takes = unchanged n s run.streams _ e refl quiet opened
+  step_line (step.Fail nth) e keeps takes = asked_line (step.Fail nth) takes tt
+  step_line (step.StopAfter calls) e keeps takes = asked_line (step.StopAfter calls) takes tt
+  step_line (step.Flip place byte) e keeps takes = asked_line (step.Flip place byte) takes tt
 
   pub line_goes : (l : LineAnswer) → run.state ≡ Some s → KeepsSession l → ReadingTakes run turn l → LineGoes n s run.streams (after_reading run turn l) (given_by_line n run turn l)
   line_goes (line.Step st) e keeps takes =

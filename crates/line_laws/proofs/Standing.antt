@@ -31,6 +31,7 @@ use Rattle.script_run.specs.Own.{AreOwn, ArePayloadsOwn, IsPlacedAs}
 use Rattle.script_run.specs.Goes.{StepGoes, begins, fails, stays, waits, works}
 use Rattle.script_run.specs.Takes.{IsRun, ReadingShows, ReadingTakes, SessionShows, SessionTakes, StepShows, run_after, streams_with}
 use Rattle.line_laws.specs.Along.{AreOfSession, KeptAlong, OwnAlong, QuietWhere, ShowsAlong, StandsKept, StandsOwn, StandsWhere}
+use Rattle.script_run.proofs.Alone.{shows_taken}
 use Rattle.script_run.proofs.Lift.{EachKeeps, goes, line_keeps, lines_keep}
 use Rattle.line_laws.proofs.Stands.{stands_at, stands_kept}
 use Rattle.line_laws.proofs.Shown.{shown_behind, shown_front, shown_here, shown_later}
@@ -69,7 +70,7 @@ KeepsIn run = StandsWhere Keeps run run.state
 module _ (laws : OfKept) where
   formatted_keeps : (run : Run) (name : List ℕ) (calls : List Call) (g : Geometry) → Keeps (with_format run name calls (format_records g)) (after_all nothing_yet (format_records g))
   formatted_keeps run name calls g = record {
-    sound = laws.legal_is_sound (record { packed = false; syncs = false }) [] (format_records g) (Legal.IsLegal.begins g);
+    sound = laws.legal_is_sound (record { packed = false; syncs = false }) [] [] (format_records g) (Legal.IsLegal.begins g);
     displaced = refl;
     quiet = refl;
     kept = laws.formats_keep nothing_yet g (λ put. no_stream);
@@ -141,12 +142,9 @@ module _ (laws : OfLines) where
   module _ (run : Run) (turn : Turn) where
     -- a copied vector shows them some way into the step, and so does a fragment
     vector_shows : (s : State) (st : Step) → SessionTakes run s turn st → ShowsPair IsVectorAs turn.device s (asked run s st) turn.added → SessionShows run s turn st
-    vector_shows s st takes v = record {
-      packs = takes.packs;
-      unsynced = takes.unsynced;
-      moment = takes.moment;
-      shows = also_shows IsVectorAs (IsPlacedAs (streams_with run s st)) (λ t row document vector. inl vector) turn.device s (to_do (asked run s st)) turn.added v;
-    }
+    vector_shows s st takes v =
+        shows_taken run.calls run s turn st takes
+        (also_shows IsVectorAs (IsPlacedAs (streams_with run s st)) (λ t row document vector. inl vector) turn.device s (to_do (asked run s st)) turn.added v)
 
     holds_step : (s : State) (st : Step) → SessionTakes run s turn st → Holds run s
         → Holds (in_session run s (after_all s turn.added) turn st) (after_all s turn.added) ⊎ StepShows run turn (Some s) st
@@ -156,7 +154,7 @@ module _ (laws : OfLines) where
           | inr v ↦ inr (vector_shows s st takes v)
           | inl told ↦ elim (laws.steps_own run s turn st k.sound h.told k.quiet h.own (are_writing run s k.held) takes.legal) [
             | inl own ↦ inl (record { keeps = keeps_step laws.kept run s turn st takes k; told = told; own = own })
-            | inr shown ↦ inr (record { packs = takes.packs; unsynced = takes.unsynced; moment = takes.moment; shows = shown })
+            | inr shown ↦ inr (shows_taken run.calls run s turn st takes shown)
           ]
         ]
 

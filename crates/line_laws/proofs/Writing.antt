@@ -239,3 +239,6 @@ module _ (numbers : NumbersFollow) (run : Run) (s : State) (turn : Turn) (own : 
   held_step (step.Remove key) legal = alone_held _ legal (λ m w. (tt, tt))
   held_step step.Flush legal = alone_held _ legal (λ m w. (tt, tt))
   held_step (step.Now at) legal = alone_held _ legal (λ m w. tt)
+  held_step (step.Fail nth) legal = alone_held _ legal (λ m w. tt)
+  held_step (step.StopAfter calls) legal = alone_held _ legal (λ m w. tt)
+  held_step (step.Flip place byte) legal = alone_held _ legal (λ m w. tt)

@@ -25,10 +25,11 @@ use Rattle.script_grammar.specs.declared.line.LineAnswer.TheVariants as line
 use Rattle.script_grammar.specs.declared.step.Step.{Step}
 use Rattle.script_grammar.specs.declared.step.Step.TheVariants as step
 use Rattle.script_grammar.specs.Grammar.{reading_of}
+use Rattle.device_log.specs.Calls.{Call}
 use Rattle.script_run.specs.Run.{Holding, Run, fresh, gathered_of, held_by, put_written_by, reader_by}
 use Rattle.script_run.specs.Turn.{Turn, lookup_in, told_in}
 use Rattle.script_run.specs.Asked.{asked, asks_if_has, body_intents, close_intents, closing, feed_intents, put_intents, rest_behind, rest_intents, whole_fragments}
-use Rattle.script_run.specs.Answers.{broken_said, end_said, get_said, if_free, if_has as has_said, lookup_said, miss_said, next_said, put_said, refusal_said, remove_said, said, session_said, step_answer}
+use Rattle.script_run.specs.Answers.{broken_said, end_said, get_said, if_free, if_has as has_said, lookup_said, miss_said, next_said, put_said, refusal_said, remove_said, said, session_said, step_answer, switch_said}
 use Rattle.script_run.specs.Behind.{after_step}
 use Rattle.script_run.specs.Own.{AreWriting}
 use Rattle.script_run.specs.Takes.{run_after}
@@ -172,6 +173,10 @@ sealed_kind : (b : Bool) (x : StepAnswer) → kind x ≡ 0 → kind (if b then a
 sealed_kind true x h = refl
 sealed_kind false x h = h
 
+switch_kind : (told : List Call) (x : StepAnswer) → kind x ≡ 0 → kind (switch_said told x) ≡ 0
+switch_kind [] x h = refl
+switch_kind (call ∷ told) x h = h
+
 -- a step that ends no put, as it is answered
 abbrev EndsNoPut : Step → Type 0
 EndsNoPut (step.Put key body request response) = ⊥
@@ -194,6 +199,9 @@ other_kind run s t turn (step.Next actor) other = has_kind (reader_by run actor)
 other_kind run s t turn (step.Done actor) other = has_kind (reader_by run actor) _ (λ n. refl)
 other_kind run s t turn step.Flush other = said_kind t None turn.refused _ refl
 other_kind run s t turn (step.Now moment) other = refl
+other_kind run s t turn (step.Fail nth) other = switch_kind turn.told answer.Armed refl
+other_kind run s t turn (step.StopAfter calls) other = switch_kind turn.told answer.Armed refl
+other_kind run s t turn (step.Flip place byte) other = switch_kind turn.told answer.Flipped refl
 other_kind run s t turn _ other = absurd other
 
 -- a line that is answered so is one of a session

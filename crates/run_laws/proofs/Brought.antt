@@ -501,6 +501,9 @@ asks_of run s (step.Done actor) = inr (only_has (reader_by run actor) (λ reader
 asks_of run s (step.Remove key) = inl (tt, tt)
 asks_of run s step.Flush = inl (tt, tt)
 asks_of run s (step.Now at) = inl tt
+asks_of run s (step.Fail nth) = inl tt
+asks_of run s (step.StopAfter calls) = inl tt
+asks_of run s (step.Flip place byte) = inl tt
 
 -- ---- what stands behind lines
 

@@ -17,8 +17,9 @@ use Rattle.script_grammar.specs.declared.line.LineAnswer.TheVariants as line
 use Rattle.script_grammar.specs.declared.answer.StepAnswer.{StepAnswer}
 use Rattle.script_grammar.specs.declared.step.Step.{Step}
 use Rattle.script_grammar.specs.Grammar.{reading_of}
+use Rattle.device_log.specs.Calls.{Call}
 use Rattle.script_run.specs.Run.{Harm, Run, fresh}
-use Rattle.script_run.specs.Turn.{Turn}
+use Rattle.script_run.specs.Turn.{Turn, calls_in}
 use Rattle.script_run.specs.Behind.{after_line, harm_in, harm_of, harms_of}
 use Rattle.script_run.specs.Takes.{run_after}
 use Rattle.script_run.specs.Laws.{NoneIsUnlike, ReadsKeep}
@@ -36,6 +37,10 @@ use Rattle.run_laws.proofs.Brought.{kept_before}
 use Rattle.account_laws.proofs.Lost.{LossAlong, damaged_by, loss_is_told}
 use Rattle.account_laws.proofs.Places.{Found, OnSession, kind_of, told_line}
 use Rattle.account_laws.proofs.Troubles.{answer_is, come, did_before, line_seen, seen_behind}
+
+-- what a switch was told stands behind the calls of its step
+behind_told : (later told made older : List Call) → later ++ ((told ++ made) ++ older) ≡ (later ++ told) ++ (made ++ older)
+behind_told later told made older = ap (λ calls. later ++ calls) (append_assoc told made older) ∙ sym (append_assoc later told (made ++ older))
 
 -- ---- lines of one session begin none
 
@@ -88,7 +93,10 @@ module _ (laws : OfDamage) (l : RunLogs) (a : Account l) (lines : List (List ℕ
           are = sym (append-nil lines);
           same_session = tt;
           did = did_before l a lines asks said f;
-          made = record { newer = seen.calls.later; is = seen.calls.is };
+          made = record {
+            newer = seen.calls.later ++ f.turn.told;
+            is = seen.calls.is ∙ behind_told seen.calls.later f.turn.told f.turn.device.events (run_after fresh lines f.earlier).calls;
+          };
           s = on.s;
           session = on.state;
           given = told.0;
@@ -104,7 +112,7 @@ module _ (laws : OfDamage) (l : RunLogs) (a : Account l) (lines : List (List ℕ
     Then = run_after fresh t.before t.earlier
 
     abbrev Harmed : Harm
-    Harmed = harm_in (t.turn.device.events ++ Then.calls) (after_all t.made.s t.turn.added)
+    Harmed = harm_in (calls_in t.turn ++ Then.calls) (after_all t.made.s t.turn.added)
 
     begun : sessions_begun t.before ≡ length Then.ended + 1
     begun =
@@ -149,7 +157,10 @@ module _ (laws : OfDamage) (l : RunLogs) (a : Account l) (lines : List (List ℕ
               turns_are = f.turns_are ∙ (ap (λ (xs : List Turn). xs ++ f.turn ∷ f.later) t.turns_are ∙ append_assoc t.earlier (t.turn ∷ t.rest) (f.turn ∷ f.later));
               legal = t.legal;
             };
-            made = record { newer = seen.calls.later; is = seen.calls.is };
+            made = record {
+              newer = seen.calls.later ++ t.turn.told;
+              is = seen.calls.is ∙ behind_told seen.calls.later t.turn.told t.turn.device.events (run_after fresh t.before t.earlier).calls;
+            };
             s = t.made.s;
             session = t.made.state;
             given = told.0;

@@ -9,7 +9,7 @@ use Rattle.script_grammar.specs.declared.line.LineAnswer.{LineAnswer}
 use Rattle.script_grammar.specs.declared.line.LineAnswer.TheVariants as line
 use Rattle.script_grammar.specs.Grammar.{reading_of}
 use Rattle.script_run.specs.Run.{Harm, Run, fresh}
-use Rattle.script_run.specs.Turn.{Turn}
+use Rattle.script_run.specs.Turn.{Turn, calls_in}
 use Rattle.script_run.specs.Behind.{harm_in, harm_of, harms_of}
 use Rattle.script_run.specs.Takes.{ReadingShows, StepShows, run_after}
 use Rattle.run_promise.specs.Outline.{with_calls_of}
@@ -60,10 +60,10 @@ module _ (l : RunLogs) (told : List (List ℕ)) (run : Run) (begun : length (har
       }
 
   step_doubted : (turn : Turn) (o : Option State) (step : Step) → length (run.ended ++ harm_of run.calls o) ≡ sessions_begun told → StepShows run turn o step
-      → ComeBackFrom l (run.ended ++ map doubt (harm_of (turn.device.events ++ run.calls) o)) → IsDoubtedBehind l told
+      → ComeBackFrom l (run.ended ++ map doubt (harm_of (calls_in turn ++ run.calls) o)) → IsDoubtedBehind l told
   step_doubted turn None step count shows come = absurd shows
   step_doubted turn (Some s) step count shows come =
-      last_doubted (harm_in (turn.device.events ++ run.calls) s) (omega (arith, count, length-append run.ended (harm_in run.calls s ∷ []))) come
+      last_doubted (harm_in (calls_in turn ++ run.calls) s) (omega (arith, count, length-append run.ended (harm_in run.calls s ∷ []))) come
 
   reading_doubted : (turn : Turn) (read : LineAnswer) → ReadingShows run turn read → ComeBackFrom l (doubted_harms (with_calls_of run turn)) → IsDoubtedBehind l told
   reading_doubted turn (line.Step step) shows come = step_doubted turn run.state step begun shows come

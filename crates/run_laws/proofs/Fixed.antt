@@ -13,7 +13,7 @@ use Rattle.script_run.specs.Run.{Harm, fresh}
 use Rattle.script_run.specs.Turn.{Turn}
 use Rattle.script_run.specs.Behind.{harms_of}
 use Rattle.script_run.specs.Takes.{run_after}
-use Rattle.script_run.specs.Ledger.{AreReached}
+use Rattle.script_run.specs.Ledger.{AreReached, IsLeftAlone}
 use Rattle.script_run.proofs.Listed.{is_among}
 use Rattle.script_laws.specs.Parting.{DisplacesPiece}
 use Rattle.script_laws.specs.TurnTroubles.{FaultlessTurns, TellNoFault, tells_fault}
@@ -21,8 +21,8 @@ use Rattle.script_laws.proofs.Among.{among_right}
 use Rattle.run_promise.specs.declared.status.Status.TheVariants as status
 use Rattle.headline.specs.Account.{AllTell, IsConcluded, RunLogs}
 use Rattle.run_promise.specs.Top.{AreSteadyBySwitch, ComeBackSteady, IsSteady}
-use Rattle.headline.specs.Fixed.{AreSteady, AreSwitched, BothDisplaced, GiveSame, HasDisplaced, HasHistory, SwitchedRunsAreSteady, TakeSame}
-use Rattle.headline.specs.Parting.{ComesToLine, MeetsRefusal, RunsAgreeBeforeTrouble, each_displaces, one_refuses, other_refuses}
+use Rattle.headline.specs.Fixed.{AreAlone, AreSteady, AreSwitched, BothDisplaced, SwitchesDiffer, GiveSame, HasDisplaced, HasHistory, SwitchedRunsAreSteady, TakeSame}
+use Rattle.headline.specs.Parting.{ComesToLine, MeetsRefusal, RunsAgreeBeforeTrouble, each_displaces, one_has_no_switch, one_refuses, other_refuses}
 
 -- ---- steady devices
 
@@ -34,18 +34,19 @@ steady_tell : (l : RunLogs) → AreSteady l → AllTell l
 steady_tell l steady = λ ds returned. all_tell ds (steady ds returned)
 
 -- of devices that have a switch it is the clause that says so
-switched_are_steady : (ds : List Device) → AreSteadyBySwitch ds → AllByRecursion (λ (d : Device). d.has_switch ≡ true) ds → AllByRecursion IsSteady ds
-switched_are_steady [] steady has = tt
-switched_are_steady (d ∷ ds) steady has = (steady.0 has.0, switched_are_steady ds steady.1 has.1)
+switched_are_steady : (ds : List Device) → AreSteadyBySwitch ds → AllByRecursion (λ (d : Device). d.has_switch ≡ true) ds → AllByRecursion (λ (d : Device). IsLeftAlone d.past) ds
+    → AllByRecursion IsSteady ds
+switched_are_steady [] steady has alone = tt
+switched_are_steady (d ∷ ds) steady has alone = (steady.0 has.0 alone.0, switched_are_steady ds steady.1 has.1 alone.1)
 
-module _ (l : RunLogs) (back : ComeBackSteady l.before.returned l.now.returned) (has : AreSwitched l) where
+module _ (l : RunLogs) (back : ComeBackSteady l.before.returned l.now.returned) (has : AreSwitched l) (alone : AreAlone l) where
   all_steady : AreSteady l
   all_steady ds returned =
       let same : back.devices ≡ ds = append_cancel_left l.before.returned back.devices ds (sym back.returned ∙ returned) in
-      subst (AllByRecursion IsSteady) same (switched_are_steady back.devices back.steady (has back.devices back.returned))
+      subst (AllByRecursion IsSteady) same (switched_are_steady back.devices back.steady (has back.devices back.returned) (alone back.devices back.returned))
 
 pub switched_runs_are_steady : SwitchedRunsAreSteady
-switched_runs_are_steady l back has = (all_steady l back has, steady_tell l (all_steady l back has))
+switched_runs_are_steady l back has alone = (all_steady l back has alone, steady_tell l (all_steady l back has alone))
 
 none_faulted : (hs : List Harm) (ds : List Device) → AreReached hs ds → AllByRecursion IsSteady ds
     → All (λ (harm : Harm). harm.fault ≡ 0) hs
@@ -79,17 +80,28 @@ module _ (faultless : FaultlessTurns) (l : RunLogs) (steady : AreSteady l) (befo
 
 pub source_fixes_sink : (agree : RunsAgreeBeforeTrouble) (faultless : FaultlessTurns) (l m : RunLogs) → IsConcluded l status.Done
     → IsConcluded m status.Done
-    → (same : GiveSame l m) → AreSteady l → AreSteady m → TakeSame l m ⊎ BothDisplaced l m same
+    → (same : GiveSame l m) → AreSteady l → AreSteady m → TakeSame l m ⊎ BothDisplaced l m same ⊎ SwitchesDiffer l m same
 source_fixes_sink agree faultless l m c d same steady steady_too = elim (agree l m c d same (steady_tell l steady) (steady_tell m steady_too)) [
   | inl alike ↦ inl alike
   | inr p ↦ elim p.trouble [
     | one_refuses refuses ↦ absurd (none_refused faultless l steady p.before p.bytes p.after p.one refuses)
     | other_refuses refuses ↦ absurd (none_refused faultless m steady_too p.before p.bytes p.after p.other refuses)
-    | each_displaces displaces displaces_too ↦ inr (record {
+    | one_has_no_switch apart ↦ inr (inr (record {
+      before = p.before;
+      bytes = p.bytes;
+      after = p.after;
+      taken = p.taken;
+      one = p.one.history;
+      other = p.other.history;
+      did = p.one.did;
+      did_too = p.other.did;
+      apart = apart;
+    }))
+    | each_displaces displaces displaces_too ↦ inr (inl (record {
       lines = p.before ++ p.bytes ∷ p.after;
       taken = p.taken;
       one = displaced faultless l steady p.before p.bytes p.after p.one displaces;
       other = displaced faultless m steady_too p.before p.bytes p.after p.other displaces_too;
-    })
+    }))
   ]
 ]

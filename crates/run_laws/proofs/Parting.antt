@@ -24,7 +24,7 @@ use Rattle.script_run.specs.Behind.{after_line, harms_of}
 use Rattle.script_run.specs.Takes.{IsRun, line_text, output_of, run_after}
 use Rattle.script_run.specs.Ledger.{AreReached}
 use Rattle.script_run.proofs.Listed.{is_among}
-use Rattle.script_laws.specs.Parting.{IsUntroubledUpTo, LinesAgreeBeforeTrouble, LinesPart, MeetsDeviceTrouble, both_displace, first_in_trouble, second_in_trouble}
+use Rattle.script_laws.specs.Parting.{IsUntroubledUpTo, LinesAgreeBeforeTrouble, LinesPart, MeetsDeviceTrouble, both_displace, first_in_trouble, second_in_trouble, told_apart}
 use Rattle.script_laws.specs.TurnTroubles.{TellsRefusals, TurnsTellRefusals, UndamagedTurns}
 use Rattle.run_promise.specs.Lines.{TextsAreOutput, answers_of, reading_answer, texts_of}
 use Rattle.run_promise.specs.declared.status.Status.TheVariants as status
@@ -32,7 +32,7 @@ use Rattle.run_promise.specs.Story.{IsReadThrough, Recorded, ShownAlong, Taken, 
 use Rattle.run_promise.specs.Top.{EachBack}
 use Rattle.headline.specs.Account.{Account, AllTell, IsConcluded, RunLogs}
 use Rattle.headline.specs.Fixed.{GiveSame, HasHistory, TakeSame}
-use Rattle.headline.specs.Parting.{BeginAlike, ComesToLine, HistoryBegins, MeetsRefusal, RunsPart, each_displaces, one_refuses, other_refuses}
+use Rattle.headline.specs.Parting.{BeginAlike, ComesToLine, HistoryBegins, MeetsRefusal, RunsPart, each_displaces, one_has_no_switch, one_refuses, other_refuses}
 use Rattle.account_laws.proofs.Devices.{come_back}
 use Rattle.headline.proofs.Honest.{no_line_shows}
 use Rattle.account_laws.proofs.Outlines.{shown_made}
@@ -173,6 +173,7 @@ module _ (agree : LinesAgreeBeforeTrouble) (refusals : TurnsTellRefusals) (undam
         | first_in_trouble trouble ↦ one_refuses (meets refusals undamaged l tell (Lines l c) p.before h p.first trouble)
         | second_in_trouble trouble ↦ other_refuses (meets refusals undamaged m tell_too (Lines l c) p.before k p.second trouble)
         | both_displace displaces displaces_too ↦ each_displaces displaces displaces_too
+        | told_apart apart ↦ one_has_no_switch apart
       ];
     }
 

@@ -1,6 +1,6 @@
 -- The answers of a run, and its outline.
 use Rattle.std.proofs.Common.{◌≡◌, ℕ, List, [], ◌∷◌, ◌++◌, refl, ◌∙◌, ap, arith, subst, sym, inl, inr, ◌<◌}
-use Rattle.std.specs.Prelude.{All, Option, Some, None, max, option_map, IsSome}
+use Rattle.std.specs.Prelude.{All, Bool, Option, Some, None, max, option_map, IsSome}
 use Rattle.std.proofs.lemmas.List.Elements.{All-append, All-cons, All-head, All-nil, All-tail}
 use Rattle.tape_base.specs.declared.geometries.BadGeometry.{BadGeometry}
 use Rattle.tape_base.specs.Limits.{first_refusal}
@@ -15,7 +15,7 @@ use Rattle.script_run.specs.Run.{Harm, Run, loosened, no_harm}
 use Rattle.script_run.specs.Turn.{Turn}
 use Rattle.script_run.specs.Behind.{after_line}
 use Rattle.script_run.specs.Takes.{output_of, reading_text}
-use Rattle.run_promise.specs.Outline.{Outline, all_told, begun, begun_by, count_in, raised, told_of, IsAnswered, IsFormatAnswer, attached}
+use Rattle.run_promise.specs.Outline.{Outline, all_told, begun, begun_by, count_in, raised, told_of, IsAnswered, IsFormatAnswer, attached, switch_told, switched, with_told_count, with_told_switch}
 use Rattle.run_promise.specs.Lines.{AreAnswered, IsReadAs, TellsNone, answers_of, outline_of, outline_read, reading_answer, text_of, texts_of}
 
 -- ---- what is printed
@@ -52,6 +52,18 @@ joined_none ended (Some harm) count all =
     let last : max count harm.fault ≡ 0 = All-head IsNone (raised count harm) [] (All-behind IsNone ended (raised count harm ∷ []) all) in
     let mine : harm.fault ≡ 0 = omega (arith, last) in
     (All-append IsNone ended (harm ∷ []) (All-front IsNone ended (raised count harm ∷ []) all) (All-cons IsNone harm [] mine (All-nil IsNone)), λ some. omega (arith, last))
+
+-- whether a device has a switch is no fault
+switched_none : (ended : List Harm) (session : Option Harm) (has : Bool) → All IsNone (ended ++ told_of (option_map (switched has) session))
+    → All IsNone (ended ++ told_of session)
+switched_none ended None has all = all
+switched_none ended (Some harm) has all =
+    All-append IsNone ended (harm ∷ []) (All-front IsNone ended (switched has harm ∷ []) all)
+    (All-cons IsNone harm [] (All-head IsNone (switched has harm) [] (All-behind IsNone ended (switched has harm ∷ []) all)) (All-nil IsNone))
+
+told_none : (o : Outline) (told : Option Bool) → All IsNone (all_told (with_told_switch told o)) → All IsNone (all_told o)
+told_none o None all = all
+told_none o (Some has) all = switched_none o.ended o.session has all
 
 -- so it was before a device was attached
 attached_none : (o : Outline) (name : List ℕ) (said : StepAnswer) → All IsNone (all_told (attached o name said)) → All IsNone (all_told o)
@@ -91,7 +103,7 @@ step_none o _ said is all some = some (is.session tt)
 read_none : (o : Outline) (read : LineAnswer) (said : Option StepAnswer) → IsReadAs o read said → All IsNone (all_told (outline_read o read said)) → TellsNone said × All IsNone (all_told o)
 read_none o (line.Step step) (Some said) is all =
     let next : Outline = begun_by o step said in
-    let here = joined_none next.ended next.session (count_in said) all in
+    let here = joined_none next.ended next.session (count_in said) (told_none (with_told_count next (count_in said)) (switch_told step said) all) in
     (step_none o step said is here.0 here.1, begun_by_none o step said here.0)
 read_none o (line.Step step) None is all = absurd is
 read_none o line.Nothing None is all = (tt, all)

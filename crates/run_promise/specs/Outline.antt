@@ -1,6 +1,6 @@
 -- What the answers of a run tell of its devices, whatever its records are worth: whether a session stands, which
 -- devices were given back, and up to which count their faults were told.
-use Rattle.std.specs.Prelude.{ℕ, ◌≡◌, ◌<◌, ◌⊎◌, max, false, true, List, [], ◌∷◌, ◌++◌, IsSome, Option, Some, None, option_map, ⊤}
+use Rattle.std.specs.Prelude.{ℕ, ◌≡◌, ◌<◌, ◌⊎◌, max, Bool, false, true, List, [], ◌∷◌, ◌++◌, IsSome, Option, Some, None, option_map, ⊤}
 use Rattle.tape_base.specs.declared.geometries.BadGeometry.{BadGeometry}
 use Rattle.tape_base.specs.Limits.{first_refusal}
 use Rattle.cache_model.specs.declared.cause.Cause.{Cause}
@@ -12,7 +12,7 @@ use Rattle.script_grammar.specs.declared.answer.Refused.TheVariants as refused
 use Rattle.script_grammar.specs.declared.answer.StepAnswer.{StepAnswer}
 use Rattle.script_grammar.specs.declared.answer.StepAnswer.TheVariants as answer
 use Rattle.script_run.specs.Run.{Harm, Run, loosened, no_harm}
-use Rattle.script_run.specs.Turn.{Turn}
+use Rattle.script_run.specs.Turn.{Turn, calls_in}
 use Rattle.script_run.specs.Answers.{number_of_bad}
 use Rattle.script_run.specs.Behind.{harm_in}
 use Rattle.run_promise.specs.Needs.{NeedsSession}
@@ -61,11 +61,11 @@ doubted o = record { session = option_map (λ (harm : Harm). record harm { damag
 
 -- a run of which behind a turn only this is known: that the session's device made the calls of that turn
 abbrev pub with_calls_of : Run → Turn → Run
-with_calls_of run turn = record run { calls = turn.device.events ++ run.calls }
+with_calls_of run turn = record run { calls = calls_in turn ++ run.calls }
 
 -- a count that is told raises what was told; of damage it tells nothing, nor of the calls that were made meanwhile
 abbrev pub raised : ℕ → Harm → Harm
-raised count harm = record { fault = max count harm.fault; damaged = harm.damaged; calls = harm.calls; whole = false }
+raised count harm = record { fault = max count harm.fault; damaged = harm.damaged; calls = harm.calls; whole = false; switches = harm.switches }
 
 -- of the device of a session, where there is one
 abbrev pub told_of : Option Harm → List Harm
@@ -97,9 +97,30 @@ begun_by o _ said = o
 abbrev pub with_told_count : Outline → ℕ → Outline
 with_told_count o count = record { session = option_map (raised count) o.session; ended = o.ended; names = o.names }
 
+-- whether a device has a switch, by the answer of a line that is for it
+abbrev pub has_switch_in : StepAnswer → Bool
+has_switch_in (answer.Refused refused.NoSwitch took) = false
+has_switch_in _ = true
+
+-- the same of any line; another one does not tell it
+abbrev pub switch_told : Step → StepAnswer → Option Bool
+switch_told (step.Fail nth) said = Some (has_switch_in said)
+switch_told (step.StopAfter calls) said = Some (has_switch_in said)
+switch_told (step.Flip place byte) said = Some (has_switch_in said)
+switch_told _ said = None
+
+-- that is told of the session's device
+abbrev pub switched : Bool → Harm → Harm
+switched has harm = record harm { switches = has ∷ harm.switches }
+
+-- where it is told
+abbrev pub with_told_switch : Option Bool → Outline → Outline
+with_told_switch None o = o
+with_told_switch (Some has) o = record { session = option_map (switched has) o.session; ended = o.ended; names = o.names }
+
 -- the outline behind a step, by its answer
 abbrev pub outline_after : Outline → Step → StepAnswer → Outline
-outline_after o step said = with_told_count (begun_by o step said) (count_in said)
+outline_after o step said = with_told_switch (switch_told step said) (with_told_count (begun_by o step said) (count_in said))
 
 -- what a format answers, by its numbers: the first one that is refused, or where cursor and floor then stand, if its device
 -- refused no call
@@ -107,11 +128,18 @@ abbrev pub IsFormatAnswer : (content agg : ℕ) → StepAnswer → Option BadGeo
 IsFormatAnswer content agg said (Some bad) = said ≡ answer.Refused (refused.Geometry (number_of_bad bad)) None
 IsFormatAnswer content agg said None = (said ≡ answer.Formatted 1 content agg) ⊎ ((count : ℕ) × (0 < count) × (said ≡ answer.DeviceFault count None))
 
--- the answer that is the step's alone, whatever was recorded: that of a format, and of a moment
+-- the device has a switch, and was told; or it has none
+abbrev pub IsSwitchAnswer : (told said : StepAnswer) → Type 0
+IsSwitchAnswer told said = (said ≡ told) ⊎ (said ≡ answer.Refused refused.NoSwitch None)
+
+-- the answer that is the step's alone, whatever was recorded: that of a format, of a moment, and of a line for the switch
 abbrev pub IsAnswerOf : Step → StepAnswer → Type 0
 IsAnswerOf (step.Format name segments buckets content agg reach fragment generation alternates) said =
     IsFormatAnswer content agg said (first_refusal segments buckets content agg reach fragment alternates)
 IsAnswerOf (step.Now moment) said = said ≡ answer.Now moment
+IsAnswerOf (step.Fail nth) said = IsSwitchAnswer answer.Armed said
+IsAnswerOf (step.StopAfter calls) said = IsSwitchAnswer answer.Armed said
+IsAnswerOf (step.Flip place byte) said = IsSwitchAnswer answer.Flipped said
 IsAnswerOf _ said = ⊤
 
 -- a step that needs a session is answered where there is one, and what no record decides is answered as the step has it

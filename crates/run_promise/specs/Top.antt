@@ -8,7 +8,7 @@ use Rattle.device_bay.specs.Calls.{AttachRefusal}
 use Rattle.script_grammar.specs.declared.last_line.LastLine.{LastLine}
 use Rattle.script_grammar.specs.declared.last_line.LastLine.TheVariants as last
 use Rattle.script_grammar.specs.Texts.{last_line}
-use Rattle.script_run.specs.Ledger.{Ledger, Deals}
+use Rattle.script_run.specs.Ledger.{Ledger, Deals, IsLeftAlone}
 use Rattle.run_promise.specs.declared.status.Status.{Status}
 use Rattle.run_promise.specs.declared.status.Status.TheVariants as status
 use Rattle.run_promise.specs.Story.{Because, IsReadThrough, Refusals, SendsAll, SendsFront, CutsLast, GaveBack, StoryUpTo, DevicesTold, SinkTook, WantsInLine, WantsMemory, all_in, own_loosened}
@@ -100,10 +100,10 @@ pub record IsSteady (device : Device) : Type 0 where
   pub tells : TellsAll device
   pub unfaulted : device.faults ≡ 0
 
--- so did each of these that has a switch
+-- so did each of these that has a switch which was told nothing, and of which no bit was turned
 abbrev pub AreSteadyBySwitch : List Device → Type 0
 AreSteadyBySwitch [] = ⊤
-AreSteadyBySwitch (device ∷ devices) = (device.has_switch ≡ true → IsSteady device) × AreSteadyBySwitch devices
+AreSteadyBySwitch (device ∷ devices) = (device.has_switch ≡ true → IsLeftAlone device.past → IsSteady device) × AreSteadyBySwitch devices
 
 -- so did each of those that came back since
 pub record ComeBackSteady (old new : List Device) : Type 0 where

@@ -2,7 +2,7 @@
 use Rattle.std.proofs.Common.{List, Option, Some, None, refl, inl, inr}
 use Rattle.device_log.specs.Streams.{SourceRead, SinkWrite}
 use Rattle.script_run.specs.Ledger.{Ledger}
-use Rattle.command_words.specs.Words.{MayWantMemory, Wish, help, version, replay, inspect}
+use Rattle.command_words.specs.Words.{MayWantMemory, Wish, help, version, replay, work, inspect, check}
 use Rattle.run_promise.specs.declared.status.Status.TheVariants as status
 use Rattle.run_promise.specs.Story.{Refusals}
 use Rattle.run_promise.specs.Top.{EachBack, EachBackOrMore}
@@ -17,6 +17,8 @@ module _ (first : List SourceRead) (old : List SinkWrite) (bay : Refusals) (befo
   unread_words (Some help) may = absurd may
   unread_words (Some version) may = absurd may
   unread_words (Some replay) may = nothing_ends first old (EachBack before before) (EachBackOrMore before before) (λ t none own names. inl (nothing_back before t none own names)) bay
+  unread_words (Some (work workers)) may = (inr (refl, refl), (refl, refl))
+  unread_words (Some (check name)) may = (inr (refl, refl), (refl, refl))
   unread_words (Some (inspect name)) may = (refl, inr (inr (record { wants = (refl, refl); unattached = refl })))
 
 pub unread_usage : (wish : Option Wish) → IsUsageBy wish status.OutOfMemory
@@ -24,6 +26,8 @@ unread_usage None = inr refl
 unread_usage (Some help) = λ e. cc
 unread_usage (Some version) = λ e. cc
 unread_usage (Some replay) = λ e. cc
+unread_usage (Some (work workers)) = inr refl
+unread_usage (Some (check name)) = inr refl
 unread_usage (Some (inspect name)) = λ e. cc
 
 -- no attach was refused
@@ -32,4 +36,6 @@ unread_refusals None past = inl refl
 unread_refusals (Some help) past = inl refl
 unread_refusals (Some version) past = inl refl
 unread_refusals (Some replay) past = inl refl
+unread_refusals (Some (work workers)) past = inl refl
+unread_refusals (Some (check name)) past = inl refl
 unread_refusals (Some (inspect name)) past = inl refl

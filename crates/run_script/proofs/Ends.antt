@@ -70,7 +70,7 @@ module _ (first now : List SourceRead) (taken_first taken : List SinkWrite) (led
       inr (along_with story.lines story.answers (λ t. Deals ledger_first ledger t.ended t.names) Devices Outlined Behind (λ o deals is. settle (told_by o) deals (reach o is)) behind along)
 
   -- the story as it stands
-  still : (Text : (before all : List ℕ) → Type 0) (Devices : DevicesTold → Type 0) (Behind : Outline → Type 0) → Text (texts_before story.answers) (texts_of story.answers)
+  pub still : (Text : (before all : List ℕ) → Type 0) (Devices : DevicesTold → Type 0) (Behind : Outline → Type 0) → Text (texts_before story.answers) (texts_of story.answers)
       → ((t : DevicesTold) → Deals ledger_first ledger t.ended t.names → Reached t.own → Devices t) → ((o : Outline) → Outlined o → Behind o) → Story first now unread given Text Devices Behind (λ run. Unit {0})
   still Text Devices Behind text settle behind = record {
     reads = story.reads;
@@ -84,7 +84,7 @@ module _ (first now : List SourceRead) (taken_first taken : List SinkWrite) (led
     records = still_recorded Devices Behind settle behind story.records;
   }
 
-  owes : (t : DevicesTold) → Deals ledger_first ledger t.ended t.names → Reached t.own → Owes ledger_first ledger Reached t
+  pub owes : (t : DevicesTold) → Deals ledger_first ledger t.ended t.names → Reached t.own → Owes ledger_first ledger Reached t
   owes t deals reached = record { deals = deals; reached = reached }
 
   abbrev Wants : List ℕ → ℕ → DevicesTold → Type 0

@@ -1,18 +1,17 @@
 -- What comes of an inspection, by the calls of its bay and of its device.
 use Rattle.std.proofs.Common.{◌≡◌, ℕ, ◌+◌, Bool, List, [], ◌∷◌, ◌++◌, length, length-append, Result, Ok, Err, Some, refl, sym, ap, subst, ◌∙◌, inl, inr, ◌⊎◌, arith}
-use Rattle.std.specs.Prelude.{◌≢◌, IfErr, IfOk, string_bytes}
+use Rattle.std.specs.Prelude.{◌≢◌, IfErr, IfOk, OnOk, string_bytes}
 use Rattle.device_log.specs.Image.{Image}
-use Rattle.device_log.specs.Calls.{Call}
 use Rattle.device_log.specs.Streams.{SinkWrite, SourceRead}
 use Rattle.logged_disk.specs.Device.{DeviceState as Device}
 use Rattle.device_bay.specs.Calls.{AttachRefusal, BayCall, Gave, Gift, RefusedAttach, TookBack, gifts_of, names_of, number_behind, out_of, refusals_of, returned_by}
 use Rattle.device_bay.specs.Bay.{IsNewDevice}
 use Rattle.command_words.specs.Words.{inspect}
-use Rattle.script_run.specs.Ledger.{InOrder, IsLeftAlone, Ledger, ledger_behind}
+use Rattle.script_run.specs.Ledger.{InOrder, Ledger, ledger_behind}
 use Rattle.device_reads.specs.declared.reads.ReadFault.{ReadFault}
 use Rattle.device_reads.specs.declared.reads.ReadFault.TheVariants.{DeviceFault, Memory}
 use Rattle.device_reads.specs.Reads.{AreReads, Fails, Reads, Tell}
-use Rattle.device_reads.proofs.Telling.{reads_as, reads_uncut, reads_unturned, reads_untold, whole_few, whole_reads, whole_tells}
+use Rattle.device_reads.proofs.Telling.{reads_as, whole_few, whole_reads, whole_tells}
 use Rattle.inspections.specs.declared.device.Inspection.{Inspection}
 use Rattle.inspections.specs.Inspect.{Says}
 use Rattle.run_promise.specs.declared.status.Status.{Status}
@@ -21,10 +20,6 @@ use Rattle.run_promise.specs.Story.{Refusals, refusals_around}
 use Rattle.run_promise.specs.Top.{ReadsFailed}
 use Rattle.run_script.specs.Commands.{RefusesAs}
 use Rattle.run_script.specs.Inspects.{FaultsInspection, Inspects, InspectsDevice, PrintsFault, PrintsInspection, PrintsLines, PrintsSaid, WantsInspection}
-
--- a device that was read alone was left alone
-pub left_alone : (low high : ℕ) (made : List Call) → AreReads low high made → IsLeftAlone made
-left_alone low high made is = record { untold = reads_untold low high made is; uncut = reads_uncut low high made is; unturned = reads_unturned low high made is }
 
 -- a device was attached and came back
 module _ (name : List ℕ) (past later : List BayCall) (device : Device) (is : later ≡ TookBack device ∷ Gave name 0 ∷ past) where
@@ -40,8 +35,8 @@ module _ (name : List ℕ) (past later : List BayCall) (device : Device) (is : l
   pub out_is : out_of later ≡ out_of past
   out_is = let same = ap out_of is in omega (arith, same)
 
-  pub order_is : device.number ≡ number_behind (length (gifts_of past)) → IsLeftAlone device.past → InOrder (length (gifts_of past)) [] past later
-  order_is number alone =
+  pub order_is : device.number ≡ number_behind (length (gifts_of past)) → InOrder (length (gifts_of past)) [] past later
+  order_is number =
       let gift : Gift = record { name = name; blocks = 0 } in
       let gifts : length (gifts_of later) ≡ length (gifts_of past ++ gift ∷ []) = ap (λ l. length (gifts_of l)) is in
       let more : length (gifts_of past ++ gift ∷ []) ≡ length (gifts_of past) + 1 = length-append (gifts_of past) (gift ∷ []) in
@@ -49,8 +44,7 @@ module _ (name : List ℕ) (past later : List BayCall) (device : Device) (is : l
         devices = device ∷ [];
         returned = returned_are;
         numbered = (number, tt);
-        alone = (alone, tt);
-        rest = record { numbered = tt; alone = tt; all = omega (arith, gifts, more) };
+        rest = record { numbered = tt; all = omega (arith, gifts, more) };
       }
 
 -- the device was inspected, or it or memory failed
@@ -75,10 +69,11 @@ module _ (name : List ℕ) (past later : List BayCall) (old new : List SinkWrite
   abbrev SaysOf : Inspection → Image → Type 0
   SaysOf said c = Says fresh.size c (string_bytes said.text) said.opens
 
-  printed : (said : Inspection) → Reads 0 fresh.size 4 fresh device (SaysOf said) → PrintsLines (string_bytes said.text) said.opens old new s → PrintsInspection device old new s
-  printed said reads out = record {
+  printed : (said : Inspection) → Reads 0 fresh.size 4 fresh device (SaysOf said) → device.faults ≡ fresh.faults → PrintsLines (string_bytes said.text) said.opens old new s → PrintsInspection device old new s
+  printed said reads same out = record {
     text = string_bytes said.text;
     opens = said.opens;
+    unrefused = same ∙ begins.faults;
     says = subst (λ (n : ℕ). Tell device.past (λ c. Says n c (string_bytes said.text) said.opens)) (size_is (SaysOf said) reads) (whole_tells 0 fresh.size 4 fresh device (SaysOf said) begins.past_is reads);
     out = out;
   }
@@ -87,11 +82,12 @@ module _ (name : List ℕ) (past later : List BayCall) (old new : List SinkWrite
   faulted count fails (inl out) = inr (inl (record { count = count; last_call = fails.1; out = out }))
   faulted count fails (inr wants) = inr (inr wants)
 
-  pub inspected : (said : Result Inspection ReadFault) → IfOk said (λ i. Reads 0 fresh.size 4 fresh device (SaysOf i)) → IfErr said (Fails 0 fresh.size 4 fresh device) → PrintsSaid said old new s
+  pub inspected : (said : Result Inspection ReadFault) → IfOk said (λ i. Reads 0 fresh.size 4 fresh device (SaysOf i)) → OnOk said (device.faults ≡ fresh.faults)
+      → IfErr said (Fails 0 fresh.size 4 fresh device) → PrintsSaid said old new s
       → Inspects name old new (refusals_around (refusals_of past) (refusals_of later)) (ledger_behind past) (ledger_behind later) s
-  inspected (Ok said) reads fails out = inl (came_back (SaysOf said) reads (inl (printed said reads out)))
-  inspected (Err (DeviceFault count)) reads fails out = inl (came_back (λ c. Unit {0}) fails.0 (faulted count fails out))
-  inspected (Err (Memory e)) reads fails out = inl (came_back (λ c. Unit {0}) fails.0 (inr (inr out)))
+  inspected (Ok said) reads same fails out = inl (came_back (SaysOf said) reads (inl (printed said reads same out)))
+  inspected (Err (DeviceFault count)) reads same fails out = inl (came_back (λ c. Unit {0}) fails.0 (faulted count fails out))
+  inspected (Err (Memory e)) reads same fails out = inl (came_back (λ c. Unit {0}) fails.0 (inr (inr out)))
 
   was_read : (said : Result Inspection ReadFault) → IfOk said (λ i. Reads 0 fresh.size 4 fresh device (SaysOf i)) → IfErr said (Fails 0 fresh.size 4 fresh device)
       → Reads 0 fresh.size 4 fresh device (λ c. Unit {0})
@@ -103,7 +99,6 @@ module _ (name : List ℕ) (past later : List BayCall) (old new : List SinkWrite
   inspected_order said reads fails =
       let read = was_read said reads fails in
       order_is name past later device is (read.keeps.number ∙ begins.number_is)
-      (left_alone 0 fresh.size device.past (whole_reads 0 fresh.size 4 fresh device (λ c. Unit {0}) begins.past_is read))
 
 -- the attach was refused
 module _ (name : List ℕ) (past later : List BayCall) (count : ℕ) (is : later ≡ RefusedAttach name 0 count ∷ past) where

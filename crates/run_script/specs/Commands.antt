@@ -4,7 +4,7 @@ use Rattle.device_log.specs.Streams.{SourceRead, SinkWrite}
 use Rattle.script_grammar.specs.declared.last_line.LastLine.TheVariants as last
 use Rattle.script_grammar.specs.Texts.{last_line}
 use Rattle.script_run.specs.Ledger.{Ledger}
-use Rattle.command_words.specs.Words.{Wish, help, version, replay, inspect}
+use Rattle.command_words.specs.Words.{Wish, help, version, replay, work, inspect, check}
 use Rattle.command_words.specs.Texts.{help_text, version_text}
 use Rattle.run_promise.specs.declared.status.Status.{Status}
 use Rattle.run_promise.specs.declared.status.Status.TheVariants as status
@@ -17,7 +17,7 @@ use Rattle.run_script.specs.Inspects.{Inspects}
 abbrev pub PrintsText : (old new : List SinkWrite) → (text : List ℕ) → Status → Type 0
 PrintsText old new text s = ((s ≡ status.Done) × SinkTook old new text) ⊎ ((s ≡ status.WriteFault) × SendsFront old new [] text)
 
--- the last line for words that are no command went out, or a front of it; or memory was wanting to read them, and nothing did
+-- the last line for words that the program does not run went out, or a front of it; or memory was wanting to read them, and nothing did
 abbrev pub RefusesWords : (old new : List SinkWrite) → Status → Type 0
 RefusesWords old new s = ((s ≡ status.Usage) × WentOut old new [] (last_line last.Usage)) ⊎ ((s ≡ status.OutOfMemory) × (new ≡ old))
 
@@ -25,17 +25,22 @@ RefusesWords old new s = ((s ≡ status.Usage) × WentOut old new [] (last_line 
 abbrev pub LeavesAlone : (first read : List SourceRead) → (before now : Ledger) → Type 0
 LeavesAlone first read before now = (read ≡ first) × (now ≡ before)
 
--- What a status says, by what the words ask for: `replay` as `Concludes` has it, and an inspection as `Inspects` does.
+-- What a status says, by what the words ask for: `replay` as `Concludes` has it, and an inspection as `Inspects` does. The
+-- program runs no `work` and no `check`.
 abbrev pub ConcludesAs : Option Wish → (first read : List SourceRead) → (old new : List SinkWrite) → (bay : Refusals) → (before now : Ledger) → Status → Type 0
 ConcludesAs None first read old new bay before now s = RefusesWords old new s × LeavesAlone first read before now
 ConcludesAs (Some help) first read old new bay before now s = PrintsText old new help_text s × LeavesAlone first read before now
 ConcludesAs (Some version) first read old new bay before now s = PrintsText old new version_text s × LeavesAlone first read before now
 ConcludesAs (Some replay) first read old new bay before now s = Concludes first read old new bay before now s
+ConcludesAs (Some (work workers)) first read old new bay before now s = RefusesWords old new s × LeavesAlone first read before now
+ConcludesAs (Some (check name)) first read old new bay before now s = RefusesWords old new s × LeavesAlone first read before now
 ConcludesAs (Some (inspect name)) first read old new bay before now s = (read ≡ first) × Inspects name old new bay before now s
 
--- the status is Usage where the words are no command, or else that of want of memory; and nowhere else
+-- the status is Usage where the words are no command that the program runs, or else that of want of memory; and nowhere else
 abbrev pub IsUsageBy : Option Wish → Status → Type 0
 IsUsageBy None s = (s ≡ status.Usage) ⊎ (s ≡ status.OutOfMemory)
+IsUsageBy (Some (work workers)) s = (s ≡ status.Usage) ⊎ (s ≡ status.OutOfMemory)
+IsUsageBy (Some (check name)) s = (s ≡ status.Usage) ⊎ (s ≡ status.OutOfMemory)
 IsUsageBy (Some wish) s = s ≢ status.Usage
 
 -- Which attaches were refused, by what the words ask for. An inspection ends with BayFault where its attach was, and also

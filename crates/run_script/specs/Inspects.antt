@@ -38,10 +38,11 @@ PrintsSaid (Ok said) old new s = PrintsLines (string_bytes said.text) said.opens
 PrintsSaid (Err (DeviceFault count)) old new s = PrintsFault old new s ⊎ WantsInspection old new s
 PrintsSaid (Err (Memory e)) old new s = WantsInspection old new s
 
--- the lines went out that an inspection has of each image with which the reads of the device agree
+-- no read failed, and the lines went out that an inspection has of each image with which the reads of the device agree
 pub record PrintsInspection (device : Device) (old new : List SinkWrite) (s : Status) : Type 0 where
   pub text : List ℕ
   pub opens : Bool
+  pub unrefused : device.faults ≡ 0
   pub says : Tell device.past (λ c. Says device.size c text opens)
   pub out : PrintsLines text opens old new s
 

@@ -6,4 +6,5 @@ mod lines;
 mod run;
 mod words;
 
-pub use words::run_words;
+pub use run::{Ending, Halt, ending_of, last_of, take_step};
+pub use words::{conclude, run_command, run_words};

@@ -17,7 +17,7 @@ ghost use Rattle.run_script.specs.Halt.{AnswerIsUnwritten, AnswerIsWritten, Step
 ghost use Rattle.run_script.specs.Ending.{EndsRun, FailedReads, IsOfRun, is_bay_ending};
 
 use crate::lines::{Reading, next_reading};
-use cache_calls::Formats;
+use cache_calls::{Formats, Powered};
 use cache_replay::{Session, Stop, step};
 use device_bay::Bay;
 use edge_io::{LineFault, LineReader, MAX_LINES, Sink, Source};
@@ -27,7 +27,7 @@ use std::alloc::Global;
 
 /// How a run of lines ends.
 #[derive(Clone, Copy, Debug)]
-pub(crate) enum Ending {
+pub enum Ending {
     Done,
     Stopped(LastLine),
     WriteFault,
@@ -36,7 +36,7 @@ pub(crate) enum Ending {
 
 /// Why a step ends the run.
 #[derive(Debug, Drop)]
-pub(crate) enum Halt {
+pub enum Halt {
     /// It was not done.
     Stop(Stop),
     WriteFault,
@@ -61,7 +61,7 @@ fn write_answer<K: Sink>(alloc: Global, sink: &mut K, said: &StepAnswer) -> Resu
 }
 
 /// Does a step, and writes its answer out.
-fn take_step<K: Sink, B: Bay, C: Formats<B::Dev>>(
+pub fn take_step<K: Sink, B: Bay, C: Formats<B::Dev> + Powered>(
     alloc: Global,
     sink: &mut K,
     bay: &mut B,
@@ -93,7 +93,7 @@ fn take_step<K: Sink, B: Bay, C: Formats<B::Dev>>(
 }
 
 /// The last line that a fault of the reader asks for.
-fn last_of(fault: LineFault) -> LastLine
+pub fn last_of(fault: LineFault) -> LastLine
     ensures { result ≡ last_of fault }
 {
     match fault {
@@ -104,7 +104,7 @@ fn last_of(fault: LineFault) -> LastLine
 }
 
 /// How the run ends at this line.
-fn ending_of(line: u64, halt: Halt) -> Ending
+pub fn ending_of(line: u64, halt: Halt) -> Ending
     ensures { result ≡ ending_of line halt }
 {
     match halt {
@@ -116,7 +116,7 @@ fn ending_of(line: u64, halt: Halt) -> Ending
 }
 
 /// Does what the next line asks for, or ends the run.
-fn line<S: Source, K: Sink, B: Bay, C: Formats<B::Dev>>(
+fn line<S: Source, K: Sink, B: Bay, C: Formats<B::Dev> + Powered>(
     alloc: Global,
     reader: &mut LineReader<'_, S>,
     sink: &mut K,
@@ -177,7 +177,7 @@ fn line<S: Source, K: Sink, B: Bay, C: Formats<B::Dev>>(
 }
 
 /// Does what each line asks for, up to the end of the script or to what ends the run.
-pub(crate) fn run_lines<S: Source, K: Sink, B: Bay, C: Formats<B::Dev>>(
+pub(crate) fn run_lines<S: Source, K: Sink, B: Bay, C: Formats<B::Dev> + Powered>(
     alloc: Global,
     reader: &mut LineReader<'_, S>,
     sink: &mut K,

@@ -14,7 +14,7 @@ ghost use Rattle.run_promise.specs.Top.{WentOut, EachBack, EachBackOrMore, Reads
 
 use crate::inspect::inspect_named;
 use crate::run::{Ending, run_lines};
-use cache_calls::Formats;
+use cache_calls::{Formats, Powered};
 use cache_replay::{Session, begin, close};
 use command_words::{Command, help_text, read_words, version_text};
 use device_bay::Bay;
@@ -47,7 +47,7 @@ pub(crate) fn send<K: Sink>(sink: &mut K, text: &str)
 }
 
 /// Writes the last line of a run that ends early.
-pub(crate) fn conclude<K: Sink>(alloc: Global, sink: &mut K, last: LastLine) -> Status
+pub fn conclude<K: Sink>(alloc: Global, sink: &mut K, last: LastLine) -> Status
     ensures said { ((result ≡ Status.OutOfMemory) × (K.writes sink.new ≡ K.writes sink.old))
         ⊎ ((result ≡ status_of last) × WentOut (K.writes sink.old) (K.writes sink.new) [] (last_line last)) }
     ensures grows { Grows (K.writes sink.old) (K.writes sink.new) }
@@ -83,7 +83,7 @@ fn refuse<K: Sink>(sink: &mut K) -> Status
 }
 
 /// Runs a script.
-fn replay<S: Source, K: Sink, B: Bay, C: Formats<B::Dev>>(
+fn replay<S: Source, K: Sink, B: Bay, C: Formats<B::Dev> + Powered>(
     alloc: Global,
     source: &mut S,
     sink: &mut K,
@@ -112,7 +112,7 @@ fn replay<S: Source, K: Sink, B: Bay, C: Formats<B::Dev>>(
 }
 
 /// Runs the script that the source holds, and writes its last line where it ends early.
-fn replay_through<S: Source, K: Sink, B: Bay, C: Formats<B::Dev>>(
+fn replay_through<S: Source, K: Sink, B: Bay, C: Formats<B::Dev> + Powered>(
     alloc: Global,
     source: &mut S,
     sink: &mut K,
@@ -138,7 +138,7 @@ fn replay_through<S: Source, K: Sink, B: Bay, C: Formats<B::Dev>>(
 }
 
 /// Runs a command, or says that there is none.
-fn run_command<S: Source, K: Sink, B: Bay, C: Formats<B::Dev>>(
+pub fn run_command<S: Source, K: Sink, B: Bay, C: Formats<B::Dev> + Powered>(
     alloc: Global,
     command: Option<Command<'_>>,
     source: &mut S,
@@ -161,13 +161,13 @@ fn run_command<S: Source, K: Sink, B: Bay, C: Formats<B::Dev>>(
         Some(Command::Version) => print(sink, version_text()),
         Some(Command::Replay) => replay_through::<S, K, B, C>(alloc, source, sink, bay),
         Some(Command::Inspect { name }) => inspect_named(alloc, name, sink, bay),
-        None => refuse(sink),
+        Some(Command::Work { .. } | Command::Check { .. }) | None => refuse(sink),
     }
 }
 
 /// Runs the command that the words give, by a cache of the type `C`: `replay` runs the script that the source holds,
 /// and `inspect` reads a device.
-pub fn run_words<S: Source, K: Sink, B: Bay, C: Formats<B::Dev>>(
+pub fn run_words<S: Source, K: Sink, B: Bay, C: Formats<B::Dev> + Powered>(
     alloc: Global,
     words: &[String],
     source: &mut S,

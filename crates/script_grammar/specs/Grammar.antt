@@ -10,7 +10,7 @@ use Rattle.script_grammar.specs.declared.step.Step.TheVariants as step
 use Rattle.script_grammar.specs.declared.verb.Verb.{Verb}
 use Rattle.script_grammar.specs.declared.verb.Verb.TheVariants as verb
 use Rattle.script_grammar.specs.Words.{WordAt, bad, take_word, take_end, words_from, ◌>>=◌}
-use Rattle.script_grammar.specs.Tokens.{number_below, object_of, body_of_word, actor_of_word}
+use Rattle.script_grammar.specs.Tokens.{count_below, number_below, object_of, body_of_word, actor_of_word}
 use Rattle.script_grammar.specs.Fields.{fields_after, no_fields}
 use Rattle.script_grammar.specs.Verbs.{same_word, verb_of}
 
@@ -147,6 +147,29 @@ now_of end words = do
   done ← take_end moment.1
   Ok (step.Now moment.0)
 
+-- fail NTH
+unfoldable pub fail_of : ℕ → List WordAt → Result Step BadLine
+fail_of end words = do
+  w ← take_word end words
+  nth ← count_below (2 ^ 64) w.0
+  done ← take_end w.1
+  Ok (step.Fail nth)
+
+-- stop-after CALLS
+unfoldable pub stop_of : ℕ → List WordAt → Result Step BadLine
+stop_of end words = do
+  calls ← take_number (2 ^ 64) end words
+  done ← take_end calls.1
+  Ok (step.StopAfter calls.0)
+
+-- flip PLACE BYTE, a byte of a block
+unfoldable pub flip_of : ℕ → List WordAt → Result Step BadLine
+flip_of end words = do
+  place ← take_number (2 ^ 64) end words
+  byte ← take_number 512 end place.1
+  done ← take_end byte.1
+  Ok (step.Flip place.0 byte.0)
+
 -- the step of a verb and the words behind it
 abbrev pub step_by : ℕ → Verb → List WordAt → Result Step BadLine
 step_by end verb.Format words = format_of end words
@@ -162,6 +185,9 @@ step_by end verb.Done words = by_actor end words step.Done
 step_by end verb.Remove words = remove_of end words
 step_by end verb.Flush words = flush_of words
 step_by end verb.Now words = now_of end words
+step_by end verb.Fail words = fail_of end words
+step_by end verb.StopAfter words = stop_of end words
+step_by end verb.Flip words = flip_of end words
 
 -- a first word that is no verb is the fault, at its own column, whatever follows
 abbrev pub step_named : ℕ → WordAt → Option Verb → List WordAt → Result Step BadLine

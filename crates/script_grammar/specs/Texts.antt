@@ -81,6 +81,7 @@ refusal_text refused.Sealed = codes "sealed"
 refusal_text refused.Exhausted = codes "exhausted"
 refusal_text refused.Busy = codes "busy"
 refusal_text refused.Idle = codes "idle"
+refusal_text refused.NoSwitch = codes "no-switch"
 refusal_text (refused.SyncRunning serial) = numbered (codes "sync-running") serial
 refusal_text refused.NoSync = codes "no-sync"
 refusal_text (refused.StillOpen writers readers) = open_text writers readers
@@ -152,6 +153,14 @@ why_line word why = cause_line word why
 unfoldable pub done_line : List ℕ
 done_line = codes "done" ++ newline
 
+-- the switch was told which calls fail
+unfoldable pub armed_line : List ℕ
+armed_line = codes "armed" ++ newline
+
+-- a bit was turned
+unfoldable pub flipped_line : List ℕ
+flipped_line = codes "flipped" ++ newline
+
 -- the line of an answer
 abbrev pub answer_line : StepAnswer → List ℕ
 answer_line (answer.Formatted serial cursor floor) = formatted_line serial cursor floor
@@ -172,6 +181,8 @@ answer_line (answer.Removed put) = number_line (codes "removed") put
 answer_line (answer.Absent why) = why_line (codes "absent") why
 answer_line (answer.Flushed blocks cursor floor synced) = flushed_line blocks cursor floor synced
 answer_line (answer.Now moment) = number_line (codes "now") moment
+answer_line answer.Armed = armed_line
+answer_line answer.Flipped = flipped_line
 answer_line (answer.Refused why took) = refused_line why took
 answer_line (answer.DeviceFault count took) = fault_line count took
 

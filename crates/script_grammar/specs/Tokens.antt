@@ -8,7 +8,7 @@ use Rattle.tape_base.specs.declared.keys.Key.{Key}
 use Rattle.tape_base.specs.Key.{key_of_bytes, key_of_url}
 use Rattle.script_grammar.specs.declared.line.BadKind.TheVariants as kind
 use Rattle.script_grammar.specs.declared.line.BadLine.{BadLine}
-use Rattle.script_grammar.specs.Words.{WordAt, bad}
+use Rattle.script_grammar.specs.Words.{WordAt, bad, ◌>>=◌}
 
 -- ---- numbers
 
@@ -45,6 +45,12 @@ below limit w None = Err (bad w.column kind.Number)
 -- a word as a number below a limit; any other is a `number` fault at its column
 unfoldable pub number_below : ℕ → WordAt → Result ℕ BadLine
 number_below limit w = below limit w (number_of_word w.bytes)
+
+-- a number from 1 on
+unfoldable pub count_below : ℕ → WordAt → Result ℕ BadLine
+count_below limit w = do
+  n ← number_below limit w
+  if n == 0 then Err (bad w.column kind.Number) else Ok n
 
 -- ---- objects
 

@@ -24,4 +24,7 @@ verb_of word =
     else if same_word word (codes "remove") then Some verb.Remove
     else if same_word word (codes "flush") then Some verb.Flush
     else if same_word word (codes "now") then Some verb.Now
+    else if same_word word (codes "fail") then Some verb.Fail
+    else if same_word word (codes "stop-after") then Some verb.StopAfter
+    else if same_word word (codes "flip") then Some verb.Flip
     else None

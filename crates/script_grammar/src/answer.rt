@@ -21,6 +21,8 @@ pub enum Refused {
     Busy,
     /// The actor lacks the writer or the reader.
     Idle,
+    /// The device has no switch.
+    NoSwitch,
     /// The sync of this serial is written in parts.
     SyncRunning { serial: u64 },
     /// No sync is written in parts.
@@ -95,6 +97,10 @@ pub enum StepAnswer {
     Now {
         moment: u64,
     },
+    /// The switch was told which calls fail.
+    Armed,
+    /// A bit was turned.
+    Flipped,
     /// `took` is there for a line that gives bytes: how many of them the writer took.
     Refused {
         why: Refused,

@@ -99,4 +99,17 @@ pub enum Step {
     Now {
         moment: u64,
     },
+    /// The nth read, write or sync of the device from now on fails.
+    Fail {
+        nth: u64,
+    },
+    /// So many reads, writes and syncs of the device pass, and all later ones fail until a cut.
+    StopAfter {
+        calls: u64,
+    },
+    /// Turns the lowest bit of one byte of the block of a place.
+    Flip {
+        place: u64,
+        byte: u32,
+    },
 }

@@ -15,4 +15,7 @@ pub enum Verb {
     Remove,
     Flush,
     Now,
+    Fail,
+    StopAfter,
+    Flip,
 }

@@ -15,9 +15,9 @@ use Rattle.script_grammar.specs.declared.step.Step.TheVariants as step
 use Rattle.script_grammar.specs.declared.verb.Verb.{Verb}
 use Rattle.script_grammar.specs.declared.verb.Verb.TheVariants as verb
 use Rattle.script_grammar.specs.Words.{WordAt, is_word_byte, located}
-use Rattle.script_grammar.specs.Tokens.{is_digit, is_actor_byte, actor_of_word}
+use Rattle.script_grammar.specs.Tokens.{is_digit, is_actor_byte, actor_of_word, count_below}
 use Rattle.script_grammar.specs.Verbs.{same_word, verb_of}
-use Rattle.script_grammar.specs.Grammar.{take_number, alternates_kept, format_of_numbers, format_of, put_line_of, get_of, take_actor, open_write_of, data_of, open_read_of, only_actor, by_actor, remove_of, now_of, step_by, step_of, is_passed_over, reading_of}
+use Rattle.script_grammar.specs.Grammar.{take_number, alternates_kept, format_of_numbers, format_of, put_line_of, get_of, take_actor, open_write_of, data_of, open_read_of, only_actor, by_actor, remove_of, now_of, fail_of, stop_of, flip_of, step_by, step_of, is_passed_over, reading_of}
 use Rattle.script_lang.specs.Spelled.{FitsFormat, HoldsFields, IsActor, IsKey, SpelledIsRead, alternates_words, body_word, key_word, request_words, response_words, spelled_step, step_words}
 use Rattle.script_lang.proofs.Joined.{IsWord, all_wider, words_joined}
 use Rattle.script_lang.proofs.Numbers.{number_below-decimal, all_digits-decimal}
@@ -159,6 +159,28 @@ now_read : (end column at : ℕ) → at < 2 ^ 64 → now_of end (located column 
 unfolding now_of
 now_read end column at fits = rw (long_taken end column at [] fits) refl
 
+-- a number that is not 0
+count_read : (column n : ℕ) → 0 < n → n < 2 ^ 64 → count_below (2 ^ 64) (record { column = column; bytes = decimal n }) ≡ Ok n
+unfolding count_below
+count_read column n some fits =
+    let above : (n == 0) ≡ false = grind (arith, nat_tests) in
+    rw (number_below-decimal (2 ^ 64) column n fits fits, above) refl
+
+fail_read : (end column nth : ℕ) → 0 < nth → nth < 2 ^ 64 → fail_of end (located column (decimal nth ∷ [])) ≡ Ok (step.Fail nth)
+unfolding fail_of
+fail_read end column nth some fits = rw (decimal_is_word nth fits, count_read column nth some fits) refl
+
+stop_read : (end column calls : ℕ) → calls < 2 ^ 64 → stop_of end (located column (decimal calls ∷ [])) ≡ Ok (step.StopAfter calls)
+unfolding stop_of
+stop_read end column calls fits = rw (long_taken end column calls [] fits) refl
+
+byte_taken : (end column n : ℕ) (words : List WordAt) → n < 512 → take_number 512 end (record { column = column; bytes = decimal n } ∷ words) ≡ Ok (n, words)
+byte_taken end column n words h = number_taken 512 end column n words h (omega (arith, h))
+
+flip_read : (end column place byte : ℕ) → place < 2 ^ 64 → byte < 512 → flip_of end (located column (decimal place ∷ decimal byte ∷ [])) ≡ Ok (step.Flip place byte)
+unfolding flip_of
+flip_read end column place byte fits small = rw (long_taken end column place _ fits, byte_taken end _ byte [] small) refl
+
 by_actor_read : (end column : ℕ) (actor : List ℕ) (make : List ℕ → Step) → IsActor actor → by_actor end (located column (actor ∷ [])) make ≡ Ok (make actor)
 by_actor_read end column actor make who = rw (only_actor_read end column actor who) refl
 
@@ -188,3 +210,10 @@ spelled_is_read (step.Done actor) h = step_read _ _ _ verb.Done _ refl refl (ref
 spelled_is_read (step.Remove object) h = step_read _ _ _ verb.Remove _ refl refl (refl, (key_word_is_word object, tt)) refl (λ end column. remove_read end column object h)
 spelled_is_read step.Flush h = step_read _ _ _ verb.Flush _ refl refl (refl, tt) refl (λ end column. refl)
 spelled_is_read (step.Now at) h = step_read _ _ _ verb.Now _ refl refl (refl, (decimal_is_word at h, tt)) refl (λ end column. now_read end column at h)
+spelled_is_read (step.Fail nth) h =
+    step_read _ _ _ verb.Fail _ refl refl (refl, (decimal_is_word nth h.1, tt)) refl (λ end column. fail_read end column nth h.0 h.1)
+spelled_is_read (step.StopAfter calls) h =
+    step_read _ _ _ verb.StopAfter _ refl refl (refl, (decimal_is_word calls h, tt)) refl (λ end column. stop_read end column calls h)
+spelled_is_read (step.Flip place byte) h =
+    step_read _ _ _ verb.Flip _ refl refl (refl, (decimal_is_word place h.0, (decimal_is_word byte (omega (arith, h.1)), tt))) refl
+    (λ end column. flip_read end column place byte h.0 h.1)

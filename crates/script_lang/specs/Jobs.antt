@@ -20,10 +20,13 @@ in_range workers w n = if (n == 0) || nat_lt workers n then Err (bad w.column ki
 abbrev pub worker_of : ℕ → WordAt → Result ℕ BadLine
 worker_of workers w = number_below (2 ^ 32) w >>= in_range workers w
 
--- a verb whose step works on a session: any but a format's and a moment's
+-- a verb whose step works on a session: any but that of a format, of a moment, and of a line for a device's switch
 abbrev pub is_job_verb : Verb → Bool
 is_job_verb verb.Format = false
 is_job_verb verb.Now = false
+is_job_verb verb.Fail = false
+is_job_verb verb.StopAfter = false
+is_job_verb verb.Flip = false
 is_job_verb _ = true
 
 -- a word that is no such verb is the fault, whatever follows

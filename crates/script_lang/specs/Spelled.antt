@@ -68,6 +68,9 @@ step_words (step.Done actor) = codes "done" ∷ actor ∷ []
 step_words (step.Remove object) = codes "remove" ∷ key_word object ∷ []
 step_words step.Flush = codes "flush" ∷ []
 step_words (step.Now moment) = codes "now" ∷ decimal moment ∷ []
+step_words (step.Fail nth) = codes "fail" ∷ decimal nth ∷ []
+step_words (step.StopAfter calls) = codes "stop-after" ∷ decimal calls ∷ []
+step_words (step.Flip place byte) = codes "flip" ∷ decimal place ∷ decimal byte ∷ []
 
 -- the line of a step: its words with a space between any two
 abbrev pub spelled_step : Step → List ℕ
@@ -120,6 +123,9 @@ HasSpelling (step.Done actor) = IsActor actor
 HasSpelling (step.Remove object) = IsKey object
 HasSpelling step.Flush = ⊤
 HasSpelling (step.Now moment) = moment < 2 ^ 64
+HasSpelling (step.Fail nth) = (0 < nth) × (nth < 2 ^ 64)
+HasSpelling (step.StopAfter calls) = calls < 2 ^ 64
+HasSpelling (step.Flip place byte) = (place < 2 ^ 64) × (byte < 512)
 
 -- the line of a step is read as that step
 abbrev pub SpelledIsRead : Type 0

@@ -42,7 +42,10 @@ fn worker(workers: u32, word: Word) -> Result<u32, BadLine>
 fn is_job_verb(verb: &Verb) -> bool
     ensures { result ≡ is_job_verb verb.now }
 {
-    !matches!(verb, Verb::Format | Verb::Now)
+    !matches!(
+        verb,
+        Verb::Format | Verb::Now | Verb::Fail | Verb::StopAfter | Verb::Flip
+    )
 }
 
 /// The step of a job, from the words behind its worker's number.

@@ -1,12 +1,12 @@
 // The step of each verb, from the words behind it.
 ghost use Rattle.std.specs.Prelude.{◌≡◌, ◌^◌};
-ghost use Rattle.script_grammar.specs.Grammar.{take_number, alternates_kept, usual_of, format_of_numbers, geometry_of, format_of, put_line_of, get_of, take_actor, open_write_of, data_of, open_read_of, only_actor, remove_of, flush_of, now_of, step_by};
+ghost use Rattle.script_grammar.specs.Grammar.{take_number, alternates_kept, usual_of, format_of_numbers, geometry_of, format_of, put_line_of, get_of, take_actor, open_write_of, data_of, open_read_of, only_actor, remove_of, flush_of, now_of, fail_of, stop_of, flip_of, step_by};
 ghost use Rattle.script_lang.specs.Taken.{seen_word, words_in, TakesNumber};
 ghost use Rattle.script_lang.specs.Refusal.{ReadsValue, TakesValue};
 
 use crate::fields::fields;
 use crate::left::{Word, Words};
-use crate::tokens::{Refusal, actor, body, long_number, object, short_number};
+use crate::tokens::{Refusal, actor, body, byte_number, count, long_number, object, short_number};
 use crate::verbs::is_word;
 use script_grammar::{BadLine, ByteList, FieldKinds, Step, Verb};
 use std::alloc::Global;
@@ -33,6 +33,16 @@ fn take_long(words: &mut Words) -> Result<u64, BadLine>
 {
     let word = words.word()?;
     long_number(word)
+}
+
+/// The next word, as the number of a byte in a block.
+#[tactic(auto, unfolding(script_grammar::specs::Grammar::take_number))]
+fn take_byte(words: &mut Words) -> Result<u32, BadLine>
+    ensures taken { TakesNumber 512 words.old.end (words_in words.old) result (words_in words.new) }
+    ensures end { words.new.end ≡ words.old.end }
+{
+    let word = words.word()?;
+    byte_number(word)
 }
 
 /// The number of alternates, if a word is left, and the end of the line.
@@ -238,6 +248,37 @@ fn now_line(words: &mut Words) -> Result<Step, Refusal>
     Ok(Step::Now { moment })
 }
 
+/// `fail NTH`
+#[tactic(auto, unfolding(script_grammar::specs::Grammar::fail_of))]
+fn fail_line(words: &mut Words) -> Result<Step, Refusal>
+    ensures { ReadsValue (fail_of words.old.end (words_in words.old)) result }
+{
+    let nth = count(words.word()?)?;
+    words.end()?;
+    Ok(Step::Fail { nth })
+}
+
+/// `stop-after CALLS`
+#[tactic(auto, unfolding(script_grammar::specs::Grammar::stop_of))]
+fn stop_line(words: &mut Words) -> Result<Step, Refusal>
+    ensures { ReadsValue (stop_of words.old.end (words_in words.old)) result }
+{
+    let calls = take_long(words)?;
+    words.end()?;
+    Ok(Step::StopAfter { calls })
+}
+
+/// `flip PLACE BYTE`
+#[tactic(auto, unfolding(script_grammar::specs::Grammar::flip_of))]
+fn flip_line(words: &mut Words) -> Result<Step, Refusal>
+    ensures { ReadsValue (flip_of words.old.end (words_in words.old)) result }
+{
+    let place = take_long(words)?;
+    let byte = take_byte(words)?;
+    words.end()?;
+    Ok(Step::Flip { place, byte })
+}
+
 /// The step of a verb and the words behind it.
 pub(crate) fn step_by(alloc: Global, verb: Verb, words: &mut Words) -> Result<Step, Refusal>
     ensures { ReadsValue (step_by words.old.end verb (words_in words.old)) result }
@@ -264,5 +305,8 @@ pub(crate) fn step_by(alloc: Global, verb: Verb, words: &mut Words) -> Result<St
         Verb::Remove => remove_line(words),
         Verb::Flush => flush_line(words),
         Verb::Now => now_line(words),
+        Verb::Fail => fail_line(words),
+        Verb::StopAfter => stop_line(words),
+        Verb::Flip => flip_line(words),
     }
 }

@@ -1,6 +1,6 @@
 // The text of each answer: one line, ended by a newline.
 ghost use Rattle.std.specs.Prelude.{◌≡◌, ◌++◌, IfOk, OnOk, OnErr, string_bytes};
-ghost use Rattle.script_grammar.specs.Texts.{shown, numbered, passed_text, displaced_text, damaged_text, cause_text, lost_text, open_text, refusal_text, took_text, synced_text, number_line, formatted_line, put_line, got_line, hit_line, piece_line, flushed_line, refused_line, fault_line, cause_line, why_line, done_line, answer_line};
+ghost use Rattle.script_grammar.specs.Texts.{shown, numbered, passed_text, displaced_text, damaged_text, cause_text, lost_text, open_text, refusal_text, took_text, synced_text, number_line, formatted_line, put_line, got_line, hit_line, piece_line, flushed_line, refused_line, fault_line, cause_line, why_line, done_line, armed_line, flipped_line, answer_line};
 
 use cache_model::Cause;
 use hex::encode;
@@ -106,6 +106,7 @@ fn refusal(alloc: Global, why: Refused) -> Result<String, AllocError>
         Refused::Exhausted => String::from_str(alloc, "exhausted"),
         Refused::Busy => String::from_str(alloc, "busy"),
         Refused::Idle => String::from_str(alloc, "idle"),
+        Refused::NoSwitch => String::from_str(alloc, "no-switch"),
         Refused::SyncRunning { serial } => numbered(alloc, "sync-running", serial),
         Refused::NoSync => String::from_str(alloc, "no-sync"),
         Refused::StillOpen { writers, readers } => still_open(alloc, writers, readers),
@@ -235,6 +236,20 @@ fn done(alloc: Global) -> Result<String, AllocError>
     String::from_str(alloc, "done\n")
 }
 
+#[tactic(auto, unfolding(script_grammar::specs::Texts::armed_line))]
+fn armed(alloc: Global) -> Result<String, AllocError>
+    ensures { IfOk result (λ text. string_bytes text ≡ armed_line) }
+{
+    String::from_str(alloc, "armed\n")
+}
+
+#[tactic(auto, unfolding(script_grammar::specs::Texts::flipped_line))]
+fn flipped(alloc: Global) -> Result<String, AllocError>
+    ensures { IfOk result (λ text. string_bytes text ≡ flipped_line) }
+{
+    String::from_str(alloc, "flipped\n")
+}
+
 /// The line of an answer, with its newline.
 fn line(alloc: Global, answer: &StepAnswer) -> Result<String, AllocError>
     ensures { IfOk result (λ text. string_bytes text ≡ answer_line answer.now) }
@@ -275,6 +290,8 @@ fn line(alloc: Global, answer: &StepAnswer) -> Result<String, AllocError>
             synced,
         } => flushed(alloc, *blocks, *cursor, *floor, *synced),
         StepAnswer::Now { moment } => number(alloc, "now", *moment),
+        StepAnswer::Armed => armed(alloc),
+        StepAnswer::Flipped => flipped(alloc),
         StepAnswer::Refused { why, took } => refused(alloc, *why, *took),
         StepAnswer::DeviceFault { count, took } => fault(alloc, *count, *took),
     }

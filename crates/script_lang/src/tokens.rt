@@ -1,7 +1,7 @@
 // What single words spell: numbers, objects, bodies and actors.
 ghost use Rattle.std.specs.Prelude.{◌≡◌, ◌/◌, ◌+◌, ◌<◌, ◌≤◌, ◌^◌, ◌==◌, slice_index, true, length, position, nat_le, ◌&&◌, false, Some, IfSome, IfNone};
 ghost use Rattle.std.specs.List.{list_all};
-ghost use Rattle.script_grammar.specs.Tokens.{is_digit, is_number_word, number_of_digits, number_of_word, number_below, is_lower_hex, is_key_word, key_in, object_of, is_star, is_dash, hex_body, repeated_body, body_of_word, is_actor_byte, is_actor, actor_of_word};
+ghost use Rattle.script_grammar.specs.Tokens.{is_digit, is_number_word, number_of_digits, number_of_word, number_below, count_below, is_lower_hex, is_key_word, key_in, object_of, is_star, is_dash, hex_body, repeated_body, body_of_word, is_actor_byte, is_actor, actor_of_word};
 ghost use Rattle.script_lang.specs.Taken.{seen_word};
 ghost use Rattle.script_grammar.specs.Words.{bad};
 ghost use Rattle.script_lang.specs.Refusal.{ReadsValue};
@@ -116,6 +116,35 @@ pub(crate) fn short_number(word: Word) -> Result<u32, BadLine>
             kind: BadKind::Number,
         }),
     }
+}
+
+/// The number of a byte in a block.
+#[tactic(auto, unfolding(script_grammar::specs::Tokens::number_below))]
+pub(crate) fn byte_number(word: Word) -> Result<u32, BadLine>
+    ensures { result ≡ number_below 512 (seen_word word.entry) }
+{
+    match number_in(word.bytes) {
+        Some(number) if number < 512 => Ok(number as u32),
+        _ => Err(BadLine {
+            column: word.column,
+            kind: BadKind::Number,
+        }),
+    }
+}
+
+/// A number from 1 on.
+#[tactic(auto, unfolding(script_grammar::specs::Tokens::count_below))]
+pub(crate) fn count(word: Word) -> Result<u64, BadLine>
+    ensures { result ≡ count_below (2 ^ 64) (seen_word word.entry) }
+{
+    let number = long_number(word)?;
+    if number == 0 {
+        return Err(BadLine {
+            column: word.column,
+            kind: BadKind::Number,
+        });
+    }
+    Ok(number)
 }
 
 fn are_lower_hex(bytes: &[u8]) -> bool

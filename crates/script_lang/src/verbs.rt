@@ -41,6 +41,12 @@ pub(crate) fn verb_of(word: &[u8]) -> Option<Verb>
         Some(Verb::Flush)
     } else if is_word(word, b"now") {
         Some(Verb::Now)
+    } else if is_word(word, b"fail") {
+        Some(Verb::Fail)
+    } else if is_word(word, b"stop-after") {
+        Some(Verb::StopAfter)
+    } else if is_word(word, b"flip") {
+        Some(Verb::Flip)
     } else {
         None
     }

@@ -1,5 +1,5 @@
 -- Two runs of the same lines in which nothing is displaced, and no device is in trouble, print the same.
-use Rattle.std.proofs.Common.{◌≡◌, ℕ, List, [], ◌∷◌, false, refl, sym, ◌∙◌, subst, inl, inr}
+use Rattle.std.proofs.Common.{◌≡◌, ℕ, List, [], ◌∷◌, false, refl, sym, ◌∙◌, subst, inl, inr, ◌⊎◌}
 use Rattle.std.specs.List.{AllByRecursion}
 use Rattle.std.proofs.lemmas.List.Elements.{All-weaker}
 use Rattle.cache_model.specs.declared.record.Rec.{Rec}
@@ -15,7 +15,7 @@ use Rattle.script_run.specs.Behind.{harms_of}
 use Rattle.script_run.specs.Takes.{IsRun, run_after}
 use Rattle.script_run.proofs.Listed.{is_among}
 use Rattle.script_laws.specs.Agreeing.{AreSame, NoneDisplaced, NoneHarmed}
-use Rattle.script_laws.specs.Parting.{DisplacesPiece, IsUntroubledUpTo, LinesAgreeBeforeTrouble, MeetsDeviceTrouble, both_displace, first_in_trouble, second_in_trouble}
+use Rattle.script_laws.specs.Parting.{AreToldApart, DisplacesPiece, IsUntroubledUpTo, LinesAgreeBeforeTrouble, LinesPart, MeetsDeviceTrouble, both_displace, first_in_trouble, second_in_trouble, told_apart}
 use Rattle.script_laws.specs.TurnTroubles.{TellNoFault, tells_fault}
 use Rattle.script_laws.proofs.TurnTroubles.{faultless_turns, undamaged_turns}
 
@@ -54,12 +54,13 @@ module _ (run : Run) (lines before : List (List ℕ)) (turns : List Turn) (is : 
 pub output_is_fixed : (agree : LinesAgreeBeforeTrouble) (run : Run) (lines : List (List ℕ)) (one other : List Turn) → IsRun run lines one
     → IsRun run lines other
     → NoneDisplaced one → NoneDisplaced other → NoneHarmed (run_after run lines one) → NoneHarmed (run_after run lines other)
-    → AreSame run lines one other
+    → AreSame run lines one other ⊎ ((p : LinesPart run lines one other) × AreToldApart p.first.turn p.second.turn)
 output_is_fixed agree run lines one other legal other_legal stay other_stay clean other_clean = elim (agree run lines one other legal other_legal) [
-  | inl same ↦ same
-  | inr p ↦ absurd (elim p.part [
-    | first_in_trouble t ↦ not_in_trouble run lines p.before one legal stay clean p.first t
-    | second_in_trouble t ↦ not_in_trouble run lines p.before other other_legal other_stay other_clean p.second t
-    | both_displace d e ↦ displaces_none run lines p.before one legal stay clean p.first d
-  ])
+  | inl same ↦ inl same
+  | inr p ↦ elim p.part [
+    | first_in_trouble t ↦ absurd (not_in_trouble run lines p.before one legal stay clean p.first t)
+    | second_in_trouble t ↦ absurd (not_in_trouble run lines p.before other other_legal other_stay other_clean p.second t)
+    | both_displace d e ↦ absurd (displaces_none run lines p.before one legal stay clean p.first d)
+    | told_apart t ↦ inr (p, t)
+  ]
 ]

@@ -29,7 +29,7 @@ use Rattle.script_run.specs.Behind.{at_moment, harm_of, harms_of, in_session, wi
 use Rattle.script_run.specs.Takes.{GivesOwn}
 use Rattle.script_laws.specs.Agreeing.{without_calls, without_devices}
 
--- a turn but for its device, and for the digests of copies
+-- a turn but for what its device did for its step, and for the digests of copies
 abbrev pub without_device : Turn → Turn
 without_device turn = record turn { added = map without_copy_digest turn.added; device = no_turn.device }
 
@@ -119,6 +119,9 @@ says_too run s t turn (step.Done actor) = refl
 says_too run s t turn (step.Remove key) = removed_too s key turn.added
 says_too run s t turn step.Flush = said_too t None turn.refused _
 says_too run s t turn (step.Now at) = refl
+says_too run s t turn (step.Fail nth) = refl
+says_too run s t turn (step.StopAfter calls) = refl
+says_too run s t turn (step.Flip place byte) = refl
 
 -- ---- what is left
 

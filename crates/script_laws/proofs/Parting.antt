@@ -3,6 +3,7 @@ use Rattle.std.proofs.Common.{◌≡◌, ℕ, List, [], ◌∷◌, ◌++◌, ◌
 use Rattle.std.specs.Prelude.{Option, Some, None, option_map}
 use Rattle.std.specs.List.{AllByRecursion}
 use Rattle.tape_base.specs.declared.geometries.BadGeometry.{BadGeometry}
+use Rattle.tape_base.specs.declared.geometries.Geometry.{Geometry}
 use Rattle.tape_base.specs.Limits.{first_refusal}
 use Rattle.cache_model.specs.declared.record.Rec.{Rec}
 use Rattle.cache_model.specs.declared.record.Rec.TheVariants as rec
@@ -28,7 +29,10 @@ use Rattle.script_run.specs.Behind.{after_format, after_line, after_reading, at_
 use Rattle.script_run.proofs.Listed.{is_among}
 use Rattle.script_run.specs.Takes.{FormatTakes, GivesOwn, IsRun, LineTakes, ReadingTakes, SessionTakes, Takes, line_text, output_of, reading_text, run_after}
 use Rattle.script_laws.specs.Agreeing.{AreSame, without_devices}
-use Rattle.script_laws.specs.Parting.{DisplacesPiece, IsUntroubledUpTo, LinesPart, MeetsDeviceTrouble, TurnsPart, both_displace, first_in_trouble, second_in_trouble}
+use Rattle.script_run.specs.Switch.{TreatsSwitch, order_of_step}
+use Rattle.cache_answers.specs.declared.answers.SwitchOrder.{SwitchOrder}
+use Rattle.cache_answers.specs.Orders.{call_of_order}
+use Rattle.script_laws.specs.Parting.{AreToldApart, DisplacesPiece, IsUntroubledUpTo, LinesPart, MeetsDeviceTrouble, TurnsPart, both_displace, first_in_trouble, second_in_trouble, told_apart}
 use Rattle.script_laws.proofs.Formats.{same_numbers, untroubled_format}
 use Rattle.script_laws.proofs.Devices.{asked_too, format_too, gives_too, leaves_too, lookup_too, moment_too, says_too, told_too, without_device}
 use Rattle.script_laws.proofs.Alike.{same_given}
@@ -105,8 +109,8 @@ module _ (u v : Run) (s t : State) (a b : Turn) (step : Step) (runs : without_de
       (sym (told_too a.added) ∙ ap told_in told ∙ told_too b.added) (sym (lookup_too a.added) ∙ ap lookup_in told ∙ lookup_too b.added)
       (gives_too u s a step own) there
 
-  pub turns_same : TellTheSame a.added b.added → a.refused ≡ b.refused → a.given ≡ b.given → without_device a ≡ without_device b
-  turns_same told refused given = λ i. record { added = told i; refused = refused i; device = no_turn.device; given = given i }
+  pub turns_same : TellTheSame a.added b.added → a.refused ≡ b.refused → a.given ≡ b.given → a.told ≡ b.told → without_device a ≡ without_device b
+  turns_same told refused given switch = λ i. record { added = told i; refused = refused i; device = no_turn.device; given = given i; told = switch i }
 
   module _ (s2 t2 : State) (behind : HoldTheSame s2 t2) (turns : without_device a ≡ without_device b) where
     pub said_same : session_said u s s2 a step ≡ session_said v t t2 b step
@@ -134,11 +138,62 @@ nothing_told turn is = subst (λ (x : Turn). IsUntroubled x.added) (sym is) tt
 same_state : (s t : State) → Some (without_digests s) ≡ Some (without_digests t) → HoldTheSame s t
 same_state s t same = cc
 
+-- ---- what switches are told
+
+-- a line that is no format and sets no moment tells both switches the same
+abbrev IsToldSame : Step → Turn → Turn → Type 0
+IsToldSame (step.Format name segments buckets content agg reach fragment generation alternates) a b = Unit {0}
+IsToldSame (step.Now at) a b = Unit {0}
+IsToldSame _ a b = a.told ≡ b.told
+
+abbrev IsReadSame : LineAnswer → Turn → Turn → Type 0
+IsReadSame (line.Step asks) a b = IsToldSame asks a b
+IsReadSame line.Nothing a b = Unit {0}
+IsReadSame (line.Bad fault) a b = Unit {0}
+
+step_back : (asks : Step) (a b : Turn) → IsToldSame asks a b → IsToldSame asks b a
+step_back (step.Format name segments buckets content agg reach fragment generation alternates) a b h = tt
+step_back (step.Now at) a b h = tt
+step_back _ a b h = sym h
+
+told_back : (reading : LineAnswer) (a b : Turn) → IsReadSame reading a b → IsReadSame reading b a
+told_back (line.Step asks) a b h = step_back asks a b h
+told_back line.Nothing a b h = tt
+told_back (line.Bad fault) a b h = tt
+
+orders_told : (g h : Geometry) (o : Option SwitchOrder) (a b : Turn) → g ≡ h → TreatsSwitch g o a → TreatsSwitch h o b → (a.told ≡ b.told) ⊎ AreToldApart a b
+orders_told g h None a b same one other = inl (one ∙ sym other)
+orders_told g h (Some o) a b same one other = elim one.1 [
+  | inl told ↦ elim other.1 [
+    | inl too ↦ inl (told ∙ (ap (λ (x : Geometry). call_of_order x o ∷ []) same ∙ sym too))
+    | inr none ↦ inr (inl (record { call = call_of_order g o; told = told; none = none }))
+  ]
+  | inr none ↦ elim other.1 [
+    | inl too ↦ inr (inr (record { call = call_of_order h o; told = too; none = none }))
+    | inr none_too ↦ inl (none ∙ sym none_too)
+  ]
+]
+
+steps_told : (u v : Run) (a b : Turn) (o p : Option State) (asks : Step) → option_map without_digests o ≡ option_map without_digests p → Takes u a o asks → Takes v b p asks
+    → IsToldSame asks a b ⊎ AreToldApart a b
+steps_told u v a b o p (step.Format name segments buckets content agg reach fragment generation alternates) states takes other_takes = inl tt
+steps_told u v a b o p (step.Now at) states takes other_takes = inl tt
+steps_told u v a b (Some s) (Some t) asks states takes other_takes =
+    orders_told s.geometry t.geometry (order_of_step asks) a b (ap (λ (x : State). x.geometry) (same_state s t states)) takes.switch other_takes.switch
+steps_told u v a b None p asks states takes other_takes = absurd takes
+steps_told u v a b (Some s) None asks states takes other_takes = absurd other_takes
+
+reading_told : (u v : Run) (a b : Turn) (reading : LineAnswer) → without_devices u ≡ without_devices v → ReadingTakes u a reading → ReadingTakes v b reading
+    → IsReadSame reading a b ⊎ AreToldApart a b
+reading_told u v a b (line.Step asks) runs takes other_takes = steps_told u v a b u.state v.state asks (ap (λ (run : Run). run.state) runs) takes other_takes
+reading_told u v a b line.Nothing runs takes other_takes = inl tt
+reading_told u v a b (line.Bad fault) runs takes other_takes = inl tt
+
 module _ (agree : StepsAgree) (displace : DisplacementsAgree) where
   same_session : (u v : Run) (s t : State) (a b : Turn) (step : Step) → without_devices u ≡ without_devices v → HoldTheSame s t
-      → SessionTakes u s a step → SessionTakes v t b step → IsUntroubled a.added → TellNoDeviceTrouble b.added
+      → SessionTakes u s a step → SessionTakes v t b step → a.told ≡ b.told → IsUntroubled a.added → TellNoDeviceTrouble b.added
       → IsUntroubled b.added × IsSame (answer_line (session_said u s (after_all s a.added) a step)) (answer_line (session_said v t (after_all t b.added) b step)) (in_session u s (after_all s a.added) a step) (in_session v t (after_all t b.added) b step)
-  same_session u v s t a b step runs states takes other_takes calm quiet =
+  same_session u v s t a b step runs states takes other_takes switch calm quiet =
       let moment : u.now ≡ v.now = ap (λ (run : Run). run.now) runs in
       let like : AreLike a.device b.device = record { unsynced = takes.unsynced; other_unsynced = other_takes.unsynced; moment = takes.moment ∙ moment ∙ sym other_takes.moment } in
       let legal : IsStep b.device t (asked u s step) b.added b.refused =
@@ -148,7 +203,7 @@ module _ (agree : StepsAgree) (displace : DisplacementsAgree) where
       let same : TellTheSame a.added b.added × HoldTheSame (after_all s a.added) (after_all t b.added) × (a.refused ≡ b.refused) =
       agree a.device b.device s t (asked u s step) a.added b.added a.refused b.refused like states calm other_calm takes.legal legal in
       let given : a.given ≡ b.given = given_same u v s t a b step runs states same.0 takes.own other_takes.own in
-      let turns : without_device a ≡ without_device b = turns_same u v s t a b step runs states same.0 same.2 given in (
+      let turns : without_device a ≡ without_device b = turns_same u v s t a b step runs states same.0 same.2 given switch in (
         other_calm,
         record {
           printed = ap answer_line (said_same u v s t a b step runs states (after_all s a.added) (after_all t b.added) same.1 turns);
@@ -161,7 +216,7 @@ module _ (agree : StepsAgree) (displace : DisplacementsAgree) where
       → IsUntroubled a.added → TellNoDeviceTrouble b.added
       → IsUntroubled b.added × IsSame (answer_line (format_said a bad)) (answer_line (format_said b bad)) (after_format u a name bad) (after_format v b name bad)
   same_tried u v a b name segments buckets content agg reach fragment generation alternates (Some bad) runs takes other_takes calm quiet =
-      (subst IsUntroubled (takes ∙ sym other_takes) calm, record { printed = refl; left = runs })
+      (subst IsUntroubled (takes.0 ∙ sym other_takes.0) calm, record { printed = refl; left = runs })
   same_tried u v a b name segments buckets content agg reach fragment generation alternates None runs takes other_takes calm quiet =
       let one = untroubled_format is_trouble (λ count. refl) a takes.0 a.refused refl takes.2 calm in
       let other = untroubled_format is_device_trouble (λ count. refl) b other_takes.0 b.refused refl other_takes.2 quiet in
@@ -185,47 +240,56 @@ module _ (agree : StepsAgree) (displace : DisplacementsAgree) where
 
   same_step : (u v : Run) (a b : Turn) (o p : Option State) (step : Step) → without_devices u ≡ without_devices v
       → option_map without_digests o ≡ option_map without_digests p
-      → Takes u a o step → Takes v b p step
+      → Takes u a o step → Takes v b p step → IsToldSame step a b
       → IsUntroubled a.added → TellNoDeviceTrouble b.added
       → IsUntroubled b.added × IsSame (answer_line (step_said u a o step)) (answer_line (step_said v b p step)) (behind u a o step) (behind v b p step)
-  same_step u v a b o p (step.Format name segments buckets content agg reach fragment generation alternates) runs states takes other_takes calm quiet =
+  same_step u v a b o p (step.Format name segments buckets content agg reach fragment generation alternates) runs states takes other_takes switch calm quiet =
       same_tried u v a b name segments buckets content agg reach fragment generation alternates (first_refusal segments buckets content agg reach fragment alternates) runs takes other_takes calm quiet
-  same_step u v a b o p (step.Now at) runs states takes other_takes calm quiet =
+  same_step u v a b o p (step.Now at) runs states takes other_takes switch calm quiet =
       (nothing_told b other_takes, record { printed = refl; left = moment_too u at ∙ ap (λ (run : Run). without_devices (at_moment run at)) runs ∙ sym (moment_too v at) })
-  same_step u v a b (Some s) (Some t) step runs states takes other_takes calm quiet =
-      same_session u v s t a b step runs (same_state s t states) takes other_takes calm quiet
-  same_step u v a b None p step runs states takes other_takes calm quiet = absurd takes
-  same_step u v a b (Some s) None step runs states takes other_takes calm quiet = absurd other_takes
+  same_step u v a b (Some s) (Some t) step runs states takes other_takes switch calm quiet =
+      same_session u v s t a b step runs (same_state s t states) takes other_takes switch calm quiet
+  same_step u v a b None p step runs states takes other_takes switch calm quiet = absurd takes
+  same_step u v a b (Some s) None step runs states takes other_takes switch calm quiet = absurd other_takes
 
   same_reading : (u v : Run) (a b : Turn) (reading : LineAnswer) → without_devices u ≡ without_devices v → ReadingTakes u a reading
-      → ReadingTakes v b reading
+      → ReadingTakes v b reading → IsReadSame reading a b
       → IsUntroubled a.added → TellNoDeviceTrouble b.added
       → IsUntroubled b.added × IsSame (reading_text u a reading) (reading_text v b reading) (after_reading u a reading) (after_reading v b reading)
-  same_reading u v a b (line.Step s) runs takes other_takes calm quiet =
-      same_step u v a b u.state v.state s runs (ap (λ (run : Run). run.state) runs) takes other_takes calm quiet
-  same_reading u v a b line.Nothing runs takes other_takes calm quiet = (nothing_told b other_takes, record { printed = refl; left = runs })
-  same_reading u v a b (line.Bad fault) runs takes other_takes calm quiet = absurd takes
+  same_reading u v a b (line.Step s) runs takes other_takes switch calm quiet =
+      same_step u v a b u.state v.state s runs (ap (λ (run : Run). run.state) runs) takes other_takes switch calm quiet
+  same_reading u v a b line.Nothing runs takes other_takes switch calm quiet = (nothing_told b other_takes, record { printed = refl; left = runs })
+  same_reading u v a b (line.Bad fault) runs takes other_takes switch calm quiet = absurd takes
 
   -- where neither device is in trouble the turns of a line are the same, or both displace a piece
-  line_parts : (u v : Run) (bytes : List ℕ) (a b : Turn) → without_devices u ≡ without_devices v → LineTakes u a bytes → LineTakes v b bytes
+  parts_or_not : (u v : Run) (bytes : List ℕ) (a b : Turn) → without_devices u ≡ without_devices v → LineTakes u a bytes → LineTakes v b bytes
+      → IsReadSame (reading_of bytes) a b
       → TurnsPart a b ⊎ (IsUntroubled a.added × IsUntroubled b.added × IsSame (line_text u a bytes) (line_text v b bytes) (after_line u a bytes) (after_line v b bytes))
-  line_parts u v bytes a b runs takes other_takes = elim (trouble_or_not a) [
+  parts_or_not u v bytes a b runs takes other_takes switch = elim (trouble_or_not a) [
     | inr t ↦ inl (first_in_trouble t)
     | inl quiet ↦ elim (trouble_or_not b) [
       | inr t ↦ inl (second_in_trouble t)
       | inl other_quiet ↦ elim (displaces_or_not a) [
         | inl stays ↦
             let calm : IsUntroubled a.added = all_untroubled a.added stays quiet in
-            let same = same_reading u v a b (reading_of bytes) runs takes other_takes calm other_quiet in
+            let same = same_reading u v a b (reading_of bytes) runs takes other_takes switch calm other_quiet in
             inr (calm, same.0, same.1)
         | inr d ↦ elim (displaces_or_not b) [
           | inr f ↦ inl (both_displace d f)
           | inl stays ↦
               let calm : IsUntroubled b.added = all_untroubled b.added stays other_quiet in
-              absurd (displaces_none a (same_reading v u b a (reading_of bytes) (sym runs) other_takes takes calm quiet).0 d)
+              absurd (displaces_none a (same_reading v u b a (reading_of bytes) (sym runs) other_takes takes (told_back (reading_of bytes) a b switch) calm quiet).0 d)
         ]
       ]
     ]
+  ]
+
+  -- so it is, or the line is for the switch of a device that one of them has not
+  line_parts : (u v : Run) (bytes : List ℕ) (a b : Turn) → without_devices u ≡ without_devices v → LineTakes u a bytes → LineTakes v b bytes
+      → TurnsPart a b ⊎ (IsUntroubled a.added × IsUntroubled b.added × IsSame (line_text u a bytes) (line_text v b bytes) (after_line u a bytes) (after_line v b bytes))
+  line_parts u v bytes a b runs takes other_takes = elim (reading_told u v a b (reading_of bytes) runs takes other_takes) [
+    | inr apart ↦ inl (told_apart apart)
+    | inl switch ↦ parts_or_not u v bytes a b runs takes other_takes switch
   ]
 
   -- ---- all lines

@@ -20,7 +20,7 @@ use Rattle.script_grammar.specs.declared.answer.StepAnswer.TheVariants as answer
 use Rattle.script_grammar.specs.Grammar.{reading_of}
 use Rattle.device_log.specs.Calls.{Call}
 use Rattle.script_run.specs.Run.{Harm, Run, fresh}
-use Rattle.script_run.specs.Turn.{Turn}
+use Rattle.script_run.specs.Turn.{Turn, calls_in}
 use Rattle.script_run.specs.Asked.{asked}
 use Rattle.script_run.specs.Answers.{number_of_bad, session_said, tried_said}
 use Rattle.script_run.specs.Behind.{after_line, after_reading, harm_in, harm_of, harm_of_format, harms_of, in_session}
@@ -77,7 +77,7 @@ module _ (test : StepAnswer → Bool) (Fine : Harm → Type 0) (Sound : State �
       → IsPlayed run (in_session run s (after_all s turn.added) turn step) (test (session_said run s (after_all s turn.added) turn step) ≡ false)
   on_session run s turn step e sound takes =
       let t : State = after_all s turn.added in
-      let calls : List Call = turn.device.events ++ run.calls in
+      let calls : List Call = calls_in turn ++ run.calls in
       let new : Harm = harm_in calls t in
       let old : Harm = harm_in run.calls s in
       record {

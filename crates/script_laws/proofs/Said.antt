@@ -18,11 +18,12 @@ use Rattle.script_grammar.specs.declared.step.Step.TheVariants as step
 use Rattle.script_grammar.specs.declared.answer.Refused.TheVariants as refusing
 use Rattle.script_grammar.specs.declared.answer.StepAnswer.{StepAnswer}
 use Rattle.script_grammar.specs.declared.answer.StepAnswer.TheVariants as answer
+use Rattle.device_log.specs.Calls.{Call}
 use Rattle.script_run.specs.Run.{Run, Holding, held_by, reader_by, put_written_by}
 use Rattle.script_run.specs.Turn.{Turn, is_told, later, lookup_in, told_in}
 use Rattle.script_run.specs.Asked.{asked}
 use Rattle.script_run.specs.Takes.{SessionTakes}
-use Rattle.script_run.specs.Answers.{broken_said, cause_of_lost, end_said, get_said, if_free, if_has, lookup_said, miss_said, next_said, put_said, refusal_said, remove_said, said, session_said, took_of}
+use Rattle.script_run.specs.Answers.{broken_said, cause_of_lost, end_said, get_said, if_free, if_has, lookup_said, miss_said, next_said, put_said, refusal_said, remove_said, said, session_said, switch_said, took_of}
 use Rattle.script_laws.specs.Causes
 use Rattle.script_laws.specs.Causes.{IsTraced, cause_answered, cause_told}
 use Rattle.script_laws.proofs.Losses.{traced_right}
@@ -213,6 +214,10 @@ module _ (s t : State) (turn : Turn) (told_traced : (why : Cause) → IsToldBy t
   has None a h = tt
   has (Some n) a h = h n
 
+  switch : (told : List Call) (a : StepAnswer) → Says a → Says (switch_said told a)
+  switch [] a h = tt
+  switch (call ∷ told) a h = h
+
   -- ---- what a line answers
 
   line : (run : Run) (step : Step) → Says (session_said run s t turn step)
@@ -229,6 +234,9 @@ module _ (s t : State) (turn : Turn) (told_traced : (why : Cause) → IsToldBy t
   line run (step.Remove key) = removal key turn.added
   line run step.Flush = or_refused None turn.refused (answer.Flushed s.filled t.cursor (floor_now t) None) refl tt
   line run (step.Now at) = tt
+  line run (step.Fail nth) = switch turn.told answer.Armed tt
+  line run (step.StopAfter calls) = switch turn.told answer.Armed tt
+  line run (step.Flip place byte) = switch turn.told answer.Flipped tt
 
 pub line_said : (run : Run) (s : State) (turn : Turn) (step : Step) → IsStep turn.device s (asked run s step) turn.added turn.refused
     → IsSaid s turn.refused turn.added (session_said run s (after_all s turn.added) turn step)
@@ -251,6 +259,7 @@ answered_by s refused added (answer.Refused refusing.Sealed took) why said e = n
 answered_by s refused added (answer.Refused refusing.Exhausted took) why said e = none_is e
 answered_by s refused added (answer.Refused refusing.Busy took) why said e = none_is e
 answered_by s refused added (answer.Refused refusing.Idle took) why said e = none_is e
+answered_by s refused added (answer.Refused refusing.NoSwitch took) why said e = none_is e
 answered_by s refused added (answer.Refused (refusing.SyncRunning serial) took) why said e = none_is e
 answered_by s refused added (answer.Refused refusing.NoSync took) why said e = none_is e
 answered_by s refused added (answer.Refused (refusing.StillOpen writers readers) took) why said e = none_is e
@@ -270,6 +279,8 @@ answered_by s refused added answer.Done why said e = none_is e
 answered_by s refused added (answer.Removed put) why said e = none_is e
 answered_by s refused added (answer.Flushed blocks cursor floor synced) why said e = none_is e
 answered_by s refused added (answer.Now at) why said e = none_is e
+answered_by s refused added answer.Armed why said e = none_is e
+answered_by s refused added answer.Flipped why said e = none_is e
 answered_by s refused added (answer.DeviceFault count took) why said e = none_is e
 
 pub answers_are_traced : (run : Run) (s : State) (turn : Turn) (step : Step) (why : Cause) → SessionTakes run s turn step

@@ -19,7 +19,7 @@ use Rattle.script_grammar.specs.declared.step.Step.{Step}
 use Rattle.script_grammar.specs.declared.answer.StepAnswer.{StepAnswer}
 use Rattle.script_grammar.specs.Grammar.{reading_of}
 use Rattle.script_run.specs.Run.{Harm, Run}
-use Rattle.script_run.specs.Turn.{Turn}
+use Rattle.script_run.specs.Turn.{Turn, calls_in}
 use Rattle.script_run.specs.Behind.{after_line, after_reading, harm_in, harm_of_format, harms_of}
 use Rattle.script_run.specs.Goes.{StepGoes, begins, fails, stays, waits, works}
 use Rattle.script_run.specs.Takes.{IsRun, ReadingTakes, run_after}
@@ -44,7 +44,7 @@ module _ (Are : Permit → List Rec → Type 0) (Fine : Harm → Type 0)
   by_step run turn (stays bad same is) fine = subst (Are turn.device) (sym is) (none turn.device)
   by_step run turn (waits at same is) fine = subst (λ (t : Turn). Are t.device t.added) (sym is) (none _)
   by_step run turn (works s same e takes) fine =
-      let calls : List Call = turn.device.events ++ run.calls in
+      let calls : List Call = calls_in turn ++ run.calls in
       let last : Harm = harm_in calls (after_all s turn.added) in
       session turn.device calls s turn.added (walked takes.legal.grows).kept (All-head Fine last [] (all_behind Fine run.ended (last ∷ []) fine))
   by_step run turn (begins name g same is) fine = subst (Are turn.device) (sym is) (formats turn.device g)

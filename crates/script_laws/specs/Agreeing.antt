@@ -28,10 +28,3 @@ without_devices run = record run { state = option_map without_digests run.state;
 pub record AreSame (run : Run) (lines : List (List ℕ)) (one other : List Turn) : Type 0 where
   pub output : output_of run lines one ≡ output_of run lines other
   pub left : without_devices (run_after run lines one) ≡ without_devices (run_after run lines other)
-
--- from one run the same lines go on to print the same, and to leave the same but for what the devices fix, where either time
--- nothing was displaced, and of no device a fault or damage was told
-abbrev pub OutputIsFixed : Type 0
-OutputIsFixed = (run : Run) (lines : List (List ℕ)) (one other : List Turn) → IsRun run lines one → IsRun run lines other
-    → NoneDisplaced one → NoneDisplaced other
-    → NoneHarmed (run_after run lines one) → NoneHarmed (run_after run lines other) → AreSame run lines one other

@@ -1,5 +1,6 @@
 -- Two runs of the same lines are the same up to the first line that recorded trouble, whatever their devices did.
-use Rattle.std.specs.Prelude.{ℕ, ◌≡◌, ◌⊎◌, true, List, ◌∷◌, ◌++◌}
+use Rattle.std.specs.Prelude.{ℕ, ◌≡◌, ◌⊎◌, true, List, [], ◌∷◌, ◌++◌}
+use Rattle.device_log.specs.Calls.{Call}
 use Rattle.std.specs.List.{AllByRecursion}
 use Rattle.tape_base.specs.declared.pieces.PieceId.{PieceId}
 use Rattle.cache_model.specs.declared.record.Rec.{Rec}
@@ -9,8 +10,8 @@ use Rattle.model_laws.specs.Agreeing.{IsUntroubled}
 use Rattle.model_laws.specs.Purging.{is_device_trouble}
 use Rattle.script_run.specs.Run.{Run}
 use Rattle.script_run.specs.Turn.{Turn}
-use Rattle.script_run.specs.Takes.{IsRun}
-use Rattle.script_laws.specs.Agreeing.{AreSame}
+use Rattle.script_run.specs.Takes.{IsRun, run_after}
+use Rattle.script_laws.specs.Agreeing.{AreSame, NoneDisplaced, NoneHarmed}
 
 -- the turn recorded a refused call, or bytes that are not those of a digest
 pub record MeetsDeviceTrouble (turn : Turn) : Type 0 where
@@ -25,11 +26,23 @@ pub record DisplacesPiece (turn : Turn) : Type 0 where
   pub live : ℕ
   pub recorded : IsAmong (rec.Displaced piece segment live) turn.added
 
--- two turns of one line part where the device of the one or the other was in trouble, or both displaced a piece
+-- in the one turn the switch of the device was told something, and in the other the device had none
+pub record IsToldAlone (one other : Turn) : Type 0 where
+  pub call : Call
+  pub told : one.told ≡ call ∷ []
+  pub none : other.told ≡ []
+
+-- so it is of the one or of the other
+abbrev pub AreToldApart : Turn → Turn → Type 0
+AreToldApart one other = IsToldAlone one other ⊎ IsToldAlone other one
+
+-- two turns of one line part where the device of the one or the other was in trouble, or both displaced a piece, or the line is
+-- for the switch of a device, which the one has and the other has not
 pub data TurnsPart (one other : Turn) : Type 0 where
   first_in_trouble : MeetsDeviceTrouble one → TurnsPart one other
   second_in_trouble : MeetsDeviceTrouble other → TurnsPart one other
   both_displace : DisplacesPiece one → DisplacesPiece other → TurnsPart one other
+  told_apart : AreToldApart one other → TurnsPart one other
 
 -- none of these turns recorded any of that
 abbrev pub AreUntroubled : List Turn → Type 0
@@ -59,3 +72,12 @@ pub record LinesPart (run : Run) (lines : List (List ℕ)) (one other : List Tur
 abbrev pub LinesAgreeBeforeTrouble : Type 0
 LinesAgreeBeforeTrouble = (run : Run) (lines : List (List ℕ)) (one other : List Turn) → IsRun run lines one → IsRun run lines other
     → AreSame run lines one other ⊎ LinesPart run lines one other
+
+-- from one run the same lines go on to print the same, and to leave the same but for what the devices fix, where either time
+-- nothing was displaced, and of no device a fault or damage was told; or a line is for the switch of a device, which one of
+-- them has not
+abbrev pub OutputIsFixed : Type 0
+OutputIsFixed = (run : Run) (lines : List (List ℕ)) (one other : List Turn) → IsRun run lines one → IsRun run lines other
+    → NoneDisplaced one → NoneDisplaced other
+    → NoneHarmed (run_after run lines one) → NoneHarmed (run_after run lines other)
+    → AreSame run lines one other ⊎ ((p : LinesPart run lines one other) × AreToldApart p.first.turn p.second.turn)

@@ -1,6 +1,5 @@
 // Laws of what lines answer. These functions do nothing when they run.
-ghost use Rattle.script_laws.specs.Agreeing.{OutputIsFixed};
-ghost use Rattle.script_laws.specs.Parting.{LinesAgreeBeforeTrouble};
+ghost use Rattle.script_laws.specs.Parting.{LinesAgreeBeforeTrouble, OutputIsFixed};
 ghost use Rattle.script_laws.specs.TurnTroubles.{FaultlessTurns, TurnsTellRefusals, UndamagedTurns};
 ghost use Rattle.script_laws.specs.Causes.{AnswersAreTraced, CausesAreTraced};
 ghost use Rattle.script_laws.specs.Damages.{DamageIsRecorded, DamageStays};

@@ -1,3 +1,4 @@
+pub mod Alone
 pub mod Formats
 pub mod Lift
 pub mod Finding

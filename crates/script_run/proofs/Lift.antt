@@ -36,7 +36,7 @@ tried_goes run turn asks name g (Some _) same takes = absurd takes
 format_goes : (run : Run) (turn : Turn) (asks : Step) (name : List ℕ) (segments buckets content agg reach fragment generation alternates : ℕ) (bad : Option BadGeometry)
     → begins_session asks ≡ is_none bad → FormatTakes turn segments buckets content agg reach fragment generation alternates bad
     → StepGoes run turn asks (format_said turn bad) (after_format run turn name bad)
-format_goes run turn asks name segments buckets content agg reach fragment generation alternates (Some bad) same takes = stays bad same takes
+format_goes run turn asks name segments buckets content agg reach fragment generation alternates (Some bad) same takes = stays bad same takes.0
 format_goes run turn asks name segments buckets content agg reach fragment generation alternates None same takes =
     tried_goes run turn asks name takes.0 turn.refused same takes.2
 

@@ -6,6 +6,7 @@ use Rattle.tape_base.specs.declared.geometries.BadGeometry.TheVariants.{Segments
 use Rattle.tape_base.specs.Limits.{first_refusal}
 use Rattle.tape_base.specs.Place.{floor_of}
 use Rattle.fragment_table.specs.Table.{total_length}
+use Rattle.device_log.specs.Calls.{Call}
 use Rattle.cache_model.specs.declared.cause.Cause.{Cause}
 use Rattle.cache_model.specs.declared.cause.Cause.TheVariants as cause
 use Rattle.cache_model.specs.declared.answer.ReadAnswer.{ReadAnswer}
@@ -169,6 +170,11 @@ remove_said s key _ = answer.Absent (cause_of_miss s key)
 abbrev pub flush_said : State → State → Option Reason → StepAnswer
 flush_said s t why = said t None why (answer.Flushed s.filled t.cursor (floor_now t) None)
 
+-- a device without a switch was told nothing
+abbrev pub switch_said : List Call → StepAnswer → StepAnswer
+switch_said [] told = answer.Refused refused.NoSwitch None
+switch_said (call ∷ calls) told = told
+
 -- what a step answers that works on a session, by what its records stood for before and stand for behind it
 abbrev pub session_said : Run → State → State → Turn → Step → StepAnswer
 session_said run s t turn (step.Format name segments buckets content agg reach fragment generation alternates) = answer.Done
@@ -184,6 +190,9 @@ session_said run s t turn (step.Done actor) = if_has (reader_by run actor) (λ r
 session_said run s t turn (step.Remove key) = remove_said s key turn.added
 session_said run s t turn step.Flush = flush_said s t turn.refused
 session_said run s t turn (step.Now moment) = answer.Now moment
+session_said run s t turn (step.Fail nth) = switch_said turn.told answer.Armed
+session_said run s t turn (step.StopAfter calls) = switch_said turn.told answer.Armed
+session_said run s t turn (step.Flip place byte) = switch_said turn.told answer.Flipped
 
 -- the same; without a session only a format and a moment are answered
 abbrev pub step_said : Run → Turn → Option State → Step → StepAnswer

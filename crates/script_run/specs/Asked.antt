@@ -111,3 +111,6 @@ asked run s (step.Done actor) = asks_if_has (reader_by run actor) (λ reader. St
 asked run s (step.Remove key) = Remove key ∷ []
 asked run s step.Flush = Flush ∷ []
 asked run s (step.Now moment) = []
+asked run s (step.Fail nth) = []
+asked run s (step.StopAfter calls) = []
+asked run s (step.Flip place byte) = []

@@ -15,7 +15,7 @@ use Rattle.device_log.specs.Calls.{Call}
 use Rattle.actor_table.specs.Table.{number_of_name, with_actor}
 use Rattle.cache_model.specs.Damage.{has_damage}
 use Rattle.script_run.specs.Run.{Harm, Run, Stream, Holding, HoldsWriter, HoldsReader, no_stream, with_value, put_written_by, held_by, actor_of}
-use Rattle.script_run.specs.Turn.{Turn}
+use Rattle.script_run.specs.Turn.{Turn, calls_in}
 use Rattle.script_run.specs.Answers.{took_of}
 
 -- ---- streams
@@ -116,7 +116,7 @@ actors_behind actors (Some name) = with_actor actors name
 
 -- what was told of a session's device, which made these calls
 abbrev pub harm_in : List Call → State → Harm
-harm_in calls s = record { fault = s.fault; damaged = has_damage s; calls = calls; whole = true }
+harm_in calls s = record { fault = s.fault; damaged = has_damage s; calls = calls; whole = true; switches = [] }
 
 -- of the device of a session, where there is one
 abbrev pub harm_of : List Call → Option State → List Harm
@@ -143,7 +143,7 @@ with_format run name calls added = record {
 
 -- what was told of a device that was given back with this count, for it refused one of these calls
 abbrev pub harm_of_format : List Call → ℕ → Harm
-harm_of_format calls count = record { fault = count; damaged = false; calls = calls; whole = true }
+harm_of_format calls count = record { fault = count; damaged = false; calls = calls; whole = true; switches = [] }
 
 -- a format ends the session before it also where its device refuses a call; that is given back, and no session stands
 abbrev pub without_session : Run → List ℕ → List Call → ℕ → Run
@@ -176,7 +176,7 @@ in_session run s t turn step = record {
   streams = streams_behind run s t turn step;
   actors = actors_behind run.actors (actor_of step);
   held = held_behind run s t step (actor_of step);
-  calls = turn.device.events ++ run.calls;
+  calls = calls_in turn ++ run.calls;
   ended = run.ended;
   names = run.names;
   now = run.now;

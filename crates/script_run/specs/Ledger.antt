@@ -1,5 +1,6 @@
 -- What a bay tells of its devices, and how that fits what the lines of a script told of them.
 use Rattle.std.specs.Prelude.{ℕ, ◌≡◌, ◌+◌, ◌≤◌, true, false, List, [], ◌∷◌, ◌++◌, length}
+use Rattle.std.specs.List.{AllByRecursion}
 use Rattle.device_log.specs.Calls.{Call}
 use Rattle.device_log.specs.Faults.{is_untold}
 use Rattle.logged_disk.specs.Device.{DeviceState as Device, TellsAll, has_flip, has_cut}
@@ -13,12 +14,13 @@ pub record GoesOnFrom (calls past : List Call) : Type 0 where
   pub is : past ≡ later ++ calls
 
 -- what was told of a device that came back: the calls with which its log begins, or that are all of it, no count above its
--- own, and where it told its content to the end, no damage
+-- own, where it told its content to the end, no damage, and whether it has a switch
 pub record IsReached (harm : Harm) (device : Device) : Type 0 where
   pub made : GoesOnFrom harm.calls device.past
   pub all : harm.whole ≡ true → device.past ≡ harm.calls
   pub counted : harm.fault ≤ device.faults
   pub unharmed : TellsAll device → harm.damaged ≡ false
+  pub switched : AllByRecursion (λ has. device.has_switch ≡ has) harm.switches
 
 -- so it is of each
 abbrev pub AreReached : List Harm → List Device → Type 0
@@ -65,24 +67,17 @@ pub record IsLeftAlone (past : List Call) : Type 0 where
   pub uncut : has_cut past ≡ false
   pub unturned : has_flip past ≡ false
 
--- so it was of each
-abbrev pub AreLeftAlone : List Device → Type 0
-AreLeftAlone [] = Unit {0}
-AreLeftAlone (device ∷ devices) = IsLeftAlone device.past × AreLeftAlone devices
-
 -- behind so many devices the bay gave these alone
 pub record AreLast (given : ℕ) (own : List Device) (past : List BayCall) : Type 0 where
   pub numbered : AreNumbered given own
-  pub alone : AreLeftAlone own
   pub all : length (gifts_of past) ≡ given + length own
 
 -- Behind so many devices these came back, in the order in which they were attached, and those that
--- are out now were attached behind them. The switch of none was told anything.
+-- are out now were attached behind them.
 pub record InOrder (given : ℕ) (own : List Device) (old new : List BayCall) : Type 0 where
   pub devices : List Device
   pub returned : returned_by new ≡ returned_by old ++ devices
   pub numbered : AreNumbered given devices
-  pub alone : AreLeftAlone devices
   pub rest : AreLast (given + length devices) own new
 
 -- so it stays, where it was so of the devices that were out

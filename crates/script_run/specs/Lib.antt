@@ -2,6 +2,7 @@ pub mod Run
 pub mod Ledger
 pub mod Asked
 pub mod Turn
+pub mod Switch
 pub mod Answers
 pub mod Behind
 pub mod Own

@@ -19,16 +19,17 @@ pub record Stream : Type 0 where
   pub sealed : Bool
 
 -- what was told of a device: its count at the last fault, whether a piece on it was damaged, the calls that its lines
--- made, the newest first, and whether it made no other
+-- made, the newest first, whether it made no other, and for each line that was for its switch whether it has one
 pub record Harm : Type 0 where
   pub fault : ℕ
   pub damaged : Bool
   pub calls : List Call
   pub whole : Bool
+  pub switches : List Bool
 
 -- a device of which nothing was told, and which made no call
 abbrev pub no_harm : Harm
-no_harm = record { fault = 0; damaged = false; calls = []; whole = true }
+no_harm = record { fault = 0; damaged = false; calls = []; whole = true; switches = [] }
 
 -- the same of a device that may have made more calls
 abbrev pub loosened : Harm → Harm

@@ -25,7 +25,9 @@ use Rattle.script_grammar.specs.Grammar.{reading_of}
 use Rattle.script_grammar.specs.Texts.{answer_line}
 use Rattle.script_run.specs.Run.{Run, Stream, put_written_by, reader_by, with_value}
 use Rattle.script_run.specs.Asked.{asked}
+use Rattle.script_run.specs.Ledger.{IsLeftAlone}
 use Rattle.script_run.specs.Turn.{Turn, lookup_in, no_turn, told_in}
+use Rattle.script_run.specs.Switch.{TreatsSwitch, order_of_step}
 use Rattle.script_run.specs.Answers.{step_answer}
 use Rattle.script_run.specs.Behind.{Streams, after_line, of_put, with_bytes}
 use Rattle.script_run.specs.Own.{IsPlacedAs, piece_of}
@@ -79,20 +81,28 @@ FormatsOn turn g None = (turn.added ≡ format_records g) × LaysOut g turn.devi
 FormatsOn turn g (Some (Faulted count)) = (turn.added ≡ rec.Fault count ∷ []) × (0 < count) × StopsFormat g count turn.device.events
 FormatsOn turn g (Some _) = ⊥
 
--- an accepted format is tried on its device, and a refused one does nothing
+-- an accepted format is tried on its device, and a refused one does nothing; neither tells a switch anything
 abbrev pub FormatTakes : Turn → ℕ → ℕ → ℕ → ℕ → ℕ → ℕ → ℕ → ℕ → Option BadGeometry → Type 0
-FormatTakes turn segments buckets content agg reach fragment generation alternates (Some bad) = turn.added ≡ []
+FormatTakes turn segments buckets content agg reach fragment generation alternates (Some bad) = (turn.added ≡ []) × (turn.told ≡ [])
 FormatTakes turn segments buckets content agg reach fragment generation alternates None =
-    (g : Geometry) × HasNumbers g segments buckets content agg reach fragment generation alternates × FormatsOn turn g turn.refused
+    (g : Geometry) × HasNumbers g segments buckets content agg reach fragment generation alternates
+    × FormatsOn turn g turn.refused × (turn.told ≡ [])
 
--- a line on a session is one step of its records, with a directory that displaces and a stripe that does not sync, in
--- which pins are weighed by the moment of the run; and the bytes that it gives are those that were put
-pub record SessionTakes (run : Run) (s : State) (turn : Turn) (step : Step) : Type 0 where
+-- A line on a session whose device had made these calls is one step of its records behind them, with a directory that
+-- displaces and a stripe that does not sync, in which pins are weighed by the moment of the run; the bytes that it gives are
+-- those that were put; and the switch of the device is told what the line says.
+pub record TakesBehind (calls : List Call) (run : Run) (s : State) (turn : Turn) (step : Step) : Type 0 where
   pub packs : turn.device.packed ≡ true
   pub unsynced : turn.device.syncs ≡ false
   pub moment : turn.device.now ≡ run.now
+  pub past : turn.device.past ≡ calls
   pub legal : IsStep turn.device s (asked run s step) turn.added turn.refused
   pub own : GivesOwn run s turn step
+  pub switch : TreatsSwitch s.geometry (order_of_step step) turn
+
+-- these are the calls of the run
+abbrev pub SessionTakes : Run → State → Turn → Step → Type 0
+SessionTakes run = TakesBehind run.calls run
 
 -- a format and a moment need no session; all other steps work on one
 abbrev pub Takes : Run → Turn → Option State → Step → Type 0
@@ -146,12 +156,19 @@ streams_with run s (step.Feed actor body) = of_put run (put_written_by run actor
 streams_with run s _ = run.streams
 
 -- some way into the turn of a step on a session two documents of one SHA-256 are shown for a piece that the step
--- reads there: the one as which it was placed, and other bytes, which the device gave in that turn
-pub record SessionShows (run : Run) (s : State) (turn : Turn) (step : Step) : Type 0 where
+-- reads there: the one as which it was placed, and other bytes, which the device gave in that turn. The line told the switch
+-- of the device what it is to, and nothing else was told, cut or turned.
+pub record ShowsBehind (calls : List Call) (run : Run) (s : State) (turn : Turn) (step : Step) : Type 0 where
   pub packs : turn.device.packed ≡ true
   pub unsynced : turn.device.syncs ≡ false
   pub moment : turn.device.now ≡ run.now
+  pub past : turn.device.past ≡ calls
+  pub alone : IsLeftAlone turn.device.events
+  pub switch : TreatsSwitch s.geometry (order_of_step step) turn
   pub shows : ShowsPair (IsPlacedAs (streams_with run s step)) turn.device s (asked run s step) turn.added
+
+abbrev pub SessionShows : Run → State → Turn → Step → Type 0
+SessionShows run = ShowsBehind run.calls run
 
 -- without a session there is no piece that could be
 abbrev pub StepShows : Run → Turn → Option State → Step → Type 0

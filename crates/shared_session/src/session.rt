@@ -6,7 +6,7 @@ ghost use Rattle.shared_steps.specs.Histories.{records_of, turns_of};
 ghost use Rattle.shared_steps.specs.Orders.{StepFits, step_number};
 ghost use Rattle.script_run.specs.Run.{Run};
 ghost use Rattle.cache_replay.specs.Plays.{Plays};
-ghost use Rattle.cache_replay.specs.Session.{IsSession};
+ghost use Rattle.cache_replay.specs.Session.{AreLater, IsSession, devices_of, return_in};
 ghost use Rattle.shared_session.specs.Runs.{RunsOn};
 
 use crate::step::JobStep;
@@ -47,7 +47,7 @@ impl<S: Calls> TakesSteps for SharedSession<S> {
         takes_actors(&self.session)
     }
 
-    #[tactic(auto, using(crate::proofs::Needs::needs_of))]
+    #[tactic(auto, using(crate::proofs::Needs::needs_of, crate::proofs::Needs::not_of_switch))]
     fn take(&mut self, step: &mut JobStep) -> Result<StepAnswer, Stop> {
         let asked = mem::replace(&mut step.step, Step::Flush);
         in_session(&mut self.session, asked)
@@ -76,6 +76,8 @@ pub fn share_session<
     ensures order { IfOk result (λ r. IsShared step_number StepFits (Began shared ∷ [])
         (turns_of r.rows.items) (map (λ js. js.items) jobs.items) r.short) }
     ensures session { IfOk result (λ r. IsSession r.state.session) }
+    ensures device { IfOk result (λ r. AreLater (return_in shared.session) (return_in r.state.session)) }
+    ensures devices { IfOk result (λ r. devices_of r.state.session ≡ devices_of shared.session) }
     ensures back { IfErr result (λ e. e.1 ≡ shared) }
 {
     take_all(rt, alloc, shared, jobs, gate)

@@ -12,13 +12,18 @@ pub struct JobStep {
 }
 
 impl JobStep {
-    /// A step as a job, where it works on a session: a format and a moment do not.
+    /// A step as a job, where it works on a session: a format, a moment and a line for the switch of a
+    /// device do not.
     pub fn new(step: Step) -> Option<JobStep>
         ensures step { IfSome result (λ job. job.step ≡ step) }
         ensures when { IsSome result ↔ (is_on_session step ≡ true) }
     {
         match step {
-            Step::Format { .. } | Step::Now { .. } => None,
+            Step::Format { .. }
+            | Step::Now { .. }
+            | Step::Fail { .. }
+            | Step::StopAfter { .. }
+            | Step::Flip { .. } => None,
             other => Some(JobStep { step: other }),
         }
     }

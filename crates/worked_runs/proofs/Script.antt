@@ -75,22 +75,22 @@ lays_out = (body_of_copy, length-replicate (512 * (directory_blocks_of script_ge
 
 pub are_taken : (key : Key) → StepsTake fresh (steps_with key) (turns_with key)
 are_taken key = (
-  (script_geometry, has_numbers, (refl, lays_out)),
+  (script_geometry, has_numbers, (refl, lays_out), refl),
   (
-    record { packs = refl; unsynced = refl; moment = refl; legal = miss_is_a_step key; own = refl },
+    record { packs = refl; unsynced = refl; moment = refl; past = refl; legal = miss_is_a_step key; own = refl; switch = refl },
     (
-      record { packs = refl; unsynced = refl; moment = refl; legal = put_is_a_step key; own = refl },
+      record { packs = refl; unsynced = refl; moment = refl; past = refl; legal = put_is_a_step key; own = refl; switch = refl },
       (
-        record { packs = refl; unsynced = refl; moment = refl; legal = hit_is_a_step key; own = refl },
+        record { packs = refl; unsynced = refl; moment = refl; past = refl; legal = hit_is_a_step key; own = refl; switch = refl },
         (
-          record { packs = refl; unsynced = refl; moment = refl; legal = piece_is_a_step key; own = (_, refl, refl) },
+          record { packs = refl; unsynced = refl; moment = refl; past = refl; legal = piece_is_a_step key; own = (_, refl, refl); switch = refl },
           (
-            record { packs = refl; unsynced = refl; moment = refl; legal = end_is_a_step key; own = refl },
+            record { packs = refl; unsynced = refl; moment = refl; past = refl; legal = end_is_a_step key; own = refl; switch = refl },
             (
-              record { packs = refl; unsynced = refl; moment = refl; legal = get_is_a_step key; own = refl },
+              record { packs = refl; unsynced = refl; moment = refl; past = refl; legal = get_is_a_step key; own = refl; switch = refl },
               (
-                record { packs = refl; unsynced = refl; moment = refl; legal = removal_is_a_step key; own = refl },
-                (record { packs = refl; unsynced = refl; moment = refl; legal = last_is_a_step key; own = refl }, tt),
+                record { packs = refl; unsynced = refl; moment = refl; past = refl; legal = removal_is_a_step key; own = refl; switch = refl },
+                (record { packs = refl; unsynced = refl; moment = refl; past = refl; legal = last_is_a_step key; own = refl; switch = refl }, tt),
               ),
             ),
           ),

@@ -127,14 +127,14 @@ answers_come_back : ComeBackFrom script_logs (all_told (outline_of blank_outline
 answers_come_back = subst (λ (o : Outline). ComeBackFrom script_logs (all_told o)) (sym outline_behind) (record {
   devices = script_device ∷ [];
   returned = refl;
-  told = (record { made = record { later = calls_of_format; is = refl }; all = λ h. cc; counted = lit≤ tt; unharmed = λ h. refl }, tt);
+  told = (record { made = record { later = calls_of_format; is = refl }; all = λ h. cc; counted = lit≤ tt; unharmed = λ h. refl; switched = tt }, tt);
 })
 
 records_come_back : ComeBackFrom script_logs (harms_of (run_after fresh script_lines script_turns))
 records_come_back = subst (λ (run : Run). ComeBackFrom script_logs (harms_of run)) (sym run_behind_script) (record {
   devices = script_device ∷ [];
   returned = refl;
-  told = (record { made = record { later = []; is = refl }; all = λ h. cc; counted = lit≤ tt; unharmed = λ h. refl }, tt);
+  told = (record { made = record { later = []; is = refl }; all = λ h. cc; counted = lit≤ tt; unharmed = λ h. refl; switched = tt }, tt);
 })
 
 pub back_by_answers : EachBack script_logs.before script_logs.now (told_by (outline_of blank_outline script_lines script_answers))
@@ -142,7 +142,7 @@ back_by_answers = subst (λ (o : Outline). EachBack script_logs.before script_lo
   back = record {
     devices = script_device ∷ [];
     returned = refl;
-    reached = (record { made = record { later = calls_of_format; is = refl }; all = λ h. cc; counted = lit≤ tt; unharmed = λ h. refl }, tt);
+    reached = (record { made = record { later = calls_of_format; is = refl }; all = λ h. cc; counted = lit≤ tt; unharmed = λ h. refl; switched = tt }, tt);
   };
   attached = refl;
 })
@@ -152,7 +152,7 @@ back_by_records = subst (λ (run : Run). EachBack script_logs.before script_logs
   back = record {
     devices = script_device ∷ [];
     returned = refl;
-    reached = (record { made = record { later = []; is = refl }; all = λ h. refl; counted = lit≤ tt; unharmed = λ h. refl }, tt);
+    reached = (record { made = record { later = []; is = refl }; all = λ h. refl; counted = lit≤ tt; unharmed = λ h. refl; switched = tt }, tt);
   };
   attached = refl;
 })

@@ -9,7 +9,9 @@ use Rattle.edge_io.specs.Laws.{SpelledAreLines}
 use Rattle.edge_io.specs.Lines.{lines_of}
 use Rattle.edge_io.specs.Source.{NoReadFailed}
 use Rattle.edge_io.specs.Text.{text_read}
-use Rattle.logged_disk.specs.Device.{DeviceState as Device}
+use Rattle.device_log.specs.Calls.{Call}
+use Rattle.device_log.specs.Faults.{is_untold}
+use Rattle.logged_disk.specs.Device.{DeviceState as Device, has_cut, has_flip}
 use Rattle.cache_model.specs.declared.record.Rec.{Rec}
 use Rattle.cache_model.specs.declared.record.Rec.TheVariants as rec
 use Rattle.cache_model.specs.Permit.{IsAmong}
@@ -21,17 +23,18 @@ use Rattle.script_grammar.specs.declared.line.LineAnswer.TheVariants as line
 use Rattle.script_grammar.specs.declared.step.Step.{Step}
 use Rattle.script_run.specs.Run.{Run, fresh}
 use Rattle.script_run.specs.Turn.{Turn}
+use Rattle.script_run.specs.Ledger.{IsLeftAlone}
 use Rattle.script_run.specs.Behind.{after_line}
 use Rattle.script_run.specs.Takes.{IsRun, output_of}
 use Rattle.script_run.proofs.Listed.{is_among}
 use Rattle.script_laws.proofs.Among.{among_left}
-use Rattle.script_laws.specs.Parting.{AreUntroubled, DisplacesPiece, IsUntroubledUpTo, MeetsDeviceTrouble, both_displace, first_in_trouble, second_in_trouble}
+use Rattle.script_laws.specs.Parting.{AreUntroubled, DisplacesPiece, IsUntroubledUpTo, MeetsDeviceTrouble, both_displace, first_in_trouble, second_in_trouble, told_apart}
 use Rattle.run_promise.specs.Story.{Taken}
 use Rattle.run_promise.specs.Top.{ComeBackSteady}
 use Rattle.run_promise.specs.declared.status.Status.TheVariants as status
 use Rattle.headline.specs.Account.{Account, IsDeviceBehind, IsDeviceOf, begun_in, sessions_begun}
 use Rattle.headline.specs.Endings.{EndsAreCaused, RunsAreTold}
-use Rattle.headline.specs.Fixed.{AreSwitched, SwitchedRunsAreSteady}
+use Rattle.headline.specs.Fixed.{AreAlone, AreSwitched, SwitchedRunsAreSteady}
 use Rattle.headline.specs.Parting.{HistoriesAgreeBeforeTrouble, HistoryBegins, RunsAgreeBeforeTrouble}
 use Rattle.headline.specs.Troubles.{CountsAreReached, NoFalseDamage, NoFalseFaults}
 use Rattle.worked_runs.specs.Script.{key_of_a, line_to_format, script_lines, script_turns, turns_with}
@@ -152,15 +155,22 @@ comes_back_steady : ComeBackSteady script_logs.before.returned script_logs.now.r
 comes_back_steady = record {
   devices = script_device ∷ [];
   returned = refl;
-  steady = ((λ switched. record { tells = device_tells; unfaulted = refl }), tt);
+  steady = ((λ switched alone. record { tells = device_tells; unfaulted = refl }), tt);
 }
 
 is_switched : AreSwitched script_logs
 is_switched devices are =
     subst (λ (ds : List Device). AllByRecursion (λ (device : Device). device.has_switch ≡ true) ds) are (refl, tt)
 
+left_alone : IsLeftAlone script_device.past
+unfolding is_untold has_cut has_flip
+left_alone = record { untold = refl; uncut = refl; unturned = refl }
+
+is_alone : AreAlone script_logs
+is_alone devices are = subst (λ (ds : List Device). AllByRecursion (λ (device : Device). IsLeftAlone device.past) ds) are (left_alone, tt)
+
 pub run_is_steady : SwitchedRunsAreSteady → TheRunIsSteady
-run_is_steady law = law script_logs comes_back_steady is_switched
+run_is_steady law = law script_logs comes_back_steady is_switched is_alone
 
 -- ---- other runs
 
@@ -234,6 +244,13 @@ module _ (a : Account script_logs) (tells : TellsScript a) (lines : List (List �
       subst (IsAmong upto.turn) (sym upto.turns_are) (among_behind upto.turn upto.earlier upto.later) in
       subst (IsAmong upto.turn) (sym all) (among_left upto.turn one.earlier one.later here)
 
+-- none of the nine told a switch anything
+all_silent : AllByRecursion (λ (turn : Turn). turn.told ≡ []) script_turns
+all_silent = (refl, (refl, (refl, (refl, (refl, (refl, (refl, (refl, (refl, tt)))))))))
+
+told_none : (turn : Turn) (call : Call) → IsAmong turn script_turns → turn.told ≡ call ∷ [] → ⊥
+told_none turn call among told = let none : turn.told ≡ [] = is_among (λ (x : Turn). x.told ≡ []) turn script_turns all_silent among in cc
+
 pub history_prints : HistoriesAgreeBeforeTrouble → EachHistoryPrintsIt
 history_prints law a tells m b lines left more are others =
     let alike = law script_logs m a b lines left more (tells.told_are ∙ are) others in
@@ -246,9 +263,17 @@ history_prints law a tells m b lines left more are others =
           | second_in_trouble t ↦ inr (
             p.second.turn,
             subst (IsAmong p.second.turn) (sym p.second.turns_are) (among_behind p.second.turn p.second.earlier p.second.later),
-            t,
+            inl t,
           )
           | both_displace d e ↦ absurd (displaces_none p.first.turn (among_script a tells lines alike.one p.before p.first) d)
+          | told_apart apart ↦ elim apart [
+            | inl one ↦ absurd (told_none p.first.turn one.call (among_script a tells lines alike.one p.before p.first) one.told)
+            | inr other ↦ inr (
+              p.second.turn,
+              subst (IsAmong p.second.turn) (sym p.second.turns_are) (among_behind p.second.turn p.second.earlier p.second.later),
+              inr (other.call, other.told),
+            )
+          ]
         ]
       ];
     }

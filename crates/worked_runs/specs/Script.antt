@@ -155,14 +155,6 @@ removal_records key = rec.Removed 1 key ∷ []
 
 -- ---- the turns
 
--- a device that makes no call, under a directory that displaces, at the moment 0
-abbrev pub silent : Permit
-silent = record { packed = true; syncs = false; now = 0; past = []; events = [] }
-
--- a line that added these records and gave these bytes, and made no call
-abbrev pub silent_turn : List Rec → List ℕ → Turn
-silent_turn added given = record { added = added; refused = None; device = silent; given = given }
-
 -- as many bytes as a copy of the directory has; which they are no line says
 abbrev pub body_of_copy : List ℕ
 body_of_copy = replicate (512 * (directory_blocks_of script_geometry + 2)) 0
@@ -179,13 +171,22 @@ calls_of_format =
     ∷ Wrote 1 (shut_block ++ shut_block)
     ∷ []
 
+-- behind the format, under a directory that displaces, at the moment 0: the device makes no call
+abbrev pub silent : Permit
+silent = record { packed = true; syncs = false; now = 0; past = calls_of_format; events = [] }
+
+-- a line that added these records and gave these bytes, and made no call
+abbrev pub silent_turn : List Rec → List ℕ → Turn
+silent_turn added given = record { added = added; refused = None; device = silent; given = given; told = [] }
+
 -- the format
 abbrev pub turn_of_format : Turn
 turn_of_format = record {
   added = format_records script_geometry;
   refused = None;
-  device = record silent { events = calls_of_format };
+  device = record silent { past = []; events = calls_of_format };
   given = [];
+  told = [];
 }
 
 -- the get before the put

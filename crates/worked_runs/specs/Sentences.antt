@@ -15,7 +15,7 @@ use Rattle.run_promise.specs.Top.{ReadsFailed}
 use Rattle.headline.specs.Account.{Account, HistoryTells, IsConcluded, RunLogs}
 use Rattle.headline.specs.Answered.{RecordedPut, RecordedRemoval, WasCompleted}
 use Rattle.headline.specs.Endings.{LostItsFormat}
-use Rattle.headline.specs.Fixed.{AreSteady, GiveSame, BothDisplaced}
+use Rattle.headline.specs.Fixed.{AreSteady, GiveSame, BothDisplaced, SwitchesDiffer}
 use Rattle.headline.specs.Misses.{HasEndedNone}
 use Rattle.headline.specs.Readers.{IsReadToEnd}
 use Rattle.headline.specs.Reads.{IsStoredPut, IsWholePut}
@@ -89,10 +89,10 @@ abbrev pub TheHistoryIsWhole : Type 0
 TheHistoryIsWhole = (a : Account script_logs) → a.left ≡ []
 
 -- each run that was read to its end, over a source that gave that text and steady devices, printed the same; or both displaced
--- a piece
+-- a piece, or their switches differ
 abbrev pub EachRunPrintsIt : Type 0
 EachRunPrintsIt = (m : RunLogs) → IsConcluded m status.Done → (same : GiveSame script_logs m) → AreSteady m
-    → (taken_by m.new ≡ taken_by m.old ++ script_output) ⊎ BothDisplaced script_logs m same
+    → (taken_by m.new ≡ taken_by m.old ++ script_output) ⊎ BothDisplaced script_logs m same ⊎ SwitchesDiffer script_logs m same
 
 -- each run over that text, of which nothing was refused and whose memory sufficed, ends with the status Done, or for want of
 -- the session whose format its device refused

@@ -1,10 +1,11 @@
 -- What the laws of `headline` say of the run of the nine lines as a whole: that it has an account, what ended it, what no line
 -- told, that its device was steady, and how far each other run over such lines agrees with it.
-use Rattle.std.specs.Prelude.{◌≡◌, ◌⊎◌, ℕ, false, List, ◌∷◌, ◌++◌, length, take}
+use Rattle.std.specs.Prelude.{◌≡◌, ◌⊎◌, ℕ, false, List, ◌∷◌, ◌++◌, length, take, []}
 use Rattle.device_log.specs.Streams.{taken_by}
 use Rattle.cache_model.specs.Permit.{IsAmong}
 use Rattle.script_grammar.specs.declared.step.Step.{Step}
 use Rattle.script_grammar.specs.declared.answer.StepAnswer.{StepAnswer}
+use Rattle.device_log.specs.Calls.{Call}
 use Rattle.script_run.specs.Run.{fresh}
 use Rattle.script_run.specs.Turn.{Turn}
 use Rattle.script_run.specs.Takes.{output_of}
@@ -56,11 +57,11 @@ TheRunIsSteady = AreSteady script_logs × AllTell script_logs
 -- ---- other runs
 
 -- the first lines of a legal history, which are some of the nine, printed the same as here, or a line of them met a refused call
--- or damage
+-- or damage, or told a switch something
 pub record PrintsAsScript {m : RunLogs} (b : Account m) (lines : List (List ℕ)) : Type 0 where
   pub begins : HistoryBegins b lines
   pub prints : (output_of fresh lines begins.earlier ≡ output_of fresh lines (take (length lines) script_turns))
-      ⊎ ((turn : Turn) × IsAmong turn begins.earlier × MeetsDeviceTrouble turn)
+      ⊎ ((turn : Turn) × IsAmong turn begins.earlier × (MeetsDeviceTrouble turn ⊎ ((call : Call) × (turn.told ≡ call ∷ []))))
 
 -- so it is of each history of whatever run that begins with some of these lines, since no turn here displaced a piece
 abbrev pub EachHistoryPrintsIt : Type 0

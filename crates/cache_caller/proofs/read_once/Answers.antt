@@ -15,8 +15,7 @@ returns-in-Piece-clause-within g c =
     let old = g.S.Calls.at c.args.cache.now in
     let new = g.S.Calls.at c.read_next-next.new.self in
     let into = c.read_next-next.new.into in
-    stands_in old new (g.S.Calls.reading c.args.reader) c.in-Piece.index c.in-Piece.length into
-    (g.met.S.Calls.at_rest c.args.cache.now c.requires.holds).plain c.read_next-next.ensures.keeps.goes
+    stands_in old new (g.S.Calls.reading c.args.reader) c.in-Piece.index c.in-Piece.length into c.read_next-next.ensures.keeps.goes
     (subst (λ r. ReadsNext old new (g.S.Calls.reading c.args.reader) r into) (c.in_ok-length-in-Ok.was ∙ ap Ok c.in-Piece.is) c.read_next-next.ensures.gives)
 
 pub returns-in_default : goal.returns-in_default

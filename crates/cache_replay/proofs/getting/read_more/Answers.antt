@@ -18,12 +18,12 @@ returns-in_err-index-clause-reads g c = record {
 
 pub slice_bounds-extend_from_slice-end : goal.slice_bounds-extend_from_slice-end
 slice_bounds-extend_from_slice-end g c =
-    size_within (rw c.in-Piece.is at c.in_ok-index.ensures.gives) (g.met.S.Calls.at_rest _ c.requires.ready.holds).plain
+    size_within (rw c.in-Piece.is at c.in_ok-index.ensures.gives)
     c.in_ok-index.ensures.keeps.goes.made c.in_ok-index.ensures.keeps.goes.past
 
 pub slice_bounds-extend_from_slice-end-in-Piece : goal.slice_bounds-extend_from_slice-end-in-Piece
 slice_bounds-extend_from_slice-end-in-Piece g c =
-    sym (taken_is (rw c.in-Piece.is at c.in_ok-index.ensures.gives) (g.met.S.Calls.at_rest _ c.requires.ready.holds).plain
+    sym (taken_is (rw c.in-Piece.is at c.in_ok-index.ensures.gives)
     c.in_ok-index.ensures.keeps.goes.made c.in_ok-index.ensures.keeps.goes.past)
 
 pub returns-in_err-extend_from_slice-in-Piece-clause-reads : goal.returns-in_err-extend_from_slice-in-Piece-clause-reads
@@ -47,7 +47,7 @@ returns-in_ok-extend_from_slice-in-Piece-clause-reads g c = record {
       (rw c.in-Piece.is at c.in_ok-index.ensures.exact) c.in_ok-index.ensures.stands);
   hit = still_hit _ _ _ _ _ c.read_next.ensures.reader c.requires.hit.hit;
   same = same_reader _ _ _ _ _ c.read_next.ensures.reader;
-  nearer = nearer (rw c.in-Piece.is at c.in_ok-index.ensures.gives) (g.met.S.Calls.at_rest _ c.requires.ready.holds).plain
+  nearer = nearer (rw c.in-Piece.is at c.in_ok-index.ensures.gives)
       c.in_ok-index.ensures.keeps.goes.made c.in_ok-index.ensures.keeps.goes.past _
       (rw c.in-Piece.is at c.in_ok-index.ensures.reader.goes) c.requires.hit.hit c.requires.hit.reader.first;
   unharmed = next_stays _ _ c.requires.hit.reader.first c.read_next.ensures.unharmed;

@@ -11,7 +11,7 @@ returns-clause-concludes g c =
     let is : g.B.Bay.past c.give_back.new.self ≡ TookBack device ∷ Gave c.args.name.now 0 ∷ past =
     c.give_back.ensures.took ∙ ap (λ (l : List BayCall). TookBack device ∷ l) (c.in-Ok.ensures.gave ∙ ap (λ (n : List ℕ). Gave n 0 ∷ past) c.as_bytes.ensures.value) in
     inspected c.args.name.now past (g.B.Bay.past c.give_back.new.self) (g.K.Sink.writes c.args.sink.now) (g.K.Sink.writes c.print_inspection.new.sink) c.print_inspection.result
-    (g.B.Dev.Disk.state c.in-Ok.device) device c.in-Ok.ensures.device is c.inspect-said.result c.inspect-said.ensures.says c.inspect-said.ensures.fails c.print_inspection.ensures.out
+    (g.B.Dev.Disk.state c.in-Ok.device) device c.in-Ok.ensures.device is c.inspect-said.result c.inspect-said.ensures.says c.inspect-said.ensures.unrefused c.inspect-said.ensures.fails c.print_inspection.ensures.out
 
 pub returns-clause-order : goal.returns-clause-order
 returns-clause-order g c =

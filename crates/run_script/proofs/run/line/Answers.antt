@@ -123,3 +123,6 @@ returns-in-Line-Nothing-clause-order g c = order_same _ _
 
 pub returns-in-Line-Bad-clause-order : goal.returns-in-Line-Bad-clause-order
 returns-in-Line-Bad-clause-order g c = order_same _ _
+
+pub returns-in-Fault-clause-order : goal.returns-in-Fault-clause-order
+returns-in-Fault-clause-order g c = order_same (return_in c.args.session.now) (g.B.Bay.past c.args.bay.now)

@@ -11,8 +11,8 @@ returns-in-Some-Version-clause-source g c = draws_nothing g.S.Source.reads g.S.S
 pub returns-in-Some-Inspect-clause-source : goal.returns-in-Some-Inspect-clause-source
 returns-in-Some-Inspect-clause-source g c = draws_nothing g.S.Source.reads g.S.Source.left c.args.source.now
 
-pub returns-in-None-clause-source : goal.returns-in-None-clause-source
-returns-in-None-clause-source g c = draws_nothing g.S.Source.reads g.S.Source.left c.args.source.now
+pub returns-in-Some-Work-clause-source : goal.returns-in-Some-Work-clause-source
+returns-in-Some-Work-clause-source g c = draws_nothing g.S.Source.reads g.S.Source.left c.args.source.now
 
 pub returns-in-Some-Inspect-clause-reads : goal.returns-in-Some-Inspect-clause-reads
 returns-in-Some-Inspect-clause-reads g c =
