@@ -34,46 +34,23 @@ use Rattle.stripe_write.proofs.Ended.{open_put}
 use Rattle.stripe_write.proofs.Spending.{nothing_more}
 use Rattle.cache_model.specs.Subjects.{IsOfPut}
 use Rattle.cache_calls.specs.Adds.{AddsOnly}
-use Rattle.cache_calls.specs.Asked.{close_asks, ending_asks, progress_at, rest_asks, rest_rows, rows_at_close}
-use Rattle.cache_calls.specs.Standing.{IsToldClosed}
-use Rattle.cache_calls.specs.Writers.{Closes, NumberAtClose, SealsWhere, StopsAtLimit, TellsComplete, WriterCloses, bytes_next, size_at_close}
-use Rattle.stripe_calls.specs.Seen.{at_by, written_as}
+use Rattle.cache_calls.specs.Asked.{close_asks, ending_asks, progress_at}
+use Rattle.cache_calls.specs.Writers.{Closes, NumberAtClose, SealsWhere, StopsAtLimit, WriterCloses, bytes_next}
+use Rattle.stripe_calls.specs.Seen.{at_by}
 use Rattle.stripe_calls.proofs.Serving.{all_left, one_stays, same_added, serves_by, shows_asked, spends_done, spends_fails}
-use Rattle.stripe_calls.proofs.Words.{writer_as}
-
--- ---- what is asked
-
-rest_rows_are : (bytes : List ℕ) → closing.row_of_rest bytes ≡ rest_rows bytes
-rest_rows_are [] = refl
-rest_rows_are (byte ∷ bytes) = refl
-
-rest_asks_are : (w : Writer) (bytes : List ℕ) → closing.asked_of_rest w bytes ≡ rest_asks (written_as w) bytes
-rest_asks_are w [] = refl
-rest_asks_are w (byte ∷ bytes) = refl
-
-pub rows_are : (w : Writer) → closing.closing_rows w ≡ rows_at_close (written_as w)
-rows_are w = ap (λ rows. w.table.rows ++ rows) (rest_rows_are w.gathered.items)
-
-asks_are : (w : Writer) → closing.asked_of_closing w ≡ ending_asks (written_as w)
-asks_are w =
-    ap (λ is. Weigh w.put (length w.gathered.items) ∷ (is ++ Finish w.put (length (closing.closing_rows w)) ∷ Commit w.put ∷ []))
-    (rest_asks_are w w.gathered.items)
-    ∙ ap (λ rows. Weigh w.put (length w.gathered.items) ∷ (rest_asks (written_as w) w.gathered.items ++ Finish w.put (length rows) ∷ Commit w.put ∷ []))
-    (rows_are w)
+use Rattle.cache_calls.specs.Actors.{IsWriterOf}
+use Rattle.stripe_write.specs.Writers.{written_as}
 
 -- ---- the number at the end of the tape
-
-next_is : (t : State) (w : Writer) → closes.bytes_placed_next t w ≡ bytes_next t (written_as w)
-next_is t w = ap (λ rows. if length (cuts_of t w.put) == length rows then vector_length t w.put else length w.gathered.items) (rows_are w)
 
 abbrev Numbered : State → Writer → Result Receipt Refusal → Type 0
 Numbered t w result = IfErr result (StopsAtLimit t (bytes_next t (written_as w)))
 
 number_at : (t : State) (w : Writer) (result : Result Receipt Refusal)
-    → IfErr result (numbers.StopsExhausted t (closes.bytes_placed_next t w))
+    → IfErr result (numbers.StopsExhausted t (bytes_next t (written_as w)))
     → Numbered t w result
 number_at t w (Ok given) h = tt
-number_at t w (Err (refusal.Exhausted number)) h = subst (λ n. StopsAtLimit t n (refusal.Exhausted number)) (next_is t w) h
+number_at t w (Err (refusal.Exhausted number)) h = h
 number_at t w (Err refusal.TooManyWriters) h = tt
 number_at t w (Err refusal.TooManyFragments) h = tt
 number_at t w (Err (refusal.VectorTooLarge bytes)) h = tt
@@ -97,13 +74,12 @@ module _ (packed : Bool) (k l : Kept) (d e : Device) (now : ℕ) (w : Writer) (a
       ServesFrom (Untold e IsVectorAs) now (at_by packed k d) (at_by packed l e) asked o AreTold (NumberAtClose (written_as w) result)
 
   -- what is asked of an open put comes there, in each step that covers the call; or a pair is shown
-  comes : (o : Progress) (result : Result Receipt Refusal) → writers.IsStripeWriterOf (state_of k) w → is_writing (state_of k) w.put ≡ true
-      → ((p : Permit) (added : List Rec) → closes.Spent p (state_of k) w result added → Spends p (state_of k) (closing.asked_of_closing w) added o)
+  comes : (o : Progress) (result : Result Receipt Refusal) → IsWriterOf (state_of k) (written_as w) → is_writing (state_of k) w.put ≡ true
+      → ((p : Permit) (added : List Rec) → closes.Spent p (state_of k) w result added → Spends p (state_of k) (ending_asks (written_as w)) added o)
       → ClosesAsAsked packed now d.past e k l w result → Served (ending_asks (written_as w)) o result
   comes o result own writing law h =
       let row = open_put (put_of (state_of k) w.put) writing in
-      subst (λ is. Served is o result) (asks_are w)
-      (serves_by accounted (closing.asked_of_closing w) o AreTold accounted.added accounted.adds
+      serves_by accounted (ending_asks (written_as w)) o AreTold accounted.added accounted.adds
       (λ p packs moment step told. elim (h.does p packs moment step told) [
         | inl closed ↦ inl (
           law p accounted.added (subst (closes.Spent p (state_of k) w result) (same_added k l closed.added accounted.added closed.adds accounted.adds) closed.does),
@@ -111,7 +87,7 @@ module _ (packed : Bool) (k l : Kept) (d e : Device) (now : ℕ) (w : Writer) (a
         )
         | inr pair ↦ inr (shows_asked _ accounted.added
             (λ vector live. weighs (state_of k) w row.0 (length w.gathered.items) row.1 (own row.0 row.1 row.2).key_is vector live) pair)
-      ]))
+      ])
 
   abbrev own_asks : List Intent
   own_asks = close_asks (state_of k) (written_as w)
@@ -122,18 +98,17 @@ module _ (packed : Bool) (k l : Kept) (d e : Device) (now : ℕ) (w : Writer) (a
   opened o result writing h = subst (λ is. Served is o result) (ap (λ b. if b then ending_asks (written_as w) else []) (sym writing)) h
 
   -- want of memory leaves all of it
-  wanting : (result : Result Receipt Refusal) → is_writing (state_of k) w.put ≡ true → Served (ending_asks (written_as w)) (Leaves (closing.asked_of_closing w)) result
+  wanting : (result : Result Receipt Refusal) → is_writing (state_of k) w.put ≡ true → Served (ending_asks (written_as w)) (Leaves (ending_asks (written_as w))) result
       → Served own_asks (Leaves own_asks) result
   wanting result writing h =
-      let first : closing.asked_of_closing w ≡ own_asks = asks_are w
-      ∙ ap (λ b. if b then ending_asks (written_as w) else []) (sym writing) in
-      subst (λ left. Served own_asks (Leaves left) result) first (opened (Leaves (closing.asked_of_closing w)) result writing h)
+      let first : ending_asks (written_as w) ≡ own_asks = ap (λ b. if b then ending_asks (written_as w) else []) (sym writing) in
+      subst (λ left. Served own_asks (Leaves left) result) first (opened (Leaves (ending_asks (written_as w))) result writing h)
 
-  pub close_serves : (result : Result Receipt Refusal) → writers.IsStripeWriterOf (state_of k) w → is_writing (state_of k) w.put ≡ true
+  pub close_serves : (result : Result Receipt Refusal) → IsWriterOf (state_of k) (written_as w) → is_writing (state_of k) w.put ≡ true
       → ClosesWhere (state_of k) (state_of l) w result → ClosesAsAsked packed now d.past e k l w result
       → Served own_asks (progress_at w.put own_asks result) result
   close_serves (Ok given) own writing is h =
-      opened AllDone (Ok given) writing (comes AllDone (Ok given) own writing (λ p added. spends_done p (state_of k) (closing.asked_of_closing w) added) h)
+      opened AllDone (Ok given) writing (comes AllDone (Ok given) own writing (λ p added. spends_done p (state_of k) (ending_asks (written_as w)) added) h)
   close_serves (Err (refusal.VectorTooLarge bytes)) own writing is h =
       opened (Stops (TooLarge w.put bytes)) (Err (refusal.VectorTooLarge bytes)) writing (comes (Stops (TooLarge w.put bytes)) (Err (refusal.VectorTooLarge bytes)) own writing (λ p added. spends_fails (TooLarge w.put bytes)) h)
   close_serves (Err (refusal.Lost index why)) own writing is h =
@@ -143,7 +118,7 @@ module _ (packed : Bool) (k l : Kept) (d e : Device) (now : ℕ) (w : Writer) (a
   close_serves (Err (refusal.Exhausted number)) own writing is h =
       opened (Stops Exhausted) (Err (refusal.Exhausted number)) writing (comes (Stops Exhausted) (Err (refusal.Exhausted number)) own writing (λ p added. spends_fails Exhausted) h)
   close_serves (Err (refusal.Memory error)) own writing is h =
-      wanting (Err (refusal.Memory error)) writing (comes (Leaves (closing.asked_of_closing w)) (Err (refusal.Memory error)) own writing (λ p added. one_stays _) h)
+      wanting (Err (refusal.Memory error)) writing (comes (Leaves (ending_asks (written_as w))) (Err (refusal.Memory error)) own writing (λ p added. one_stays _) h)
   close_serves (Err refusal.NoSuchWriter) own writing is h = let clash : true ≡ false = sym writing ∙ is in cc
   close_serves (Err _) own writing is h = absurd is
 
@@ -161,30 +136,10 @@ none_added put a = record { added = []; adds = sym (nothing_more a.kept); own = 
 -- ---- what it gives
 
 module _ (packed : Bool) (k l : Kept) (d e : Device) (w : Writer) where
-  complete : (given : Receipt) → closes.IsCompleteInStripe w given → TellsComplete (written_as w) given
-  complete given h = record {
-    put = h.put;
-    bytes = h.bytes ∙ ap total_length (rows_are w);
-    fragments = h.fragments ∙ ap (λ rows. length rows) (rows_are w);
-  }
-
-  size_is : closing.closing_size w ≡ size_at_close (written_as w)
-  size_is = ap (λ (rows : List TableRow). vector_size (alternate rows ∷ [])) (rows_are w)
-    where
-      alternate : List TableRow → Stored
-      alternate rows = record {
-        put = w.put;
-        pin = w.pin;
-        length = total_length rows;
-        request = w.request;
-        response = w.response;
-        table = rows;
-      }
-
   pub close_gives : (result : Result Receipt Refusal) → is_writing (state_of k) w.put ≡ true → ClosesWhere (state_of k) (state_of l) w result
       → IfErr result (IsCounted e.faults) → IfErr result (RefusalHasRecord k l) → Closes (at_by packed k d) (at_by packed l e) (written_as w) result
-  close_gives (Ok given) writing is counts recorded = (is.0, complete given is.1)
-  close_gives (Err (refusal.VectorTooLarge bytes)) writing is counts recorded = (is.0, (is.1 ∙ size_is, is.2))
+  close_gives (Ok given) writing is counts recorded = (is.0, is.1)
+  close_gives (Err (refusal.VectorTooLarge bytes)) writing is counts recorded = (is.0, (is.1, is.2))
   close_gives (Err (refusal.Lost index why)) writing is counts recorded = (is.0, is.1)
   close_gives (Err (refusal.DeviceFault count)) writing is counts recorded =
       (is, record { reached = counts; added = recorded.added; adds = recorded.adds; among = recorded.among })
@@ -208,25 +163,15 @@ seals_as old new (Err (refusal.Lost index why)) h = tt
 seals_as old new (Err refusal.Sealed) h = tt
 seals_as old new (Err refusal.NoSuchWriter) h = tt
 
-pub writer_closes : (t : State) (old new : Writer) (result : Result Receipt Refusal) → writers.IsStripeWriterOf t new → closes.SealsInStripeWhere old new result
+pub writer_closes : (t : State) (old new : Writer) (result : Result Receipt Refusal) → IsWriterOf t (written_as new) → closes.SealsInStripeWhere old new result
     → closes.IsRested old new → WriterCloses (written_as old) result t (written_as new)
 writer_closes t old new result own seals rested = record {
   seals = seals_as old new result seals;
-  rested = elim rested [
-    | inl kept ↦ inl (record { put = kept.put; gathered = kept.gathered; cuts = kept.rows })
-    | inr cut ↦ inr (record { put = cut.put; empty = cut.empty; cuts = cut.rows ∙ rows_are old })
-  ];
-  writer = writer_as t new own;
+  rested = rested;
+  writer = own;
 }
 
 -- one that does not close is as it was
-pub writer_stays : (t : State) (w : Writer) → writers.IsStripeWriterOf t w
+pub writer_stays : (t : State) (w : Writer) → IsWriterOf t (written_as w)
     → WriterCloses (written_as w) (Err refusal.NoSuchWriter) t (written_as w)
-writer_stays t w own = record { seals = tt; rested = inl (record { put = refl; gathered = refl; cuts = refl }); writer = writer_as t w own }
-
--- ---- what is told of the rest
-
--- a caller tells it of the writer that it sees
-pub told_closed : (t : State) (w : Writer) (contents : Contents) → IsToldClosed t (written_as w) contents
-    → closes.IsToldClosedInStripe t w contents
-told_closed t w contents h = record { rest = h.rest; vectors = h.vectors }
+writer_stays t w own = record { seals = tt; rested = inl (record { put = refl; gathered = refl; cuts = refl }); writer = own }

@@ -28,19 +28,19 @@ use Rattle.stripe_write.specs.declared.writer.Writer.{Writer}
 use Rattle.stripe_answers.specs.Numbers as numbers
 use Rattle.stripe_write.specs.Writers as writers
 use Rattle.stripe_write.specs.Writes as writes
-use Rattle.stripe_write.specs.Writes.{CutsNextAsAsked, IsTakingInStripe, SameWriter, WritesAsAsked, WritesWhere, cuts_fragment, gathered_behind, next_id, payload_cut_next, next_start, completes_fragment, taken_up_to_cut}
+use Rattle.stripe_write.specs.Writes.{CutsNextAsAsked, SameWriter, WritesAsAsked, WritesWhere, next_start}
 use Rattle.stripe_write.proofs.Cutting.{next_no_vector}
 use Rattle.stripe_write.proofs.Faulted.{alone, covers_alone, cut_recorded}
 use Rattle.stripe_write.proofs.Spending.{nothing_more}
 use Rattle.cache_model.specs.Subjects.{IsOfPut}
 use Rattle.cache_calls.specs.Adds.{AddsSoundly}
-use Rattle.cache_calls.specs.Asked.{cuts_next, fed_asks, progress_at, write_asks}
-use Rattle.cache_calls.specs.Standing.{IsToldWritten}
+use Rattle.cache_calls.specs.Asked.{cuts_next, fed_asks, progress_at, write_asks, taken_of, gathered_with, fills_fragment, next_payload}
 use Rattle.cache_model.specs.Live.{LiveBefore}
-use Rattle.cache_calls.specs.Writers.{CutsAs, IsCutting, StopsAs, WriterGoesOn, Writes, fragment_records}
-use Rattle.stripe_calls.specs.Seen.{at_by, written_as}
+use Rattle.cache_calls.specs.Writers.{CutsAs, IsCutting, StopsAs, WriterGoesOn, Writes, fragment_records, IsTaking, piece_cut_next, HasTaken}
+use Rattle.stripe_calls.specs.Seen.{at_by}
 use Rattle.stripe_calls.proofs.Serving.{all_left, one_done, one_fails, serves_by}
-use Rattle.stripe_calls.proofs.Words.{writer_as}
+use Rattle.cache_calls.specs.Actors.{IsWriterOf}
+use Rattle.stripe_write.specs.Writers.{written_as}
 
 -- ---- what is asked
 
@@ -70,27 +70,27 @@ module _ (s : State) (w : Writer) (bytes : List ℕ) where
   abbrev cut_asks : Bool → List ℕ → List Intent
   cut_asks b payload = if b then cuts_next (written_as w) payload ∷ [] else []
 
-  taking_asks : IsTakingInStripe s w → asks ≡ fed_asks s (written_as w) bytes
+  taking_asks : IsTaking s (written_as w) → asks ≡ fed_asks s (written_as w) bytes
   taking_asks h =
       ap (λ b. if b && not w.sealed then fed_asks s (written_as w) bytes else []) h.0
       ∙ ap (λ b. if not b then fed_asks s (written_as w) bytes else []) h.1
 
-  taken_asks : IsTakingInStripe s w → (0 < length bytes → length w.table.rows < most_fragments)
-      → asks ≡ cut_asks (completes_fragment s.geometry w (taken_up_to_cut s.geometry w bytes)) (payload_cut_next s w bytes)
+  taken_asks : IsTaking s (written_as w) → (0 < length bytes → length w.table.rows < most_fragments)
+      → asks ≡ cut_asks (fills_fragment s.geometry (written_as w) (taken_of s.geometry (written_as w) bytes)) (next_payload s (written_as w) bytes)
   taken_asks h few =
       taking_asks h
       ∙ ap (λ b. if b then Overflow w.put
-      ∷ [] else cut_asks (completes_fragment s.geometry w (taken_up_to_cut s.geometry w bytes)) (payload_cut_next s w bytes))
+      ∷ [] else cut_asks (fills_fragment s.geometry (written_as w) (taken_of s.geometry (written_as w) bytes)) (next_payload s (written_as w) bytes))
       (not_over (length bytes) (length w.table.rows) few)
 
-  cutting_asks : writes.IsCuttingInStripe s w bytes → asks ≡ cuts_fragment w (payload_cut_next s w bytes) ∷ []
-  cutting_asks h = taken_asks h.taking (λ some. h.few) ∙ ap (λ b. cut_asks b (payload_cut_next s w bytes)) h.full
+  cutting_asks : IsCutting s (written_as w) bytes → asks ≡ cuts_next (written_as w) (next_payload s (written_as w) bytes) ∷ []
+  cutting_asks h = taken_asks h.taking (λ some. h.few) ∙ ap (λ b. cut_asks b (next_payload s (written_as w) bytes)) h.full
 
-  over_asks : IsTakingInStripe s w → 0 < length bytes → length w.table.rows ≡ most_fragments → asks ≡ Overflow w.put ∷ []
+  over_asks : IsTaking s (written_as w) → 0 < length bytes → length w.table.rows ≡ most_fragments → asks ≡ Overflow w.put ∷ []
   over_asks h some whole =
       taking_asks h
       ∙ ap (λ b. if b then Overflow w.put
-      ∷ [] else cut_asks (completes_fragment s.geometry w (taken_up_to_cut s.geometry w bytes)) (payload_cut_next s w bytes))
+      ∷ [] else cut_asks (fills_fragment s.geometry (written_as w) (taken_of s.geometry (written_as w) bytes)) (next_payload s (written_as w) bytes))
       (over (length bytes) (length w.table.rows) some whole)
 
 -- ---- what it serves
@@ -103,24 +103,24 @@ module _ (packed : Bool) (k l : Kept) (d e : Device) (now : ℕ) (w : Writer) (b
   own_asks = asks (state_of k) w bytes
 
   took : (n : ℕ) (added : List Rec) → l ≡ with_records k added → (b : Bool)
-      → MatchBool b ((placed : Placed) × CutsNextAsAsked packed now (state_of k) d.past e w (gathered_behind w bytes n) added (Ok placed)) (added ≡ [])
-      → Served (cut_asks (state_of k) w bytes b (gathered_behind w bytes n)) AllDone
+      → MatchBool b ((placed : Placed) × CutsNextAsAsked packed now (state_of k) d.past e w (gathered_with (written_as w) bytes n) added (Ok placed)) (added ≡ [])
+      → Served (cut_asks (state_of k) w bytes b (gathered_with (written_as w) bytes n)) AllDone
   took n added adds true h =
-      serves_by accounted (cuts_fragment w (gathered_behind w bytes n) ∷ []) AllDone AreTold added adds
+      serves_by accounted (cuts_next (written_as w) (gathered_with (written_as w) bytes n) ∷ []) AllDone AreTold added adds
       (λ p packs moment step told. inl (one_done (h.1.does p packs moment step), tt))
   took n added adds false h = all_left accounted [] AreTold (subst (λ recs. l ≡ with_records k recs) h adds ∙ nothing_more k) tt
 
   stopped : (why : Reason) (end : Result Placed Stop) (added : List Rec) → place_end end ≡ Fails why → l ≡ with_records k added
-      → writes.IsCuttingInStripe (state_of k) w bytes
-      → CutsNextAsAsked packed now (state_of k) d.past e w (payload_cut_next (state_of k) w bytes) added end
+      → IsCutting (state_of k) (written_as w) bytes
+      → CutsNextAsAsked packed now (state_of k) d.past e w (next_payload (state_of k) (written_as w) bytes) added end
       → Served own_asks (Stops why)
   stopped why end added is adds cutting h =
-      let payload = payload_cut_next (state_of k) w bytes in
+      let payload = next_payload (state_of k) (written_as w) bytes in
       subst (λ them. Served them (Stops why)) (sym (cutting_asks (state_of k) w bytes cutting))
-      (serves_by accounted (cuts_fragment w payload ∷ []) (Stops why) AreTold added adds
+      (serves_by accounted (cuts_next (written_as w) payload ∷ []) (Stops why) AreTold added adds
       (λ p packs moment step told. inl (
         one_fails why
-            (subst (SpendsFirst p (state_of k) (cuts_fragment w payload) added) is (h.does p packs moment step)),
+            (subst (SpendsFirst p (state_of k) (cuts_next (written_as w) payload) added) is (h.does p packs moment step)),
         tt,
       )))
 
@@ -132,8 +132,8 @@ module _ (packed : Bool) (k l : Kept) (d e : Device) (now : ℕ) (w : Writer) (b
   write_serves (Ok n) is h =
       subst (λ them. Served them AllDone)
       (sym (taken_asks (state_of k) w bytes is.0 is.2
-      ∙ ap (λ m. cut_asks (state_of k) w bytes (completes_fragment (state_of k).geometry w m) (gathered_behind w bytes m)) (sym is.1)))
-      (took n h.added h.adds (completes_fragment (state_of k).geometry w n) h.does)
+      ∙ ap (λ m. cut_asks (state_of k) w bytes (fills_fragment (state_of k).geometry (written_as w) m) (gathered_with (written_as w) bytes m)) (sym is.1)))
+      (took n h.added h.adds (fills_fragment (state_of k).geometry (written_as w) n) h.does)
   write_serves (Err (refusal.DeviceFault count)) is h = stopped (Faulted count) (Err (stop.DeviceFault count)) h.added refl h.adds is h.does
   write_serves (Err (refusal.Exhausted number)) is h = stopped Exhausted (Err (stop.Exhausted number)) h.added refl h.adds is h.does
   write_serves (Err refusal.TooManyFragments) is h =
@@ -153,14 +153,14 @@ module _ (packed : Bool) (k l : Kept) (d e : Device) (w : Writer) where
 
   -- the records of a fragment
   pieces_are : (s : State) (payload : List ℕ) (displaced : List Rec)
-      → cut_records (next_id w) payload ++ (displaced ++ placed_record s (next_id w) w.pin (next_start w) (length payload) payload ∷ [])
+      → cut_records (piece_cut_next (written_as w)) payload ++ (displaced ++ placed_record s (piece_cut_next (written_as w)) w.pin (next_start w) (length payload) payload ∷ [])
       ≡ fragment_records s (written_as w) payload displaced
   pieces_are s payload displaced =
       ap (λ b. (if b then [] else rec.Cut w.put (length w.table.rows + 1) (length payload) (digest_of payload) ∷ [])
-      ++ (displaced ++ placed_record s (next_id w) w.pin (next_start w) (length payload) payload ∷ [])) (next_no_vector w)
+      ++ (displaced ++ placed_record s (piece_cut_next (written_as w)) w.pin (next_start w) (length payload) payload ∷ [])) (next_no_vector w)
 
   cuts : (payload : List ℕ) (added : List Rec) (placed : Placed) → l ≡ with_records k added
-      → IsCutAs packed (state_of k) (next_id w) w.pin (next_start w) payload added placed → CutsAs (at_by packed k d) (at_by packed l e) (written_as w) payload
+      → IsCutAs packed (state_of k) (piece_cut_next (written_as w)) w.pin (next_start w) payload added placed → CutsAs (at_by packed k d) (at_by packed l e) (written_as w) payload
   cuts payload added placed adds h = record {
     room = h.room;
     displaced = h.are.displaced;
@@ -182,23 +182,20 @@ module _ (packed : Bool) (k l : Kept) (d e : Device) (w : Writer) where
 
   module _ (now : ℕ) (bytes : List ℕ) where
     taken : (n : ℕ) (added : List Rec) → l ≡ with_records k added → (b : Bool)
-        → MatchBool b ((placed : Placed) × CutsNextAsAsked packed now (state_of k) d.past e w (gathered_behind w bytes n) added (Ok placed)) (added ≡ [])
-        → MatchBool b (CutsAs (at_by packed k d) (at_by packed l e) (written_as w) (gathered_behind w bytes n)) (l ≡ k)
-    taken n added adds true h = cuts (gathered_behind w bytes n) added h.0 adds h.1.shape
+        → MatchBool b ((placed : Placed) × CutsNextAsAsked packed now (state_of k) d.past e w (gathered_with (written_as w) bytes n) added (Ok placed)) (added ≡ [])
+        → MatchBool b (CutsAs (at_by packed k d) (at_by packed l e) (written_as w) (gathered_with (written_as w) bytes n)) (l ≡ k)
+    taken n added adds true h = cuts (gathered_with (written_as w) bytes n) added h.0 adds h.1.shape
     taken n added adds false h = as_it_was added adds h
-
-    cutting : writes.IsCuttingInStripe (state_of k) w bytes → IsCutting (state_of k) (written_as w) bytes
-    cutting h = record { taking = h.taking; few = h.few; full = h.full }
 
     pub write_gives : (result : Result ℕ Refusal) → WritesWhere (state_of k) w bytes result
         → IfErr result (numbers.StopsExhausted (state_of l) (state_of k).geometry.fragment) → WritesAsAsked packed now k l d.past e w bytes result
         → Writes (at_by packed k d) (at_by packed l e) (written_as w) bytes result
     write_gives (Ok n) is number h =
         record
-        { taking = is.0; count = is.1; few = is.2; cuts = taken n h.added h.adds (completes_fragment (state_of k).geometry w n) h.does }
+        { taking = is.0; count = is.1; few = is.2; cuts = taken n h.added h.adds (fills_fragment (state_of k).geometry (written_as w) n) h.does }
     write_gives (Err (refusal.DeviceFault count)) is number h =
-        let payload = payload_cut_next (state_of k) w bytes in (
-          cutting is,
+        let payload = next_payload (state_of k) (written_as w) bytes in (
+          is,
           h.does.shape.why_is.1,
           record {
             count_is = h.does.shape.why_is.0;
@@ -213,8 +210,8 @@ module _ (packed : Bool) (k l : Kept) (d e : Device) (w : Writer) where
           },
         )
     write_gives (Err (refusal.Exhausted n)) is number h =
-        let payload = payload_cut_next (state_of k) w bytes in
-        (cutting is, number, stops payload h.added (stop.Exhausted n) h.adds h.does.shape)
+        let payload = next_payload (state_of k) (written_as w) bytes in
+        (is, number, stops payload h.added (stop.Exhausted n) h.adds h.does.shape)
     write_gives (Err refusal.TooManyFragments) is number h = (is.0, is.1, is.2, h.adds ∙ ap (with_records k) h.does.0)
     write_gives (Err refusal.NoSuchWriter) is number h = (is, as_it_was h.added h.adds h.does)
     write_gives (Err refusal.Sealed) is number h = (is.0, is.1, as_it_was h.added h.adds h.does)
@@ -238,19 +235,11 @@ same_writer old new h =
     let sealed : new.sealed ≡ old.sealed = h.sealed in
     cc
 
-pub write_goes : (s t : State) (old new : Writer) (bytes : List ℕ) (result : Result ℕ Refusal) → writers.IsStripeWriterOf t new
-    → IfOk result (λ n. writes.GathersAsAsked s.geometry old bytes n new) → OnErr result (SameWriter old new)
+pub write_goes : (s t : State) (old new : Writer) (bytes : List ℕ) (result : Result ℕ Refusal) → IsWriterOf t (written_as new)
+    → IfOk result (λ n. HasTaken s.geometry (written_as old) bytes n (written_as new)) → OnErr result (SameWriter old new)
     → WriterGoesOn (written_as old) bytes result s t (written_as new)
 write_goes s t old new bytes (Ok n) own gathers same = record {
-  goes = record { put = gathers.put; gathered = gathers.gathered; sealed = gathers.sealed };
-  writer = writer_as t new own;
+  goes = gathers;
+  writer = own;
 }
-write_goes s t old new bytes (Err why) own gathers same = record { goes = same_writer old new same; writer = writer_as t new own }
-
--- ---- what is told of a cut
-
--- a caller tells it of the writer that it sees
-pub told_written : (s : State) (w : Writer) (bytes : List ℕ) (result : Result ℕ Refusal) (contents : Contents)
-    → IsToldWritten s (written_as w) bytes result contents → writes.IsToldWrittenInStripe s w bytes result contents
-told_written s w bytes (Ok n) contents h = h
-told_written s w bytes (Err why) contents h = tt
+write_goes s t old new bytes (Err why) own gathers same = record { goes = same_writer old new same; writer = own }

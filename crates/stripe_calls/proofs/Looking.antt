@@ -5,7 +5,6 @@ use Rattle.std.specs.declared.alloc.AllocError.{AllocError}
 use Rattle.tape_base.specs.declared.actors.Actor.{Actor}
 use Rattle.tape_base.specs.declared.keys.Key.{Key}
 use Rattle.logged_disk.specs.Device.{DeviceState as Device}
-use Rattle.fragment_table.specs.Table.{Table, total_length}
 use Rattle.alternate_vector.specs.Field.{Field}
 use Rattle.cache_model.specs.declared.answer.ReadAnswer.{ReadAnswer}
 use Rattle.cache_model.specs.declared.answer.ReadAnswer.TheVariants as read
@@ -24,54 +23,16 @@ use Rattle.piece_answers.specs.Faults.{IsAccounted}
 use Rattle.cache_answers.specs.declared.answers.Opened.{Opened}
 use Rattle.cache_answers.specs.declared.answers.Opened.TheVariants as opened
 use Rattle.stripe_read.specs.declared.reader.Reader.{Reader}
-use Rattle.stripe_read.specs.Lookups as lookups
-use Rattle.stripe_read.specs.Lookups.{IfOpened, Opens, TellsOpened, answer_of_opened}
-use Rattle.stripe_read.specs.Readers as readers
+use Rattle.stripe_read.specs.Lookups.{MissIsCounted, Opens}
+use Rattle.stripe_read.specs.Readers.{ReaderClosesAsAsked, reading_as}
 use Rattle.cache_model.specs.Vectors.{AreTold, IsVectorAs}
-use Rattle.cache_calls.specs.Actors.{IsOpenReader, IsReaderOf}
+use Rattle.cache_calls.specs.Actors.{IsOpenReader}
 use Rattle.cache_calls.specs.Adds.{AddsAll}
 use Rattle.cache_calls.specs.Asked.{unless_wanting}
-use Rattle.cache_calls.specs.Readers as seam
-use Rattle.cache_calls.specs.Readers.{ClosesReader, HasItsTable, IsCountedMiss, OpensReader, TellsReader, open_adds, vector_trouble}
-use Rattle.stripe_calls.specs.Seen.{at_by, reading_as}
+use Rattle.cache_calls.specs.Readers.{ClosesReader, HasItsTable, IfReader, IsCountedMiss, OpensReader, TellsReader, answer_in, open_adds, vector_trouble}
+use Rattle.stripe_calls.specs.Seen.{at_by}
 use Rattle.stripe_calls.proofs.Serving.{all_left, group_serves, serves_by, shows_asked}
-use Rattle.stripe_calls.proofs.Words.{are_seen, counted_cause, reader_as, table_as}
-
--- ---- the records of a lookup
-
-trouble_same : (o : Option Row) (answer : ReadAnswer) → lookups.lookup_trouble o answer ≡ vector_trouble o answer
-trouble_same None answer = refl
-trouble_same (Some row) (read.Hit put) = refl
-trouble_same (Some row) (read.Follow put) = refl
-trouble_same (Some row) (read.Miss why) = refl
-
-answer_same : (given : Opened Reader) → answer_of_opened given ≡ seam.answer_in given
-answer_same (opened.Hit reader put size) = refl
-answer_same (opened.Follow reader put) = refl
-answer_same (opened.Miss why) = refl
-
-adds_same : (s : State) (who : Actor) (key : Key) (request : List Field) (given : Opened Reader)
-    → lookups.opening_adds s who key request (answer_of_opened given) ≡ open_adds s who key request (seam.answer_in given)
-adds_same s who key request given =
-    ap (λ recs. recs ++ rec.ReadOpened s.next_reader who key request (answer_of_opened given) ∷ []) (trouble_same (live_vector_of s key) (answer_of_opened given))
-    ∙ ap (open_adds s who key request) (answer_same given)
-
--- ---- what it tells
-
-if_reader : (P : Reader → Type 0) (Q : Reader → Type 0) → ((r : Reader) → P r → Q r) → (given : Opened Reader) → IfOpened P given
-    → seam.IfReader Q given
-if_reader P Q f (opened.Hit reader put size) h = f reader h
-if_reader P Q f (opened.Follow reader put) h = f reader h
-if_reader P Q f (opened.Miss why) h = tt
-
-length_same : (table : Option Table) → option_map (λ (t : Table). total_length t.rows) table ≡ option_map total_length (option_map (λ (t : Table). t.rows) table)
-length_same None = refl
-length_same (Some table) = refl
-
-tells_as : (number : ℕ) (given : Opened Reader) → TellsOpened number given → TellsReader reading_as number given
-tells_as number (opened.Hit reader put size) h = (h.0, h.1, sym (length_same reader.table) ∙ h.2)
-tells_as number (opened.Follow reader put) h = h
-tells_as number (opened.Miss why) h = tt
+use Rattle.stripe_calls.proofs.Words.{are_seen, counted_cause}
 
 -- the fault that kept a live vector from being read is recorded
 vector_among : (o : Option Row) (rest : List Rec) (count : ℕ) → IsSome o
@@ -80,9 +41,9 @@ vector_among None rest count live = cc
 vector_among (Some row) rest count live = inl refl
 
 counted_as : (packed : Bool) (k l : Kept) (d e : Device) (who : Actor) (key : Key) (request : List Field) (given : Opened Reader)
-    → lookups.MissIsCounted e.faults (state_of k) key (answer_of_opened given)
-    → AddsAll (open_adds (state_of k) who key request (seam.answer_in given)) (at_by packed k d) (at_by packed l e)
-    → IsCountedMiss (at_by packed k d) (at_by packed l e) key (seam.answer_in given)
+    → MissIsCounted e.faults (state_of k) key (answer_in given)
+    → AddsAll (open_adds (state_of k) who key request (answer_in given)) (at_by packed k d) (at_by packed l e)
+    → IsCountedMiss (at_by packed k d) (at_by packed l e) key (answer_in given)
 counted_as packed k l d e who key request (opened.Hit reader put size) h adds = tt
 counted_as packed k l d e who key request (opened.Follow reader put) h adds = tt
 counted_as packed k l d e who key request (opened.Miss why) h adds =
@@ -99,7 +60,7 @@ module _ (packed : Bool) (k l : Kept) (d e : Device) (who : Actor) (key : Key) (
   asked = Look who.0 key request ∷ []
 
   abbrev Added : Result (Opened Reader) AllocError → Type 0
-  Added result = IfOk result (λ given. l ≡ with_records k (lookups.opening_adds (state_of k) who key request (answer_of_opened given)))
+  Added result = IfOk result (λ given. l ≡ with_records k (open_adds (state_of k) who key request (answer_in given)))
 
   abbrev Found : Result (Opened Reader) AllocError → Type 0
   Found result = IfOk result (Opens (state_of k) (state_of l) d e who key request)
@@ -108,29 +69,27 @@ module _ (packed : Bool) (k l : Kept) (d e : Device) (who : Actor) (key : Key) (
       → ServesFrom (Untold e IsVectorAs) now (at_by packed k d) (at_by packed l e) asked (unless_wanting asked result) AreTold
       (HasItsTable reading_as result)
   look_serves now accounted (Ok given) adds h same =
-      let added : List Rec = lookups.opening_adds (state_of k) who key request (answer_of_opened given) in
+      let added : List Rec = open_adds (state_of k) who key request (answer_in given) in
       serves_by accounted asked AllDone AreTold added adds
       (λ p packs moment step told. elim (h.does p step told.vectors) [
         | inl v ↦ inl (
           one_spends p (state_of k) (Look who.0 key request) added Done v.0,
-          if_reader (readers.IsStripeReaderOf (state_of l)) (λ r. IsReaderOf (state_of l) (reading_as r)) (table_as (state_of l)) given v.1,
+          v.1,
         )
         | inr pair ↦ inr (shows_asked [] added (λ row vector. vector) pair)
       ])
   look_serves now accounted (Err error) adds h same = all_left accounted asked AreTold same tt
 
-  pub look_gives : (result : Result (Opened Reader) AllocError) → Added result → Found result → IfOk result (IfOpened (readers.IsOpenStripeReader (state_of l)))
-      → IfOk result (TellsOpened (state_of k).next_reader) → OnErr result (l ≡ k)
+  pub look_gives : (result : Result (Opened Reader) AllocError) → Added result → Found result → IfOk result (IfReader (λ own. IsOpenReader (state_of l) (reading_as own)))
+      → IfOk result (TellsReader reading_as (state_of k).next_reader) → OnErr result (l ≡ k)
       → OpensReader reading_as (at_by packed k d) (at_by packed l e) who key request result
-  look_gives (Ok given) adds h reader tells same =
-      let added = adds ∙ ap (with_records k) (adds_same (state_of k) who key request given) in
-      record {
-        adds = added;
-        tells = tells_as (state_of k).next_reader given tells;
-        reader = if_reader (readers.IsOpenStripeReader (state_of l)) (λ r. IsOpenReader (state_of l) (reading_as r)) (reader_as (state_of l)) given reader;
-        counted = counted_as packed k l d e who key request given h.counted added;
-        read = are_seen packed k l d e h.seen;
-      }
+  look_gives (Ok given) adds h reader tells same = record {
+    adds = adds;
+    tells = tells;
+    reader = reader;
+    counted = counted_as packed k l d e who key request given h.counted adds;
+    read = are_seen packed k l d e h.seen;
+  }
   look_gives (Err error) adds h reader tells same = same
 
 -- ---- a reader is closed
@@ -140,7 +99,7 @@ module _ (packed : Bool) (k l : Kept) (d e : Device) (r : Reader) where
   Closed result = OnOk result (l ≡ with_records k (rec.ReadClosed r.reader ∷ []))
 
   pub close_reader_serves : (now : ℕ) → IsAccounted d.past e.past k l → (result : Result (Unit {0}) (AllocError × Reader)) → Closed result
-      → readers.ReaderClosesAsAsked (state_of k) r → IfErr result (λ back. l ≡ k)
+      → ReaderClosesAsAsked (state_of k) r → IfErr result (λ back. l ≡ k)
       → ServesTold now (at_by packed k d) (at_by packed l e) (StopReading r.reader ∷ []) (unless_wanting (StopReading r.reader ∷ []) result)
   close_reader_serves now accounted (Ok u) adds does same =
       group_serves accounted (StopReading r.reader) Done AreTold (rec.ReadClosed r.reader ∷ []) adds (λ p packs moment step. does p)

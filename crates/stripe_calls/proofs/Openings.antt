@@ -26,12 +26,12 @@ use Rattle.stripe_write.proofs.Spending.{nothing_more}
 use Rattle.cache_model.specs.Subjects.{IsOfPut}
 use Rattle.cache_calls.specs.Adds.{AddsOnly}
 use Rattle.cache_calls.specs.Asked.{given_up_at, progress_at}
-use Rattle.cache_calls.specs.Keeping.{unsynced_setting}
 use Rattle.cache_calls.specs.Writers.{GivesUp, HasNumber, OpensWriter}
-use Rattle.stripe_calls.specs.Seen.{at_by, written_as}
+use Rattle.stripe_calls.specs.Seen.{at_by}
 use Rattle.stripe_calls.proofs.Serving.{adds_none, all_left, group_serves}
-use Rattle.stripe_calls.proofs.Words.{writer_as}
 use Rattle.stripe_actors.specs.Calls as calls
+use Rattle.cache_calls.specs.Actors.{IsWriterOf}
+use Rattle.stripe_write.specs.Writers.{written_as}
 
 -- ---- a writer opens
 
@@ -66,10 +66,10 @@ module _ (packed : Bool) (k l : Kept) (d e : Device) (who : Actor) (key : Key) (
   has_number h = record { few = h.few; below = h.below }
 
   pub open_gives : (result : Result Writer Refusal) → OnOk result (l ≡ with_records k (opened ∷ [])) → OnErr result (l ≡ k) → Opens result
-      → IfOk result (writers.IsStripeWriterOf (state_of l)) → IfOk result (λ w. w.gathered.items ≡ []) → IfOk result (λ w. w.sealed ≡ false) → e ≡ d
+      → IfOk result (λ w. IsWriterOf (state_of l) (written_as w)) → IfOk result (λ w. w.gathered.items ≡ []) → IfOk result (λ w. w.sealed ≡ false) → e ≡ d
       → OpensWriter written_as (at_by packed k d) (at_by packed l e) opened result
   open_gives (Ok w) adds same does writer empty unsealed still = record {
-    answers = record { adds = adds; put = does.0; empty = empty; unsealed = unsealed; writer = writer_as (state_of l) w writer };
+    answers = record { adds = adds; put = does.0; empty = empty; unsealed = unsealed; writer = writer };
     still = still;
   }
   open_gives (Err refusal.TooManyWriters) adds same does writer empty unsealed still = record { answers = (same, does.0); still = still }

@@ -29,7 +29,6 @@ use Rattle.piece_answers.specs.Faults.{IsAccounted}
 use Rattle.piece_answers.proofs.Covering.{made_is}
 use Rattle.stripe_write.specs.Closing.{SpendsAll}
 use Rattle.stripe_write.proofs.Spending.{nothing_more}
-use Rattle.cache_calls.specs.Keeping.{unsynced_setting}
 use Rattle.stripe_calls.specs.Seen.{at_by}
 
 -- ---- steps

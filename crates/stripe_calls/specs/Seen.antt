@@ -1,4 +1,4 @@
--- What a stripe, a writer and a reader are as those of a cache.
+-- What a stripe is as a cache.
 use Rattle.std.specs.Prelude.{Bool}
 use Rattle.logged_disk.specs.Device.{DeviceState as Device}
 use Rattle.logged_disk.specs.declared.device.Disk.{Ghosts as DiskGhosts}
@@ -7,11 +7,7 @@ use Rattle.cache_chronicle.specs.declared.chronicle.Chronicle.{Ghosts as Chronic
 use Rattle.cache_model.specs.Kept.{Kept}
 use Rattle.stripe_core.specs.declared.stripe.Stripe.{Stripe}
 use Rattle.stripe_core.specs.Stripe.{kept_in, seen_in}
-use Rattle.stripe_write.specs.declared.writer.Writer.{Writer}
-use Rattle.stripe_read.specs.declared.reader.Reader.{Reader}
-use Rattle.stripe_read.specs.Readers.{rows_hit}
 use Rattle.call_laws.specs.Moments.{At}
-use Rattle.cache_calls.specs.Actors.{ReaderSeen, WriterSeen}
 use Rattle.cache_calls.specs.Keeping.{unsynced_setting}
 
 -- these records and this device at a moment of a cache whose directory displaces (`packed`) or not
@@ -21,20 +17,3 @@ at_by packed kept device = record { kept = kept; device = device; setting = unsy
 -- those of a stripe
 abbrev pub at_of_stripe : {D R C : Type 0} {d : DiskGhosts D} {r : DirectoryGhosts R} {c : ChronicleGhosts C} → Stripe D R C d r c → At
 at_of_stripe {r = r} t = at_by r.purges (kept_in t) (seen_in t).device
-
--- a writer
-abbrev pub written_as : Writer → WriterSeen
-written_as w = record {
-  put = w.put;
-  key = w.key;
-  request = w.request;
-  response = w.response;
-  pin = w.pin;
-  gathered = w.gathered.items;
-  cuts = w.table.rows;
-  sealed = w.sealed;
-}
-
--- a reader
-abbrev pub reading_as : Reader → ReaderSeen
-reading_as r = record { reader = r.reader; key = r.key; put = r.put; table = rows_hit r; next = r.next }

@@ -18,7 +18,8 @@ use tape_base::{Actor, Geometry, Key};
 
 impl<D: Disk, R: Directory + Drop, C: Chronicle> Calls for StripeCache<D, R, C> {
     ghost use Rattle.stripe_calls.specs.Cache.{IsCache, StandsIn, at_of};
-    ghost use Rattle.stripe_calls.specs.Seen.{reading_as, written_as};
+    ghost use Rattle.stripe_write.specs.Writers.{written_as};
+    ghost use Rattle.stripe_read.specs.Readers.{reading_as};
     ghost use Rattle.stripe_calls.specs.Resting.{is_at_rest, is_recorded, vectors_listed, where_told};
 
     type Writer = Writer;

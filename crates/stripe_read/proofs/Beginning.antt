@@ -27,20 +27,22 @@ use Rattle.stripe_read.specs.declared.opening.Looked.{Looked}
 use Rattle.stripe_read.specs.declared.opening.Looked.TheVariants as looked
 use Rattle.cache_answers.specs.declared.answers.Opened.{Opened}
 use Rattle.stripe_read.specs.declared.reader.Reader.{Reader}
-use Rattle.stripe_read.specs.Readers.{IsOpenStripeReader, IsStripeReaderOf}
-use Rattle.stripe_read.specs.Lookups.{IfOpened, IsFound, LooksUp, MissIsCounted, Opens, TellsOpened, answer_of_looked, answer_of_opened, lookup_adds, lookup_trouble, opened_as, opening_adds}
+use Rattle.stripe_read.specs.Lookups.{IsFound, LooksUp, MissIsCounted, Opens, answer_of_looked, lookup_adds, opened_as}
 use Rattle.stripe_read.proofs.Looking.{hit_adds, key_pair_wider, nothing_recorded}
 use Rattle.stripe_read.proofs.Staying.{LeavesReaders, cause_leaves, state_behind, two_calls}
 use Rattle.stripe_read.proofs.Counted.{trouble_later}
+use Rattle.cache_calls.specs.Actors.{IsOpenReader, IsReaderOf}
+use Rattle.cache_calls.specs.Readers.{vector_trouble, answer_in, open_adds, IfReader, TellsReader}
+use Rattle.stripe_read.specs.Readers.{reading_as}
 
 -- ---- records
 
-answer_as : (number : ℕ) (key : Key) (found : Looked) → answer_of_opened (opened_as number key found) ≡ answer_of_looked found
+answer_as : (number : ℕ) (key : Key) (found : Looked) → answer_in (opened_as number key found) ≡ answer_of_looked found
 answer_as number key (looked.Hit chosen) = refl
 answer_as number key (looked.Follow put) = refl
 answer_as number key (looked.Miss why) = refl
 
-trouble_leaves : (s : State) (o : Option Row) (answer : ReadAnswer) → LeavesReaders s (after_all s (lookup_trouble o answer))
+trouble_leaves : (s : State) (o : Option Row) (answer : ReadAnswer) → LeavesReaders s (after_all s (vector_trouble o answer))
 trouble_leaves s None answer = record { readers = refl; pending = refl; number = refl }
 trouble_leaves s (Some row) (read.Hit put) = record { readers = refl; pending = refl; number = refl }
 trouble_leaves s (Some row) (read.Follow put) = record { readers = refl; pending = refl; number = refl }
@@ -58,7 +60,7 @@ found_first n row rows is = ap (λ (b : Bool). cond b (Some row) (find (λ (x : 
 abbrev opens_now : State → Actor → Key → List Field → Looked → State
 opens_now t who key request found = state_after t (rec.ReadOpened t.next_reader who key request (answer_of_looked found))
 
-open_as : (t : State) (who : Actor) (key : Key) (request : List Field) (found : Looked) → IfOpened (IsOpenStripeReader (opens_now t who key request found)) (opened_as t.next_reader key found)
+open_as : (t : State) (who : Actor) (key : Key) (request : List Field) (found : Looked) → IfReader (λ own. IsOpenReader (opens_now t who key request found) (reading_as own)) (opened_as t.next_reader key found)
 open_as t who key request (looked.Hit chosen) = record {
   row = record { actor = who.0; reader = t.next_reader; key = key; put = chosen.put; table = Some (table_of_hit t key request); next = 1 };
   found = found_first t.next_reader (record { actor = who.0; reader = t.next_reader; key = key; put = chosen.put; table = Some (table_of_hit t key request); next = 1 }) t.readers refl;
@@ -81,7 +83,7 @@ open_as t who key request (looked.Miss why) = tt
 
 -- it has the fragments of the alternate
 own_as : (t : State) (who : Actor) (key : Key) (request : List Field) (found : Looked) → Rattle.stripe_read.specs.Lookups.HasTable t key request found
-    → IfOpened (IsStripeReaderOf (opens_now t who key request found)) (opened_as t.next_reader key found)
+    → IfReader (λ own. IsReaderOf (opens_now t who key request found) (reading_as own)) (opened_as t.next_reader key found)
 own_as t who key request (looked.Hit chosen) table = record {
   actor = who.0;
   found = found_first t.next_reader (record { actor = who.0; reader = t.next_reader; key = key; put = chosen.put; table = Some (table_of_hit t key request); next = 1 }) t.readers refl
@@ -107,7 +109,7 @@ miss_later before after s key (read.Miss why) h (inl is) = inl is
 miss_later before after s key (read.Miss why) h (inr counted) = inr (trouble_later before after (live_vector_of s key) why h counted)
 miss_later before after s key _ h counted = tt
 
-tells_as : (number : ℕ) (key : Key) (found : Looked) → TellsOpened number (opened_as number key found)
+tells_as : (number : ℕ) (key : Key) (found : Looked) → TellsReader reading_as number (opened_as number key found)
 tells_as number key (looked.Hit chosen) = (refl, refl, refl)
 tells_as number key (looked.Follow put) = (refl, refl, refl)
 tells_as number key (looked.Miss why) = tt
@@ -125,11 +127,11 @@ module _ (k k0 k1 k2 : Kept) (who : Actor) (key : Key) (request : List Field) (f
   state_is : state_of k2 ≡ opens_now (state_of k1) who key request found
   state_is = state_behind k1 k2 (rec.ReadOpened (state_of k1).next_reader who key request (answer_of_looked found) ∷ []) opens
 
-  pub begun_adds : k2 ≡ with_records k (opening_adds (state_of k) who key request (answer_of_opened opened))
+  pub begun_adds : k2 ≡ with_records k (open_adds (state_of k) who key request (answer_in opened))
   begun_adds =
       two_calls k k1 k2 (lookup_adds (state_of k) key (answer_of_looked found)) (rec.ReadOpened (state_of k1).next_reader who key request (answer_of_looked found) ∷ []) looks_first opens
       ∙ (ap (λ n. with_records k (lookup_adds (state_of k) key (answer_of_looked found) ++ rec.ReadOpened n who key request (answer_of_looked found) ∷ [])) number
-      ∙ ap (λ a. with_records k (opening_adds (state_of k) who key request a)) (sym (ap answer_of_opened is ∙ answer_as (state_of k1).next_reader key found)))
+      ∙ ap (λ a. with_records k (open_adds (state_of k) who key request a)) (sym (ap answer_in is ∙ answer_as (state_of k1).next_reader key found)))
 
   pub begun_quiet : IsQuiet (state_of k) → IsQuiet (state_of k2)
   begun_quiet quiet = subst IsQuiet (sym state_is) (quiet_now (answer_of_looked found) ((looked_leaves k k1 key (answer_of_looked found) looks_first).pending ∙ quiet))
@@ -137,20 +139,20 @@ module _ (k k0 k1 k2 : Kept) (who : Actor) (key : Key) (request : List Field) (f
       quiet_now : (a : ReadAnswer) → IsQuiet (state_of k1) → IsQuiet (state_after (state_of k1) (rec.ReadOpened (state_of k1).next_reader who key request a))
       quiet_now a h = h
 
-  pub begun_tells : TellsOpened (state_of k).next_reader opened
-  begun_tells = subst (λ n. TellsOpened n opened) number (subst (TellsOpened (state_of k1).next_reader) (sym is) (tells_as (state_of k1).next_reader key found))
+  pub begun_tells : TellsReader reading_as (state_of k).next_reader opened
+  begun_tells = subst (λ n. TellsReader reading_as n opened) number (subst (TellsReader reading_as (state_of k1).next_reader) (sym is) (tells_as (state_of k1).next_reader key found))
 
-  pub begun_reader : IfOpened (IsOpenStripeReader (state_of k2)) opened
-  begun_reader = subst (λ t. IfOpened (IsOpenStripeReader t) opened) (sym state_is) (subst (IfOpened (IsOpenStripeReader (opens_now (state_of k1) who key request found))) (sym is) (open_as (state_of k1) who key request found))
+  pub begun_reader : IfReader (λ own. IsOpenReader (state_of k2) (reading_as own)) opened
+  begun_reader = subst (λ t. IfReader (λ own. IsOpenReader t (reading_as own)) opened) (sym state_is) (subst (IfReader (λ own. IsOpenReader (opens_now (state_of k1) who key request found) (reading_as own))) (sym is) (open_as (state_of k1) who key request found))
 
-  begun_own : Rattle.stripe_read.specs.Lookups.HasTable (state_of k) key request found → IfOpened (IsStripeReaderOf (state_of k2)) opened
+  begun_own : Rattle.stripe_read.specs.Lookups.HasTable (state_of k) key request found → IfReader (λ own. IsReaderOf (state_of k2) (reading_as own)) opened
   begun_own table =
-      subst (λ t. IfOpened (IsStripeReaderOf t) opened) (sym state_is)
-      (subst (IfOpened (IsStripeReaderOf (opens_now (state_of k1) who key request found))) (sym is) (own_as (state_of k1) who key request found (table_behind k k1 key request found looks_first table)))
+      subst (λ t. IfReader (λ own. IsReaderOf t (reading_as own)) opened) (sym state_is)
+      (subst (IfReader (λ own. IsReaderOf (opens_now (state_of k1) who key request found) (reading_as own))) (sym is) (own_as (state_of k1) who key request found (table_behind k k1 key request found looks_first table)))
 
-  begun_does : (p : Permit) → IsQuiet (state_of k) → IsFound p (state_of k) key request found → Does p (state_of k) (Look who.0 key request) (opening_adds (state_of k) who key request (answer_of_opened opened)) Done
+  begun_does : (p : Permit) → IsQuiet (state_of k) → IsFound p (state_of k) key request found → Does p (state_of k) (Look who.0 key request) (open_adds (state_of k) who key request (answer_in opened)) Done
   begun_does p quiet h =
-      subst (λ a. Does p (state_of k) (Look who.0 key request) (opening_adds (state_of k) who key request a) Done) (sym (ap answer_of_opened is ∙ answer_as (state_of k1).next_reader key found))
+      subst (λ a. Does p (state_of k) (Look who.0 key request) (open_adds (state_of k) who key request a) Done) (sym (ap answer_in is ∙ answer_as (state_of k1).next_reader key found))
       (DoesLook.looks (record { who = who; before = lookup_adds (state_of k) key (answer_of_looked found); answer = answer_of_looked found; number = refl; quiet = quiet; right = h.right; is = refl }))
 
   pub begun_opens : (old older new newer : Device) → older.past ≡ old.past → IsStill new newer → IsQuiet (state_of k) → LooksUp (state_of k0) older new key request found → Opens (state_of k) (state_of k2) old newer who key request opened
@@ -168,7 +170,7 @@ module _ (k k0 k1 k2 : Kept) (who : Actor) (key : Key) (request : List Field) (f
             ];
         counted =
             subst (MissIsCounted newer.faults (state_of k) key)
-            (sym (ap answer_of_opened is ∙ answer_as (state_of k1).next_reader key found))
+            (sym (ap answer_in is ∙ answer_as (state_of k1).next_reader key found))
             (miss_later new.faults newer.faults (state_of k) key (answer_of_looked found) (omega (arith, still.faults)) m.counted);
       }
 
@@ -185,11 +187,11 @@ module _ (k k0 k1 k2 : Kept) (who : Actor) (key : Key) (request : List Field) (f
   quiet_then (Ok opened) adds opens ok quiet = begun_quiet k k0 k1 k2 who key request found opened same looks adds opens quiet
   quiet_then (Err e) adds opens ok quiet = cc
 
-  pub adds_then : (r : Result (Opened Reader) AllocError) → AddsIt r → OpensIt r → IfOk r (λ opened. k2 ≡ with_records k (opening_adds (state_of k) who key request (answer_of_opened opened)))
+  pub adds_then : (r : Result (Opened Reader) AllocError) → AddsIt r → OpensIt r → IfOk r (λ opened. k2 ≡ with_records k (open_adds (state_of k) who key request (answer_in opened)))
   adds_then (Ok opened) adds opens = begun_adds k k0 k1 k2 who key request found opened same looks adds opens
   adds_then (Err e) adds opens = tt
 
-  pub reader_then : (r : Result (Opened Reader) AllocError) → AddsIt r → OpensIt r → IfOk r (IfOpened (IsOpenStripeReader (state_of k2)))
+  pub reader_then : (r : Result (Opened Reader) AllocError) → AddsIt r → OpensIt r → IfOk r (IfReader (λ own. IsOpenReader (state_of k2) (reading_as own)))
   reader_then (Ok opened) adds opens = begun_reader k k0 k1 k2 who key request found opened same looks adds opens
   reader_then (Err e) adds opens = tt
 
@@ -198,7 +200,7 @@ module _ (k k0 k1 k2 : Kept) (who : Actor) (key : Key) (request : List Field) (f
   opens_then old older new newer (Ok opened) adds opens from still quiet l = begun_opens k k0 k1 k2 who key request found opened same looks adds opens old older new newer from still quiet l
   opens_then old older new newer (Err e) adds opens from still quiet l = tt
 
-  pub tells_then : (r : Result (Opened Reader) AllocError) → AddsIt r → OpensIt r → IfOk r (TellsOpened (state_of k).next_reader)
+  pub tells_then : (r : Result (Opened Reader) AllocError) → AddsIt r → OpensIt r → IfOk r (TellsReader reading_as (state_of k).next_reader)
   tells_then (Ok opened) adds opens = begun_tells k k0 k1 k2 who key request found opened same looks adds opens
   tells_then (Err e) adds opens = tt
 

@@ -30,10 +30,11 @@ use Rattle.stripe_vectors.specs.Reading.{FindsVector, IsVectorFound, ReadIsListe
 use Rattle.stripe_read.specs.declared.opening.Chosen.{Chosen}
 use Rattle.stripe_read.specs.declared.opening.Looked.{Looked}
 use Rattle.stripe_read.specs.declared.opening.Looked.TheVariants as looked
-use Rattle.stripe_read.specs.Lookups.{HasTable, IsChosen, IsFound, LooksUp, MissIsCounted, answer_of_looked, lookup_adds, lookup_trouble, otherwise}
+use Rattle.stripe_read.specs.Lookups.{HasTable, IsChosen, IsFound, LooksUp, MissIsCounted, answer_of_looked, lookup_adds, otherwise}
 use Rattle.stripe_read.proofs.Comparing.{either}
 use Rattle.stripe_read.proofs.Counted.{of_live}
 use Rattle.piece_answers.proofs.Covering.{own_covers, own_permit}
+use Rattle.cache_calls.specs.Readers.{vector_trouble}
 
 -- ---- the writer to follow, or the cause
 
@@ -93,16 +94,16 @@ otherwise_table s key request found is = table_by s key request found (followed 
 
 -- ---- what is recorded
 
-otherwise_by : (s : State) (key : Key) (o : Option Row) (f : Option PutRow) → live_vector_of s key ≡ o → lookup_trouble o (unwrap_or (option_map follow_answer f) (read.Miss (cause_of_miss s key))) ≡ []
+otherwise_by : (s : State) (key : Key) (o : Option Row) (f : Option PutRow) → live_vector_of s key ≡ o → vector_trouble o (unwrap_or (option_map follow_answer f) (read.Miss (cause_of_miss s key))) ≡ []
 otherwise_by s key None f e = refl
 otherwise_by s key (Some row) (Some put) e = refl
-otherwise_by s key (Some row) None e = ap (λ why. lookup_trouble (Some row) (read.Miss why)) (live_is_no_match s key row e).1
+otherwise_by s key (Some row) None e = ap (λ why. vector_trouble (Some row) (read.Miss why)) (live_is_no_match s key row e).1
 
 -- where nothing kept the vector from being read, that adds nothing
 pub otherwise_adds : (s : State) (key : Key) (request : List Field) → lookup_adds s key (otherwise s key request) ≡ []
 otherwise_adds s key request = otherwise_by s key (live_vector_of s key) (followed s key request) refl
 
-hit_by : (o : Option Row) (put : ℕ) → lookup_trouble o (read.Hit put) ≡ []
+hit_by : (o : Option Row) (put : ℕ) → vector_trouble o (read.Hit put) ≡ []
 hit_by None put = refl
 hit_by (Some row) put = refl
 
@@ -131,7 +132,7 @@ same_adds k new key request found same is =
     same ∙ (sym (nothing_recorded k (with_records k []) refl) ∙ ap (with_records k) (sym (ap (lookup_adds (state_of k) key) is ∙ otherwise_adds (state_of k) key request)))
 
 -- a vector in trouble
-trouble_by : (o : Option Row) (why : Cause) → trouble_records o (vector.Trouble why) ≡ lookup_trouble o (read.Miss why)
+trouble_by : (o : Option Row) (why : Cause) → trouble_records o (vector.Trouble why) ≡ vector_trouble o (read.Miss why)
 trouble_by None why = refl
 trouble_by (Some row) why = refl
 
@@ -230,7 +231,7 @@ module _ (s : State) (old new : Device) (key : Key) (request : List Field) where
       → IsFound p s key request (looked.Miss why) ⊎ IsKeyPair (Untold new IsVectorAs) p s key
   trouble_in p why None live h = absurd h
   trouble_in p why (Some row) live h = inl (record {
-    right = subst (λ o. IsLookup p s key request (lookup_trouble o (read.Miss why)) (read.Miss why)) (sym live) (IsLookup.trouble row (Rattle.cache_model.specs.Troubles.cause_records row why) why live h);
+    right = subst (λ o. IsLookup p s key request (vector_trouble o (read.Miss why)) (read.Miss why)) (sym live) (IsLookup.trouble row (Rattle.cache_model.specs.Troubles.cause_records row why) why live h);
     table = tt;
   })
 

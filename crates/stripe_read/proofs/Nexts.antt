@@ -15,11 +15,13 @@ use Rattle.stripe_core.proofs.Continuing.{continues_proceeds, proceeds_then, sti
 use Rattle.stripe_core.proofs.Stills.{still_then}
 use Rattle.stripe_read.specs.declared.reader.Reader.{Reader}
 use Rattle.cache_answers.specs.declared.answers.NextPiece.{NextPiece}
-use Rattle.stripe_read.specs.Readers.{HasOpenReader, IsOpenStripeReader, IsStripeReaderOf}
-use Rattle.stripe_read.specs.Nexts.{NextIsOther, ReadsNextInStripe, reading_adds}
+use Rattle.stripe_read.specs.Readers.{HasOpenReader, reading_as}
+use Rattle.stripe_read.specs.Nexts.{ReadsNextInStripe}
 use Rattle.stripe_read.proofs.Giving.{given_prepared}
 use Rattle.stripe_read.proofs.Harmless.{behind_unharmed}
 use Rattle.stripe_answers.proofs.Wanting.{holds_anyway, nothing_answered}
+use Rattle.cache_calls.specs.Actors.{IsOpenReader, IsReaderOf}
+use Rattle.cache_calls.specs.Readers.{read_adds, IsOtherNext}
 
 module _ {D R C : Type 0} {d : DiskGhosts D} {r : DirectoryGhosts R} {c : ChronicleGhosts C} where
   -- the reader is open where no record was added
@@ -27,12 +29,12 @@ module _ {D R C : Type 0} {d : DiskGhosts D} {r : DirectoryGhosts R} {c : Chroni
       → HasOpenReader t own
   still_open s t own stripe same at = record {
     resting = still_resting s t stripe same at.resting;
-    reader = subst (λ (k : Kept). IsOpenStripeReader (state_of k) own) (sym same) at.reader;
+    reader = subst (λ (k : Kept). IsOpenReader (state_of k) (reading_as own)) (sym same) at.reader;
   }
 
   -- nothing is read, and nothing recorded
   pub next_wanting : (s t : Stripe D R C d r c) (own : Reader) (result : Result NextPiece AllocError)
-      (into : List ℕ) (e : AllocError) → result ≡ Err e → HasOpenReader s own → IsStripe t → Proceeds s t → Between s t ⊎ NextIsOther (state_in s) own
+      (into : List ℕ) (e : AllocError) → result ≡ Err e → HasOpenReader s own → IsStripe t → Proceeds s t → Between s t ⊎ IsOtherNext (state_in s) (reading_as own)
       → kept_in t ≡ kept_in s
       → IsStill (seen_in s).device (seen_in t).device → ReadsNextInStripe s t own own result into
   next_wanting s t own result into e wanting at stripe proceeds unharmed same still =
@@ -45,7 +47,7 @@ module _ {D R C : Type 0} {d : DiskGhosts D} {r : DirectoryGhosts R} {c : Chroni
         reads = nothing_answered result _ e wanting;
         goes = nothing_answered result _ e wanting;
         reader = there.reader;
-        keeps = λ has. subst (λ (k : Kept). IsStripeReaderOf (state_of k) own) (sym same) has;
+        keeps = λ has. subst (λ (k : Kept). IsReaderOf (state_of k) (reading_as own)) (sym same) has;
         err = holds_anyway result _ same;
         same = holds_anyway result _ refl;
         untouched = holds_anyway result _ still;
@@ -60,14 +62,14 @@ module _ {D R C : Type 0} {d : DiskGhosts D} {r : DirectoryGhosts R} {c : Chroni
     proceeds = proceeds_then s t u (continues_proceeds s t made) h.proceeds;
     unharmed =
         behind_unharmed (seen_in s).device (seen_in t).device (seen_in u).device (kept_in s) (kept_in t) (kept_in u)
-        (λ (x : NextIsOther (state_in t) was). subst (λ (k : Kept). NextIsOther (state_of k) was) same x) made.between h.unharmed;
-    adds = subst (λ (k : Kept). IfOk result (λ answer. kept_in u ≡ with_records k (reading_adds (state_of k) was answer))) same h.adds;
+        (λ (x : IsOtherNext (state_in t) (reading_as was)). subst (λ (k : Kept). IsOtherNext (state_of k) (reading_as was)) same x) made.between h.unharmed;
+    adds = subst (λ (k : Kept). IfOk result (λ answer. kept_in u ≡ with_records k (read_adds (state_of k) (reading_as was) answer))) same h.adds;
     reads =
         given_prepared (state_in s) (state_in t) (seen_in s) (seen_in t) (seen_in u) was result into (ap state_of same) still.past
         (λ contents. made.contents contents tt) h.reads;
     goes = h.goes;
     reader = h.reader;
-    keeps = λ has. h.keeps (subst (λ (k : Kept). IsStripeReaderOf (state_of k) was) (sym same) has);
+    keeps = λ has. h.keeps (subst (λ (k : Kept). IsReaderOf (state_of k) (reading_as was)) (sym same) has);
     err = subst (λ (k : Kept). OnErr result (kept_in u ≡ k)) same h.err;
     same = h.same;
     untouched = on_err_weaker result (still_then (seen_in s).device (seen_in t).device (seen_in u).device still) h.untouched;

@@ -21,7 +21,8 @@ use Rattle.cache_model.specs.Troubles.{cause_records}
 use Rattle.piece_answers.specs.Find.{found_records}
 use Rattle.stripe_vectors.proofs.Finding.{found_same}
 use Rattle.stripe_read.specs.declared.reader.Reader.{Reader}
-use Rattle.stripe_read.specs.Readers.{IsOpenStripeReader, IsStripeReaderOf, row_of_reader_by}
+use Rattle.cache_calls.specs.Actors.{IsOpenReader, IsReaderOf, row_by}
+use Rattle.stripe_read.specs.Readers.{reading_as}
 
 -- ---- records, one call after the other
 
@@ -75,7 +76,7 @@ leaves_both s t u a b = record { readers = b.readers ∙ a.readers; pending = b.
 pub leaves_quiet : (s t : State) → LeavesReaders s t → IsQuiet s → IsQuiet t
 leaves_quiet s t h quiet = h.pending ∙ quiet
 
-pub leaves_open : (s t : State) (r : Reader) → LeavesReaders s t → IsOpenStripeReader s r → IsOpenStripeReader t r
+pub leaves_open : (s t : State) (r : Reader) → LeavesReaders s t → IsOpenReader s (reading_as r) → IsOpenReader t (reading_as r)
 leaves_open s t r h own = record {
   row = own.row;
   found = ap (find (λ (x : ReaderRow). x.reader == r.reader)) h.readers ∙ own.found;
@@ -86,7 +87,7 @@ leaves_open s t r h own = record {
   first = own.first;
 }
 
-pub leaves_reader : (s t : State) (r : Reader) → LeavesReaders s t → IsStripeReaderOf s r → IsStripeReaderOf t r
+pub leaves_reader : (s t : State) (r : Reader) → LeavesReaders s t → IsReaderOf s (reading_as r) → IsReaderOf t (reading_as r)
 leaves_reader s t r h own = record { actor = own.actor; found = ap (find (λ (x : ReaderRow). x.reader == r.reader)) h.readers ∙ own.found }
 
 -- ---- a reader goes on
@@ -107,30 +108,30 @@ pub record IsBehind (old new : Reader) : Type 0 where
   pub table : new.table ≡ old.table
   pub next : new.next ≡ old.next + 1
 
-pub goes_open : (s : State) (r new : Reader) (size : ℕ) → IsBehind r new → IsOpenStripeReader s r → IsOpenStripeReader (state_after s (rec.Gave r.reader r.next size)) new
+pub goes_open : (s : State) (r new : Reader) (size : ℕ) → IsBehind r new → IsOpenReader s (reading_as r) → IsOpenReader (state_after s (rec.Gave r.reader r.next size)) (reading_as new)
 goes_open s r new size behind own = record {
   row = further (r.next + 1) own.row;
   found = ap (λ n. find (λ (x : ReaderRow). x.reader == n) (change_reader r.reader (r.next + 1) s.readers)) behind.reader ∙ found_further s r.reader (r.next + 1) own.row own.found;
   key_is = own.key_is ∙ sym behind.key;
   put_is = own.put_is ∙ sym behind.put;
   next_is = sym behind.next;
-  hit = own.hit ∙ ap is_some (sym behind.table);
+  hit = own.hit ∙ ap (λ t. is_some (option_map (λ (x : Rattle.fragment_table.specs.Table.Table). x.rows) t)) (sym behind.table);
   first = omega (arith, behind.next);
 }
 
-behind_row : (actor : ℕ) (r new : Reader) → IsBehind r new → further (r.next + 1) (row_of_reader_by actor r) ≡ row_of_reader_by actor new
+behind_row : (actor : ℕ) (r new : Reader) → IsBehind r new → further (r.next + 1) (row_by actor (reading_as r)) ≡ row_by actor (reading_as new)
 behind_row actor r new behind =
-    ap (λ n. record (row_of_reader_by actor r) { next = n }) (sym behind.next)
-    ∙ (ap (λ n. record (row_of_reader_by actor r) { reader = n; next = new.next }) (sym behind.reader)
-    ∙ (ap (λ k. record (row_of_reader_by actor r) { reader = new.reader; key = k; next = new.next }) (sym behind.key)
-    ∙ (ap (λ n. record (row_of_reader_by actor r) { reader = new.reader; key = new.key; put = n; next = new.next }) (sym behind.put)
-    ∙ ap (λ t. record (row_of_reader_by actor r) { reader = new.reader; key = new.key; put = new.put; table = option_map (λ (x : Rattle.fragment_table.specs.Table.Table). x.rows) t; next = new.next }) (sym behind.table))))
+    ap (λ n. record (row_by actor (reading_as r)) { next = n }) (sym behind.next)
+    ∙ (ap (λ n. record (row_by actor (reading_as r)) { reader = n; next = new.next }) (sym behind.reader)
+    ∙ (ap (λ k. record (row_by actor (reading_as r)) { reader = new.reader; key = k; next = new.next }) (sym behind.key)
+    ∙ (ap (λ n. record (row_by actor (reading_as r)) { reader = new.reader; key = new.key; put = n; next = new.next }) (sym behind.put)
+    ∙ ap (λ t. record (row_by actor (reading_as r)) { reader = new.reader; key = new.key; put = new.put; table = option_map (λ (x : Rattle.fragment_table.specs.Table.Table). x.rows) t; next = new.next }) (sym behind.table))))
 
-pub goes_reader : (s : State) (r new : Reader) (size : ℕ) → IsBehind r new → IsStripeReaderOf s r → IsStripeReaderOf (state_after s (rec.Gave r.reader r.next size)) new
+pub goes_reader : (s : State) (r new : Reader) (size : ℕ) → IsBehind r new → IsReaderOf s (reading_as r) → IsReaderOf (state_after s (rec.Gave r.reader r.next size)) (reading_as new)
 goes_reader s r new size behind own = record {
   actor = own.actor;
   found = ap (λ n. find (λ (x : ReaderRow). x.reader == n) (change_reader r.reader (r.next + 1) s.readers)) behind.reader
-      ∙ (found_further s r.reader (r.next + 1) (row_of_reader_by own.actor r) own.found ∙ ap Some (behind_row own.actor r new behind));
+      ∙ (found_further s r.reader (r.next + 1) (row_by own.actor (reading_as r)) own.found ∙ ap Some (behind_row own.actor r new behind));
 }
 
 -- ---- behind a fragment that was read
@@ -139,15 +140,15 @@ found_behind : (k k1 : Kept) (o : Option Row) (answer : Found) → k1 ≡ with_r
 found_behind k k1 o answer is = subst (LeavesReaders (state_of k)) (sym (state_behind k k1 (found_records o answer) is)) (found_leaves (state_of k) o answer)
 
 pub given_open : (k k1 k2 : Kept) (o : Option Row) (answer : Found) (r new : Reader) (size : ℕ) → k1 ≡ with_records k (found_records o answer) → k2 ≡ with_records k1 (rec.Gave r.reader r.next size ∷ []) → IsBehind r new
-    → IsOpenStripeReader (state_of k) r → IsOpenStripeReader (state_of k2) new
+    → IsOpenReader (state_of k) (reading_as r) → IsOpenReader (state_of k2) (reading_as new)
 given_open k k1 k2 o answer r new size e f behind own =
-    subst (λ t. IsOpenStripeReader t new) (sym (state_behind k1 k2 (rec.Gave r.reader r.next size ∷ []) f))
+    subst (λ t. IsOpenReader t (reading_as new)) (sym (state_behind k1 k2 (rec.Gave r.reader r.next size ∷ []) f))
     (goes_open (state_of k1) r new size behind (leaves_open (state_of k) (state_of k1) r (found_behind k k1 o answer e) own))
 
 pub given_reader : (k k1 k2 : Kept) (o : Option Row) (answer : Found) (r new : Reader) (size : ℕ) → k1 ≡ with_records k (found_records o answer) → k2 ≡ with_records k1 (rec.Gave r.reader r.next size ∷ []) → IsBehind r new
-    → IsStripeReaderOf (state_of k) r → IsStripeReaderOf (state_of k2) new
+    → IsReaderOf (state_of k) (reading_as r) → IsReaderOf (state_of k2) (reading_as new)
 given_reader k k1 k2 o answer r new size e f behind own =
-    subst (λ t. IsStripeReaderOf t new) (sym (state_behind k1 k2 (rec.Gave r.reader r.next size ∷ []) f))
+    subst (λ t. IsReaderOf t (reading_as new)) (sym (state_behind k1 k2 (rec.Gave r.reader r.next size ∷ []) f))
     (goes_reader (state_of k1) r new size behind (leaves_reader (state_of k) (state_of k1) r (found_behind k k1 o answer e) own))
 
 pub given_quiet : (k k1 k2 : Kept) (o : Option Row) (answer : Found) (reader index size : ℕ) → k1 ≡ with_records k (found_records o answer)

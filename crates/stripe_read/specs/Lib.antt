@@ -3,4 +3,3 @@ pub mod Troubles
 pub mod Lookups
 pub mod Fetches
 pub mod Nexts
-pub mod Others

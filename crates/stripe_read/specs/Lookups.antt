@@ -35,8 +35,10 @@ use Rattle.stripe_read.specs.declared.opening.Looked.{Looked}
 use Rattle.stripe_read.specs.declared.opening.Looked.TheVariants as looked
 use Rattle.cache_answers.specs.declared.answers.Opened.{Opened}
 use Rattle.cache_answers.specs.declared.answers.Opened.TheVariants as opened
-use Rattle.stripe_read.specs.Readers.{IsOpenStripeReader, IsStripeReaderOf, rows_hit}
 use Rattle.stripe_read.specs.Troubles.{TroubleIsCounted}
+use Rattle.cache_calls.specs.Actors.{IsOpenReader, IsReaderOf}
+use Rattle.cache_calls.specs.Readers.{vector_trouble, answer_in, open_adds, IfReader, TellsReader}
+use Rattle.stripe_read.specs.Readers.{reading_as}
 
 -- ---- what answers
 
@@ -57,16 +59,9 @@ IsChosen None (Some chosen) = ⊥
 IsChosen (Some a) None = ⊥
 IsChosen (Some a) (Some chosen) = (chosen.put ≡ a.put) × (chosen.table.rows ≡ a.table)
 
--- the record of what kept the key's live vector from being read
-abbrev pub lookup_trouble : Option Row → ReadAnswer → List Rec
-lookup_trouble None answer = []
-lookup_trouble (Some row) (read.Hit put) = []
-lookup_trouble (Some row) (read.Follow put) = []
-lookup_trouble (Some row) (read.Miss why) = cause_records row why
-
--- the same by the key, whose vector is live or not
+-- the record of what kept the key's vector, where it is live, from being read
 abbrev pub lookup_adds : State → Key → ReadAnswer → List Rec
-lookup_adds s key answer = lookup_trouble (live_vector_of s key) answer
+lookup_adds s key answer = vector_trouble (live_vector_of s key) answer
 
 -- the fragments of a hit are those of the alternate
 abbrev pub HasTable : State → Key → List Field → Looked → Type 0
@@ -102,41 +97,15 @@ opened_as number key (looked.Follow put) =
     opened.Follow (record { reader = number; key = key; put = put; table = None; next = 1 }) put
 opened_as number key (looked.Miss why) = opened.Miss why
 
--- the answer by which what was opened is recorded
-abbrev pub answer_of_opened : Opened Reader → ReadAnswer
-answer_of_opened (opened.Hit reader put length) = read.Hit put
-answer_of_opened (opened.Follow reader put) = read.Follow put
-answer_of_opened (opened.Miss why) = read.Miss why
-
--- the trouble with the key's vector, where that is the cause, and the lookup
-abbrev pub opening_adds : State → Actor → Key → List Field → ReadAnswer → List Rec
-opening_adds s who key request answer = lookup_adds s key answer ++ rec.ReadOpened s.next_reader who key request answer ∷ []
-
--- something holds of the reader that was opened
-abbrev pub IfOpened : (Reader → Type 0) → Opened Reader → Type 0
-IfOpened P (opened.Hit reader put length) = P reader
-IfOpened P (opened.Follow reader put) = P reader
-IfOpened P (opened.Miss why) = Unit {0}
-
--- the length of the body that a reader hit
-abbrev pub length_hit : Reader → Option ℕ
-length_hit r = option_map (λ (t : Table). total_length t.rows) r.table
-
--- the reader has the next number; the put and the length are those that it has
-abbrev pub TellsOpened : ℕ → Opened Reader → Type 0
-TellsOpened number (opened.Hit reader put length) = (reader.reader ≡ number) × (put ≡ reader.put) × (length_hit reader ≡ Some length)
-TellsOpened number (opened.Follow reader put) = (reader.reader ≡ number) × (put ≡ reader.put) × (rows_hit reader ≡ None)
-TellsOpened number (opened.Miss why) = Unit {0}
-
 -- what was read is what is seen, and in any step that covers the call: it was looked up as asked, and the
 -- reader has the fragments of the alternate; or two documents of one SHA-256 are shown, on a device that did not tell its content
 pub record Opens (s t : State) (old new : Device) (who : Actor) (key : Key) (request : List Field) (answer : Opened Reader) : Type 0 where
   pub seen : AllReadIsSeen old new
   pub does : (p : Permit) → Covers p old.past new.past → AreVectors s
-      → (Does p s (Look who.0 key request) (opening_adds s who key request (answer_of_opened answer)) Done
-      × IfOpened (IsStripeReaderOf t) answer)
+      → (Does p s (Look who.0 key request) (open_adds s who key request (answer_in answer)) Done
+      × IfReader (λ own. IsReaderOf t (reading_as own)) answer)
       ⊎ IsKeyPair (Untold new IsVectorAs) p s key
-  pub counted : MissIsCounted new.faults s key (answer_of_opened answer)
+  pub counted : MissIsCounted new.faults s key (answer_in answer)
 
 -- ---- what a stripe makes of it
 
@@ -164,9 +133,9 @@ module _ {D R C : Type 0} {d : DiskGhosts D} {r : DirectoryGhosts R} {c : Chroni
   pub record OpensReaderInStripe (who : Actor) (key : Key) (request : List Field) (old new : Stripe D R C d r c) (result : Result (Opened Reader) AllocError) : Type 0 where
     pub rests : Rests old new
     pub adds : IfOk result (λ answer. kept_in new
-        ≡ with_records (kept_in old) (opening_adds (state_in old) who key request (answer_of_opened answer)))
+        ≡ with_records (kept_in old) (open_adds (state_in old) who key request (answer_in answer)))
     pub opens : IfOk result (Opens (state_in old) (state_in new) (seen_in old).device (seen_in new).device who key request)
-    pub reader : IfOk result (IfOpened (IsOpenStripeReader (state_in new)))
-    pub tells : IfOk result (TellsOpened (state_in old).next_reader)
+    pub reader : IfOk result (IfReader (λ own. IsOpenReader (state_in new) (reading_as own)))
+    pub tells : IfOk result (TellsReader reading_as (state_in old).next_reader)
     pub err : OnErr result (kept_in new ≡ kept_in old)
     pub unwritten : IsUnwritten (seen_in old).device (seen_in new).device

@@ -15,33 +15,15 @@ use Rattle.stripe_core.specs.declared.stripe.Stripe.{Stripe}
 use Rattle.stripe_core.specs.Stripe.{kept_in, seen_in, state_in}
 use Rattle.stripe_core.specs.Between.{IsResting, Rests}
 use Rattle.stripe_read.specs.declared.reader.Reader.{Reader}
+use Rattle.cache_calls.specs.Actors.{IsOpenReader, ReaderSeen}
 
 -- the fragments of what it hit
 abbrev pub rows_hit : Reader → Option (List TableRow)
 rows_hit r = option_map (λ (t : Table). t.rows) r.table
 
--- the row of a reader that an actor opened, by what the reader has at hand
-abbrev pub row_of_reader_by : ℕ → Reader → ReaderRow
-row_of_reader_by actor r = record { actor = actor; reader = r.reader; key = r.key; put = r.put; table = rows_hit r; next = r.next }
-
--- the same where it does not matter who opened it
-abbrev pub row_of_reader : Reader → ReaderRow
-row_of_reader r = row_of_reader_by 0 r
-
--- the reader is open, and its put and the index that it takes next are those of the records
-pub record IsOpenStripeReader (s : State) (r : Reader) : Type 0 where
-  pub row : ReaderRow
-  pub found : reader_of s r.reader ≡ Some row
-  pub key_is : row.key ≡ r.key
-  pub put_is : row.put ≡ r.put
-  pub next_is : row.next ≡ r.next
-  pub hit : is_some row.table ≡ is_some r.table
-  pub first : 1 ≤ r.next
-
--- its fragments are those of the records too
-pub record IsStripeReaderOf (s : State) (r : Reader) : Type 0 where
-  pub actor : ℕ
-  pub found : reader_of s r.reader ≡ Some (row_of_reader_by actor r)
+-- a reader as a cache's
+abbrev pub reading_as : Reader → ReaderSeen
+reading_as r = record { reader = r.reader; key = r.key; put = r.put; table = rows_hit r; next = r.next }
 
 -- it is closed as it was asked
 abbrev pub ReaderClosesAsAsked : State → Reader → Type 0
@@ -53,7 +35,7 @@ module _ {D R C : Type 0} {d : DiskGhosts D} {r : DirectoryGhosts R} {c : Chroni
   -- a stripe between calls, and a reader that is open
   pub record HasOpenReader (t : Stripe D R C d r c) (own : Reader) : Type 0 where
     pub resting : IsResting t
-    pub reader : IsOpenStripeReader (state_in t) own
+    pub reader : IsOpenReader (state_in t) (reading_as own)
 
   -- what closing a reader comes to; where memory is wanting it is given back
   pub record ClosesReaderInStripe (own : Reader) (old new : Stripe D R C d r c) (result : Result (Unit {0}) (AllocError × Reader)) : Type 0 where

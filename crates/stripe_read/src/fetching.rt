@@ -5,8 +5,9 @@ ghost use Rattle.tape_base.specs.Geometry.{budget_of};
 ghost use Rattle.cache_model.specs.Verdict.{next_row};
 ghost use Rattle.open_directory.specs.Directory.{table_row};
 ghost use Rattle.stripe_core.specs.Stripe.{IsStripe, state_in, units_in};
-ghost use Rattle.stripe_read.specs.Readers.{IsOpenStripeReader, row_of_reader};
 ghost use Rattle.stripe_read.specs.Fetches.{ComparesPiece, FetchesPiece, IsPieceAsListed, IsUnlikePiece};
+ghost use Rattle.cache_calls.specs.Actors.{IsOpenReader, as_row};
+ghost use Rattle.stripe_read.specs.Readers.{reading_as};
 
 use crate::Reader;
 use cache_chronicle::Chronicle;
@@ -24,9 +25,9 @@ pub(crate) fn next_row<D: Disk, R: Directory + Drop, C: Chronicle>(
     reader: &Reader,
 ) -> Option<(u32, Digest)>
     requires stripe { IsStripe stripe.now }
-    requires reader { IsOpenStripeReader (state_in stripe.now) reader.now }
+    requires reader { IsOpenReader (state_in stripe.now) (reading_as reader.now) }
     ensures row { result ≡ option_map table_row
-        (next_row (state_in stripe.now) (row_of_reader reader.now)) }
+        (next_row (state_in stripe.now) (as_row (reading_as reader.now))) }
     ensures few { IfSome result (λ row. reader.now.next ≤ most_fragments) }
 {
     match &reader.table {
@@ -52,10 +53,10 @@ fn followed_row<D: Disk, R: Directory + Drop, C: Chronicle>(
     reader: &Reader,
 ) -> Option<(u32, Digest)>
     requires stripe { IsStripe stripe.now }
-    requires reader { IsOpenStripeReader (state_in stripe.now) reader.now }
+    requires reader { IsOpenReader (state_in stripe.now) (reading_as reader.now) }
     requires follows { reader.now.table ≡ None }
     ensures row { result ≡ option_map table_row
-        (next_row (state_in stripe.now) (row_of_reader reader.now)) }
+        (next_row (state_in stripe.now) (as_row (reading_as reader.now))) }
     ensures few { IfSome result (λ row. reader.now.next ≤ most_fragments) }
 {
     let directory = stripe.open_directory();

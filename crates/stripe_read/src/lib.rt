@@ -3,13 +3,11 @@
 
 mod closing;
 mod fetching;
-mod laws;
 mod opening;
 mod reader;
 mod reading;
 
 pub use closing::close_read;
-pub use laws::{readers_add_own, readers_stay, reads_leave_others};
 pub use opening::open_read;
 pub use reader::Reader;
 pub use reading::read_next;

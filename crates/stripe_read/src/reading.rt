@@ -4,8 +4,10 @@ ghost use Rattle.tape_base.specs.Geometry.{budget_of};
 ghost use Rattle.cache_model.specs.State.{most_fragments};
 ghost use Rattle.cache_model.specs.Verdict.{next_piece, next_row, verdict_at_end};
 ghost use Rattle.stripe_core.specs.Stripe.{IsStripe, seen_in, state_in, units_in};
-ghost use Rattle.stripe_read.specs.Readers.{HasOpenReader, IsOpenStripeReader, row_of_reader, rows_hit};
-ghost use Rattle.stripe_read.specs.Nexts.{HasNext, ReadsNextInStripe, answer_noted};
+ghost use Rattle.stripe_read.specs.Readers.{HasOpenReader, rows_hit, reading_as};
+ghost use Rattle.stripe_read.specs.Nexts.{HasNext, ReadsNextInStripe};
+ghost use Rattle.cache_calls.specs.Actors.{IsOpenReader, as_row};
+ghost use Rattle.cache_calls.specs.Readers.{noted};
 
 use crate::Reader;
 use crate::fetching::{fetch, next_row};
@@ -75,7 +77,7 @@ fn stop<D: Disk, R: Directory + Drop, C: Chronicle>(
 ) -> NextPiece
     requires open { HasOpenReader stripe.old reader.now }
     requires unit { 1 ≤ units_in stripe.old }
-    requires none { next_row (state_in stripe.old) (row_of_reader reader.now) ≡ None }
+    requires none { next_row (state_in stripe.old) (as_row (reading_as reader.now)) ≡ None }
     ensures reads { (into : List ℕ) → ReadsNextInStripe stripe.old stripe.new reader.now reader.now
         (Ok result) into }
     ensures still { (seen_in stripe.new).device ≡ (seen_in stripe.old).device }
@@ -91,9 +93,9 @@ fn at_end<D: Disk, R: Directory + Drop, C: Chronicle>(
     reader: &Reader,
 ) -> NextPiece
     requires stripe { IsStripe stripe.now }
-    requires reader { IsOpenStripeReader (state_in stripe.now) reader.now }
-    ensures { answer_noted 0 result
-        ≡ verdict_at_end (state_in stripe.now) (row_of_reader reader.now)
+    requires reader { IsOpenReader (state_in stripe.now) (reading_as reader.now) }
+    ensures { noted 0 result
+        ≡ verdict_at_end (state_in stripe.now) (as_row (reading_as reader.now))
         (rows_hit reader.now) }
 {
     match &reader.table {
@@ -109,10 +111,10 @@ fn how_put_stands<D: Disk, R: Directory + Drop, C: Chronicle>(
     reader: &Reader,
 ) -> NextPiece
     requires stripe { IsStripe stripe.now }
-    requires reader { IsOpenStripeReader (state_in stripe.now) reader.now }
+    requires reader { IsOpenReader (state_in stripe.now) (reading_as reader.now) }
     requires follows { reader.now.table ≡ None }
-    ensures { answer_noted 0 result
-        ≡ verdict_at_end (state_in stripe.now) (row_of_reader reader.now) None }
+    ensures { noted 0 result
+        ≡ verdict_at_end (state_in stripe.now) (as_row (reading_as reader.now)) None }
 {
     let directory = stripe.open_directory();
     // It is asked for what its answer tells of the directory.
@@ -128,7 +130,7 @@ fn how_put_stands<D: Disk, R: Directory + Drop, C: Chronicle>(
 impl Reader {
     // The fragment that it takes next.
     fn next_piece(&self) -> PieceId
-        ensures { result ≡ next_piece (row_of_reader self.now) }
+        ensures { result ≡ next_piece (as_row (reading_as self.now)) }
     {
         PieceId {
             first: self.key,
@@ -140,7 +142,7 @@ impl Reader {
 
 // An answer as it is recorded, where the fragment is listed with that length.
 fn noted(answer: &NextPiece, listed: u32) -> NextAnswer
-    ensures { result ≡ answer_noted listed answer.now }
+    ensures { result ≡ noted listed answer.now }
 {
     match answer {
         NextPiece::Piece { index, .. } => NextAnswer::Gave {

@@ -1,8 +1,9 @@
 // Objects of one byte: each is put by the calls of a writer, and read to its end by those of a reader.
 ghost use Rattle.stripe_core.specs.Between.{IsResting};
 ghost use Rattle.stripe_core.specs.Stripe.{state_in};
-ghost use Rattle.stripe_read.specs.Readers.{IsOpenStripeReader};
-ghost use Rattle.stripe_write.specs.Writers.{IsStripeWriterOf};
+ghost use Rattle.cache_calls.specs.Actors.{IsOpenReader, IsWriterOf};
+ghost use Rattle.stripe_write.specs.Writers.{written_as};
+ghost use Rattle.stripe_read.specs.Readers.{reading_as};
 
 use alternate_vector::Fields;
 use cache_answers::{NextPiece, Opened};
@@ -39,7 +40,7 @@ fn feed_one<D: Disk, R: Directory + Drop, C: Chronicle>(
     byte: u8,
 ) -> bool
     requires resting { IsResting stripe.old }
-    requires writer { IsStripeWriterOf (state_in stripe.old) writer }
+    requires writer { IsWriterOf (state_in stripe.old) (written_as writer) }
     ensures { IsResting stripe.new }
 {
     let mut writer = writer;
@@ -71,7 +72,7 @@ fn read_all<D: Disk, R: Directory + Drop, C: Chronicle>(
     byte: u8,
 ) -> Result<bool, AllocError>
     requires resting { IsResting stripe.old }
-    requires reader { IsOpenStripeReader (state_in stripe.old) reader }
+    requires reader { IsOpenReader (state_in stripe.old) (reading_as reader) }
     ensures { IsResting stripe.new }
 {
     let mut reader = reader;
@@ -96,9 +97,9 @@ fn gives<D: Disk, R: Directory + Drop, C: Chronicle>(
     bytes: &[u8],
 ) -> Result<bool, AllocError>
     requires resting { IsResting stripe.old }
-    requires reader { IsOpenStripeReader (state_in stripe.old) reader.old }
+    requires reader { IsOpenReader (state_in stripe.old) (reading_as reader.old) }
     ensures resting { IsResting stripe.new }
-    ensures reader { IsOpenStripeReader (state_in stripe.new) reader.new }
+    ensures reader { IsOpenReader (state_in stripe.new) (reading_as reader.new) }
 {
     let budget = stripe.geometry().agg as usize / 2;
     let mut into = vec![in stripe.alloc(); 0u8; 512 * budget]?;

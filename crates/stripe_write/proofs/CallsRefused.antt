@@ -21,13 +21,16 @@ use Rattle.stripe_core.proofs.Stills.{unstopped}
 use Rattle.stripe_answers.proofs.Wanting.{holds_anyway}
 use Rattle.stripe_write.specs.declared.writer.Writer.{Writer}
 use Rattle.stripe_answers.specs.Numbers.{StopsExhausted}
-use Rattle.stripe_write.specs.Writers.{HasOpenWriter, IsStripeWriterOf}
-use Rattle.stripe_write.specs.Writes.{GathersAsAsked, IsOverflow, IsTakingInStripe, IsToldWrittenInStripe, OpensInStripe, OverflowsInStripe, SameWriter, WritesInStripe, WritesWhere}
+use Rattle.stripe_write.specs.Writers.{HasOpenWriter, written_as}
+use Rattle.stripe_write.specs.Writes.{IsOverflow, OpensInStripe, OverflowsInStripe, SameWriter, WritesInStripe, WritesWhere}
 use Rattle.stripe_write.proofs.Gathering.{same_as, same_writer, writes_none, writes_over}
+use Rattle.cache_calls.specs.Actors.{IsWriterOf}
+use Rattle.cache_calls.specs.Writers.{IsTaking, HasTaken}
+use Rattle.cache_calls.specs.Standing.{IsToldWritten}
 
 -- ---- one fragment too many
 
-over_where : (s : State) (w : Writer) (bytes : List ℕ) (result : Result ℕ Refusal) → IsOverflow result → IsTakingInStripe s w
+over_where : (s : State) (w : Writer) (bytes : List ℕ) (result : Result ℕ Refusal) → IsOverflow result → IsTaking s (written_as w)
     → 0 < length bytes → length w.table.rows ≡ most_fragments → WritesWhere s w bytes result
 over_where s w bytes (Err refusal.TooManyFragments) over taking some full = (taking, some, full)
 over_where s w bytes (Err (refusal.Memory e)) over taking some full = taking
@@ -61,14 +64,14 @@ module _ {D R C : Type 0} {d : DiskGhosts D} {r : DirectoryGhosts R} {c : Chroni
   write_wanting {packed} now s t was later bytes e result is own unsealed continues records still same =
       subst (WritesInStripe packed now s t was later bytes) (sym is) (record {
         rests =
-            rests_with (IsToldWrittenInStripe (state_in s) was bytes (Err (refusal.Memory e))) s t
+            rests_with (IsToldWritten (state_in s) (written_as was) bytes (Err (refusal.Memory e))) s t
             (continues_still s t continues records own.resting);
         writes = (own.is_open, unsealed);
         number = tt;
         does =
             writes_none now (kept_in s) (kept_in t) (seen_in s).device.past (seen_in t).device was bytes (Err (refusal.Memory e)) records
             refl;
-        writer = same_writer (state_in t) was later same (subst (λ k. IsStripeWriterOf (state_of k) was) (sym records) own.writer);
+        writer = same_writer (state_in t) was later same (subst (λ k. IsWriterOf (state_of k) (written_as was)) (sym records) own.writer);
         gathers = tt;
         same = same;
         untouched = still;
@@ -79,14 +82,14 @@ module _ {D R C : Type 0} {d : DiskGhosts D} {r : DirectoryGhosts R} {c : Chroni
       → HasOpenWriter s w → w.sealed ≡ false → 0 < length bytes → length w.table.rows ≡ most_fragments
       → OverflowsInStripe s t w result → WritesInStripe packed now s t w w bytes result
   write_over now s t w bytes result own unsealed some full over = record {
-    rests = rests_with (IsToldWrittenInStripe (state_in s) w bytes result) s t over.rests;
+    rests = rests_with (IsToldWritten (state_in s) (written_as w) bytes result) s t over.rests;
     writes = over_where (state_in s) w bytes result over.refused (own.is_open, unsealed) some full;
     number = over_number (state_in t) (state_in s).geometry.fragment result over.refused;
     does =
         writes_over now (kept_in s) (kept_in t) (seen_in s).device.past (seen_in t).device w bytes result over.refused over.adds
         over.does;
     writer = over.writer;
-    gathers = over_gathers (λ n. GathersAsAsked (state_in s).geometry w bytes n w) result over.refused;
+    gathers = over_gathers (λ n. HasTaken (state_in s).geometry (written_as w) bytes n (written_as w)) result over.refused;
     same = holds_anyway result (SameWriter w w) (same_as w);
     untouched = unstopped result (IsStill (seen_in s).device (seen_in t).device) over.still;
   }

@@ -41,14 +41,17 @@ use Rattle.stripe_vectors.specs.declared.spelling.Spelled.{Spelled}
 use Rattle.stripe_vectors.specs.Spelled.{IsSpelled, listed_with}
 use Rattle.stripe_write.specs.declared.weighing.Vectors.{Vectors}
 use Rattle.stripe_write.specs.declared.writer.Writer.{Writer}
-use Rattle.stripe_write.specs.Writers.{IsAtHandInStripe, IsStripeWriterOf}
-use Rattle.stripe_write.specs.Closing.{AreSpelled, IsReadFor, closing_alternate, closing_rows, closing_size, row_of_rest}
+use Rattle.stripe_write.specs.Closing.{AreSpelled, IsReadFor}
 use Rattle.stripe_write.specs.Finishing.{AreLive, FinishesAsRead, FinishesWhere, IsCurrent, VectorStops, bytes_now, picked, vector_now}
 use Rattle.cache_answers.specs.declared.answers.Receipt.{Receipt}
 use Rattle.stripe_write.proofs.Pushed.{pushed_by}
 use Rattle.stripe_write.proofs.Spending.{last_done, nothing_more, one_group, state_behind, then_all, then_more}
 use Rattle.stripe_write.proofs.Ended.{open_put, own_number}
 use Rattle.stripe_write.proofs.Reaching.{place_reaches}
+use Rattle.cache_calls.specs.Actors.{IsWriterOf, IsAtHand}
+use Rattle.cache_calls.specs.Asked.{rest_rows, rows_at_close}
+use Rattle.cache_calls.specs.Writers.{alternate_at_close, size_at_close}
+use Rattle.stripe_write.specs.Writers.{written_as}
 
 -- ---- no vector is live
 
@@ -81,11 +84,11 @@ small_picked g w v true h = small_merged g w v v.merged refl h
 small_picked g w v false h = h.alone.small
 
 picked_by : (s : State) (w : Writer) (v : Vectors) (o : Option Row) → live_vector_of s w.key ≡ o → AreSpelled s.geometry w v → IsReadFor s w v
-    → IsSpelled s.geometry (alternates_of s w.key) (closing_alternate w) (picked v (is_some o))
-picked_by s w v None e h read = subst (λ list. IsSpelled s.geometry list (closing_alternate w) v.alone) (sym (no_alternates s w.key e)) h.alone
+    → IsSpelled s.geometry (alternates_of s w.key) (alternate_at_close (written_as w)) (picked v (is_some o))
+picked_by s w v None e h read = subst (λ list. IsSpelled s.geometry list (alternate_at_close (written_as w)) v.alone) (sym (no_alternates s w.key e)) h.alone
 picked_by s w v (Some row) e h read =
     let m = read row e in
-    subst (λ o. IsSpelled s.geometry (alternates_of s w.key) (closing_alternate w) (unwrap_or o v.alone)) (sym m.1) m.2
+    subst (λ o. IsSpelled s.geometry (alternates_of s w.key) (alternate_at_close (written_as w)) (unwrap_or o v.alone)) (sym m.1) m.2
 
 -- ---- the put, when all is cut
 
@@ -95,17 +98,17 @@ pub record IsClosing (s : State) (w : Writer) : Type 0 where
   pub writing : IsWriting s w.put row
   pub key_is : row.key ≡ w.key
   pub cuts_are : row.cuts ≡ w.table.rows
-  pub alternate_is : alternate_of row ≡ closing_alternate w
+  pub alternate_is : alternate_of row ≡ alternate_at_close (written_as w)
 
-no_rest : (w : Writer) → w.gathered.items ≡ [] → closing_rows w ≡ w.table.rows
-no_rest w h = ap (λ bytes. w.table.rows ++ row_of_rest bytes) h ∙ append-nil w.table.rows
+no_rest : (w : Writer) → w.gathered.items ≡ [] → rows_at_close (written_as w) ≡ w.table.rows
+no_rest w h = ap (λ bytes. w.table.rows ++ rest_rows bytes) h ∙ append-nil w.table.rows
 
-pub is_closing : (s : State) (w : Writer) → IsQuiet s → is_writing s w.put ≡ true → IsStripeWriterOf s w → w.gathered.items ≡ []
+pub is_closing : (s : State) (w : Writer) → IsQuiet s → is_writing s w.put ≡ true → IsWriterOf s (written_as w) → w.gathered.items ≡ []
     → IsClosing s w
 is_closing s w quiet writing own none =
     let o = open_put (put_of s w.put) writing in
-    let here : IsAtHandInStripe s.geometry o.0 w = own o.0 o.1 o.2 in
-    let cuts : o.0.cuts ≡ closing_rows w = here.cuts_are ∙ sym (no_rest w none) in
+    let here : IsAtHand s.geometry o.0 (written_as w) = own o.0 o.1 o.2 in
+    let cuts : o.0.cuts ≡ rows_at_close (written_as w) = here.cuts_are ∙ sym (no_rest w none) in
     let number : o.0.put ≡ w.put = own_number w.put s.puts o.0 o.1 in
     let made : ℕ → ℕ → List Rattle.alternate_vector.specs.Field.Field → List Rattle.alternate_vector.specs.Field.Field → List TableRow → Stored =
     λ n pin q r rows. record { put = n; pin = pin; length = total_length rows; request = q; response = r; table = rows } in
@@ -122,7 +125,7 @@ is_closing s w quiet writing own none =
     }
 
 -- what its vector is to list
-listed_now : (s : State) (w : Writer) (c : IsClosing s w) → s.displaced ≡ [] → list_of_put s w.put ≡ listed_with s.geometry (alternates_of s w.key) (closing_alternate w)
+listed_now : (s : State) (w : Writer) (c : IsClosing s w) → s.displaced ≡ [] → list_of_put s w.put ≡ listed_with s.geometry (alternates_of s w.key) (alternate_at_close (written_as w))
 listed_now s w c none =
     ap (λ (o : Option PutRow). unwrap_or (option_map (merged_list s) o) []) c.writing.found
     ∙ (ap (λ (d : List Row). listed_with s.geometry (list_among s (d ++ s.rows) c.row.key) (alternate_of c.row)) none
@@ -130,7 +133,7 @@ listed_now s w c none =
 
 pub is_current : (s : State) (w : Writer) (v : Vectors) (c : IsClosing s w) → s.displaced ≡ [] → AreSpelled s.geometry w v → IsReadFor s w v → IsCurrent s w (vector_now s w v)
 is_current s w v c none spelled read =
-    let here : IsSpelled s.geometry (alternates_of s w.key) (closing_alternate w) (vector_now s w v) = picked_by s w v (live_vector_of s w.key) refl spelled read in
+    let here : IsSpelled s.geometry (alternates_of s w.key) (alternate_at_close (written_as w)) (vector_now s w v) = picked_by s w v (live_vector_of s w.key) refl spelled read in
     let list = listed_now s w c none in
     record {
       payload = here.bytes ∙ ap vector_bytes (sym list);
@@ -143,7 +146,7 @@ is_current s w v c none spelled read =
 pub lists_spelled : (s : State) (w : Writer) (v : Vectors) (c : IsClosing s w) → s.displaced ≡ [] → AreSpelled s.geometry w v
     → IsReadFor s w v → IsSpelling (vector_bytes (list_of_put s w.put)) (list_of_put s w.put)
 lists_spelled s w v c none spelled read =
-    let here : IsSpelled s.geometry (alternates_of s w.key) (closing_alternate w) (vector_now s w v) =
+    let here : IsSpelled s.geometry (alternates_of s w.key) (alternate_at_close (written_as w)) (vector_now s w v) =
     picked_by s w v (live_vector_of s w.key) refl spelled read in
     subst (λ list. IsSpelling (vector_bytes list) list) (sym (listed_now s w c none)) here.again
 
@@ -179,10 +182,10 @@ live_to s w c last whole = λ index some within.
     let id : fragment_piece w.key w.put index ≡ fragment_piece c.row.key c.row.put index = ap (λ k. fragment_piece k w.put index) (sym c.key_is) ∙ ap (λ n. fragment_piece c.row.key n index) (sym number) in
     subst (λ i. (row : Row) × (live_row_of s i ≡ Some row)) id (some_is (live_row_of s (fragment_piece w.key w.put index)) (whole index some within))
 
-pub fits_alone : (s : State) (w : Writer) (c : IsClosing s w) → blocks_of (closing_size w) ≤ budget_of s.geometry → FitsAlone s c.row 0
+pub fits_alone : (s : State) (w : Writer) (c : IsClosing s w) → blocks_of (size_at_close (written_as w)) ≤ budget_of s.geometry → FitsAlone s c.row 0
 fits_alone s w c fits = subst (λ (a : Stored). blocks_of (vector_size (a ∷ [])) ≤ budget_of s.geometry) (sym c.alternate_is) fits
 
-pub is_cut : (s : State) (w : Writer) (c : IsClosing s w) → blocks_of (closing_size w) ≤ budget_of s.geometry → IsCut s w.put (length w.table.rows) c.row
+pub is_cut : (s : State) (w : Writer) (c : IsClosing s w) → blocks_of (size_at_close (written_as w)) ≤ budget_of s.geometry → IsCut s w.put (length w.table.rows) c.row
 is_cut s w c fits = record { writing = c.writing; count = ap length c.cuts_are; alone = fits_alone s w c fits }
 
 pub vector_of_put : (s : State) (w : Writer) (v : Vectors) (pin : ℕ) (payload : List ℕ) (c : IsClosing s w) → AreSpelled s.geometry w v → has_room s (bytes_now s w v) ≡ true
@@ -208,7 +211,7 @@ closed : (o : Option PutRow) (row : PutRow) → option_map (with_writing Closed)
 closed None row h o = cc
 closed (Some first) row h o = let same : with_writing Closed first ≡ row = cc in let clash : Closed ≡ Open = ap (λ (p : PutRow). p.writing) same ∙ o in cc
 
-pub closed_writer : (s : State) (w : Writer) (key : Key) (bytes : ℕ) (list : List Stored) → IsStripeWriterOf (state_after s (rec.Committed w.put key bytes list)) w
+pub closed_writer : (s : State) (w : Writer) (key : Key) (bytes : ℕ) (list : List Stored) → IsWriterOf (state_after s (rec.Committed w.put key bytes list)) (written_as w)
 closed_writer s w key bytes list = λ row found o.
     absurd (closed (put_of s w.put) row
     (sym (find-changed (λ (p : PutRow). p.put) (with_writing Closed) (λ p. refl) w.put w.put s.puts ∙ ap (λ b. cond b (option_map (with_writing Closed) (put_of s w.put)) (put_of s w.put)) (eq-eqb w.put w.put refl)) ∙ found) o)
@@ -319,5 +322,5 @@ not_placed packed old new before after piece pin payload (refusal.Memory e) h = 
 not_placed packed old new before after piece pin payload _ h = absurd h
 
 pub refused_writer : (packed : Bool) (old new : Kept) (before after : List Call) (w : Writer) (pin : ℕ) (payload : List ℕ) (why : Refusal)
-    → AnswersOrWants {X = Placed} (Err why) (PlacesVector packed old new before after (vector_piece w.key w.put) pin 0 payload) (new ≡ old) → IsStripeWriterOf (state_of old) w → IsStripeWriterOf (state_of new) w
-refused_writer packed old new before after w pin payload why h own = subst (λ k. IsStripeWriterOf (state_of k) w) (sym (not_placed packed old new before after (vector_piece w.key w.put) pin payload why h)) own
+    → AnswersOrWants {X = Placed} (Err why) (PlacesVector packed old new before after (vector_piece w.key w.put) pin 0 payload) (new ≡ old) → IsWriterOf (state_of old) (written_as w) → IsWriterOf (state_of new) (written_as w)
+refused_writer packed old new before after w pin payload why h own = subst (λ k. IsWriterOf (state_of k) (written_as w)) (sym (not_placed packed old new before after (vector_piece w.key w.put) pin payload why h)) own

@@ -13,8 +13,7 @@ use Rattle.cache_model.specs.Verdict.{cuts_of}
 use Rattle.cache_model.specs.Permit.{Commit, Done, End, Fails, Finish, Intent, Permit, Reason, Stays, Work, is_cleanup, work_after}
 use Rattle.cache_model.specs.Legal.{Advances, Does, DoesCommit, DoesFinish, MakesRoom, MayGrow, more, nothing}
 use Rattle.cache_model.specs.Due.{due_pieces}
-use Rattle.cache_model.specs.Outcomes.{Copy, Outcome, began_record, copies_of, flush_records, flush_tail, front_of, moved_record}
-use Rattle.cache_model.specs.Outcomes.{moved_records}
+use Rattle.cache_model.specs.Outcomes.{Copy, Outcome, began_record, copies_of, flush_records, flush_tail, front_of, moved_record, moved_records}
 use Rattle.cache_model.specs.Room.{MayDisplace, displaced_record}
 use Rattle.cache_model.proofs.Aside.{AllAside, IsAside}
 use Rattle.cache_model.proofs.ByNumber.{find-changed}

@@ -35,14 +35,16 @@ use Rattle.stripe_write.proofs.Ended.{own_number}
 use Rattle.stripe_write.proofs.Flushed.{LeavesActors, flush_is_own, flush_leaves}
 use Rattle.stripe_write.proofs.Pushed.{pushed_by, pushed_is_own}
 use Rattle.stripe_write.proofs.Spending.{state_behind}
-use Rattle.stripe_write.specs.Writers.{IsAllCutInStripe, IsAtHandInStripe, IsStripeWriterOf}
-use Rattle.stripe_write.specs.Writes.{IsReady, next_id, next_start}
+use Rattle.stripe_write.specs.Writes.{IsReady, next_start}
 use Rattle.stripe_answers.specs.Numbers.{StopsExhausted}
 use Rattle.cache_model.specs.Subjects.{IsOfPut}
+use Rattle.cache_calls.specs.Actors.{IsWriterOf, IsAllCut, IsAtHand}
+use Rattle.cache_calls.specs.Writers.{piece_cut_next}
+use Rattle.stripe_write.specs.Writers.{written_as}
 
 -- ---- it is the next fragment of its put
 
-pub next_no_vector : (w : Writer) → is_vector (next_id w) ≡ false
+pub next_no_vector : (w : Writer) → is_vector (piece_cut_next (written_as w)) ≡ false
 next_no_vector w = by (length w.table.rows + 1) (omega arith)
   where
     by : (n : ℕ) → 0 < n → (n == 0) ≡ false
@@ -52,7 +54,7 @@ next_no_vector w = by (length w.table.rows + 1) (omega arith)
         at false e = refl
         at true e = let z : n ≡ 0 = eqb-true n 0 e in absurd (omega (arith, z, h))
 
-pub ready_fragment : (s : State) (w : Writer) → IsQuiet s → IsReady s w → IsBytes w.gathered.items → IsFragmentOf s (next_id w) w.pin (next_start w) w.gathered.items
+pub ready_fragment : (s : State) (w : Writer) → IsQuiet s → IsReady s w → IsBytes w.gathered.items → IsFragmentOf s (piece_cut_next (written_as w)) w.pin (next_start w) w.gathered.items
 ready_fragment s w quiet r small =
     let count : length r.row.cuts ≡ length w.table.rows = ap length r.cuts_are in
     let number : r.row.put ≡ w.put = own_number w.put s.puts r.row r.found in
@@ -124,38 +126,38 @@ one_more rows row size is whole =
     total_one r = omega arith
 
 all_cut_or_whole : (w new : Writer) (rows : List TableRow) (row : TableRow) (size : ℕ) → (w.sealed ≡ true) ⊎ (row.length ≡ size) → new.sealed ≡ w.sealed → new.gathered.items ≡ []
-    → total_length rows ≡ length rows * size → IsAllCutInStripe new ⊎ (total_length (rows ++ row ∷ []) ≡ length (rows ++ row ∷ []) * size)
+    → total_length rows ≡ length rows * size → IsAllCut (written_as new) ⊎ (total_length (rows ++ row ∷ []) ≡ length (rows ++ row ∷ []) * size)
 all_cut_or_whole w new rows row size (inl is) same empty whole = inl (record { sealed = same ∙ is; empty = empty })
 all_cut_or_whole w new rows row size (inr is) same empty whole = inr (one_more rows row size is whole)
 
 -- the put behind a cut
-pub cut_row : {packed : Bool} (s t : State) (w : Writer) (added : List Rec) (placed : Placed) → (r : IsReady s w) → IsCutAs packed s (next_id w) w.pin (next_start w) w.gathered.items added placed → t ≡ after_all s added
+pub cut_row : {packed : Bool} (s t : State) (w : Writer) (added : List Rec) (placed : Placed) → (r : IsReady s w) → IsCutAs packed s (piece_cut_next (written_as w)) w.pin (next_start w) w.gathered.items added placed → t ≡ after_all s added
     → put_of t w.put ≡ Some (with_cut (made_row (length w.gathered.items) (digest_of w.gathered.items).0) r.row)
 cut_row s t w added placed r c is =
     let payload : List ℕ = w.gathered.items in
     let room : State = after_all s c.room in
     let cut : TableRow = made_row (length payload) (digest_of payload).0 in
     let leaves : LeavesActors s room = flush_leaves s c.room c.kinds in
-    let behind = displaced_puts (state_after room (cut_of (next_id w) payload)) c.are.displaced (cut_pushed s (next_id w) w.pin (next_start w) payload added placed c) in
-    ap (λ (x : State). put_of x w.put) (is ∙ cut_state s (next_id w) w.pin (next_start w) payload added placed (next_no_vector w) c)
+    let behind = displaced_puts (state_after room (cut_of (piece_cut_next (written_as w)) payload)) c.are.displaced (cut_pushed s (piece_cut_next (written_as w)) w.pin (next_start w) payload added placed c) in
+    ap (λ (x : State). put_of x w.put) (is ∙ cut_state s (piece_cut_next (written_as w)) w.pin (next_start w) payload added placed (next_no_vector w) c)
     ∙ (ap (find (λ (p : PutRow). p.put == w.put)) behind.puts
     ∙ found_changed w.put (with_cut cut) room.puts r.row (λ x. refl) (ap (find (λ (p : PutRow). p.put == w.put)) leaves.puts ∙ r.found))
 
 -- the writer behind a cut
-pub cut_writer : {packed : Bool} (s t : State) (w new : Writer) (added : List Rec) (placed : Placed) → IsReady s w → IsCutAs packed s (next_id w) w.pin (next_start w) w.gathered.items added placed → t ≡ after_all s added
+pub cut_writer : {packed : Bool} (s t : State) (w new : Writer) (added : List Rec) (placed : Placed) → IsReady s w → IsCutAs packed s (piece_cut_next (written_as w)) w.pin (next_start w) w.gathered.items added placed → t ≡ after_all s added
     → new.put ≡ w.put → new.key ≡ w.key → new.request ≡ w.request → new.response ≡ w.response → new.pin ≡ w.pin → new.sealed ≡ w.sealed → new.gathered.items ≡ []
-    → new.table.rows ≡ w.table.rows ++ made_row (length w.gathered.items) (digest_of w.gathered.items).0 ∷ [] → IsStripeWriterOf t new
+    → new.table.rows ≡ w.table.rows ++ made_row (length w.gathered.items) (digest_of w.gathered.items).0 ∷ [] → IsWriterOf t (written_as new)
 cut_writer s t w new added placed r c is put key request response pin sealed gathered rows = λ row found o.
     let payload : List ℕ = w.gathered.items in
     let leaves : LeavesActors s (after_all s c.room) = flush_leaves s c.room c.kinds in
-    let behind = displaced_puts (state_after (after_all s c.room) (cut_of (next_id w) payload)) c.are.displaced (cut_pushed s (next_id w) w.pin (next_start w) payload added placed c) in
+    let behind = displaced_puts (state_after (after_all s c.room) (cut_of (piece_cut_next (written_as w)) payload)) c.are.displaced (cut_pushed s (piece_cut_next (written_as w)) w.pin (next_start w) payload added placed c) in
     let cut : TableRow = made_row (length payload) (digest_of payload).0 in
-    let state = is ∙ cut_state s (next_id w) w.pin (next_start w) payload added placed (next_no_vector w) c in
+    let state = is ∙ cut_state s (piece_cut_next (written_as w)) w.pin (next_start w) payload added placed (next_no_vector w) c in
     let there : put_of t w.put ≡ Some (with_cut cut r.row) = cut_row s t w added placed r c is in
     let geometry : t.geometry ≡ s.geometry = ap (λ (x : State). x.geometry) state ∙ (behind.geometry ∙ leaves.geometry) in
     let name : Some row ≡ Some (with_cut cut r.row) = sym found ∙ (ap (put_of t) put ∙ there) in
     let row_is : row ≡ with_cut cut r.row = cc in
-    subst (λ (x : PutRow). IsAtHandInStripe t.geometry x new) (sym row_is) (record {
+    subst (λ (x : PutRow). IsAtHand t.geometry x (written_as new)) (sym row_is) (record {
       key_is = r.key_is ∙ sym key;
       request_is = r.request_is ∙ sym request;
       response_is = r.response_is ∙ sym response;
@@ -172,21 +174,21 @@ module _ (w : Writer) (n t : ℕ) (p : List ℕ) (n_is : n ≡ length w.table.ro
   abbrev id : PieceId
   id = record { first = w.key; put = w.put; index = n + 1 }
 
-  id_is : id ≡ next_id w
+  id_is : id ≡ piece_cut_next (written_as w)
   id_is = ap (λ k. let i : PieceId = record { first = w.key; put = w.put; index = k + 1 } in i) n_is
 
   -- what is said of the piece that is placed is said of the next fragment
-  at_next : (F : PieceId → ℕ → List ℕ → Type 0) → F id t p → F (next_id w) (next_start w) w.gathered.items
-  at_next F h = subst (F (next_id w) (next_start w)) p_is (subst (λ x. F (next_id w) x p) t_is (subst (λ i. F i t p) id_is h))
+  at_next : (F : PieceId → ℕ → List ℕ → Type 0) → F id t p → F (piece_cut_next (written_as w)) (next_start w) w.gathered.items
+  at_next F h = subst (F (piece_cut_next (written_as w)) (next_start w)) p_is (subst (λ x. F (piece_cut_next (written_as w)) x p) t_is (subst (λ i. F i t p) id_is h))
 
   pub cuts_behind : (packed : Bool) (now : ℕ) (old new : Kept) (first : List Call) (after : Device) (r : Result Placed Refusal) → AnswersOrWants r (PlacesAsAsked packed now old new first after id w.pin t p) (new ≡ old)
-      → AnswersOrWants r (CutsAsAsked packed now old new first after (next_id w) w.pin (next_start w) w.gathered.items) (new ≡ old)
+      → AnswersOrWants r (CutsAsAsked packed now old new first after (piece_cut_next (written_as w)) w.pin (next_start w) w.gathered.items) (new ≡ old)
   cuts_behind packed now old new first after r h =
-      let there : AnswersOrWants r (PlacesAsAsked packed now old new first after (next_id w) w.pin (next_start w) w.gathered.items)
+      let there : AnswersOrWants r (PlacesAsAsked packed now old new first after (piece_cut_next (written_as w)) w.pin (next_start w) w.gathered.items)
       (new ≡ old) =
       at_next (λ i x q. AnswersOrWants r (PlacesAsAsked packed now old new first after i w.pin x q) (new ≡ old)) h in
-      subst (λ b. AnswersOrWants r (λ x. MatchBool b (PlacesVector packed old new first after.past (next_id w) w.pin (next_start w) w.gathered.items x)
-      (CutsAsAsked packed now old new first after (next_id w) w.pin (next_start w) w.gathered.items x)) (new ≡ old)) (next_no_vector w) there
+      subst (λ b. AnswersOrWants r (λ x. MatchBool b (PlacesVector packed old new first after.past (piece_cut_next (written_as w)) w.pin (next_start w) w.gathered.items x)
+      (CutsAsAsked packed now old new first after (piece_cut_next (written_as w)) w.pin (next_start w) w.gathered.items x)) (new ≡ old)) (next_no_vector w) there
 
 -- a cut that stops at the limit tells the number
 pub cut_stops : (packed : Bool) (now : ℕ) (old new : Kept) (first : List Call) (after : Device) (piece : PieceId) (pin start : ℕ) (payload : List ℕ) (why : Refusal)

@@ -13,7 +13,8 @@ use Rattle.cache_model.specs.Legal.{Does, DoesGiveUp, DoesOverflow, DoesRemove, 
 use Rattle.cache_model.proofs.ByNumber.{find-changed}
 use Rattle.stripe_answers.specs.Acts.{IsGivingUp, write_opened_record}
 use Rattle.stripe_write.specs.declared.writer.Writer.{Writer}
-use Rattle.stripe_write.specs.Writers.{IsAtHandInStripe, IsStripeWriterOf}
+use Rattle.cache_calls.specs.Actors.{IsWriterOf, IsAtHand}
+use Rattle.stripe_write.specs.Writers.{written_as}
 
 open_row : (p : PutRow) → is_open p ≡ true → p.writing ≡ Open
 open_row p h = by p.writing refl
@@ -27,7 +28,7 @@ pub open_put : (o : Option PutRow) → unwrap_or (option_map is_open o) false �
 open_put None h = cc
 open_put (Some row) h = (row, refl, open_row row h)
 
-pub giving_up : (s : State) (w : Writer) → IsQuiet s → is_writing s w.put ≡ true → IsStripeWriterOf s w → IsGivingUp s w.put w.key
+pub giving_up : (s : State) (w : Writer) → IsQuiet s → is_writing s w.put ≡ true → IsWriterOf s (written_as w) → IsGivingUp s w.put w.key
 giving_up s w quiet writing own =
     let o = open_put (put_of s w.put) writing in
     record { w = o.0; writing = record { quiet = quiet; found = o.1; is_open = o.2 }; key_is = (own o.0 o.1 o.2).key_is }
@@ -40,21 +41,21 @@ given_up None row h o = cc
 given_up (Some first) row h o = let same : with_writing GivenUp first ≡ row = cc in let clash : GivenUp ≡ Open = ap (λ (p : PutRow). p.writing) same ∙ o in cc
 
 -- a put that was given up is not open
-pub no_writer : (s : State) (w : Writer) (key : Key) → IsStripeWriterOf (state_after s (rec.Aborted w.put key)) w
+pub no_writer : (s : State) (w : Writer) (key : Key) → IsWriterOf (state_after s (rec.Aborted w.put key)) (written_as w)
 no_writer s w key = λ row found o.
     absurd (given_up (put_of s w.put) row
     (sym (find-changed (λ (p : PutRow). p.put) (with_writing GivenUp) (λ p. refl) w.put w.put s.puts ∙ ap (λ b. cond b (option_map (with_writing GivenUp) (put_of s w.put)) (put_of s w.put)) (eq-eqb w.put w.put refl)) ∙ found) o)
 
 -- the writer of a put that opens
 pub new_writer : (s : State) (who : Actor) (key : Key) (request response : List Field) (pin : ℕ) (w : Writer) → w.put ≡ s.next_put → w.key ≡ key → w.request ≡ request → w.response ≡ response → w.pin ≡ pin → w.table.rows ≡ [] → w.gathered.items ≡ []
-    → IsStripeWriterOf (state_after s (write_opened_record s who key request response pin)) w
+    → IsWriterOf (state_after s (write_opened_record s who key request response pin)) (written_as w)
 new_writer s who key request response pin w put key_is request_is response_is pin_is rows gathered = λ row found o.
     let own : PutRow = opened_put who.0 s.next_put key request response pin in
     let t : State = state_after s (write_opened_record s who key request response pin) in
     let first : put_of t s.next_put ≡ Some own = ap (λ b. cond b (Some own) (find (λ (p : PutRow). p.put == s.next_put) s.puts)) (eq-eqb s.next_put s.next_put refl) in
     let same : Some row ≡ Some own = sym found ∙ (ap (put_of t) put ∙ first) in
     let row_is : row ≡ own = cc in
-    subst (λ (x : PutRow). IsAtHandInStripe t.geometry x w) (sym row_is) (record {
+    subst (λ (x : PutRow). IsAtHand t.geometry x (written_as w)) (sym row_is) (record {
       key_is = sym key_is;
       request_is = sym request_is;
       response_is = sym response_is;
@@ -81,10 +82,10 @@ pub own_number : (put : ℕ) (puts : List PutRow) (w : PutRow) → find (λ p. p
 own_number put [] w h = cc
 own_number put (first ∷ puts) w h = own_number_by put first w (find (λ p. p.put == put) puts) (first.put == put) refl (own_number put puts w) h
 
-pub overflows : (p : Permit) (s : State) (w : Writer) → IsQuiet s → is_writing s w.put ≡ true → IsStripeWriterOf s w → length w.table.rows ≡ most_fragments
+pub overflows : (p : Permit) (s : State) (w : Writer) → IsQuiet s → is_writing s w.put ≡ true → IsWriterOf s (written_as w) → length w.table.rows ≡ most_fragments
     → Does p s (Overflow w.put) (rec.Aborted w.put w.key ∷ []) (Fails (ManyFragments w.put))
 overflows p s w quiet writing own full =
     let o = open_put (put_of s w.put) writing in
-    let here : IsAtHandInStripe s.geometry o.0 w = own o.0 o.1 o.2 in
+    let here : IsAtHand s.geometry o.0 (written_as w) = own o.0 o.1 o.2 in
     DoesOverflow.aborts o.0 (record { quiet = quiet; found = o.1; is_open = o.2 }) (ap length here.cuts_are ∙ full)
     (ap (λ n. rec.Aborted n w.key ∷ []) (sym (own_number w.put s.puts o.0 o.1)) ∙ ap (λ k. rec.Aborted o.0.put k ∷ []) (sym here.key_is))

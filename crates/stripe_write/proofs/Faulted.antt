@@ -23,11 +23,13 @@ use Rattle.cache_answers.specs.declared.answers.Refusal.{Refusal}
 use Rattle.cache_answers.specs.declared.answers.Refusal.TheVariants as refusal
 use Rattle.stripe_core.specs.Stripe.{AnswersOrWants}
 use Rattle.stripe_write.specs.declared.writer.Writer.{Writer}
-use Rattle.stripe_write.specs.Closing.{SpendsAll, WeighsAsAsked, asked_of_rest}
+use Rattle.stripe_write.specs.Closing.{SpendsAll, WeighsAsAsked}
 use Rattle.stripe_answers.specs.Faults.{RefusalHasRecord}
 use Rattle.stripe_write.specs.Others.{AddsOfPut}
 use Rattle.stripe_write.specs.Resting.{RestsAsAsked}
 use Rattle.stripe_write.proofs.Spending.{then_more}
+use Rattle.cache_calls.specs.Asked.{rest_asks}
+use Rattle.stripe_write.specs.Writers.{written_as}
 
 -- ---- the step of one call
 
@@ -138,7 +140,7 @@ cut_recorded {p} {s} {put} {index} {payload} {added} count off h =
 
 -- the rest
 rest_group : {p : Permit} {s : State} (w : Writer) (items : List ℕ) {added : List Rec} (count : ℕ) → p.syncs ≡ false
-    → SpendsAll p s (asked_of_rest w items) added (Fails (Faulted count)) → IsAmong (rec.Fault count) added
+    → SpendsAll p s (rest_asks (written_as w) items) added (Fails (Faulted count)) → IsAmong (rec.Fault count) added
 rest_group w [] count off h = none_is (sym (none_left refl (h [] None)))
 rest_group {p} w (byte ∷ bytes) count off h =
     grown_recorded p (Fragment w.put (length w.table.rows + 1) (byte ∷ bytes)) count (λ t recs n d. fragment_recorded n off refl d) refl refl (h [] None)

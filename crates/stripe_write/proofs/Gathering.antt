@@ -24,30 +24,33 @@ use Rattle.piece_answers.specs.Flush.{AreOfFlush}
 use Rattle.piece_answers.specs.Place.{CutsAsAsked, RoomsAsAsked}
 use Rattle.stripe_core.specs.Stripe.{AnswersOrWants}
 use Rattle.stripe_write.specs.declared.writer.Writer.{Writer}
-use Rattle.stripe_write.specs.Writers.{IsAllCutInStripe, IsAtHandInStripe, IsStripeWriterOf}
-use Rattle.stripe_write.specs.Writes.{CutsNextAsAsked, IsCuttingInStripe, IsOverflow, IsReady, OverflowsAsAsked, SameWriter, WritesAs, WritesAsAsked, WritesWhere, completes_fragment, gathered_behind, left_gathered, next_id, next_start, overflow_adds, payload_cut_next, taken_up_to_cut}
+use Rattle.stripe_write.specs.Writes.{CutsNextAsAsked, IsOverflow, IsReady, OverflowsAsAsked, SameWriter, WritesAs, WritesAsAsked, WritesWhere, left_gathered, next_start, overflow_adds}
 use Rattle.cache_model.specs.Subjects.{IsOfPut}
 use Rattle.stripe_write.proofs.Ended.{open_put}
 use Rattle.stripe_write.proofs.Flushed.{LeavesActors, flush_is_own, flush_leaves, leaves_all}
 use Rattle.stripe_write.proofs.Spending.{nothing_more, state_behind}
 use Rattle.stripe_write.proofs.Cutting.{cut_is_own, next_no_vector}
+use Rattle.cache_calls.specs.Actors.{IsWriterOf, IsAllCut, IsAtHand}
+use Rattle.cache_calls.specs.Asked.{taken_of, gathered_with, fills_fragment, next_payload}
+use Rattle.cache_calls.specs.Writers.{IsCutting, piece_cut_next}
+use Rattle.stripe_write.specs.Writers.{written_as}
 
 -- ---- a writer that is as it was, or has gathered more
 
 pub same_as : (w : Writer) → SameWriter w w
 same_as w = record { put = refl; key = refl; request = refl; response = refl; pin = refl; gathered = refl; rows = refl; sealed = refl }
 
-all_cut_still : (w new : Writer) (P : Type 0) → SameWriter w new → IsAllCutInStripe w ⊎ P → IsAllCutInStripe new ⊎ P
+all_cut_still : (w new : Writer) (P : Type 0) → SameWriter w new → IsAllCut (written_as w) ⊎ P → IsAllCut (written_as new) ⊎ P
 all_cut_still w new P same (inl all) = inl (record { sealed = same.sealed ∙ all.sealed; empty = same.gathered ∙ all.empty })
 all_cut_still w new P same (inr whole) = inr whole
 
-whole_of : (w : Writer) (P : Type 0) → w.sealed ≡ false → IsAllCutInStripe w ⊎ P → P
+whole_of : (w : Writer) (P : Type 0) → w.sealed ≡ false → IsAllCut (written_as w) ⊎ P → P
 whole_of w P unsealed (inl all) = let clash : true ≡ false = sym all.sealed ∙ unsealed in cc
 whole_of w P unsealed (inr whole) = whole
 
-pub same_writer : (s : State) (w new : Writer) → SameWriter w new → IsStripeWriterOf s w → IsStripeWriterOf s new
+pub same_writer : (s : State) (w new : Writer) → SameWriter w new → IsWriterOf s (written_as w) → IsWriterOf s (written_as new)
 same_writer s w new same own = λ row found o.
-    let here : IsAtHandInStripe s.geometry row w = own row (ap (put_of s) (sym same.put) ∙ found) o in
+    let here : IsAtHand s.geometry row (written_as w) = own row (ap (put_of s) (sym same.put) ∙ found) o in
     record {
       key_is = here.key_is ∙ sym same.key;
       request_is = here.request_is ∙ sym same.request;
@@ -69,9 +72,9 @@ pub record SameButGathered (old new : Writer) : Type 0 where
   pub rows : new.table.rows ≡ old.table.rows
   pub sealed : new.sealed ≡ old.sealed
 
-pub more_writer : (s : State) (w new : Writer) → SameButGathered w new → w.sealed ≡ false → length w.table.rows < most_fragments → length new.gathered.items < s.geometry.fragment → IsStripeWriterOf s w → IsStripeWriterOf s new
+pub more_writer : (s : State) (w new : Writer) → SameButGathered w new → w.sealed ≡ false → length w.table.rows < most_fragments → length new.gathered.items < s.geometry.fragment → IsWriterOf s (written_as w) → IsWriterOf s (written_as new)
 more_writer s w new same unsealed one few own = λ row found o.
-    let here : IsAtHandInStripe s.geometry row w = own row (ap (put_of s) (sym same.put) ∙ found) o in
+    let here : IsAtHand s.geometry row (written_as w) = own row (ap (put_of s) (sym same.put) ∙ found) o in
     record {
       key_is = here.key_is ∙ sym same.key;
       request_is = here.request_is ∙ sym same.request;
@@ -83,15 +86,15 @@ more_writer s w new same unsealed one few own = λ row found o.
       more = λ some. rw here.cuts_are one;
     }
 
-pub few_gathered : (s : State) (w : Writer) → is_writing s w.put ≡ true → IsStripeWriterOf s w
+pub few_gathered : (s : State) (w : Writer) → is_writing s w.put ≡ true → IsWriterOf s (written_as w)
     → length w.gathered.items < s.geometry.fragment
 few_gathered s w writing own = let o = open_put (put_of s w.put) writing in (own o.0 o.1 o.2).few
 
-pub is_ready : (s : State) (w new : Writer) → is_writing s w.put ≡ true → w.sealed ≡ false → IsStripeWriterOf s w → SameButGathered w new → length w.table.rows < most_fragments → length new.gathered.items ≡ s.geometry.fragment → 0 < new.table.room
+pub is_ready : (s : State) (w new : Writer) → is_writing s w.put ≡ true → w.sealed ≡ false → IsWriterOf s (written_as w) → SameButGathered w new → length w.table.rows < most_fragments → length new.gathered.items ≡ s.geometry.fragment → 0 < new.table.room
     → IsReady s new
 is_ready s w new writing unsealed own same few size room =
     let o = open_put (put_of s w.put) writing in
-    let here : IsAtHandInStripe s.geometry o.0 w = own o.0 o.1 o.2 in
+    let here : IsAtHand s.geometry o.0 (written_as w) = own o.0 o.1 o.2 in
     record {
       row = o.0;
       found = ap (put_of s) same.put ∙ o.1;
@@ -114,15 +117,15 @@ is_ready s w new writing unsealed own same few size room =
 pub taken_length : (xs : List ℕ) (n : ℕ) → n ≤ length xs → length (take n xs) ≡ n
 taken_length xs n h = let cut : length (take n xs) ≡ min n (length xs) = length-take n xs in omega (arith, cut)
 
-pub gathered_length : (w : Writer) (bytes : List ℕ) (n : ℕ) → n ≤ length bytes → length (gathered_behind w bytes n) ≡ length w.gathered.items + n
+pub gathered_length : (w : Writer) (bytes : List ℕ) (n : ℕ) → n ≤ length bytes → length (gathered_with (written_as w) bytes n) ≡ length w.gathered.items + n
 gathered_length w bytes n h =
-    let both : length (gathered_behind w bytes n) ≡ length w.gathered.items + length (take n bytes) = length-append w.gathered.items (take n bytes) in
+    let both : length (gathered_with (written_as w) bytes n) ≡ length w.gathered.items + length (take n bytes) = length-append w.gathered.items (take n bytes) in
     both ∙ ap (λ k. length w.gathered.items + k) (taken_length bytes n h)
 
-pub cut_now : (g : Geometry) (w : Writer) (n : ℕ) → length w.gathered.items + n ≡ g.fragment → completes_fragment g w n ≡ true
+pub cut_now : (g : Geometry) (w : Writer) (n : ℕ) → length w.gathered.items + n ≡ g.fragment → fills_fragment g (written_as w) n ≡ true
 cut_now g w n h = eq-eqb (length w.gathered.items + n) g.fragment h
 
-pub not_cut : (g : Geometry) (w : Writer) (n : ℕ) → length w.gathered.items + n < g.fragment → completes_fragment g w n ≡ false
+pub not_cut : (g : Geometry) (w : Writer) (n : ℕ) → length w.gathered.items + n < g.fragment → fills_fragment g (written_as w) n ≡ false
 not_cut g w n h = by (length w.gathered.items + n == g.fragment) refl
   where
     by : (b : Bool) → (length w.gathered.items + n == g.fragment) ≡ b → b ≡ false
@@ -132,21 +135,21 @@ not_cut g w n h = by (length w.gathered.items + n == g.fragment) refl
 -- ---- the fragment of the writer that has gathered is the one that is asked for
 
 same_cuts : {packed : Bool} (now : ℕ) (old new : Kept) (before : List Call) (after : Device) (w w' : Writer) (r : Result Placed Stop) → SameButGathered w w'
-    → CutsAsAsked packed now old new before after (next_id w') w'.pin (next_start w') w'.gathered.items r → CutsAsAsked packed now old new before after (next_id w) w.pin (next_start w) w'.gathered.items r
+    → CutsAsAsked packed now old new before after (piece_cut_next (written_as w')) w'.pin (next_start w') w'.gathered.items r → CutsAsAsked packed now old new before after (piece_cut_next (written_as w)) w.pin (next_start w) w'.gathered.items r
 same_cuts {packed} now old new before after w w' r same h =
-    let id : next_id w' ≡ next_id w =
+    let id : piece_cut_next (written_as w') ≡ piece_cut_next (written_as w) =
     ap (λ k. fragment_piece k w'.put (length w'.table.rows + 1)) same.key ∙ (ap (λ n. fragment_piece w.key n (length w'.table.rows + 1)) same.put ∙ ap (λ (rows : List TableRow). fragment_piece w.key w.put (length rows + 1)) same.rows) in
-    subst (λ (rows : List TableRow). CutsAsAsked packed now old new before after (next_id w) w.pin (total_length rows) w'.gathered.items r) same.rows
-    (subst (λ n. CutsAsAsked packed now old new before after (next_id w) n (next_start w') w'.gathered.items r) same.pin
+    subst (λ (rows : List TableRow). CutsAsAsked packed now old new before after (piece_cut_next (written_as w)) w.pin (total_length rows) w'.gathered.items r) same.rows
+    (subst (λ n. CutsAsAsked packed now old new before after (piece_cut_next (written_as w)) n (next_start w') w'.gathered.items r) same.pin
     (subst (λ i. CutsAsAsked packed now old new before after i w'.pin (next_start w') w'.gathered.items r) id h))
 
 -- what was asked of the writer that has gathered was asked of the one that took the bytes
-asked_does : {packed : Bool} (now : ℕ) (kept kept1 new : Kept) (before before1 : List Call) (after : Device) (w w' : Writer) (bytes : List ℕ) (n : ℕ) (r : Result Placed Stop) → kept1 ≡ kept → before1 ≡ before → SameButGathered w w' → w'.gathered.items ≡ gathered_behind w bytes n
-    → CutsAsAsked packed now kept1 new before1 after (next_id w') w'.pin (next_start w') w'.gathered.items r → CutsAsAsked packed now kept new before after (next_id w) w.pin (next_start w) (gathered_behind w bytes n) r
+asked_does : {packed : Bool} (now : ℕ) (kept kept1 new : Kept) (before before1 : List Call) (after : Device) (w w' : Writer) (bytes : List ℕ) (n : ℕ) (r : Result Placed Stop) → kept1 ≡ kept → before1 ≡ before → SameButGathered w w' → w'.gathered.items ≡ gathered_with (written_as w) bytes n
+    → CutsAsAsked packed now kept1 new before1 after (piece_cut_next (written_as w')) w'.pin (next_start w') w'.gathered.items r → CutsAsAsked packed now kept new before after (piece_cut_next (written_as w)) w.pin (next_start w) (gathered_with (written_as w) bytes n) r
 asked_does {packed} now kept kept1 new before before1 after w w' bytes n r e f same g h =
-    subst (λ q. CutsAsAsked packed now kept new before after (next_id w) w.pin (next_start w) q r) g
-    (subst (λ m. CutsAsAsked packed now kept new m after (next_id w) w.pin (next_start w) w'.gathered.items r) f
-    (subst (λ k. CutsAsAsked packed now k new before1 after (next_id w) w.pin (next_start w) w'.gathered.items r) e
+    subst (λ q. CutsAsAsked packed now kept new before after (piece_cut_next (written_as w)) w.pin (next_start w) q r) g
+    (subst (λ m. CutsAsAsked packed now kept new m after (piece_cut_next (written_as w)) w.pin (next_start w) w'.gathered.items r) f
+    (subst (λ k. CutsAsAsked packed now k new before1 after (piece_cut_next (written_as w)) w.pin (next_start w) w'.gathered.items r) e
     (same_cuts now kept1 new before1 after w w' r same h)))
 
 -- ---- what a write adds
@@ -163,12 +166,12 @@ writes_wanting {packed} now old new before after w bytes e result is same =
     subst (WritesAsAsked packed now old new before after w bytes) (sym is) (writes_none now old new before after w bytes (Err (refusal.Memory e)) same refl)
 
 -- bytes that fill no fragment
-pub writes_few : {packed : Bool} (now : ℕ) (old new : Kept) (before : List Call) (after : Device) (w : Writer) (bytes : List ℕ) (n : ℕ) → new ≡ old → completes_fragment (state_of old).geometry w n ≡ false → WritesAsAsked packed now old new before after w bytes (Ok n)
+pub writes_few : {packed : Bool} (now : ℕ) (old new : Kept) (before : List Call) (after : Device) (w : Writer) (bytes : List ℕ) (n : ℕ) → new ≡ old → fills_fragment (state_of old).geometry (written_as w) n ≡ false → WritesAsAsked packed now old new before after w bytes (Ok n)
 writes_few {packed} now old new before after w bytes n same few =
     let none : List Rec = [] in
     let nothing : none ≡ none = refl in
     writes_none now old new before after w bytes (Ok n) same
-    (subst (λ b. MatchBool b ((placed : Placed) × CutsNextAsAsked packed now (state_of old) before after w (gathered_behind w bytes n) none (Ok placed)) (none ≡ none)) (sym few) nothing)
+    (subst (λ b. MatchBool b ((placed : Placed) × CutsNextAsAsked packed now (state_of old) before after w (gathered_with (written_as w) bytes n) none (Ok placed)) (none ≡ none)) (sym few) nothing)
 
 -- the put is given up that would have too many fragments
 pub writes_over : {packed : Bool} (now : ℕ) (old new : Kept) (before : List Call) (after : Device) (w : Writer) (bytes : List ℕ) (result : Result ℕ Refusal) → IsOverflow result → new ≡ with_records old (overflow_adds w result) → OverflowsAsAsked (state_of old) w
@@ -186,45 +189,45 @@ writes_over now old new before after w bytes (Err refusal.NoSuchWriter) over add
 
 -- a fragment that was cut
 pub writes_cut : {packed : Bool} (now : ℕ) (old old1 new : Kept) (before before1 : List Call) (after : Device) (w w' : Writer) (bytes : List ℕ) (n : ℕ) (placed : Placed) → old1 ≡ old → before1 ≡ before → SameButGathered w w'
-    → w'.gathered.items ≡ gathered_behind w bytes n → completes_fragment (state_of old).geometry w n ≡ true → CutsAsAsked packed now old1 new before1 after (next_id w') w'.pin (next_start w') w'.gathered.items (Ok placed)
+    → w'.gathered.items ≡ gathered_with (written_as w) bytes n → fills_fragment (state_of old).geometry (written_as w) n ≡ true → CutsAsAsked packed now old1 new before1 after (piece_cut_next (written_as w')) w'.pin (next_start w') w'.gathered.items (Ok placed)
     → WritesAsAsked packed now old new before after w bytes (Ok n)
 writes_cut {packed} now old old1 new before before1 after w w' bytes n placed e f same g cut h =
     let s : State = state_of old in
-    let payload : List ℕ = gathered_behind w bytes n in
-    let mine : CutsAsAsked packed now old new before after (next_id w) w.pin (next_start w) payload (Ok placed) = asked_does now old old1 new before before1 after w w' bytes n (Ok placed) e f same g h in
+    let payload : List ℕ = gathered_with (written_as w) bytes n in
+    let mine : CutsAsAsked packed now old new before after (piece_cut_next (written_as w)) w.pin (next_start w) payload (Ok placed) = asked_does now old old1 new before before1 after w w' bytes n (Ok placed) e f same g h in
     let next : CutsNextAsAsked packed now s before after w payload mine.added (Ok placed) =
     record { shape = mine.shape; does = mine.does } in
     record {
       added = mine.added;
       adds = mine.adds;
-      own = cut_is_own s (next_id w) w.pin (next_start w) payload mine.added placed (next_no_vector w) mine.shape;
+      own = cut_is_own s (piece_cut_next (written_as w)) w.pin (next_start w) payload mine.added placed (next_no_vector w) mine.shape;
       unharmed = mine.unharmed;
       does = subst (λ b. MatchBool b ((x : Placed) × CutsNextAsAsked packed now s before after w payload mine.added (Ok x)) (mine.added ≡ [])) (sym cut) (placed, next);
     }
 
 -- a fragment that could not be cut
-stopped_own : {packed : Bool} (now : ℕ) (old new : Kept) (before : List Call) (after : Device) (w : Writer) (payload : List ℕ) (why : Stop) → (h : CutsAsAsked packed now old new before after (next_id w) w.pin (next_start w) payload (Err why))
+stopped_own : {packed : Bool} (now : ℕ) (old new : Kept) (before : List Call) (after : Device) (w : Writer) (payload : List ℕ) (why : Stop) → (h : CutsAsAsked packed now old new before after (piece_cut_next (written_as w)) w.pin (next_start w) payload (Err why))
     → AllByRecursion (IsOfPut w.put) h.added
 stopped_own now old new before after w payload why h = flush_is_own w.put h.added h.shape.kinds
 
 pub writes_refused : {packed : Bool} (now : ℕ) (old old1 new : Kept) (before before1 : List Call) (after : Device) (w w' : Writer) (bytes : List ℕ) (why : Refusal) → old1 ≡ old → before1 ≡ before → SameButGathered w w'
-    → w'.gathered.items ≡ payload_cut_next (state_of old) w bytes
-    → AnswersOrWants {X = Placed} (Err why) (CutsAsAsked packed now old1 new before1 after (next_id w') w'.pin (next_start w') w'.gathered.items) (new ≡ old1) → WritesAsAsked packed now old new before after w bytes (Err why)
+    → w'.gathered.items ≡ next_payload (state_of old) (written_as w) bytes
+    → AnswersOrWants {X = Placed} (Err why) (CutsAsAsked packed now old1 new before1 after (piece_cut_next (written_as w')) w'.pin (next_start w') w'.gathered.items) (new ≡ old1) → WritesAsAsked packed now old new before after w bytes (Err why)
 writes_refused now old old1 new before before1 after w w' bytes (refusal.DeviceFault count) e f same g h =
-    let mine = asked_does now old old1 new before before1 after w w' bytes (taken_up_to_cut (state_of old).geometry w bytes) (Err (stop.DeviceFault count)) e f same g h in
+    let mine = asked_does now old old1 new before before1 after w w' bytes (taken_of (state_of old).geometry (written_as w) bytes) (Err (stop.DeviceFault count)) e f same g h in
     record {
       added = mine.added;
       adds = mine.adds;
-      own = stopped_own now old new before after w (payload_cut_next (state_of old) w bytes) (stop.DeviceFault count) mine;
+      own = stopped_own now old new before after w (next_payload (state_of old) (written_as w) bytes) (stop.DeviceFault count) mine;
       unharmed = mine.unharmed;
       does = record { shape = mine.shape; does = mine.does };
     }
 writes_refused now old old1 new before before1 after w w' bytes (refusal.Exhausted number) e f same g h =
-    let mine = asked_does now old old1 new before before1 after w w' bytes (taken_up_to_cut (state_of old).geometry w bytes) (Err (stop.Exhausted number)) e f same g h in
+    let mine = asked_does now old old1 new before before1 after w w' bytes (taken_of (state_of old).geometry (written_as w) bytes) (Err (stop.Exhausted number)) e f same g h in
     record {
       added = mine.added;
       adds = mine.adds;
-      own = stopped_own now old new before after w (payload_cut_next (state_of old) w bytes) (stop.Exhausted number) mine;
+      own = stopped_own now old new before after w (next_payload (state_of old) (written_as w) bytes) (stop.Exhausted number) mine;
       unharmed = mine.unharmed;
       does = record { shape = mine.shape; does = mine.does };
     }
@@ -232,7 +235,7 @@ writes_refused now old old1 new before before1 after w w' bytes (refusal.Memory 
 writes_refused now old old1 new before before1 after w w' bytes _ e f same g h = absurd h
 
 -- a cut is refused where the fragment has gathered
-pub refused_where : (s : State) (w : Writer) (bytes : List ℕ) (why : Refusal) (P : Result Placed Stop → Type 0) (Wanting : Type 0) → AnswersOrWants {X = Placed} (Err why) P Wanting → IsCuttingInStripe s w bytes → WritesWhere s w bytes (Err why)
+pub refused_where : (s : State) (w : Writer) (bytes : List ℕ) (why : Refusal) (P : Result Placed Stop → Type 0) (Wanting : Type 0) → AnswersOrWants {X = Placed} (Err why) P Wanting → IsCutting s (written_as w) bytes → WritesWhere s w bytes (Err why)
 refused_where s w bytes (refusal.DeviceFault count) P Wanting h cutting = cutting
 refused_where s w bytes (refusal.Exhausted number) P Wanting h cutting = cutting
 refused_where s w bytes (refusal.Memory e) P Wanting h cutting = cutting.taking
@@ -262,18 +265,18 @@ failed_leaves packed now kept new before after id pin start payload _ h = absurd
 pub room_leaves : (now : ℕ) (old new : Kept) (before : List Call) (after : Device) (bytes : ℕ) (result : Result (Unit {0}) Stop) → RoomsAsAsked now old new before after bytes result → LeavesActors (state_of old) (state_of new)
 room_leaves now old new before after bytes result h = flush_behind old new h.added h.adds h.kinds
 
-pub still_writer : (s t : State) (w : Writer) → SamePuts s t → IsStripeWriterOf s w → IsStripeWriterOf t w
+pub still_writer : (s t : State) (w : Writer) → SamePuts s t → IsWriterOf s (written_as w) → IsWriterOf t (written_as w)
 still_writer s t w same own = λ row found o.
-    subst (λ g. IsAtHandInStripe g row w) (sym same.geometry)
+    subst (λ g. IsAtHand g row (written_as w)) (sym same.geometry)
     (own row (ap (find (λ (p : PutRow). p.put == w.put)) (sym same.puts) ∙ found) o)
 
-pub left_writer : (s t : State) (w : Writer) → LeavesActors s t → IsStripeWriterOf s w → IsStripeWriterOf t w
+pub left_writer : (s t : State) (w : Writer) → LeavesActors s t → IsWriterOf s (written_as w) → IsWriterOf t (written_as w)
 left_writer s t w leaves own = still_writer s t w (puts_left s t leaves) own
 
 -- what was gathered is taken back
-pub taken_back : (w : Writer) (bytes : List ℕ) (n before : ℕ) → before ≡ length w.gathered.items → take before (gathered_behind w bytes n) ≡ w.gathered.items
+pub taken_back : (w : Writer) (bytes : List ℕ) (n before : ℕ) → before ≡ length w.gathered.items → take before (gathered_with (written_as w) bytes n) ≡ w.gathered.items
 taken_back w bytes n before is =
-    ap (λ k. take k (gathered_behind w bytes n)) is
+    ap (λ k. take k (gathered_with (written_as w) bytes n)) is
     ∙ (take-append-le (length w.gathered.items) w.gathered.items (take n bytes) (omega arith) ∙ take_all (length w.gathered.items) w.gathered.items (omega arith))
 
 pub back : (w w' new : Writer) → SameButGathered w w' → SameButGathered w' new → new.gathered.items ≡ w.gathered.items → SameWriter w new
@@ -290,20 +293,20 @@ back w w' new a b g = record {
 
 -- ---- no bytes
 
-pub none_taken : (s : State) (w : Writer) → is_writing s w.put ≡ true → IsStripeWriterOf s w → completes_fragment s.geometry w 0 ≡ false
+pub none_taken : (s : State) (w : Writer) → is_writing s w.put ≡ true → IsWriterOf s (written_as w) → fills_fragment s.geometry (written_as w) 0 ≡ false
 none_taken s w writing own = let few : length w.gathered.items < s.geometry.fragment = few_gathered s w writing own in not_cut s.geometry w 0 (omega (arith, few))
 
-pub left_none : (s : State) (w : Writer) (bytes : List ℕ) → is_writing s w.put ≡ true → IsStripeWriterOf s w → w.gathered.items ≡ left_gathered s.geometry w bytes 0
+pub left_none : (s : State) (w : Writer) (bytes : List ℕ) → is_writing s w.put ≡ true → IsWriterOf s (written_as w) → w.gathered.items ≡ left_gathered s.geometry w bytes 0
 left_none s w bytes writing own =
-    let none : completes_fragment s.geometry w 0 ≡ false = none_taken s w writing own in
-    sym (ap (λ b. if b then [] else gathered_behind w bytes 0) none ∙ append-nil w.gathered.items)
+    let none : fills_fragment s.geometry (written_as w) 0 ≡ false = none_taken s w writing own in
+    sym (ap (λ b. if b then [] else gathered_with (written_as w) bytes 0) none ∙ append-nil w.gathered.items)
 
 -- ---- behind a cut
 
-pub left_cut : (g : Geometry) (w : Writer) (bytes : List ℕ) (n : ℕ) → completes_fragment g w n ≡ true → left_gathered g w bytes n ≡ []
-left_cut g w bytes n cut = ap (λ b. if b then [] else gathered_behind w bytes n) cut
+pub left_cut : (g : Geometry) (w : Writer) (bytes : List ℕ) (n : ℕ) → fills_fragment g (written_as w) n ≡ true → left_gathered g w bytes n ≡ []
+left_cut g w bytes n cut = ap (λ b. if b then [] else gathered_with (written_as w) bytes n) cut
 
 -- where none was made all stays gathered
-pub left_more : (g : Geometry) (w : Writer) (bytes : List ℕ) (n : ℕ) → completes_fragment g w n ≡ false
-    → left_gathered g w bytes n ≡ gathered_behind w bytes n
-left_more g w bytes n few = ap (λ b. if b then [] else gathered_behind w bytes n) few
+pub left_more : (g : Geometry) (w : Writer) (bytes : List ℕ) (n : ℕ) → fills_fragment g (written_as w) n ≡ false
+    → left_gathered g w bytes n ≡ gathered_with (written_as w) bytes n
+left_more g w bytes n few = ap (λ b. if b then [] else gathered_with (written_as w) bytes n) few

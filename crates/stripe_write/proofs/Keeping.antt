@@ -22,14 +22,16 @@ use Rattle.piece_answers.proofs.Displacing.{displaced_puts}
 use Rattle.stripe_vectors.specs.Spelled.{IsSpelled}
 use Rattle.stripe_write.specs.declared.weighing.Vectors.{Vectors}
 use Rattle.stripe_write.specs.declared.writer.Writer.{Writer}
-use Rattle.stripe_write.specs.Closing.{IsReadFor, closing_alternate}
+use Rattle.stripe_write.specs.Closing.{IsReadFor}
 use Rattle.stripe_write.specs.Resting.{IsRestAs, RestsAsAsked}
-use Rattle.stripe_write.specs.Writes.{next_id, next_start}
+use Rattle.stripe_write.specs.Writes.{next_start}
 use Rattle.stripe_write.proofs.Spending.{state_behind}
 use Rattle.stripe_write.proofs.Pushed.{pushed_vector}
 use Rattle.stripe_write.proofs.Cutting.{cut_of, cut_pushed, cut_state, next_no_vector}
 use Rattle.stripe_write.proofs.Sealing.{SameAtClose}
 use Rattle.stripe_write.proofs.Flushed.{LeavesActors, WasLive, flush_leaves, vector_before}
+use Rattle.cache_calls.specs.Writers.{piece_cut_next, alternate_at_close}
+use Rattle.stripe_write.specs.Writers.{written_as}
 
 -- ---- what a key's live vector lists
 
@@ -147,9 +149,9 @@ keeps_rest_by packed s faults w (byte ∷ bytes) added u cuts =
     let payload : List ℕ = byte ∷ bytes in
     let cut = cuts.1 in
     let room : State = after_all s cut.room in
-    subst (KeepsVectors s) (sym (cut_state s (next_id w) w.pin (next_start w) payload added cuts.0 (next_no_vector w) cut))
+    subst (KeepsVectors s) (sym (cut_state s (piece_cut_next (written_as w)) w.pin (next_start w) payload added cuts.0 (next_no_vector w) cut))
     (keeps_then s room _ (keeps_flush s cut.room cut.kinds cut.live)
-    (keeps_cut room (next_id w) w.pin (next_start w) payload cut.are.displaced (cut_pushed s (next_id w) w.pin (next_start w) payload added cuts.0 cut) (next_no_vector w)))
+    (keeps_cut room (piece_cut_next (written_as w)) w.pin (next_start w) payload cut.are.displaced (cut_pushed s (piece_cut_next (written_as w)) w.pin (next_start w) payload added cuts.0 cut) (next_no_vector w)))
 
 pub keeps_rest : {packed : Bool} (now : ℕ) (old new : Kept) (before : List Call) (after : Device) (w : Writer) (u : Unit {0}) → RestsAsAsked packed now old new before after w (Ok u) → KeepsVectors (state_of old) (state_of new)
 keeps_rest {packed} now old new before after w u h =
@@ -167,7 +169,7 @@ read_kept s t w new v keeps same read = λ row live.
       m.0,
       m.1,
       subst (λ (a : Stored). IsSpelled t.geometry (alternates_of t new.key) a m.0) (sym same.alternate)
-          (subst (λ list. IsSpelled t.geometry list (closing_alternate w) m.0) lists (subst (λ g. IsSpelled g (alternates_of s w.key) (closing_alternate w) m.0) (sym keeps.geometry) m.2)),
+          (subst (λ list. IsSpelled t.geometry list (alternate_at_close (written_as w)) m.0) lists (subst (λ g. IsSpelled g (alternates_of s w.key) (alternate_at_close (written_as w)) m.0) (sym keeps.geometry) m.2)),
     )
 
 -- also of the writer itself

@@ -30,12 +30,11 @@ use Rattle.call_laws.specs.Untold.{Untold}
 use Rattle.cache_answers.specs.declared.answers.Receipt.{Receipt}
 use Rattle.stripe_write.specs.declared.weighing.Vectors.{Vectors}
 use Rattle.stripe_write.specs.declared.writer.Writer.{Writer}
-use Rattle.stripe_write.specs.Writers.{IsStripeWriterOf}
 use Rattle.stripe_write.specs.Writes.{SameButBytes, SameWriter}
-use Rattle.stripe_write.specs.Closing.{IsReadFor, SpendsAll, Weighs, WeighsAsAsked, WeighsWhere, asked_of_closing, asked_of_rest, closing_rows, row_of_rest, weigh_end, work_behind}
+use Rattle.stripe_write.specs.Closing.{IsReadFor, SpendsAll, Weighs, WeighsAsAsked, WeighsWhere, weigh_end, work_behind}
 use Rattle.stripe_write.specs.Resting.{RestsAsAsked}
 use Rattle.stripe_write.specs.Finishing.{FinishesAsRead, FinishesWhere, finish_end, finish_intents}
-use Rattle.stripe_write.specs.Closes.{ClosesAsAsked, ClosesInStripe, ClosesWhere, EndsAsAsked, EndsWhere, IsCompleteInStripe, IsRested, SealsInStripeWhere, Spent, UntouchedWhere, bytes_placed_next, close_end, end_intents, is_sealed_by}
+use Rattle.stripe_write.specs.Closes.{ClosesAsAsked, ClosesInStripe, ClosesWhere, EndsAsAsked, EndsWhere, IsRested, SealsInStripeWhere, Spent, UntouchedWhere, close_end, end_intents, is_sealed_by}
 use Rattle.stripe_answers.specs.Numbers.{StopsExhausted}
 use Rattle.stripe_write.proofs.Ended.{open_put}
 use Rattle.stripe_write.proofs.Keeping.{KeepsVectors, keeps_rest, read_kept}
@@ -44,6 +43,10 @@ use Rattle.stripe_write.proofs.LastCut.{rest_puts}
 use Rattle.stripe_write.proofs.Reaching.{finished_stops, rest_stops}
 use Rattle.stripe_write.proofs.Sealing.{IsSealed, SameAtClose, alike_same, cut_same, sealed_same, sealed_writer, then_same}
 use Rattle.stripe_write.proofs.Spending.{nothing_more, state_behind, then_all, then_more}
+use Rattle.cache_calls.specs.Actors.{IsWriterOf}
+use Rattle.cache_calls.specs.Asked.{rest_rows, rows_at_close, rest_asks, ending_asks}
+use Rattle.cache_calls.specs.Writers.{TellsComplete, bytes_next}
+use Rattle.stripe_write.specs.Writers.{written_as}
 
 -- ---- what is asked, one behind the other
 
@@ -52,14 +55,14 @@ spends_append p s is js a b e first second = λ rest why.
     subst (λ (xs : List Intent). MayGrow p s (record { intents = xs; refused = why }) (a ++ b) (work_behind rest why e)) (sym (append_assoc is js rest)) (grows_on (first (js ++ rest) why) (second rest why))
 
 -- a writer that has no rest has all that is there at the end
-whole_rows : (w new : Writer) → SameAtClose w new → new.gathered.items ≡ [] → new.table.rows ≡ closing_rows w
-whole_rows w new same none = sym (append-nil new.table.rows) ∙ (ap (λ b. new.table.rows ++ row_of_rest b) (sym none) ∙ same.rows)
+whole_rows : (w new : Writer) → SameAtClose w new → new.gathered.items ≡ [] → new.table.rows ≡ rows_at_close (written_as w)
+whole_rows w new same none = sym (append-nil new.table.rows) ∙ (ap (λ b. new.table.rows ++ rest_rows b) (sym none) ∙ same.rows)
 
 -- the put that is finished is the same
-finish_same : (w new : Writer) → SameAtClose w new → new.gathered.items ≡ [] → finish_intents new ≡ Finish w.put (length (closing_rows w)) ∷ Commit w.put ∷ []
+finish_same : (w new : Writer) → SameAtClose w new → new.gathered.items ≡ [] → finish_intents new ≡ Finish w.put (length (rows_at_close (written_as w))) ∷ Commit w.put ∷ []
 finish_same w new same none =
-    let rows : new.table.rows ≡ closing_rows w = whole_rows w new same none in
-    ap (λ (r : List TableRow). Finish new.put (length r) ∷ Commit new.put ∷ []) rows ∙ ap (λ n. Finish n (length (closing_rows w)) ∷ Commit n ∷ []) same.put
+    let rows : new.table.rows ≡ rows_at_close (written_as w) = whole_rows w new same none in
+    ap (λ (r : List TableRow). Finish new.put (length r) ∷ Commit new.put ∷ []) rows ∙ ap (λ n. Finish n (length (rows_at_close (written_as w))) ∷ Commit n ∷ []) same.put
 
 end_same : (t : State) (w new : Writer) (result : Result Receipt Refusal) → new.put ≡ w.put → FinishesWhere t new result → finish_end new result ≡ close_end w result
 end_same t w new (Ok receipt) same f = refl
@@ -73,7 +76,7 @@ end_same t w new (Err refusal.Sealed) same f = absurd f
 end_same t w new (Err refusal.NoSuchWriter) same f = absurd f
 end_same t w new (Err (refusal.Memory e)) same f = absurd f
 
-same_rests : (w sealed : Writer) (bytes : List ℕ) → IsSealed w sealed → asked_of_rest sealed bytes ≡ asked_of_rest w bytes
+same_rests : (w sealed : Writer) (bytes : List ℕ) → IsSealed w sealed → rest_asks (written_as sealed) bytes ≡ rest_asks (written_as w) bytes
 same_rests w sealed [] is = refl
 same_rests w sealed (byte ∷ bytes) is =
     ap (λ n. Rattle.cache_model.specs.Permit.Fragment n (length sealed.table.rows + 1) (byte ∷ bytes) ∷ []) is.put
@@ -82,7 +85,7 @@ same_rests w sealed (byte ∷ bytes) is =
 -- what was read stays read behind the rest
 pub rest_reads : {packed : Bool} (now : ℕ) (old mid : Kept) (before : List Call) (between : Device)
     (w sealed cut : Writer) (v : Vectors) (u : Unit {0}) → IsSealed w sealed → SameButBytes sealed cut
-    → cut.table.rows ≡ closing_rows sealed → cut.gathered.items ≡ [] → RestsAsAsked packed now old mid before between sealed (Ok u)
+    → cut.table.rows ≡ rows_at_close (written_as sealed) → cut.gathered.items ≡ [] → RestsAsAsked packed now old mid before between sealed (Ok u)
     → IsReadFor (state_of old) w v → IsReadFor (state_of mid) cut v
 rest_reads now old mid before between w sealed cut v u is same rows none rests read =
     read_kept (state_of old) (state_of mid) w cut v (keeps_rest now old mid before between sealed u rests)
@@ -90,7 +93,7 @@ rest_reads now old mid before between w sealed cut v u is same rows none rests r
 
 -- the rest is cut, and the put is finished
 module _ (packed : Bool) (now : ℕ) (old mid new : Kept) (first between last : Device) (w sealed cut : Writer) (v : Vectors) where
-  pub rest_then_finish : (u : Unit {0}) (result : Result Receipt Refusal) → IsSealed w sealed → SameButBytes sealed cut → cut.table.rows ≡ closing_rows sealed → cut.gathered.items ≡ []
+  pub rest_then_finish : (u : Unit {0}) (result : Result Receipt Refusal) → IsSealed w sealed → SameButBytes sealed cut → cut.table.rows ≡ rows_at_close (written_as sealed) → cut.gathered.items ≡ []
       → IsAfter first between → IsAfter between last → RestsAsAsked packed now old mid first.past between sealed (Ok u)
       → FinishesWhere (state_of new) cut result → FinishesAsRead packed now between.past last.past mid new cut v result → EndsAsAsked packed now first.past last.past old new w v result
   rest_then_finish u result is same rows none f l rests where_ ends = record {
@@ -102,17 +105,17 @@ module _ (packed : Bool) (now : ℕ) (old mid new : Kept) (first between last : 
         let keeps : KeepsVectors s (state_of mid) = keeps_rest now old mid first.past between sealed u rests in
         let finished = ends.does p packs at (covers_last p first.past between.past last.past f.made f.past covers) (keeps.displaced displaced)
         (rest_reads now old mid first.past between w sealed cut v u is same rows none rests read) in
-        let intents : asked_of_rest sealed sealed.gathered.items ≡ asked_of_rest w w.gathered.items = ap (asked_of_rest sealed) is.gathered ∙ same_rests w sealed w.gathered.items is in
-        let cut_all : SpendsAll p s (asked_of_rest w w.gathered.items) a Done =
+        let intents : rest_asks (written_as sealed) sealed.gathered.items ≡ rest_asks (written_as w) w.gathered.items = ap (rest_asks (written_as sealed)) is.gathered ∙ same_rests w sealed w.gathered.items is in
+        let cut_all : SpendsAll p s (rest_asks (written_as w) w.gathered.items) a Done =
         subst (λ (is : List Intent). SpendsAll p s is a Done) intents (rests.does p packs at (covers_first p first.past between.past last.past l.made l.past covers)) in
-        let finish_all : SpendsAll p (after_all s a) (Finish w.put (length (closing_rows w)) ∷ Commit w.put ∷ []) finished.added (close_end w result) =
-        subst (λ e. SpendsAll p (after_all s a) (Finish w.put (length (closing_rows w)) ∷ Commit w.put ∷ []) finished.added e) (end_same (state_of new) w cut result all.put where_)
+        let finish_all : SpendsAll p (after_all s a) (Finish w.put (length (rows_at_close (written_as w))) ∷ Commit w.put ∷ []) finished.added (close_end w result) =
+        subst (λ e. SpendsAll p (after_all s a) (Finish w.put (length (rows_at_close (written_as w))) ∷ Commit w.put ∷ []) finished.added e) (end_same (state_of new) w cut result all.put where_)
         (subst (λ (is : List Intent). SpendsAll p (after_all s a) is finished.added (finish_end cut result)) (finish_same w cut all none)
         (subst (λ t. SpendsAll p t (finish_intents cut) finished.added (finish_end cut result)) there finished.does)) in
         record {
           added = a ++ finished.added;
           adds = then_more old mid new a finished.added rests.adds finished.adds;
-          does = spends_append p s (asked_of_rest w w.gathered.items) (Finish w.put (length (closing_rows w)) ∷ Commit w.put ∷ []) a finished.added (close_end w result) cut_all finish_all;
+          does = spends_append p s (rest_asks (written_as w) w.gathered.items) (Finish w.put (length (rows_at_close (written_as w))) ∷ Commit w.put ∷ []) a finished.added (close_end w result) cut_all finish_all;
           number = finished_stops (state_of new) w cut result all.put (whole_rows w cut all none) finished.number;
         };
   }
@@ -125,15 +128,15 @@ fails_all p s is put n added reason h = λ rest why.
     (h (Finish put n ∷ Commit put ∷ rest) why)
 
 -- what the put has cut is still what the writer has
-still_cut : {packed : Bool} (now : ℕ) (old new : Kept) (before : List Call) (after : Device) (w sealed : Writer) (why : Stop) → is_writing (state_of old) w.put ≡ true → IsStripeWriterOf (state_of old) w
+still_cut : {packed : Bool} (now : ℕ) (old new : Kept) (before : List Call) (after : Device) (w sealed : Writer) (why : Stop) → is_writing (state_of old) w.put ≡ true → IsWriterOf (state_of old) (written_as w)
     → RestsAsAsked packed now old new before after sealed (Err why) → cuts_of (state_of new) w.put ≡ w.table.rows
 still_cut now old new before after w sealed why writing own rests =
     let o = open_put (put_of (state_of old) w.put) writing in
     let same : put_of (state_of new) w.put ≡ put_of (state_of old) w.put = ap (λ (puts : List PutRow). find (λ (q : PutRow). q.put == w.put) puts) (rest_puts now old new before after sealed why rests) in
     ap (λ (x : Option PutRow). unwrap_or (option_map (λ (q : PutRow). q.cuts) x) []) (same ∙ o.1) ∙ (own o.0 o.1 o.2).cuts_are
 
-rest_stops_at : {packed : Bool} (now : ℕ) (old new : Kept) (before : List Call) (after : Device) (w sealed : Writer) (why : Stop) (number : ℕ) → IsSealed w sealed → is_writing (state_of old) w.put ≡ true → IsStripeWriterOf (state_of old) w → 0 < length sealed.gathered.items
-    → RestsAsAsked packed now old new before after sealed (Err why) → ReachesLimit (state_of new) (length sealed.gathered.items) number → ReachesLimit (state_of new) (bytes_placed_next (state_of new) w) number
+rest_stops_at : {packed : Bool} (now : ℕ) (old new : Kept) (before : List Call) (after : Device) (w sealed : Writer) (why : Stop) (number : ℕ) → IsSealed w sealed → is_writing (state_of old) w.put ≡ true → IsWriterOf (state_of old) (written_as w) → 0 < length sealed.gathered.items
+    → RestsAsAsked packed now old new before after sealed (Err why) → ReachesLimit (state_of new) (length sealed.gathered.items) number → ReachesLimit (state_of new) (bytes_next (state_of new) (written_as w)) number
 rest_stops_at now old new before after w sealed why number is writing own some rests reaches =
     let gathered = ap length is.gathered in
     rest_stops (state_of new) w number (still_cut now old new before after w sealed why writing own rests) (subst (λ n. 0 < n) gathered some) (subst (λ n. ReachesLimit (state_of new) n number) gathered reaches)
@@ -142,14 +145,14 @@ rest_stops_at now old new before after w sealed why number is writing own some r
 rest_fails : {packed : Bool} (now : ℕ) (old new : Kept) (before : List Call) (after : Device) (w sealed : Writer) (why : Stop) (reason : Reason) → IsSealed w sealed → (rests : RestsAsAsked packed now old new before after sealed (Err why)) → stop_end why ≡ Fails reason
     → (p : Permit) → p.packed ≡ packed → p.now ≡ now → Covers p before after.past → SpendsAll p (state_of old) (end_intents w) rests.added (Fails reason)
 rest_fails now old new before after w sealed why reason is rests ends p packs at covers =
-    let intents : asked_of_rest sealed sealed.gathered.items ≡ asked_of_rest w w.gathered.items = ap (asked_of_rest sealed) is.gathered ∙ same_rests w sealed w.gathered.items is in
-    fails_all p (state_of old) (asked_of_rest w w.gathered.items) w.put (length (closing_rows w)) rests.added reason
+    let intents : rest_asks (written_as sealed) sealed.gathered.items ≡ rest_asks (written_as w) w.gathered.items = ap (rest_asks (written_as sealed)) is.gathered ∙ same_rests w sealed w.gathered.items is in
+    fails_all p (state_of old) (rest_asks (written_as w) w.gathered.items) w.put (length (rows_at_close (written_as w))) rests.added reason
     (subst (λ (is : List Intent). SpendsAll p (state_of old) is rests.added (Fails reason)) intents
-    (subst (λ e. SpendsAll p (state_of old) (asked_of_rest sealed sealed.gathered.items) rests.added e) ends
+    (subst (λ e. SpendsAll p (state_of old) (rest_asks (written_as sealed) sealed.gathered.items) rests.added e) ends
     (rests.does p packs at covers)))
 
 pub no_rest_ends : {packed : Bool} (now : ℕ) (old new : Kept) (before : List Call) (after : Device) (w sealed : Writer) (v : Vectors) (why : Refusal) → IsSealed w sealed
-    → is_writing (state_of old) w.put ≡ true → IsStripeWriterOf (state_of old) w → 0 < length sealed.gathered.items → StopsExhausted (state_of new) (length sealed.gathered.items) why
+    → is_writing (state_of old) w.put ≡ true → IsWriterOf (state_of old) (written_as w) → 0 < length sealed.gathered.items → StopsExhausted (state_of new) (length sealed.gathered.items) why
     → AnswersOrWants {X = Unit {0}} (Err why) (RestsAsAsked packed now old new before after sealed) ⊥ → EndsAsAsked packed now before after.past old new w v (Err why)
 no_rest_ends now old new before after w sealed v (refusal.DeviceFault count) is writing own some stops rests = record {
   does = λ p packs at covers none read. record {
@@ -172,7 +175,7 @@ no_rest_ends now old new before after w sealed v _ is writing own some stops res
 -- ---- weighing, and then the rest
 
 -- the answers that come once the vector is weighed
-spent_by : (p : Permit) (s t : State) (w : Writer) (result : Result Receipt Refusal) (added : List Rec) → EndsWhere t w result → SpendsAll p s (asked_of_closing w) added (close_end w result) → Spent p s w result added
+spent_by : (p : Permit) (s t : State) (w : Writer) (result : Result Receipt Refusal) (added : List Rec) → EndsWhere t w result → SpendsAll p s (ending_asks (written_as w)) added (close_end w result) → Spent p s w result added
 spent_by p s t w (Ok receipt) added e h = h
 spent_by p s t w (Err (refusal.Lost index why)) added e h = h
 spent_by p s t w (Err (refusal.DeviceFault count)) added e h = h
@@ -209,10 +212,10 @@ weighed_closes now old mid new before between after w v result f l weighs displa
 -- ---- weighing that fails
 
 weigh_fails_by : (p : Permit) (s : State) (w : Writer) (bytes : List ℕ) (added : List Rec) (reason : Reason) → SpendsFirst p s (Weigh w.put (length w.gathered.items)) added (Fails reason)
-    → SpendsAll p s (Weigh w.put (length w.gathered.items) ∷ (asked_of_rest w bytes ++ Finish w.put (length (closing_rows w)) ∷ Commit w.put ∷ [])) added (Fails reason)
-weigh_fails_by p s w [] added reason h = λ rest why. h (Finish w.put (length (closing_rows w)) ∷ Commit w.put ∷ rest) why
+    → SpendsAll p s (Weigh w.put (length w.gathered.items) ∷ (rest_asks (written_as w) bytes ++ Finish w.put (length (rows_at_close (written_as w))) ∷ Commit w.put ∷ [])) added (Fails reason)
+weigh_fails_by p s w [] added reason h = λ rest why. h (Finish w.put (length (rows_at_close (written_as w))) ∷ Commit w.put ∷ rest) why
 weigh_fails_by p s w (byte ∷ bytes) added reason h = λ rest why.
-    h (Rattle.cache_model.specs.Permit.Fragment w.put (length w.table.rows + 1) (byte ∷ bytes) ∷ Finish w.put (length (closing_rows w)) ∷ Commit w.put ∷ rest) why
+    h (Rattle.cache_model.specs.Permit.Fragment w.put (length w.table.rows + 1) (byte ∷ bytes) ∷ Finish w.put (length (rows_at_close (written_as w))) ∷ Commit w.put ∷ rest) why
 
 refused_spent : (p : Permit) (s t : State) (w : Writer) (why : Refusal) (added : List Rec) → WeighsWhere t w (Err why) → SpendsFirst p s (Weigh w.put (length w.gathered.items)) added (weigh_end w (Err why)) → Spent p s w (Err why) added
 refused_spent p s t w (refusal.VectorTooLarge size) added where_ h = weigh_fails_by p s w w.gathered.items added (TooLarge w.put size) h
@@ -221,7 +224,7 @@ refused_spent p s t w (refusal.Memory e) added where_ h = h
 refused_spent p s t w _ added where_ h = absurd where_
 
 -- weighing does not come to the end of the tape
-weighed_stops : (s t : State) (w : Writer) (why : Refusal) → WeighsWhere s w (Err why) → StopsExhausted t (bytes_placed_next t w) why
+weighed_stops : (s t : State) (w : Writer) (why : Refusal) → WeighsWhere s w (Err why) → StopsExhausted t (bytes_next t (written_as w)) why
 weighed_stops s t w (refusal.Exhausted number) where_ = absurd where_
 weighed_stops s t w _ where_ = tt
 
@@ -246,16 +249,16 @@ pub record SameCloser (old new : Writer) : Type 0 where
   pub gathered : new.gathered.items ≡ old.gathered.items
   pub rows : new.table.rows ≡ old.table.rows
 
-same_close : (w new : Writer) → SameCloser w new → asked_of_closing new ≡ asked_of_closing w
+same_close : (w new : Writer) → SameCloser w new → ending_asks (written_as new) ≡ ending_asks (written_as w)
 same_close w new same =
-    let rest : (bytes : List ℕ) → asked_of_rest new bytes ≡ asked_of_rest w bytes = same_rest_of w new same in
-    let rows : closing_rows new ≡ closing_rows w = ap (λ (r : List TableRow). r ++ row_of_rest new.gathered.items) same.rows ∙ ap (λ b. w.table.rows ++ row_of_rest b) same.gathered in
-    ap (λ n. Weigh n (length new.gathered.items) ∷ (asked_of_rest new new.gathered.items ++ Finish n (length (closing_rows new)) ∷ Commit n ∷ [])) same.put
-    ∙ (ap (λ b. Weigh w.put (length b) ∷ (asked_of_rest new b ++ Finish w.put (length (closing_rows new)) ∷ Commit w.put ∷ [])) same.gathered
-    ∙ (ap (λ (is : List Intent). Weigh w.put (length w.gathered.items) ∷ (is ++ Finish w.put (length (closing_rows new)) ∷ Commit w.put ∷ [])) (rest w.gathered.items)
-    ∙ ap (λ (r : List TableRow). Weigh w.put (length w.gathered.items) ∷ (asked_of_rest w w.gathered.items ++ Finish w.put (length r) ∷ Commit w.put ∷ [])) rows))
+    let rest : (bytes : List ℕ) → rest_asks (written_as new) bytes ≡ rest_asks (written_as w) bytes = same_rest_of w new same in
+    let rows : rows_at_close (written_as new) ≡ rows_at_close (written_as w) = ap (λ (r : List TableRow). r ++ rest_rows new.gathered.items) same.rows ∙ ap (λ b. w.table.rows ++ rest_rows b) same.gathered in
+    ap (λ n. Weigh n (length new.gathered.items) ∷ (rest_asks (written_as new) new.gathered.items ++ Finish n (length (rows_at_close (written_as new))) ∷ Commit n ∷ [])) same.put
+    ∙ (ap (λ b. Weigh w.put (length b) ∷ (rest_asks (written_as new) b ++ Finish w.put (length (rows_at_close (written_as new))) ∷ Commit w.put ∷ [])) same.gathered
+    ∙ (ap (λ (is : List Intent). Weigh w.put (length w.gathered.items) ∷ (is ++ Finish w.put (length (rows_at_close (written_as new))) ∷ Commit w.put ∷ [])) (rest w.gathered.items)
+    ∙ ap (λ (r : List TableRow). Weigh w.put (length w.gathered.items) ∷ (rest_asks (written_as w) w.gathered.items ++ Finish w.put (length r) ∷ Commit w.put ∷ [])) rows))
   where
-    same_rest_of : (w new : Writer) → SameCloser w new → (bytes : List ℕ) → asked_of_rest new bytes ≡ asked_of_rest w bytes
+    same_rest_of : (w new : Writer) → SameCloser w new → (bytes : List ℕ) → rest_asks (written_as new) bytes ≡ rest_asks (written_as w) bytes
     same_rest_of w new same [] = refl
     same_rest_of w new same (byte ∷ bytes) =
         ap (λ n. Rattle.cache_model.specs.Permit.Fragment n (length new.table.rows + 1) (byte ∷ bytes) ∷ []) same.put
@@ -264,9 +267,9 @@ same_close w new same =
 spent_same : (p : Permit) (s : State) (w new : Writer) (result : Result Receipt Refusal) (added : List Rec) → SameCloser w new → Spent p s new result added → Spent p s w result added
 spent_same p s w new (Ok receipt) added same h = subst (λ (is : List Intent). SpendsAll p s is added Done) (same_close w new same) h
 spent_same p s w new (Err (refusal.VectorTooLarge size)) added same h =
-    subst (λ n. SpendsAll p s (asked_of_closing w) added (Fails (TooLarge n size))) same.put (subst (λ (is : List Intent). SpendsAll p s is added (Fails (TooLarge new.put size))) (same_close w new same) h)
+    subst (λ n. SpendsAll p s (ending_asks (written_as w)) added (Fails (TooLarge n size))) same.put (subst (λ (is : List Intent). SpendsAll p s is added (Fails (TooLarge new.put size))) (same_close w new same) h)
 spent_same p s w new (Err (refusal.Lost index why)) added same h =
-    subst (λ n. SpendsAll p s (asked_of_closing w) added (Fails (Rattle.cache_model.specs.Permit.Lost n index))) same.put
+    subst (λ n. SpendsAll p s (ending_asks (written_as w)) added (Fails (Rattle.cache_model.specs.Permit.Lost n index))) same.put
     (subst (λ (is : List Intent). SpendsAll p s is added (Fails (Rattle.cache_model.specs.Permit.Lost new.put index))) (same_close w new same) h)
 spent_same p s w new (Err (refusal.DeviceFault count)) added same h = subst (λ (is : List Intent). SpendsAll p s is added (Fails (Faulted count))) (same_close w new same) h
 spent_same p s w new (Err (refusal.Exhausted number)) added same h = subst (λ (is : List Intent). SpendsAll p s is added (Fails Exhausted)) (same_close w new same) h
@@ -277,14 +280,14 @@ spent_same p s w new (Err refusal.TooManyWriters) added same h = subst (λ (is :
 spent_same p s w new (Err refusal.TooManyFragments) added same h = subst (λ (is : List Intent). SpendsAll p s is added Stays) (same_close w new same) h
 spent_same p s w new (Err refusal.Sealed) added same h = subst (λ (is : List Intent). SpendsAll p s is added Stays) (same_close w new same) h
 
-next_same : (t : State) (w new : Writer) → SameCloser w new → bytes_placed_next t new ≡ bytes_placed_next t w
+next_same : (t : State) (w new : Writer) → SameCloser w new → bytes_next t (written_as new) ≡ bytes_next t (written_as w)
 next_same t w new same =
-    let rows : closing_rows new ≡ closing_rows w = ap (λ (r : List TableRow). r ++ row_of_rest new.gathered.items) same.rows ∙ ap (λ b. w.table.rows ++ row_of_rest b) same.gathered in
-    ap (λ n. if length (cuts_of t n) == length (closing_rows new) then vector_length t n else length new.gathered.items) same.put
+    let rows : rows_at_close (written_as new) ≡ rows_at_close (written_as w) = ap (λ (r : List TableRow). r ++ rest_rows new.gathered.items) same.rows ∙ ap (λ b. w.table.rows ++ rest_rows b) same.gathered in
+    ap (λ n. if length (cuts_of t n) == length (rows_at_close (written_as new)) then vector_length t n else length new.gathered.items) same.put
     ∙ (ap (λ (r : List TableRow). if length (cuts_of t w.put) == length r then vector_length t w.put else length new.gathered.items) rows
-    ∙ ap (λ (b : List ℕ). if length (cuts_of t w.put) == length (closing_rows w) then vector_length t w.put else length b) same.gathered)
+    ∙ ap (λ (b : List ℕ). if length (cuts_of t w.put) == length (rows_at_close (written_as w)) then vector_length t w.put else length b) same.gathered)
 
-stops_same : (t : State) (w new : Writer) (result : Result Receipt Refusal) → SameCloser w new → IfErr result (StopsExhausted t (bytes_placed_next t new)) → IfErr result (StopsExhausted t (bytes_placed_next t w))
+stops_same : (t : State) (w new : Writer) (result : Result Receipt Refusal) → SameCloser w new → IfErr result (StopsExhausted t (bytes_next t (written_as new))) → IfErr result (StopsExhausted t (bytes_next t (written_as w)))
 stops_same t w new result same h = subst (λ n. IfErr result (StopsExhausted t n)) (next_same t w new same) h
 
 pub closes_same : {packed : Bool} (now : ℕ) (kept old new : Kept) (first before : List Call) (after : Device) (w used : Writer) (result : Result Receipt Refusal) → old ≡ kept → before ≡ first → SameCloser w used
@@ -314,7 +317,7 @@ refused_where s t w _ writing h = absurd h
 
 -- once the vector is weighed, those of finishing, for the writer that cut its rest
 pub finished_where : (t : State) (w cut : Writer) (result : Result Receipt Refusal) → cut.put ≡ w.put → cut.key ≡ w.key
-    → cut.table.rows ≡ closing_rows w → FinishesWhere t cut result → EndsWhere t w result
+    → cut.table.rows ≡ rows_at_close (written_as w) → FinishesWhere t cut result → EndsWhere t w result
 finished_where t w cut (Ok receipt) put key rows h =
     record { put = h.put ∙ put; bytes = h.bytes ∙ ap total_length rows; fragments = h.fragments ∙ ap length rows }
 finished_where t w cut (Err (refusal.Lost index why)) put key rows h =
@@ -340,7 +343,7 @@ ended_where s t w (Err (refusal.DeviceFault count)) writing ends = writing
 ended_where s t w (Err (refusal.Exhausted number)) writing ends = (writing, ends)
 ended_where s t w (Err _) writing ends = absurd ends
 
-complete_same : (w used : Writer) (receipt : Receipt) → SameAtClose w used → IsCompleteInStripe used receipt → IsCompleteInStripe w receipt
+complete_same : (w used : Writer) (receipt : Receipt) → SameAtClose w used → TellsComplete (written_as used) receipt → TellsComplete (written_as w) receipt
 complete_same w used receipt same h =
     record { put = h.put ∙ same.put; bytes = h.bytes ∙ ap total_length same.rows; fragments = h.fragments ∙ ap length same.rows }
 
@@ -407,8 +410,8 @@ ended_seals s w new (Err (refusal.Lost index why)) ends sealed = tt
 ended_seals s w new (Ok receipt) ends sealed = tt
 ended_seals s w new (Err _) ends sealed = absurd ends
 
-pub refused_own : (s t : State) (w : Writer) (why : Refusal) → WeighsWhere t w (Err why) → IsStripeWriterOf s w
-    → IsStripeWriterOf s (sealed_by why w)
+pub refused_own : (s t : State) (w : Writer) (why : Refusal) → WeighsWhere t w (Err why) → IsWriterOf s (written_as w)
+    → IsWriterOf s (written_as (sealed_by why w))
 refused_own s t w (refusal.DeviceFault count) h own =
     sealed_writer s w (sealed_by (refusal.DeviceFault count) w) (record { put = refl; key = refl; request = refl; response = refl; pin = refl; gathered = refl; rows = refl; sealed = refl }) own
 refused_own s t w _ h own = own
@@ -416,11 +419,11 @@ refused_own s t w _ h own = own
 -- ---- what a writer has at hand once it was closed
 
 pub rested_same : (w same new : Writer) → SameWriter w same → IsRested same new → IsRested w new
-rested_same w same new is (inl keeps) = inl (record { put = keeps.put ∙ is.put; gathered = keeps.gathered ∙ is.gathered; rows = keeps.rows ∙ is.rows })
+rested_same w same new is (inl keeps) = inl (record { put = keeps.put ∙ is.put; gathered = keeps.gathered ∙ is.gathered; cuts = keeps.cuts ∙ is.rows })
 rested_same w same new is (inr cuts) = inr (record {
   put = cuts.put ∙ is.put;
   empty = cuts.empty;
-  rows = cuts.rows ∙ (ap (λ (rows : List TableRow). rows ++ row_of_rest same.gathered.items) is.rows ∙ ap (λ bytes. w.table.rows ++ row_of_rest bytes) is.gathered);
+  cuts = cuts.cuts ∙ (ap (λ (rows : List TableRow). rows ++ rest_rows same.gathered.items) is.rows ∙ ap (λ bytes. w.table.rows ++ rest_rows bytes) is.gathered);
 })
 
 -- ---- what stands of the device

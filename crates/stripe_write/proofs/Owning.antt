@@ -26,64 +26,14 @@ use Rattle.stripe_vectors.specs.declared.reading.KeyVector.TheVariants as found
 use Rattle.stripe_vectors.specs.Reading.{trouble_records, vector_adds}
 use Rattle.stripe_write.specs.declared.weighing.Vectors.{Vectors}
 use Rattle.stripe_write.specs.declared.writer.Writer.{Writer}
-use Rattle.stripe_write.specs.Writers.{IsAtHandInStripe, IsStripeWriterOf}
 use Rattle.stripe_write.specs.Weighing.{fit_adds}
 use Rattle.cache_model.specs.Subjects.{IsOfPut}
-use Rattle.stripe_write.specs.Others.{AddsOfPut, LeavesPutsBut}
+use Rattle.stripe_write.specs.Others.{AddsOfPut}
 use Rattle.stripe_write.proofs.Pushed.{pushed_by, pushed_is_own}
-use Rattle.stripe_write.proofs.Spending.{nothing_more, state_behind, then_more}
+use Rattle.stripe_write.proofs.Spending.{nothing_more, then_more}
 use Rattle.stripe_write.proofs.Flushed.{flush_is_own}
 
 -- ---- one record, and several
-
-find_other : (put q : ℕ) (row : PutRow) (puts : List PutRow) → row.put ≡ put → (q ≡ put → ⊥) → find (λ p. p.put == q) (row ∷ puts) ≡ find (λ p. p.put == q) puts
-find_other put q row puts is other = by (row.put == q) refl
-  where
-    by : (b : Bool) → (row.put == q) ≡ b → cond b (Some row) (find (λ p. p.put == q) puts) ≡ find (λ p. p.put == q) puts
-    by true e = absurd (other (sym (eqb-true row.put q e) ∙ is))
-    by false e = refl
-
-changed_other : (put q : ℕ) (f : PutRow → PutRow) (puts : List PutRow) → ((x : PutRow) → (f x).put ≡ x.put) → (q ≡ put → ⊥)
-    → find (λ p. p.put == q) (change_put put f puts) ≡ find (λ p. p.put == q) puts
-changed_other put q f puts keeps other = find-changed (λ (p : PutRow). p.put) f keeps put q puts ∙ by (put == q) refl
-  where
-    by : (b : Bool) → (put == q) ≡ b → cond b (option_map f (find (λ p. p.put == q) puts)) (find (λ p. p.put == q) puts) ≡ find (λ p. p.put == q) puts
-    by true e = absurd (other (sym (eqb-true put q e)))
-    by false e = refl
-
-same_others : (put : ℕ) (s t : State) → t.puts ≡ s.puts → t.readers ≡ s.readers → t.geometry ≡ s.geometry → LeavesPutsBut put s t
-same_others put s t p r g = record { puts = λ q other. ap (find (λ (x : PutRow). x.put == q)) p; readers = r; geometry = g }
-
-one_record : (put : ℕ) (s : State) (r : Rec) → IsOfPut put r → LeavesPutsBut put s (state_after s r)
-one_record put s (rec.Formatted geometry) h = absurd h
-one_record put s (rec.Opened geometry serial cursor floor next_put clean list) h = absurd h
-one_record put s (rec.WriteOpened actor q key request response pin) h = record { puts = λ n other. find_other put n _ s.puts h other; readers = refl; geometry = refl }
-one_record put s (rec.Cut q index size digest) h = record { puts = λ n other. changed_other q n _ s.puts (λ x. refl) (λ e. other (e ∙ h)); readers = refl; geometry = refl }
-one_record put s (rec.Committed q key size list) h = record { puts = λ n other. changed_other q n _ s.puts (λ x. refl) (λ e. other (e ∙ h)); readers = refl; geometry = refl }
-one_record put s (rec.Aborted q key) h = record { puts = λ n other. changed_other q n _ s.puts (λ x. refl) (λ e. other (e ∙ h)); readers = refl; geometry = refl }
-one_record put s (rec.ReadOpened reader actor key request answer) h = absurd h
-one_record put s (rec.Gave reader index size) h = absurd h
-one_record put s (rec.Ended reader size) h = absurd h
-one_record put s (rec.Waited reader cut) h = absurd h
-one_record put s (rec.Broke reader why) h = absurd h
-one_record put s (rec.ReadClosed reader) h = absurd h
-one_record put s _ h = same_others put s _ refl refl refl
-
-then_others : (put : ℕ) (s t u : State) → LeavesPutsBut put s t → LeavesPutsBut put t u → LeavesPutsBut put s u
-then_others put s t u a b = record { puts = λ q other. b.puts q other ∙ a.puts q other; readers = b.readers ∙ a.readers; geometry = b.geometry ∙ a.geometry }
-
-all_records : (put : ℕ) (s : State) (recs : List Rec) → AllByRecursion (IsOfPut put) recs → LeavesPutsBut put s (after_all s recs)
-all_records put s [] own = same_others put s s refl refl refl
-all_records put s (r ∷ recs) own = then_others put s (state_after s r) _ (one_record put s r own.0) (all_records put (state_after s r) recs own.1)
-
-pub others_stay : (put : ℕ) (old new : Kept) → AddsOfPut put old new → LeavesPutsBut put (state_of old) (state_of new)
-others_stay put old new h = subst (LeavesPutsBut put (state_of old)) (sym (state_behind old new h.added h.adds)) (all_records put (state_of old) h.added h.own)
-
-pub writers_stay : (put : ℕ) (s t : State) (w : Writer) → LeavesPutsBut put s t → (w.put ≡ put → ⊥) → IsStripeWriterOf s w
-    → IsStripeWriterOf t w
-writers_stay put s t w leaves other own = λ row found o. subst (λ g. IsAtHandInStripe g row w) (sym leaves.geometry) (own row (sym (leaves.puts w.put other) ∙ found) o)
-
--- ---- what calls add
 
 pub owns_none : (put : ℕ) (old new : Kept) → new ≡ old → AddsOfPut put old new
 owns_none put old new h = record { added = []; adds = h ∙ sym (nothing_more old); own = tt }

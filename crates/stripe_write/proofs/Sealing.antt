@@ -12,9 +12,12 @@ use Rattle.cache_model.specs.State.{State, put_of}
 use Rattle.stripe_vectors.specs.Spelled.{IsSpelled}
 use Rattle.stripe_write.specs.declared.weighing.Vectors.{Vectors}
 use Rattle.stripe_write.specs.declared.writer.Writer.{Writer}
-use Rattle.stripe_write.specs.Writers.{IsAllCutInStripe, IsAtHandInStripe, IsStripeWriterOf}
 use Rattle.stripe_write.specs.Writes.{SameButBytes, SameWriter}
-use Rattle.stripe_write.specs.Closing.{AreSpelled, closing_alternate, closing_rows, row_of_rest}
+use Rattle.stripe_write.specs.Closing.{AreSpelled}
+use Rattle.cache_calls.specs.Actors.{IsWriterOf, IsAllCut, IsAtHand}
+use Rattle.cache_calls.specs.Asked.{rest_rows, rows_at_close}
+use Rattle.cache_calls.specs.Writers.{alternate_at_close}
+use Rattle.stripe_write.specs.Writers.{written_as}
 
 -- ---- a writer that is sealed
 
@@ -28,13 +31,13 @@ pub record IsSealed (old new : Writer) : Type 0 where
   pub rows : new.table.rows ≡ old.table.rows
   pub sealed : new.sealed ≡ true
 
-sealed_cut : (w new : Writer) (P : Type 0) → IsSealed w new → IsAllCutInStripe w ⊎ P → IsAllCutInStripe new ⊎ P
+sealed_cut : (w new : Writer) (P : Type 0) → IsSealed w new → IsAllCut (written_as w) ⊎ P → IsAllCut (written_as new) ⊎ P
 sealed_cut w new P same (inl cut) = inl (record { sealed = same.sealed; empty = same.gathered ∙ cut.empty })
 sealed_cut w new P same (inr whole) = inr whole
 
-pub sealed_writer : (s : State) (w new : Writer) → IsSealed w new → IsStripeWriterOf s w → IsStripeWriterOf s new
+pub sealed_writer : (s : State) (w new : Writer) → IsSealed w new → IsWriterOf s (written_as w) → IsWriterOf s (written_as new)
 sealed_writer s w new same own = λ row found o.
-    let here : IsAtHandInStripe s.geometry row w = own row (ap (put_of s) (sym same.put) ∙ found) o in
+    let here : IsAtHand s.geometry row (written_as w) = own row (ap (put_of s) (sym same.put) ∙ found) o in
     record {
       key_is = here.key_is ∙ sym same.key;
       request_is = here.request_is ∙ sym same.request;
@@ -52,34 +55,34 @@ sealed_writer s w new same own = λ row found o.
 pub record SameAtClose (old new : Writer) : Type 0 where
   pub put : new.put ≡ old.put
   pub key : new.key ≡ old.key
-  pub rows : closing_rows new ≡ closing_rows old
-  pub alternate : closing_alternate new ≡ closing_alternate old
+  pub rows : rows_at_close (written_as new) ≡ rows_at_close (written_as old)
+  pub alternate : alternate_at_close (written_as new) ≡ alternate_at_close (written_as old)
 
 abbrev made : ℕ → ℕ → List Field → List Field → List TableRow → Stored
 made n pin q r rows = record { put = n; pin = pin; length = total_length rows; request = q; response = r; table = rows }
 
-same_alternate : (w new : Writer) → new.put ≡ w.put → new.pin ≡ w.pin → new.request ≡ w.request → new.response ≡ w.response → closing_rows new ≡ closing_rows w → closing_alternate new ≡ closing_alternate w
+same_alternate : (w new : Writer) → new.put ≡ w.put → new.pin ≡ w.pin → new.request ≡ w.request → new.response ≡ w.response → rows_at_close (written_as new) ≡ rows_at_close (written_as w) → alternate_at_close (written_as new) ≡ alternate_at_close (written_as w)
 same_alternate w new put pin request response rows =
-    ap (λ n. made n new.pin new.request new.response (closing_rows new)) put
-    ∙ (ap (λ n. made w.put n new.request new.response (closing_rows new)) pin
-    ∙ (ap (λ q. made w.put w.pin q new.response (closing_rows new)) request
-    ∙ (ap (λ r. made w.put w.pin w.request r (closing_rows new)) response ∙ ap (made w.put w.pin w.request w.response) rows)))
+    ap (λ n. made n new.pin new.request new.response (rows_at_close (written_as new))) put
+    ∙ (ap (λ n. made w.put n new.request new.response (rows_at_close (written_as new))) pin
+    ∙ (ap (λ q. made w.put w.pin q new.response (rows_at_close (written_as new))) request
+    ∙ (ap (λ r. made w.put w.pin w.request r (rows_at_close (written_as new))) response ∙ ap (made w.put w.pin w.request w.response) rows)))
 
 pub sealed_same : (w new : Writer) → IsSealed w new → SameAtClose w new
 sealed_same w new same =
-    let rows : closing_rows new ≡ closing_rows w = ap (λ (r : List TableRow). r ++ row_of_rest new.gathered.items) same.rows ∙ ap (λ b. w.table.rows ++ row_of_rest b) same.gathered in
+    let rows : rows_at_close (written_as new) ≡ rows_at_close (written_as w) = ap (λ (r : List TableRow). r ++ rest_rows new.gathered.items) same.rows ∙ ap (λ b. w.table.rows ++ rest_rows b) same.gathered in
     record { put = same.put; key = same.key; rows = rows; alternate = same_alternate w new same.put same.pin same.request same.response rows }
 
 -- a writer as it was
 pub alike_same : (w new : Writer) → SameWriter w new → SameAtClose w new
 alike_same w new same =
-    let rows : closing_rows new ≡ closing_rows w =
-    ap (λ (r : List TableRow). r ++ row_of_rest new.gathered.items) same.rows ∙ ap (λ b. w.table.rows ++ row_of_rest b) same.gathered in
+    let rows : rows_at_close (written_as new) ≡ rows_at_close (written_as w) =
+    ap (λ (r : List TableRow). r ++ rest_rows new.gathered.items) same.rows ∙ ap (λ b. w.table.rows ++ rest_rows b) same.gathered in
     record { put = same.put; key = same.key; rows = rows; alternate = same_alternate w new same.put same.pin same.request same.response rows }
 
-pub cut_same : (w new : Writer) → SameButBytes w new → new.table.rows ≡ closing_rows w → new.gathered.items ≡ [] → SameAtClose w new
+pub cut_same : (w new : Writer) → SameButBytes w new → new.table.rows ≡ rows_at_close (written_as w) → new.gathered.items ≡ [] → SameAtClose w new
 cut_same w new same rows none =
-    let all : closing_rows new ≡ closing_rows w = ap (λ b. new.table.rows ++ row_of_rest b) none ∙ (append-nil new.table.rows ∙ rows) in
+    let all : rows_at_close (written_as new) ≡ rows_at_close (written_as w) = ap (λ b. new.table.rows ++ rest_rows b) none ∙ (append-nil new.table.rows ∙ rows) in
     record { put = same.put; key = same.key; rows = all; alternate = same_alternate w new same.put same.pin same.request same.response all }
 
 pub then_same : (a b c : Writer) → SameAtClose a b → SameAtClose b c → SameAtClose a c

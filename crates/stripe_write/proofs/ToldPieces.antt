@@ -21,8 +21,11 @@ use Rattle.stripe_write.specs.declared.weighing.Vectors.{Vectors}
 use Rattle.stripe_write.specs.declared.writer.Writer.{Writer}
 use Rattle.stripe_write.specs.Closing.{AreSpelled, IsReadFor}
 use Rattle.stripe_write.specs.Finishing.{vector_now}
-use Rattle.stripe_write.specs.Writes.{IsToldNextInStripe, next_id, next_start}
+use Rattle.stripe_write.specs.Writes.{next_start}
 use Rattle.stripe_write.proofs.Completing.{IsClosing, is_current, lists_spelled}
+use Rattle.cache_calls.specs.Writers.{piece_cut_next}
+use Rattle.cache_calls.specs.Standing.{IsToldNext}
+use Rattle.stripe_write.specs.Writers.{written_as}
 
 -- ---- what a call has to be told
 
@@ -75,14 +78,14 @@ told_of_next contents s id start payload kind told = record { content = rw kind 
 
 -- of two writers of one put, with the same fragments cut, the same is told
 pub told_same : (contents : Contents) (w other : Writer) (payload : List ℕ) → other.put ≡ w.put → other.key ≡ w.key
-    → other.table.rows ≡ w.table.rows → IsToldNextInStripe w payload contents → IsToldNextInStripe other payload contents
+    → other.table.rows ≡ w.table.rows → IsToldNext (written_as w) payload contents → IsToldNext (written_as other) payload contents
 told_same contents w other payload put key rows told =
-    let id : next_id other ≡ next_id w =
+    let id : piece_cut_next (written_as other) ≡ piece_cut_next (written_as w) =
     ap (λ k. fragment_piece k other.put (length other.table.rows + 1)) key
     ∙ (ap (λ n. fragment_piece w.key n (length other.table.rows + 1)) put
     ∙ ap (λ (rs : List TableRow). fragment_piece w.key w.put (length rs + 1)) rows) in
     subst (λ i. IfSome (contents i None) (λ x. x ≡ record { start = next_start other; payload = payload })) (sym id)
-    (subst (λ (rs : List TableRow). IfSome (contents (next_id w) None) (λ x. x ≡ record { start = total_length rs; payload = payload }))
+    (subst (λ (rs : List TableRow). IfSome (contents (piece_cut_next (written_as w)) None) (λ x. x ≡ record { start = total_length rs; payload = payload }))
     (sym rows) told)
 
 -- ---- the vector of a put

@@ -44,14 +44,17 @@ use Rattle.stripe_vectors.specs.Reading.{FindsVector, ReadIsListed, trouble_reco
 use Rattle.stripe_vectors.specs.Spelled.{IsSpelled}
 use Rattle.stripe_write.specs.declared.weighing.Vectors.{Vectors}
 use Rattle.stripe_write.specs.declared.writer.Writer.{Writer}
-use Rattle.stripe_write.specs.Closing.{AreSpelled, IsReadFor, WeighsAsAsked, WeighsInStripe, WeighsWhere, closing_alternate, closing_size, row_of_rest, weigh_end}
+use Rattle.stripe_write.specs.Closing.{AreSpelled, IsReadFor, WeighsAsAsked, WeighsInStripe, WeighsWhere, weigh_end}
 use Rattle.stripe_write.specs.Weighing.{FitsWhere, IsSpelledWith, fault_in, fit_adds, list_in}
-use Rattle.stripe_write.specs.Writers.{HasOpenWriter, IsAtHandInStripe, IsStripeWriterOf}
+use Rattle.stripe_write.specs.Writers.{HasOpenWriter, written_as}
 use Rattle.stripe_write.proofs.Ended.{open_put, own_number}
 use Rattle.stripe_answers.proofs.KeyPairs.{key_wider}
 use Rattle.stripe_write.proofs.Owning.{owns_none}
 use Rattle.stripe_write.proofs.Spending.{nothing_more, state_behind}
 use Rattle.stripe_write.proofs.WeighingReads.{IsReadSoFar, fault_does, read_so_far}
+use Rattle.cache_calls.specs.Actors.{IsWriterOf, IsAtHand}
+use Rattle.cache_calls.specs.Asked.{rest_rows}
+use Rattle.cache_calls.specs.Writers.{alternate_at_close, size_at_close}
 
 -- ---- the size of the vector
 
@@ -71,21 +74,21 @@ size_cut row rest some =
     ap (λ b. vector_size (alternate_of (if b then row else with_cut (made_row rest []) row) ∷ [])) (not_zero rest some)
     ∙ ap (sized row.request row.response) (length-append row.cuts (made_row rest [] ∷ []))
 
-size_with : (row : PutRow) (rest : List ℕ) → size_alone row (length rest) ≡ sized row.request row.response (length (row.cuts ++ row_of_rest rest))
+size_with : (row : PutRow) (rest : List ℕ) → size_alone row (length rest) ≡ sized row.request row.response (length (row.cuts ++ rest_rows rest))
 size_with row [] = ap (λ (rows : List TableRow). sized row.request row.response (length rows)) (sym (append-nil row.cuts))
-size_with row (byte ∷ bytes) = size_cut row (length (byte ∷ bytes)) (omega arith) ∙ ap (sized row.request row.response) (sym (length-append row.cuts (row_of_rest (byte ∷ bytes))))
+size_with row (byte ∷ bytes) = size_cut row (length (byte ∷ bytes)) (omega arith) ∙ ap (sized row.request row.response) (sym (length-append row.cuts (rest_rows (byte ∷ bytes))))
 
-size_is : (g : Geometry) (row : PutRow) (w : Writer) → IsAtHandInStripe g row w → size_alone row (length w.gathered.items) ≡ closing_size w
+size_is : (g : Geometry) (row : PutRow) (w : Writer) → IsAtHand g row (written_as w) → size_alone row (length w.gathered.items) ≡ size_at_close (written_as w)
 size_is g row w here =
     size_with row w.gathered.items
-    ∙ (ap (λ fields. sized fields row.response (length (row.cuts ++ row_of_rest w.gathered.items))) here.request_is
-    ∙ (ap (λ fields. sized w.request fields (length (row.cuts ++ row_of_rest w.gathered.items))) here.response_is
-    ∙ ap (λ (rows : List TableRow). sized w.request w.response (length (rows ++ row_of_rest w.gathered.items))) here.cuts_are))
+    ∙ (ap (λ fields. sized fields row.response (length (row.cuts ++ rest_rows w.gathered.items))) here.request_is
+    ∙ (ap (λ fields. sized w.request fields (length (row.cuts ++ rest_rows w.gathered.items))) here.response_is
+    ∙ ap (λ (rows : List TableRow). sized w.request w.response (length (rows ++ rest_rows w.gathered.items))) here.cuts_are))
 
-pub more_gathered : (s : State) (w : Writer) → is_writing s w.put ≡ true → IsStripeWriterOf s w → 0 < length w.gathered.items → length w.table.rows < most_fragments
+pub more_gathered : (s : State) (w : Writer) → is_writing s w.put ≡ true → IsWriterOf s (written_as w) → 0 < length w.gathered.items → length w.table.rows < most_fragments
 more_gathered s w writing own some =
     let o = open_put (put_of s w.put) writing in
-    let here : IsAtHandInStripe s.geometry o.0 w = own o.0 o.1 o.2 in
+    let here : IsAtHand s.geometry o.0 (written_as w) = own o.0 o.1 o.2 in
     subst (λ (rows : List TableRow). length rows < most_fragments) here.cuts_are (here.more some)
 
 -- ---- what is spelled
@@ -98,7 +101,7 @@ small_of g None new None h m is = cc
 
 pub weighs_where : (s t : State) (list : Option (List Stored)) (w : Writer) (result : Result Vectors Refusal) → t.geometry ≡ s.geometry → FitsWhere t list w result → WeighsWhere s w result
 weighs_where s t list w (Ok v) same h =
-    subst (λ g. AreSpelled g w v) same (record { fits = h.fits; alone = h.alone; merged = small_of t.geometry list (closing_alternate w) v.merged h.merged })
+    subst (λ g. AreSpelled g w v) same (record { fits = h.fits; alone = h.alone; merged = small_of t.geometry list (alternate_at_close (written_as w)) v.merged h.merged })
 weighs_where s t list w (Err (refusal.VectorTooLarge bytes)) same h = (h.0, subst (λ g. budget_of g < blocks_of bytes) same h.1)
 weighs_where s t list w (Err (refusal.Memory e)) same h = tt
 weighs_where s t list w (Err (refusal.DeviceFault count)) same h = absurd h
@@ -133,10 +136,10 @@ wants_nothing kept mid new w answer (Err _) h reads adds = tt
 
 -- ---- the last group
 
-fit_does : (p : Permit) (t : State) (w : Writer) (row : PutRow) (list : Option (List Stored)) (result : Result Vectors Refusal) → IsWriting t w.put row → IsAtHandInStripe t.geometry row w
+fit_does : (p : Permit) (t : State) (w : Writer) (row : PutRow) (list : Option (List Stored)) (result : Result Vectors Refusal) → IsWriting t w.put row → IsAtHand t.geometry row (written_as w)
     → IsReadWhereLive p t (live_vector_of t row.key) → FitsWhere t list w result → SpendsFirst p t (Weigh w.put (length w.gathered.items)) (fit_adds w result) (weigh_end w result)
 fit_does p t w row list (Ok v) writing here readable h = λ rest why.
-    let size : size_alone row (length w.gathered.items) ≡ closing_size w = size_is t.geometry row w here in
+    let size : size_alone row (length w.gathered.items) ≡ size_at_close (written_as w) = size_is t.geometry row w here in
     let fits : blocks_of (size_alone row (length w.gathered.items)) ≤ budget_of t.geometry = subst (λ n. blocks_of n ≤ budget_of t.geometry) (sym size) h.fits in
     grows_by p t _ _ [] (Done, DoesWeigh.weighs row writing readable fits refl, refl)
 fit_does p t w row list (Err (refusal.VectorTooLarge bytes)) writing here readable h = λ rest why.
@@ -173,8 +176,8 @@ merged_some g list new None h = absurd h
 read_by : (t : State) (w : Writer) (answer : KeyVector) (v : Vectors) → FitsWhere t (list_in answer) w (Ok v)
     → ((row : Row) → live_vector_of t w.key ≡ Some row → list_in answer ≡ Some (alternates_of t w.key)) → IsReadFor t w v
 read_by t w answer v h same = λ row live.
-    merged_some t.geometry (alternates_of t w.key) (closing_alternate w) v.merged
-    (subst (λ o. IsSpelledWith t.geometry o (closing_alternate w) v.merged) (same row live) h.merged)
+    merged_some t.geometry (alternates_of t w.key) (alternate_at_close (written_as w)) v.merged
+    (subst (λ o. IsSpelledWith t.geometry o (alternate_at_close (written_as w)) v.merged) (same row live) h.merged)
 
 told_by : (p : Permit) (s t : State) (w : Writer) (answer : KeyVector) (result : Result Vectors Refusal) → FitsWhere t (list_in answer) w result
     → (AreVectors s → ((row : Row) → live_vector_of t w.key ≡ Some row → list_in answer ≡ Some (alternates_of t w.key)) ⊎ IsKeyPair IsVectorAs p s w.key)
@@ -226,7 +229,7 @@ wants kept new before after w e result is same seen =
     })
 
 -- the device refuses to give the vector
-pub faults : (kept new : Kept) (before after : Device) (w : Writer) (answer : KeyVector) (count : ℕ) → IsQuiet (state_of kept) → is_writing (state_of kept) w.put ≡ true → IsStripeWriterOf (state_of kept) w
+pub faults : (kept new : Kept) (before after : Device) (w : Writer) (answer : KeyVector) (count : ℕ) → IsQuiet (state_of kept) → is_writing (state_of kept) w.put ≡ true → IsWriterOf (state_of kept) (written_as w)
     → fault_in answer ≡ Some count → new ≡ with_records kept (vector_adds (state_of kept) w.key answer) → FindsVector (state_of kept) before after w.key answer
     → WeighsAsAsked before after kept new w (Err (refusal.DeviceFault count))
 faults kept new before after w answer count quiet writing own fault adds finds =
@@ -250,10 +253,10 @@ faults kept new before after w answer count quiet writing own fault adds finds =
 pub record IsWeighed (kept mid new : Kept) (before during after : Device) (w : Writer) (answer : KeyVector) (result : Result Vectors Refusal) : Type 0 where
   pub quiet : IsQuiet (state_of kept)
   pub writing : is_writing (state_of kept) w.put ≡ true
-  pub own : IsStripeWriterOf (state_of kept) w
+  pub own : IsWriterOf (state_of kept) (written_as w)
   pub quiet_then : IsQuiet (state_of mid)
   pub writing_then : is_writing (state_of mid) w.put ≡ true
-  pub own_then : IsStripeWriterOf (state_of mid) w
+  pub own_then : IsWriterOf (state_of mid) (written_as w)
   pub no_fault : fault_in answer ≡ None
   pub reads : mid ≡ with_records kept (vector_adds (state_of kept) w.key answer)
   pub finds : FindsVector (state_of kept) before during w.key answer
@@ -277,7 +280,7 @@ weighs law kept mid new before during after w answer result h =
     let first : List Rec = vector_adds s w.key answer in
     let there : state_of mid ≡ after_all s first = state_behind kept mid first h.reads in
     let o = open_put (put_of (state_of mid) w.put) h.writing_then in
-    let here : IsAtHandInStripe (state_of mid).geometry o.0 w = h.own_then o.0 o.1 o.2 in
+    let here : IsAtHand (state_of mid).geometry o.0 (written_as w) = h.own_then o.0 o.1 o.2 in
     let own = so_far law kept mid new before during after w answer result h (own_permit 0 before.past during.past)
     (own_covers 0 before.past during.past) in
     let exact : TellsAll after → IfOk result (IsReadFor (state_of mid) w) = λ tells.
@@ -318,7 +321,7 @@ weighs_nothing s t w result e is at continues same unwritten seen =
       unwritten = unwritten;
       counts = tt;
       wanting = same;
-      writer = subst (λ (k : Kept). IsStripeWriterOf (state_of k) w) (sym same) at.writer;
+      writer = subst (λ (k : Kept). IsWriterOf (state_of k) (written_as w)) (sym same) at.writer;
       puts = tt;
       geometry = tt;
       displaced = tt;

@@ -33,22 +33,20 @@ use Rattle.stripe_write.specs.declared.weighing.Vectors.{Vectors}
 use Rattle.stripe_write.specs.declared.writer.Writer.{Writer}
 use Rattle.stripe_answers.specs.Faults.{RefusalHasRecord}
 use Rattle.stripe_write.specs.Others.{AddsOfPut}
-use Rattle.stripe_write.specs.Writers.{IsStripeWriterOf}
-use Rattle.stripe_write.specs.Closing.{IsReadFor, SpendsAll, asked_of_closing, asked_of_rest, closing_rows, closing_size}
+use Rattle.stripe_write.specs.Closing.{IsReadFor, SpendsAll}
 use Rattle.stripe_answers.specs.Numbers.{StopsExhausted}
-use Rattle.stripe_write.specs.Writes.{IsToldNextInStripe, SameWriter}
+use Rattle.stripe_write.specs.Writes.{SameWriter}
+use Rattle.cache_calls.specs.Actors.{IsWriterOf}
+use Rattle.cache_calls.specs.Asked.{rows_at_close, rest_asks, ending_asks}
+use Rattle.cache_calls.specs.Writers.{TellsComplete, size_at_close, bytes_next, KeepsRest, CutsRest}
+use Rattle.cache_calls.specs.Standing.{IsToldClosed}
+use Rattle.stripe_write.specs.Writers.{written_as}
 
 -- ---- when each answer comes
 
--- the put is complete, of so many bytes and fragments
-pub record IsCompleteInStripe (w : Writer) (receipt : Receipt) : Type 0 where
-  pub put : receipt.put ≡ w.put
-  pub bytes : receipt.length ≡ total_length (closing_rows w)
-  pub fragments : receipt.fragments ≡ length (closing_rows w)
-
 -- once the vector is weighed
 abbrev pub EndsWhere : State → Writer → Result Receipt Refusal → Type 0
-EndsWhere t w (Ok receipt) = IsCompleteInStripe w receipt
+EndsWhere t w (Ok receipt) = TellsComplete (written_as w) receipt
 EndsWhere t w (Err (refusal.Lost index why)) = why ≡ cause_of_piece t (fragment_piece w.key w.put index)
 EndsWhere t w (Err (refusal.DeviceFault count)) = Unit {0}
 EndsWhere t w (Err (refusal.Exhausted number)) = limit ≤ number
@@ -56,9 +54,9 @@ EndsWhere t w (Err _) = ⊥
 
 -- the same of all of closing: `s` is the state before it, and `t` the one behind it
 abbrev pub ClosesWhere : State → State → Writer → Result Receipt Refusal → Type 0
-ClosesWhere s t w (Ok receipt) = (is_writing s w.put ≡ true) × IsCompleteInStripe w receipt
+ClosesWhere s t w (Ok receipt) = (is_writing s w.put ≡ true) × TellsComplete (written_as w) receipt
 ClosesWhere s t w (Err refusal.NoSuchWriter) = is_writing s w.put ≡ false
-ClosesWhere s t w (Err (refusal.VectorTooLarge bytes)) = (is_writing s w.put ≡ true) × (bytes ≡ closing_size w) × (budget_of s.geometry < blocks_of bytes)
+ClosesWhere s t w (Err (refusal.VectorTooLarge bytes)) = (is_writing s w.put ≡ true) × (bytes ≡ size_at_close (written_as w)) × (budget_of s.geometry < blocks_of bytes)
 ClosesWhere s t w (Err (refusal.Lost index why)) = (is_writing s w.put ≡ true) × (why ≡ cause_of_piece t (fragment_piece w.key w.put index))
 ClosesWhere s t w (Err (refusal.DeviceFault count)) = is_writing s w.put ≡ true
 ClosesWhere s t w (Err (refusal.Exhausted number)) = (is_writing s w.put ≡ true) × (limit ≤ number)
@@ -66,10 +64,6 @@ ClosesWhere s t w (Err (refusal.Memory e)) = is_writing s w.put ≡ true
 ClosesWhere s t w (Err _) = ⊥
 
 -- ---- what is recorded, and which number is told
-
--- how many bytes the piece has that is placed next: the vector, once all is cut, and else the rest
-abbrev pub bytes_placed_next : State → Writer → ℕ
-bytes_placed_next t w = if length (cuts_of t w.put) == length (closing_rows w) then vector_length t w.put else length w.gathered.items
 
 -- the end to which each answer brings what is asked; behind any other refusal it is still to be done
 abbrev pub close_end : Writer → Result Receipt Refusal → End
@@ -82,14 +76,14 @@ close_end w (Err _) = Stays
 
 -- what is left of closing once the vector is weighed
 abbrev pub end_intents : Writer → List Intent
-end_intents w = asked_of_rest w w.gathered.items ++ Finish w.put (length (closing_rows w)) ∷ Commit w.put ∷ []
+end_intents w = rest_asks (written_as w) w.gathered.items ++ Finish w.put (length (rows_at_close (written_as w))) ∷ Commit w.put ∷ []
 
 -- what that makes of the records, and the number that it tells at the end of the tape
 pub record EndsInStripe (p : Permit) (old new : Kept) (w : Writer) (result : Result Receipt Refusal) : Type 0 where
   pub added : List Rec
   pub adds : new ≡ with_records old added
   pub does : SpendsAll p (state_of old) (end_intents w) added (close_end w result)
-  pub number : IfErr result (StopsExhausted (state_of new) (bytes_placed_next (state_of new) w))
+  pub number : IfErr result (StopsExhausted (state_of new) (bytes_next (state_of new) (written_as w)))
 
 -- what came of it, as `FinishesAsRead`
 pub record EndsAsAsked (packed : Bool) (now : ℕ) (before after : List Call) (old new : Kept) (w : Writer) (v : Vectors) (result : Result Receipt Refusal) : Type 0 where
@@ -100,25 +94,20 @@ pub record EndsAsAsked (packed : Bool) (now : ℕ) (before after : List Call) (o
 abbrev pub Spent : Permit → State → Writer → Result Receipt Refusal → List Rec → Type 0
 Spent p s w (Err (refusal.Memory e)) added = SpendsFirst p s (Weigh w.put (length w.gathered.items)) added Stays
 Spent p s w (Err refusal.NoSuchWriter) added = added ≡ []
-Spent p s w result added = SpendsAll p s (asked_of_closing w) added (close_end w result)
+Spent p s w result added = SpendsAll p s (ending_asks (written_as w)) added (close_end w result)
 
 -- what closing makes of the records, and the number that it tells at the end of the tape
 pub record ClosesInStripe (p : Permit) (old new : Kept) (w : Writer) (result : Result Receipt Refusal) : Type 0 where
   pub added : List Rec
   pub adds : new ≡ with_records old added
   pub does : Spent p (state_of old) w result added
-  pub number : IfErr result (StopsExhausted (state_of new) (bytes_placed_next (state_of new) w))
+  pub number : IfErr result (StopsExhausted (state_of new) (bytes_next (state_of new) (written_as w)))
 
 -- what came of it in any step at that moment that covers the call; or two documents of one SHA-256 are shown, on a device that
 -- did not tell its content
 pub record ClosesAsAsked (packed : Bool) (now : ℕ) (before : List Call) (after : Device) (old new : Kept) (w : Writer) (result : Result Receipt Refusal) : Type 0 where
   pub does : (p : Permit) → p.packed ≡ packed → p.now ≡ now → Covers p before after.past → AreTold (state_of old)
       → ClosesInStripe p old new w result ⊎ IsKeyPair (Untold after IsVectorAs) p (state_of old) w.key
-
--- the rest is told of the fragment that it became, where it was cut; and each vector spells its alternates
-pub record IsToldClosedInStripe (new : State) (w : Writer) (contents : Contents) : Type 0 where
-  pub rest : length w.table.rows < length (cuts_of new w.put) → IsToldNextInStripe w w.gathered.items contents
-  pub vectors : TellsVectors contents
 
 -- a writer that was refused by the device, or by the end of the tape, takes no more bytes; one whose rest was not come to is
 -- as it was
@@ -130,21 +119,9 @@ SealsInStripeWhere old new (Err (refusal.VectorTooLarge bytes)) = SameWriter old
 SealsInStripeWhere old new (Err refusal.NoSuchWriter) = SameWriter old new
 SealsInStripeWhere old new _ = Unit {0}
 
--- the writer of the same put, with what it had cut and gathered
-pub record KeepsRestInStripe (old new : Writer) : Type 0 where
-  pub put : new.put ≡ old.put
-  pub gathered : new.gathered.items ≡ old.gathered.items
-  pub rows : new.table.rows ≡ old.table.rows
-
--- the same, once what it had gathered is cut
-pub record CutsRestInStripe (old new : Writer) : Type 0 where
-  pub put : new.put ≡ old.put
-  pub empty : new.gathered.items ≡ []
-  pub rows : new.table.rows ≡ closing_rows old
-
 -- what a writer has at hand once it was closed
 abbrev pub IsRested : Writer → Writer → Type 0
-IsRested old new = KeepsRestInStripe old new ⊎ CutsRestInStripe old new
+IsRested old new = KeepsRest (written_as old) (written_as new) ⊎ CutsRest (written_as old) (written_as new)
 
 -- while the vector is weighed only the device seals
 abbrev pub is_sealed_by : Refusal → Bool → Bool
@@ -164,10 +141,10 @@ module _ {D R C : Type 0} {d : DiskGhosts D} {r : DirectoryGhosts R} {c : Chroni
   -- what closing a writer comes to
   pub record ClosesWriterInStripe (packed : Bool) (now : ℕ) (old new : Stripe D R C d r c) (was later : Writer)
       (result : Result Receipt Refusal) : Type 0 where
-    pub rests : RestsWith (IsToldClosedInStripe (state_in new) was) old new
+    pub rests : RestsWith (IsToldClosed (state_in new) (written_as was)) old new
     pub closes : ClosesWhere (state_in old) (state_in new) was result
     pub does : ClosesAsAsked packed now (seen_in old).device.past (seen_in new).device (kept_in old) (kept_in new) was result
-    pub writer : IsStripeWriterOf (state_in new) later
+    pub writer : IsWriterOf (state_in new) (written_as later)
     pub seals : SealsInStripeWhere was later result
     pub rested : IsRested was later
     pub untouched : UntouchedWhere (seen_in old).device (seen_in new).device result
@@ -179,10 +156,10 @@ module _ {D R C : Type 0} {d : DiskGhosts D} {r : DirectoryGhosts R} {c : Chroni
   -- what is left of it once the vector is weighed: the writer takes no more bytes
   pub record EndsWriterInStripe (packed : Bool) (now : ℕ) (old new : Stripe D R C d r c) (was later : Writer) (v : Vectors)
       (result : Result Receipt Refusal) : Type 0 where
-    pub rests : RestsWith (IsToldClosedInStripe (state_in new) was) old new
+    pub rests : RestsWith (IsToldClosed (state_in new) (written_as was)) old new
     pub ends : EndsWhere (state_in new) was result
     pub does : EndsAsAsked packed now (seen_in old).device.past (seen_in new).device.past (kept_in old) (kept_in new) was v result
-    pub writer : IsStripeWriterOf (state_in new) later
+    pub writer : IsWriterOf (state_in new) (written_as later)
     pub sealed : later.sealed ≡ true
     pub rested : IsRested was later
     pub counts : IfErr result (IsCounted (seen_in new).device.faults)

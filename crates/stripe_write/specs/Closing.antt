@@ -32,7 +32,9 @@ use Rattle.stripe_vectors.specs.Spelled.{IsSpelled}
 use Rattle.stripe_write.specs.declared.weighing.Vectors.{Vectors}
 use Rattle.stripe_write.specs.declared.writer.Writer.{Writer}
 use Rattle.stripe_write.specs.Others.{AddsOfPut}
-use Rattle.stripe_write.specs.Writers.{IsStripeWriterOf}
+use Rattle.cache_calls.specs.Actors.{IsWriterOf}
+use Rattle.cache_calls.specs.Writers.{alternate_at_close, size_at_close}
+use Rattle.stripe_write.specs.Writers.{written_as}
 
 -- ---- several things that are asked, one behind the other
 
@@ -48,52 +50,18 @@ SpendsAll p s asked added e = (rest : List Intent) (why : Option Reason) → May
 
 -- ---- what is gathered and in no fragment
 
--- the row of the last fragment, where there is a rest
-abbrev pub row_of_rest : List ℕ → List TableRow
-row_of_rest [] = []
-row_of_rest (byte ∷ bytes) = made_row (length (byte ∷ bytes)) (digest_of (byte ∷ bytes)).0 ∷ []
-
--- the fragments of a put when it closes
-abbrev pub closing_rows : Writer → List TableRow
-closing_rows w = w.table.rows ++ row_of_rest w.gathered.items
-
--- the rest is cut, where there is one
-abbrev pub asked_of_rest : Writer → List ℕ → List Intent
-asked_of_rest w [] = []
-asked_of_rest w (byte ∷ bytes) = Fragment w.put (length w.table.rows + 1) (byte ∷ bytes) ∷ []
-
--- what closing is asked
-abbrev pub asked_of_closing : Writer → List Intent
-asked_of_closing w =
-    Weigh w.put (length w.gathered.items) ∷ (asked_of_rest w w.gathered.items ++ Finish w.put (length (closing_rows w)) ∷ Commit w.put ∷ [])
-
--- the alternate that a put stands for when it closes
-abbrev pub closing_alternate : Writer → Stored
-closing_alternate w = record {
-  put = w.put;
-  pin = w.pin;
-  length = total_length (closing_rows w);
-  request = w.request;
-  response = w.response;
-  table = closing_rows w;
-}
-
 -- ---- the vector that the put is to have
-
--- the bytes of the vector of the put's alternate alone
-abbrev pub closing_size : Writer → ℕ
-closing_size w = vector_size (closing_alternate w ∷ [])
 
 -- it is spelled from some list, and alone
 pub record AreSpelled (g : Geometry) (w : Writer) (v : Vectors) : Type 0 where
-  pub fits : blocks_of (closing_size w) ≤ budget_of g
-  pub alone : IsSpelled g [] (closing_alternate w) v.alone
+  pub fits : blocks_of (size_at_close (written_as w)) ≤ budget_of g
+  pub alone : IsSpelled g [] (alternate_at_close (written_as w)) v.alone
   pub merged : (m : Spelled) → v.merged ≡ Some m → blocks_of (length m.bytes.items) ≤ budget_of g
 
 -- while the key's vector is live, what it lists was read and spelled
 abbrev pub IsReadFor : State → Writer → Vectors → Type 0
 IsReadFor s w v = (row : Row) → live_vector_of s w.key ≡ Some row
-    → (m : Spelled) × (v.merged ≡ Some m) × IsSpelled s.geometry (alternates_of s w.key) (closing_alternate w) m
+    → (m : Spelled) × (v.merged ≡ Some m) × IsSpelled s.geometry (alternates_of s w.key) (alternate_at_close (written_as w)) m
 
 -- ---- how weighing ends
 
@@ -108,7 +76,7 @@ weigh_end w (Err _) = Stays
 -- one; or memory is wanting
 abbrev pub WeighsWhere : State → Writer → Result Vectors Refusal → Type 0
 WeighsWhere s w (Ok vectors) = AreSpelled s.geometry w vectors
-WeighsWhere s w (Err (refusal.VectorTooLarge bytes)) = (bytes ≡ closing_size w) × (budget_of s.geometry < blocks_of bytes)
+WeighsWhere s w (Err (refusal.VectorTooLarge bytes)) = (bytes ≡ size_at_close (written_as w)) × (budget_of s.geometry < blocks_of bytes)
 WeighsWhere s w (Err (refusal.DeviceFault count)) = Unit {0}
 WeighsWhere s w (Err (refusal.Memory e)) = Unit {0}
 WeighsWhere s w (Err _) = ⊥
@@ -139,7 +107,7 @@ module _ {D R C : Type 0} {d : DiskGhosts D} {r : DirectoryGhosts R} {c : Chroni
     pub unwritten : IsUnwritten (seen_in old).device (seen_in new).device
     pub counts : IfErr result (IsCounted (seen_in new).device.faults)
     pub wanting : Wanting result (kept_in new ≡ kept_in old)
-    pub writer : IsStripeWriterOf (state_in new) w
+    pub writer : IsWriterOf (state_in new) (written_as w)
     pub puts : OnOk result ((state_in new).puts ≡ (state_in old).puts)
     pub geometry : OnOk result ((state_in new).geometry ≡ (state_in old).geometry)
     pub displaced : OnOk result ((state_in new).displaced ≡ (state_in old).displaced)

@@ -33,8 +33,9 @@ use Rattle.stripe_write.specs.declared.weighing.Vectors.{Vectors}
 use Rattle.stripe_write.specs.declared.writer.Writer.{Writer}
 use Rattle.stripe_answers.specs.Faults.{RefusalHasRecord}
 use Rattle.stripe_write.specs.Others.{AddsOfPut}
-use Rattle.stripe_write.specs.Writers.{HasOpenWriter, IsStripeWriterOf}
+use Rattle.stripe_write.specs.Writers.{HasOpenWriter, written_as}
 use Rattle.stripe_write.specs.Closing.{AreSpelled, IsReadFor, SpendsAll}
+use Rattle.cache_calls.specs.Actors.{IsWriterOf}
 
 -- ---- which vector is placed
 
@@ -139,7 +140,7 @@ module _ {D R C : Type 0} {d : DiskGhosts D} {r : DirectoryGhosts R} {c : Chroni
     pub finishes : FinishesWhere (state_in new) w result
     pub does : FinishesAsRead packed now (seen_in old).device.past (seen_in new).device.past (kept_in old) (kept_in new) w v result
     pub counts : IfErr result (IsCounted (seen_in new).device.faults)
-    pub writer : IsStripeWriterOf (state_in new) w
+    pub writer : IsWriterOf (state_in new) (written_as w)
     pub own : AddsOfPut w.put (kept_in old) (kept_in new)
     pub recorded : IfErr result (RefusalHasRecord (kept_in old) (kept_in new))
 
@@ -161,7 +162,7 @@ module _ {D R C : Type 0} {d : DiskGhosts D} {r : DirectoryGhosts R} {c : Chroni
     pub lost : why ≡ refusal.Lost index (cause_of_piece (state_in new) (fragment_piece w.key w.put index))
     pub adds : kept_in new ≡ with_records (kept_in old) (rec.Aborted w.put w.key ∷ [])
     pub still : (seen_in new).device ≡ (seen_in old).device
-    pub writer : IsStripeWriterOf (state_in new) w
+    pub writer : IsWriterOf (state_in new) (written_as w)
 
   -- what committing comes to, with these alternates; the device is not asked
   pub record CommitsInStripe (list : List Stored) (old new : Stripe D R C d r c) (w : Writer) (answer : Receipt) : Type 0 where
@@ -170,4 +171,4 @@ module _ {D R C : Type 0} {d : DiskGhosts D} {r : DirectoryGhosts R} {c : Chroni
     pub does : CommitsAsAsked (state_in old) w.put w.key list
     pub receipt : IsReceiptOf w answer
     pub still : (seen_in new).device ≡ (seen_in old).device
-    pub writer : IsStripeWriterOf (state_in new) w
+    pub writer : IsWriterOf (state_in new) (written_as w)

@@ -25,8 +25,9 @@ use Rattle.stripe_vectors.specs.Spelled.{IsSpelled}
 use Rattle.stripe_write.specs.declared.weighing.Own.{Own}
 use Rattle.stripe_write.specs.declared.weighing.Vectors.{Vectors}
 use Rattle.stripe_write.specs.declared.writer.Writer.{Writer}
-use Rattle.stripe_write.specs.Closing.{closing_alternate, closing_size}
-use Rattle.stripe_write.specs.Writers.{IsStripeWriterOf}
+use Rattle.cache_calls.specs.Actors.{IsWriterOf}
+use Rattle.cache_calls.specs.Writers.{alternate_at_close, size_at_close}
+use Rattle.stripe_write.specs.Writers.{written_as}
 
 -- the device's count of faults, where it refused to give the vector
 abbrev pub fault_in : KeyVector → Option ℕ
@@ -52,20 +53,20 @@ IsSpelledAlone g new None = budget_of g < blocks_of (vector_size (new ∷ []))
 
 -- what a put is to list of its own, and its vector alone
 pub record IsOwnAlternateOf (g : Geometry) (w : Writer) (own : Own) : Type 0 where
-  pub stored : stored_of own.alternate ≡ closing_alternate w
+  pub stored : stored_of own.alternate ≡ alternate_at_close (written_as w)
   pub length : own.alternate.length ≡ total_length own.alternate.table.rows
-  pub alone : IsSpelledAlone g (closing_alternate w) own.alone
+  pub alone : IsSpelledAlone g (alternate_at_close (written_as w)) own.alone
 
 -- the put's alternate alone is a piece; it is spelled, and with what was read
 pub record AreSpelledFrom (g : Geometry) (list : Option (List Stored)) (w : Writer) (v : Vectors) : Type 0 where
-  pub fits : blocks_of (closing_size w) ≤ budget_of g
-  pub alone : IsSpelled g [] (closing_alternate w) v.alone
-  pub merged : IsSpelledWith g list (closing_alternate w) v.merged
+  pub fits : blocks_of (size_at_close (written_as w)) ≤ budget_of g
+  pub alone : IsSpelled g [] (alternate_at_close (written_as w)) v.alone
+  pub merged : IsSpelledWith g list (alternate_at_close (written_as w)) v.merged
 
 -- it is a piece; or is none; or memory is wanting for what was read
 abbrev pub FitsWhere : State → Option (List Stored) → Writer → Result Vectors Refusal → Type 0
 FitsWhere s list w (Ok vectors) = AreSpelledFrom s.geometry list w vectors
-FitsWhere s list w (Err (refusal.VectorTooLarge bytes)) = (bytes ≡ closing_size w) × (budget_of s.geometry < blocks_of bytes)
+FitsWhere s list w (Err (refusal.VectorTooLarge bytes)) = (bytes ≡ size_at_close (written_as w)) × (budget_of s.geometry < blocks_of bytes)
 FitsWhere s list w (Err (refusal.Memory e)) = IsSome list
 FitsWhere s list w (Err _) = ⊥
 
@@ -83,6 +84,6 @@ module _ {D R C : Type 0} {d : DiskGhosts D} {r : DirectoryGhosts R} {c : Chroni
     pub rests : Rests old new
     pub fits : FitsWhere (state_in old) list w result
     pub adds : kept_in new ≡ with_records (kept_in old) (fit_adds w result)
-    pub writer : IsStripeWriterOf (state_in new) w
+    pub writer : IsWriterOf (state_in new) (written_as w)
     pub same : OnOk result (new ≡ old)
     pub still : (seen_in new).device ≡ (seen_in old).device

@@ -11,27 +11,20 @@ use Rattle.stripe_core.specs.declared.stripe.Stripe.{Stripe}
 use Rattle.stripe_core.specs.Between.{IsResting}
 use Rattle.stripe_core.specs.Stripe.{room_for, state_in, units_in}
 use Rattle.stripe_write.specs.declared.writer.Writer.{Writer}
+use Rattle.cache_calls.specs.Actors.{IsWriterOf, WriterSeen}
 
--- the writer is sealed, and all that it took is in fragments
-pub record IsAllCutInStripe (w : Writer) : Type 0 where
-  pub sealed : w.sealed ≡ true
-  pub empty : w.gathered.items ≡ []
-
--- what is at hand of an open put is what the records say of it; only the last fragment may be short;
--- the bytes that are in no fragment are fewer than one has, and gather only where one more may be cut
-pub record IsAtHandInStripe (g : Geometry) (row : PutRow) (w : Writer) : Type 0 where
-  pub key_is : row.key ≡ w.key
-  pub request_is : row.request ≡ w.request
-  pub response_is : row.response ≡ w.response
-  pub pin_is : row.pin ≡ w.pin
-  pub cuts_are : row.cuts ≡ w.table.rows
-  pub whole : IsAllCutInStripe w ⊎ (total_length row.cuts ≡ length row.cuts * g.fragment)
-  pub few : length w.gathered.items < g.fragment
-  pub more : 0 < length w.gathered.items → length row.cuts < most_fragments
-
--- the writer is that of its put, where that is open
-abbrev pub IsStripeWriterOf : State → Writer → Type 0
-IsStripeWriterOf s w = (row : PutRow) → put_of s w.put ≡ Some row → row.writing ≡ Open → IsAtHandInStripe s.geometry row w
+-- a writer as a cache's
+abbrev pub written_as : Writer → WriterSeen
+written_as w = record {
+  put = w.put;
+  key = w.key;
+  request = w.request;
+  response = w.response;
+  pin = w.pin;
+  gathered = w.gathered.items;
+  cuts = w.table.rows;
+  sealed = w.sealed;
+}
 
 -- ---- a stripe and a writer
 
@@ -39,7 +32,7 @@ module _ {D R C : Type 0} {d : DiskGhosts D} {r : DirectoryGhosts R} {c : Chroni
   -- a stripe between calls, and the writer of a put that is open in it
   pub record HasOpenWriter (t : Stripe D R C d r c) (w : Writer) : Type 0 where
     pub resting : IsResting t
-    pub writer : IsStripeWriterOf (state_in t) w
+    pub writer : IsWriterOf (state_in t) (written_as w)
     pub is_open : is_writing (state_in t) w.put ≡ true
 
   -- memory is made to close it: for so many calls, and for one fragment more in the stripe and in its table

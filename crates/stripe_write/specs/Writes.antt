@@ -37,7 +37,11 @@ use Rattle.stripe_core.specs.Stripe.{AnswersOrWants, HasMemory, Unstopped, kept_
 use Rattle.stripe_write.specs.declared.writer.Writer.{Writer}
 use Rattle.stripe_answers.specs.Numbers.{StopsExhausted}
 use Rattle.cache_model.specs.Subjects.{IsOfPut}
-use Rattle.stripe_write.specs.Writers.{IsStripeWriterOf}
+use Rattle.cache_calls.specs.Actors.{IsWriterOf}
+use Rattle.cache_calls.specs.Asked.{taken_of, gathered_with, fills_fragment, next_payload, cuts_next}
+use Rattle.cache_calls.specs.Writers.{IsTaking, IsCutting, piece_cut_next, HasTaken}
+use Rattle.cache_calls.specs.Standing.{IsToldNext, IsToldWritten}
+use Rattle.stripe_write.specs.Writers.{written_as}
 
 -- ---- a writer opens
 
@@ -67,89 +71,40 @@ AbortsAsAsked s put key answer = (p : Permit) → Does p s (GiveUp put) (abort_a
 
 -- ---- a writer takes bytes
 
--- how many bytes are taken: up to the next cut
-abbrev pub taken_up_to_cut : Geometry → Writer → List ℕ → ℕ
-taken_up_to_cut g w bytes = min (length bytes) (g.fragment - length w.gathered.items)
-
--- the bytes that are gathered then
-abbrev pub gathered_behind : Writer → List ℕ → ℕ → List ℕ
-gathered_behind w bytes n = w.gathered.items ++ take n bytes
-
--- as many are gathered as a fragment has
-abbrev pub completes_fragment : Geometry → Writer → ℕ → Bool
-completes_fragment g w n = length w.gathered.items + n == g.fragment
-
--- the fragment that is cut next, behind those in the table
-abbrev pub next_id : Writer → PieceId
-next_id w = fragment_piece w.key w.put (length w.table.rows + 1)
-
 -- where that one begins in the body
 abbrev pub next_start : Writer → ℕ
 next_start w = total_length w.table.rows
 
--- these bytes are told of the fragment that is cut next, as they are placed
-abbrev pub IsToldNextInStripe : Writer → List ℕ → Contents → Type 0
-IsToldNextInStripe w payload contents = IfSome (contents (next_id w) None) (λ c. c ≡ record { start = next_start w; payload = payload })
-
 -- the bytes that stay gathered: none behind a cut
 abbrev pub left_gathered : Geometry → Writer → List ℕ → ℕ → List ℕ
-left_gathered g w bytes n = if completes_fragment g w n then [] else gathered_behind w bytes n
-
--- a writer of the same put, behind the bytes that it took
-pub record GathersAsAsked (g : Geometry) (old : Writer) (bytes : List ℕ) (n : ℕ) (new : Writer) : Type 0 where
-  pub put : new.put ≡ old.put
-  pub gathered : new.gathered.items ≡ left_gathered g old bytes n
-  pub sealed : new.sealed ≡ old.sealed
-
--- the put is open, and its writer takes bytes
-abbrev pub IsTakingInStripe : State → Writer → Type 0
-IsTakingInStripe s w = (is_writing s w.put ≡ true) × (w.sealed ≡ false)
-
--- with these bytes the next fragment has gathered, and there may be one more
-pub record IsCuttingInStripe (s : State) (w : Writer) (bytes : List ℕ) : Type 0 where
-  pub taking : IsTakingInStripe s w
-  pub few : length w.table.rows < most_fragments
-  pub full : completes_fragment s.geometry w (taken_up_to_cut s.geometry w bytes) ≡ true
+left_gathered g w bytes n = if fills_fragment g (written_as w) n then [] else gathered_with (written_as w) bytes n
 
 -- when each answer comes; a fragment more is begun only where there may be one more
 abbrev pub WritesWhere : State → Writer → List ℕ → Result ℕ Refusal → Type 0
-WritesWhere s w bytes (Ok n) = IsTakingInStripe s w × (n ≡ taken_up_to_cut s.geometry w bytes)
+WritesWhere s w bytes (Ok n) = IsTaking s (written_as w) × (n ≡ taken_of s.geometry (written_as w) bytes)
     × (0 < length bytes → length w.table.rows < most_fragments)
 WritesWhere s w bytes (Err refusal.NoSuchWriter) = is_writing s w.put ≡ false
 WritesWhere s w bytes (Err refusal.Sealed) = (is_writing s w.put ≡ true) × (w.sealed ≡ true)
-WritesWhere s w bytes (Err refusal.TooManyFragments) = IsTakingInStripe s w × (0 < length bytes) × (length w.table.rows ≡ most_fragments)
-WritesWhere s w bytes (Err (refusal.DeviceFault count)) = IsCuttingInStripe s w bytes
-WritesWhere s w bytes (Err (refusal.Exhausted number)) = IsCuttingInStripe s w bytes
-WritesWhere s w bytes (Err (refusal.Memory e)) = IsTakingInStripe s w
+WritesWhere s w bytes (Err refusal.TooManyFragments) = IsTaking s (written_as w) × (0 < length bytes) × (length w.table.rows ≡ most_fragments)
+WritesWhere s w bytes (Err (refusal.DeviceFault count)) = IsCutting s (written_as w) bytes
+WritesWhere s w bytes (Err (refusal.Exhausted number)) = IsCutting s (written_as w) bytes
+WritesWhere s w bytes (Err (refusal.Memory e)) = IsTaking s (written_as w)
 WritesWhere s w bytes (Err _) = ⊥
-
--- to cut these bytes as that fragment
-abbrev pub cuts_fragment : Writer → List ℕ → Intent
-cuts_fragment w payload = Fragment w.put (length w.table.rows + 1) payload
 
 -- the records of the next fragment, which is cut or cannot be, in any step at that moment that covers
 -- the call
 pub record CutsNextAsAsked (packed : Bool) (now : ℕ) (s : State) (before : List Call) (after : Device) (w : Writer) (payload : List ℕ) (added : List Rec) (result : Result Placed Stop) : Type 0 where
-  pub shape : IsCutOrStoppedAs packed s after.faults (next_id w) w.pin (next_start w) payload added result
-  pub does : (p : Permit) → p.packed ≡ packed → p.now ≡ now → Covers p before after.past → SpendsFirst p s (cuts_fragment w payload) added (place_end result)
-
--- the bytes that are gathered when a fragment has gathered
-abbrev pub payload_cut_next : State → Writer → List ℕ → List ℕ
-payload_cut_next s w bytes = gathered_behind w bytes (taken_up_to_cut s.geometry w bytes)
-
--- they are told of it where a write cut it
-abbrev pub IsToldWrittenInStripe : State → Writer → List ℕ → Result ℕ Refusal → Contents → Type 0
-IsToldWrittenInStripe s w bytes result contents =
-    IfOk result (λ n. completes_fragment s.geometry w n ≡ true → IsToldNextInStripe w (gathered_behind w bytes n) contents)
+  pub shape : IsCutOrStoppedAs packed s after.faults (piece_cut_next (written_as w)) w.pin (next_start w) payload added result
+  pub does : (p : Permit) → p.packed ≡ packed → p.now ≡ now → Covers p before after.past → SpendsFirst p s (cuts_next (written_as w) payload) added (place_end result)
 
 -- the next fragment is cut, where it has gathered, or cannot be; or there would be one too many
 abbrev pub WritesAs : Bool → ℕ → State → List Call → Device → Writer → List ℕ → Result ℕ Refusal → List Rec → Type 0
-WritesAs packed now s before after w bytes (Ok n) added = MatchBool (completes_fragment s.geometry w n)
-    ((placed : Placed) × CutsNextAsAsked packed now s before after w (gathered_behind w bytes n) added (Ok placed)) (added ≡ [])
+WritesAs packed now s before after w bytes (Ok n) added = MatchBool (fills_fragment s.geometry (written_as w) n)
+    ((placed : Placed) × CutsNextAsAsked packed now s before after w (gathered_with (written_as w) bytes n) added (Ok placed)) (added ≡ [])
 WritesAs packed now s before after w bytes (Err (refusal.DeviceFault count)) added =
-    CutsNextAsAsked packed now s before after w (payload_cut_next s w bytes) added (Err (stop.DeviceFault count))
+    CutsNextAsAsked packed now s before after w (next_payload s (written_as w) bytes) added (Err (stop.DeviceFault count))
 WritesAs packed now s before after w bytes (Err (refusal.Exhausted number)) added =
-    CutsNextAsAsked packed now s before after w (payload_cut_next s w bytes) added (Err (stop.Exhausted number))
+    CutsNextAsAsked packed now s before after w (next_payload s (written_as w) bytes) added (Err (stop.Exhausted number))
 WritesAs packed now s before after w bytes (Err refusal.TooManyFragments) added =
     (added ≡ rec.Aborted w.put w.key ∷ []) × ((p : Permit) → Does p s (Overflow w.put) added (Fails (ManyFragments w.put)))
 WritesAs packed now s before after w bytes (Err _) added = added ≡ []
@@ -226,7 +181,7 @@ module _ {D R C : Type 0} {d : DiskGhosts D} {r : DirectoryGhosts R} {c : Chroni
     pub adds : OnOk result (kept_in new ≡ with_records (kept_in old) (write_opened_record (state_in old) who key request response pin ∷ []))
     pub err : OnErr result (kept_in new ≡ kept_in old)
     pub does : OpensAsAsked (state_in old) who key request response pin (number_of_opened result)
-    pub writer : IfOk result (IsStripeWriterOf (state_in new))
+    pub writer : IfOk result (λ w. IsWriterOf (state_in new) (written_as w))
     pub empty : IfOk result (λ w. w.gathered.items ≡ [])
     pub unsealed : IfOk result (λ w. w.sealed ≡ false)
     pub still : (seen_in new).device ≡ (seen_in old).device
@@ -237,19 +192,19 @@ module _ {D R C : Type 0} {d : DiskGhosts D} {r : DirectoryGhosts R} {c : Chroni
     pub adds : kept_in new ≡ with_records (kept_in old) (abort_adds was.key result)
     pub aborts : AbortsWhere (state_in old) was.put result
     pub does : AbortsAsAsked (state_in old) was.put was.key result
-    pub writer : IsStripeWriterOf (state_in new) later
+    pub writer : IsWriterOf (state_in new) (written_as later)
     pub same : later ≡ was
     pub still : IsStill (seen_in old).device (seen_in new).device
 
   -- what taking these bytes comes to at a moment, for a writer that was so and is so then
   pub record WritesInStripe (packed : Bool) (now : ℕ) (old new : Stripe D R C d r c) (was later : Writer) (bytes : List ℕ)
       (result : Result ℕ Refusal) : Type 0 where
-    pub rests : RestsWith (IsToldWrittenInStripe (state_in old) was bytes result) old new
+    pub rests : RestsWith (IsToldWritten (state_in old) (written_as was) bytes result) old new
     pub writes : WritesWhere (state_in old) was bytes result
     pub number : IfErr result (StopsExhausted (state_in new) (state_in old).geometry.fragment)
     pub does : WritesAsAsked packed now (kept_in old) (kept_in new) (seen_in old).device.past (seen_in new).device was bytes result
-    pub writer : IsStripeWriterOf (state_in new) later
-    pub gathers : IfOk result (λ n. GathersAsAsked (state_in old).geometry was bytes n later)
+    pub writer : IsWriterOf (state_in new) (written_as later)
+    pub gathers : IfOk result (λ n. HasTaken (state_in old).geometry (written_as was) bytes n (written_as later))
     pub same : OnErr result (SameWriter was later)
     pub untouched : Unstopped result (IsStill (seen_in old).device (seen_in new).device)
 
@@ -259,19 +214,19 @@ module _ {D R C : Type 0} {d : DiskGhosts D} {r : DirectoryGhosts R} {c : Chroni
     pub refused : IsOverflow result
     pub adds : kept_in new ≡ with_records (kept_in old) (overflow_adds w result)
     pub does : OverflowsAsAsked (state_in old) w
-    pub writer : IsStripeWriterOf (state_in new) w
+    pub writer : IsWriterOf (state_in new) (written_as w)
     pub still : IsStill (seen_in old).device (seen_in new).device
 
   -- what cutting the fragment that has gathered comes to at a moment, for a writer that was so and is so then
   pub record CutsNextInStripe (packed : Bool) (now : ℕ) (old new : Stripe D R C d r c) (was later : Writer)
       (result : Result Placed Refusal) : Type 0 where
-    pub rests : RestsWith (λ contents. OnOk result (IsToldNextInStripe was was.gathered.items contents)) old new
+    pub rests : RestsWith (λ contents. OnOk result (IsToldNext (written_as was) was.gathered.items contents)) old new
     pub does : AnswersOrWants result
         (CutsAsAsked packed now (kept_in old) (kept_in new) (seen_in old).device.past (seen_in new).device
-        (next_id was) was.pin (next_start was) was.gathered.items)
+        (piece_cut_next (written_as was)) was.pin (next_start was) was.gathered.items)
         (kept_in new ≡ kept_in old)
     pub number : IfErr result (StopsExhausted (state_in new) (length was.gathered.items))
-    pub writer : OnOk result (IsStripeWriterOf (state_in new) later)
+    pub writer : OnOk result (IsWriterOf (state_in new) (written_as later))
     pub rest : OnOk result (SameButBytes was later)
     pub rows : OnOk result (later.table.rows ≡ was.table.rows ++ made_row (length was.gathered.items) (digest_of was.gathered.items).0 ∷ [])
     pub empty : OnOk result (later.gathered.items ≡ [])

@@ -4,9 +4,10 @@ ghost use Rattle.tape_base.specs.Digest.{digest_of};
 ghost use Rattle.cache_model.specs.Legal.{is_writing};
 ghost use Rattle.stripe_core.specs.Stripe.{IsStripe, state_in};
 ghost use Rattle.stripe_core.specs.Between.{IsResting};
-ghost use Rattle.stripe_write.specs.Writers.{HasMemoryToClose, HasOpenWriter, IsStripeWriterOf};
+ghost use Rattle.stripe_write.specs.Writers.{HasMemoryToClose, HasOpenWriter, written_as};
 ghost use Rattle.stripe_write.specs.Finishing.{AreWeighed};
 ghost use Rattle.stripe_write.specs.Closes.{ClosesWriterInStripe, EndsWriterInStripe, MakesMemoryToClose, is_sealed_by};
+ghost use Rattle.cache_calls.specs.Actors.{IsWriterOf};
 
 use crate::Writer;
 use crate::finishing::finish;
@@ -35,7 +36,7 @@ pub fn close_write<D: Disk, R: Directory + Drop, C: Chronicle>(
     now: u64,
 ) -> Result<Receipt, Refusal>
     requires resting { IsResting stripe.old }
-    requires writer { IsStripeWriterOf (state_in stripe.old) writer.old }
+    requires writer { IsWriterOf (state_in stripe.old) (written_as writer.old) }
     ensures { ClosesWriterInStripe R.purges now stripe.old stripe.new writer.old writer.new result }
 {
     if !is_open(stripe, writer.put) {

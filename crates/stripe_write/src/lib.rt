@@ -3,7 +3,6 @@
 
 mod closing;
 mod finishing;
-mod laws;
 mod removal;
 mod resting;
 mod weighing;
@@ -11,7 +10,6 @@ mod writer;
 mod writing;
 
 pub use closing::close_write;
-pub use laws::{others_stay, writers_stay};
 pub use removal::remove;
 pub use writer::Writer;
 pub use writing::{abort_write, open_write, write};

@@ -7,9 +7,11 @@ ghost use Rattle.alternate_vector.specs.Alternates.{stored_of, vector_size};
 ghost use Rattle.tape_base.specs.Digest.{digest_of};
 ghost use Rattle.cache_model.specs.State.{most_fragments};
 ghost use Rattle.stripe_core.specs.Stripe.{state_in, units_in};
-ghost use Rattle.stripe_write.specs.Writers.{HasOpenWriter};
-ghost use Rattle.stripe_write.specs.Closing.{WeighsInStripe, closing_alternate, closing_rows};
+ghost use Rattle.stripe_write.specs.Writers.{HasOpenWriter, written_as};
+ghost use Rattle.stripe_write.specs.Closing.{WeighsInStripe};
 ghost use Rattle.stripe_write.specs.Weighing.{FitsInStripe, IsOwnAlternateOf, IsSpelledAlone, IsSpelledWith, fault_in, list_in};
+ghost use Rattle.cache_calls.specs.Asked.{rows_at_close};
+ghost use Rattle.cache_calls.specs.Writers.{alternate_at_close};
 
 use crate::Writer;
 use alternate_vector::{Alternate, Vector};
@@ -122,7 +124,7 @@ fn alternate_of(g: &Geometry, writer: &Writer, rest: Digest) -> Result<Alternate
     requires rest { rest ≡ digest_of writer.now.gathered.items }
     requires few { length writer.now.gathered.items < g.now.fragment }
     requires more { 0 < length writer.now.gathered.items → length writer.now.table.rows < most_fragments }
-    ensures stored { IfOk result (λ a. stored_of a ≡ closing_alternate writer.now) }
+    ensures stored { IfOk result (λ a. stored_of a ≡ alternate_at_close (written_as writer.now)) }
     ensures length { IfOk result (λ a. a.length ≡ total_length a.table.rows) }
 {
     let table = table_of(g, writer, rest)?;
@@ -141,7 +143,7 @@ fn table_of(g: &Geometry, writer: &Writer, rest: Digest) -> Result<FragTable, Al
     requires rest { rest ≡ digest_of writer.now.gathered.items }
     requires few { length writer.now.gathered.items < g.now.fragment }
     requires more { 0 < length writer.now.gathered.items → length writer.now.table.rows < most_fragments }
-    ensures { IfOk result (λ table. table.rows ≡ closing_rows writer.now) }
+    ensures { IfOk result (λ table. table.rows ≡ rows_at_close (written_as writer.now)) }
 {
     // The length of a fragment is read for what it tells of the width of the rest.
     let _fragment = g.fragment;

@@ -6,8 +6,9 @@ ghost use Rattle.cache_model.specs.State.{most_fragments};
 ghost use Rattle.stripe_actors.specs.Calls.{HasPutNumber};
 ghost use Rattle.stripe_core.specs.Stripe.{IsStripe, state_in};
 ghost use Rattle.stripe_core.specs.Between.{IsResting};
-ghost use Rattle.stripe_write.specs.Writers.{HasOpenWriter, IsStripeWriterOf};
+ghost use Rattle.stripe_write.specs.Writers.{HasOpenWriter, written_as};
 ghost use Rattle.stripe_write.specs.Writes.{AbortsInStripe, CutsNextInStripe, IsReady, OpensInStripe, OverflowsInStripe, WritesInStripe};
+ghost use Rattle.cache_calls.specs.Actors.{IsWriterOf};
 
 use crate::Writer;
 use alternate_vector::Fields;
@@ -51,7 +52,7 @@ pub fn write<D: Disk, R: Directory + Drop, C: Chronicle>(
     now: u64,
 ) -> Result<usize, Refusal>
     requires resting { IsResting stripe.old }
-    requires writer { IsStripeWriterOf (state_in stripe.old) writer.old }
+    requires writer { IsWriterOf (state_in stripe.old) (written_as writer.old) }
     ensures { WritesInStripe R.purges now stripe.old stripe.new writer.old writer.new bytes.now
         result }
 {
@@ -76,7 +77,7 @@ pub fn abort_write<D: Disk, R: Directory + Drop, C: Chronicle>(
     writer: &mut Writer,
 ) -> Result<u64, Refusal>
     requires resting { IsResting stripe.old }
-    requires writer { IsStripeWriterOf (state_in stripe.old) writer.old }
+    requires writer { IsWriterOf (state_in stripe.old) (written_as writer.old) }
     ensures { AbortsInStripe stripe.old stripe.new writer.old writer.new result }
 {
     if !is_open(stripe, writer.put) {

@@ -7,8 +7,8 @@ use Rattle.stripe_core.specs.Stripe.{kept_in, seen_in, state_in}
 use Rattle.stripe_core.proofs.Continuing.{continues_proceeds}
 use Rattle.stripe_read.proofs.Giving.{no_piece, stop_adds, stop_goes, stop_reads}
 use Rattle.stripe_read.proofs.Staying.{leaves_open, leaves_quiet, leaves_reader, told_behind}
-use Rattle.stripe_read.specs.Nexts.{answer_noted}
 use Rattle.stripe_read.proofs.reading.stop.Goals as goal
+use Rattle.cache_calls.specs.Readers.{noted}
 
 pub returns-clause-reads : goal.returns-clause-reads
 returns-clause-reads g c = λ into.
@@ -19,7 +19,7 @@ returns-clause-reads g c = λ into.
     let answer = c.at_end-answer.result in
     let adds = c.note.ensures.adds ∙ ap (λ a. with_records k (answer_record own.reader a ∷ [])) c.noted.ensures in
     let leaves =
-    told_behind k (kept_in c.note.new.self) own.reader (answer_noted 0 answer) adds
+    told_behind k (kept_in c.note.new.self) own.reader (noted 0 answer) adds
     (no_piece s own answer c.requires.none c.at_end-answer.ensures) in
     record {
       resting = record { stripe = c.note.ensures.continues.stripe; quiet = leaves_quiet s t leaves c.requires.open.resting.quiet };

@@ -1,7 +1,6 @@
 use Rattle.std.proofs.Common.{◌<◌, Bool, Err, sym, subst, refl, inl, arith}
 use Rattle.stripe_core.specs.Stripe.{kept_in, seen_in, state_in}
 use Rattle.stripe_write.specs.declared.writer.Writer.{Writer}
-use Rattle.stripe_write.specs.Writers.{IsStripeWriterOf}
 use Rattle.stripe_write.specs.Closes.{SealsInStripeWhere}
 use Rattle.stripe_write.specs.Closing.{AreSpelled}
 use Rattle.stripe_write.proofs.Faulted.{recorded_behind, weigh_recorded}
@@ -9,9 +8,11 @@ use Rattle.stripe_write.proofs.Owning.{then_owns}
 use Rattle.stripe_write.proofs.LastSteps.{ended_leaves, ended_seals, ended_wants, ended_where, refused_closes, refused_leaves, refused_own, refused_seals, refused_where, weighed_closes}
 use Rattle.stripe_write.proofs.WeighingReads.{still_writing}
 use Rattle.stripe_core.proofs.Continuing.{rests_with}
-use Rattle.stripe_write.specs.Closes.{IsToldClosedInStripe}
 use Rattle.stripe_write.proofs.ToldPieces.{rests_behind}
 use Rattle.stripe_write.proofs.closing.close_open.Goals as goal
+use Rattle.cache_calls.specs.Actors.{IsWriterOf}
+use Rattle.cache_calls.specs.Standing.{IsToldClosed}
+use Rattle.stripe_write.specs.Writers.{written_as}
 
 pub end-requires-clause-writing : goal.end-requires-clause-writing
 end-requires-clause-writing g c = record {
@@ -43,7 +44,7 @@ returns-in-Ok g c =
     let new = kept_in c.end.new.stripe in
     let t = state_in c.end.new.stripe in
     let w = c.args.writer.now in
-    let told = IsToldClosedInStripe t w in
+    let told = IsToldClosed t (written_as w) in
     record {
       rests = rests_behind told told _ _ _ (λ contents tells h. h) c.weigh.ensures.rests c.end.ensures.rests;
       closes = ended_where (state_in c.args.stripe.now) t w c.end.result c.requires.writing.is_open c.end.ensures.ends;
@@ -79,12 +80,12 @@ returns-in-Err g c =
           refused_closes c.args.now (kept_in c.args.stripe.now) (kept_in c.weigh.new.stripe) (seen_in c.args.stripe.now).device
           (seen_in c.weigh.new.stripe).device w why weighs c.in-Err.ensures.does;
       writer =
-          subst (λ b. IsStripeWriterOf t (used w b)) (sym c.is_sealed_by-writer.ensures)
+          subst (λ b. IsWriterOf t (written_as (used w b))) (sym c.is_sealed_by-writer.ensures)
           (refused_own t s w why weighs c.weigh.ensures.writer);
       seals =
           subst (λ b. SealsInStripeWhere w (used w b) (Err why)) (sym c.is_sealed_by-writer.ensures)
           (refused_seals s w why weighs);
-      rested = inl (record { put = refl; gathered = refl; rows = refl });
+      rested = inl (record { put = refl; gathered = refl; cuts = refl });
       untouched = refused_leaves s w _ _ why weighs c.weigh.ensures.unwritten;
       counts = c.in-Err.ensures.counts;
       wanting = c.in-Err.ensures.wanting;

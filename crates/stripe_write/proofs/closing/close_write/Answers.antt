@@ -6,7 +6,6 @@ use Rattle.logged_disk.proofs.GoingOn.{stays_put}
 use Rattle.cache_answers.specs.declared.answers.Refusal.TheVariants as refusal
 use Rattle.stripe_core.specs.Stripe.{kept_in, room_for, seen_in, state_in}
 use Rattle.stripe_core.proofs.Stills.{still_shows}
-use Rattle.stripe_write.specs.Writers.{IsStripeWriterOf}
 use Rattle.stripe_answers.specs.Faults.{RefusalHasRecord}
 use Rattle.stripe_write.specs.Others.{AddsOfPut}
 use Rattle.stripe_write.proofs.Owning.{owns_none}
@@ -14,10 +13,13 @@ use Rattle.stripe_write.proofs.Gathering.{same_writer}
 use Rattle.stripe_write.proofs.LastSteps.{closes_same, closes_where_same, prepared_leaves, rested_same, seals_same, wanting_closes, wanting_map}
 use Rattle.stripe_write.proofs.Spending.{nothing_more}
 use Rattle.stripe_core.proofs.Continuing.{continues_still, rests_same, rests_with, still_resting}
-use Rattle.stripe_write.specs.Closes.{ClosesWhere, IsToldClosedInStripe}
+use Rattle.stripe_write.specs.Closes.{ClosesWhere}
 use Rattle.stripe_write.proofs.ToldClosed.{closed_same}
 use Rattle.stripe_write.proofs.ToldPieces.{rests_behind}
 use Rattle.stripe_write.proofs.closing.close_write.Goals as goal
+use Rattle.cache_calls.specs.Actors.{IsWriterOf}
+use Rattle.cache_calls.specs.Standing.{IsToldClosed}
+use Rattle.stripe_write.specs.Writers.{written_as}
 
 pub close_open-requires-clause-writing : goal.close_open-requires-clause-writing
 close_open-requires-clause-writing g c =
@@ -28,7 +30,7 @@ close_open-requires-clause-writing g c =
       resting = still_resting c.args.stripe.now _ c.make_memory.ensures.continues.stripe records c.requires.resting;
       writer =
           same_writer (state_in c.make_memory.new.stripe) w c.make_memory.new.writer same
-          (subst (λ k. IsStripeWriterOf (state_of k) w) (sym records) c.requires.writer);
+          (subst (λ k. IsWriterOf (state_of k) (written_as w)) (sym records) c.requires.writer);
       is_open =
           ap (λ n. is_writing (state_in c.make_memory.new.stripe) n) same.put
           ∙ (ap (λ (k : Kept). is_writing (state_of k) w.put) records ∙ (sym c.is_open.ensures ∙ c.if-not-is_open.false));
@@ -52,7 +54,7 @@ returns-then-not-is_open g c =
       };
       writer = c.requires.writer;
       seals = record { put = refl; key = refl; request = refl; response = refl; pin = refl; gathered = refl; rows = refl; sealed = refl };
-      rested = inl (record { put = refl; gathered = refl; rows = refl });
+      rested = inl (record { put = refl; gathered = refl; cuts = refl });
       untouched = record { goes = stays_put (seen_in c.args.stripe.now).device; past = refl; seen = λ j. refl; faults = refl };
       counts = tt;
       wanting = tt;
@@ -73,9 +75,9 @@ returns-in-Err g c =
           c.in-Err.e refl records;
       writer =
           same_writer (state_in c.make_memory.new.stripe) w c.make_memory.new.writer same
-          (subst (λ k. IsStripeWriterOf (state_of k) w) (sym records) c.requires.writer);
+          (subst (λ k. IsWriterOf (state_of k) (written_as w)) (sym records) c.requires.writer);
       seals = same;
-      rested = inl (record { put = same.put; gathered = same.gathered; rows = same.rows });
+      rested = inl (record { put = same.put; gathered = same.gathered; cuts = same.rows });
       untouched = still_shows _ _ c.make_memory.ensures.still;
       counts = tt;
       wanting = records;
@@ -94,7 +96,7 @@ returns-in-Ok g c =
     let t = state_in c.close_open.new.stripe in
     record {
       rests =
-          rests_behind (IsToldClosedInStripe t made) (IsToldClosedInStripe t w) _ _ _
+          rests_behind (IsToldClosed t (written_as made)) (IsToldClosed t (written_as w)) _ _ _
           (λ contents tells told. closed_same t w made contents same told)
           (continues_still _ _ c.make_memory.ensures.continues records c.requires.resting) c.close_open.ensures.rests;
       closes =

@@ -16,12 +16,12 @@ use Rattle.cache_model.specs.Contents.{TellsVectors}
 use Rattle.cache_model.specs.Verdict.{cuts_of}
 use Rattle.stripe_core.proofs.Continuing.{rests_with, rests_with_then}
 use Rattle.stripe_write.specs.Closing.{IsReadFor}
-use Rattle.stripe_write.specs.Closes.{IsToldClosedInStripe}
-use Rattle.stripe_write.specs.Writes.{IsToldNextInStripe}
 use Rattle.stripe_write.proofs.CutsStay.{finished_cuts}
 use Rattle.stripe_write.proofs.ToldClosed.{more_cut}
 use Rattle.stripe_write.proofs.ToldPieces.{told_same}
 use Rattle.stripe_write.proofs.closing.end.Goals as goal
+use Rattle.cache_calls.specs.Standing.{IsToldNext, IsToldClosed}
+use Rattle.stripe_write.specs.Writers.{written_as}
 
 -- the writer, once it takes no more bytes
 abbrev sealed_now : Writer → Writer
@@ -84,7 +84,7 @@ returns-in-Ok g c =
     c.cut_rest.ensures.rests.resting.stripe.none (read (told_before between last c.finish.ensures.rests.between.goes tells)) w.put in
     record {
       rests =
-          rests_with_then (IsToldClosedInStripe t w) (λ contents. 0 < length w.gathered.items → IsToldNextInStripe sealed w.gathered.items contents) TellsVectors _ _ _
+          rests_with_then (IsToldClosed t (written_as w)) (λ contents. 0 < length w.gathered.items → IsToldNext (written_as sealed) w.gathered.items contents) TellsVectors _ _ _
           (λ contents tells told. (
             λ some. told_same contents w sealed w.gathered.items refl refl refl
                 (told.rest (more_cut (state_in c.cut_rest.new.stripe) t w cut rest.put c.in-Ok.ensures.rows c.in-Ok.ensures.is_open
@@ -98,7 +98,7 @@ returns-in-Ok g c =
           c.finish.ensures.rests.between.goes c.in-Ok.ensures.does c.finish.ensures.finishes c.finish.ensures.does;
       writer = c.finish.ensures.writer;
       sealed = rest.sealed;
-      rested = inr (record { put = rest.put; empty = c.in-Ok.ensures.empty; rows = c.in-Ok.ensures.rows });
+      rested = inr (record { put = rest.put; empty = c.in-Ok.ensures.empty; cuts = c.in-Ok.ensures.rows });
       counts = c.finish.ensures.counts;
       own =
           then_owns w.put old mid new (rest_own c.args.now old mid _ _ sealed _ c.in-Ok.ensures.does)
@@ -128,7 +128,7 @@ returns-in-Err g c =
           c.requires.writing.writer c.in-Err.ensures.some c.in-Err.ensures.number c.in-Err.ensures.does;
       writer = c.cut_rest.ensures.writer;
       sealed = same.sealed;
-      rested = inl (record { put = same.put; gathered = same.gathered; rows = same.rows });
+      rested = inl (record { put = same.put; gathered = same.gathered; cuts = same.rows });
       counts = c.in-Err.ensures.counts;
       own = rest_own c.args.now old new _ _ sealed _ stopped.1;
       recorded = rest_recorded g.R.Directory.purges c.args.now old new _ after sealed why c.in-Err.ensures.does;

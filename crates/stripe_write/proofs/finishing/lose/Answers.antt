@@ -6,12 +6,13 @@ use Rattle.cache_model.specs.Verdict.{cause_of_piece}
 use Rattle.cache_model.proofs.Steps.{after_all-append}
 use Rattle.cache_answers.specs.declared.answers.Refusal.TheVariants as refusal
 use Rattle.stripe_core.specs.Stripe.{kept_in, state_in}
-use Rattle.stripe_write.specs.Writers.{IsStripeWriterOf}
 use Rattle.stripe_write.proofs.Ended.{giving_up, no_writer}
 use Rattle.std.proofs.lemmas.Grind.{common_steps}
 use Rattle.stripe_core.proofs.Continuing.{continues_rests}
 use Rattle.stripe_write.proofs.Spending.{state_behind}
 use Rattle.stripe_write.proofs.finishing.lose.Goals as goal
+use Rattle.cache_calls.specs.Actors.{IsWriterOf}
+use Rattle.stripe_write.specs.Writers.{written_as}
 
 pub give_up-requires-clause-writing : goal.give_up-requires-clause-writing
 give_up-requires-clause-writing g c =
@@ -32,7 +33,7 @@ returns g c =
       adds = c.give_up.ensures.adds;
       still = c.give_up.ensures.still;
       writer =
-          subst (λ t. IsStripeWriterOf t c.args.writer.now)
+          subst (λ t. IsWriterOf t (written_as c.args.writer.now))
           (sym (ap state_of c.give_up.ensures.adds ∙ after_all-append kept.base kept.since (rec.Aborted c.args.writer.now.put c.args.writer.now.key ∷ [])))
           (no_writer (state_in c.args.stripe.now) c.args.writer.now c.args.writer.now.key);
     }

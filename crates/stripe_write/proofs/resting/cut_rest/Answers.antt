@@ -2,12 +2,14 @@ use Rattle.std.proofs.Common.{◌≡◌, ◌<◌, [], length, refl, sym, subst, 
 use Rattle.std.proofs.lemmas.List.{nil_from_length}
 use Rattle.stripe_core.specs.Stripe.{kept_in, state_in}
 use Rattle.stripe_core.proofs.Continuing.{rests_same, rests_with}
-use Rattle.stripe_write.specs.Writers.{IsStripeWriterOf}
-use Rattle.stripe_write.specs.Writes.{IsReady, SameButBytes, SameWriter, next_id, next_start}
+use Rattle.stripe_write.specs.Writes.{IsReady, SameButBytes, SameWriter, next_start}
 use Rattle.stripe_write.proofs.Gathering.{failed_leaves, left_writer, same_as}
-use Rattle.stripe_write.proofs.LastCut.{cut_open, no_rest_rows, rest_cut, rest_none, rest_ready, rest_refused, rest_rows}
+use Rattle.stripe_write.proofs.LastCut.{cut_open, no_rest_rows, rest_cut, rest_none, rest_ready, rest_refused, cut_rest_rows}
 use Rattle.stripe_write.proofs.ToldPieces.{rests_as}
 use Rattle.stripe_write.proofs.resting.cut_rest.Goals as goal
+use Rattle.cache_calls.specs.Actors.{IsWriterOf}
+use Rattle.cache_calls.specs.Writers.{piece_cut_next}
+use Rattle.stripe_write.specs.Writers.{written_as}
 
 pub returns-then-is_empty : goal.returns-then-is_empty
 returns-then-is_empty g c =
@@ -53,7 +55,7 @@ returns-in-Ok g c =
       is_open =
           cut_open c.args.now (kept_in c.args.stripe.now) (kept_in c.cut.new.stripe) _ _ w c.cut.new.writer c.in-Ok.field-0 ready
           c.in-Ok.ensures.does c.in-Ok.ensures.rest.put;
-      rows = rest_rows w c.cut.new.writer some c.in-Ok.ensures.rows;
+      rows = cut_rest_rows w c.cut.new.writer some c.in-Ok.ensures.rows;
       empty = c.in-Ok.ensures.empty;
       rest = c.in-Ok.ensures.rest;
       same = tt;
@@ -73,9 +75,9 @@ returns-in-Err g c =
       some = some;
       number = c.in-Err.ensures.number;
       writer =
-          subst (IsStripeWriterOf (state_in c.cut.new.stripe)) (sym c.in-Err.ensures.same)
+          subst (λ w. IsWriterOf (state_in c.cut.new.stripe) (written_as w)) (sym c.in-Err.ensures.same)
           (left_writer (state_in c.args.stripe.now) (state_in c.cut.new.stripe) w
-          (failed_leaves g.R.Directory.purges c.args.now (kept_in c.args.stripe.now) (kept_in c.cut.new.stripe) _ _ (next_id w) w.pin
+          (failed_leaves g.R.Directory.purges c.args.now (kept_in c.args.stripe.now) (kept_in c.cut.new.stripe) _ _ (piece_cut_next (written_as w)) w.pin
           (next_start w) w.gathered.items c.in-Err.refusal c.in-Err.ensures.does) c.requires.writing.writer);
       is_open = tt;
       rows = tt;

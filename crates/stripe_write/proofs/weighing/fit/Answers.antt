@@ -9,19 +9,20 @@ use Rattle.cache_answers.specs.declared.answers.Refusal.{Refusal}
 use Rattle.cache_answers.specs.declared.answers.Refusal.TheVariants as refusal
 use Rattle.stripe_core.specs.Stripe.{kept_in, state_in}
 use Rattle.stripe_write.specs.declared.weighing.Vectors.{Vectors}
-use Rattle.stripe_write.specs.Closing.{closing_alternate, closing_size}
 use Rattle.stripe_write.specs.Weighing.{FitsInStripe, IsSpelledAlone, IsSpelledWith}
-use Rattle.stripe_write.specs.Writers.{IsStripeWriterOf}
 use Rattle.stripe_write.proofs.Ended.{giving_up, no_writer}
 use Rattle.stripe_write.proofs.Spending.{nothing_more, state_behind}
 use Rattle.std.proofs.lemmas.Grind.{common_steps}
 use Rattle.stripe_core.proofs.Continuing.{continues_rests, rests_same}
 use Rattle.stripe_write.proofs.weighing.fit.Goals as goal
+use Rattle.cache_calls.specs.Actors.{IsWriterOf}
+use Rattle.cache_calls.specs.Writers.{alternate_at_close, size_at_close}
+use Rattle.stripe_write.specs.Writers.{written_as}
 
 pub spell_with-requires-clause-fits : goal.spell_with-requires-clause-fits
 spell_with-requires-clause-fits g c =
     let s = state_in c.args.stripe.now in
-    let alone = subst (IsSpelledAlone s.geometry (closing_alternate c.args.writer.now)) c.in-Some.is c.requires.own.alone in
+    let alone = subst (IsSpelledAlone s.geometry (alternate_at_close (written_as c.args.writer.now))) c.in-Some.is c.requires.own.alone in
     let fits : blocks_of (vector_size (stored_of c.args.own.alternate ∷ [])) ≤ budget_of s.geometry = subst (λ (a : Stored). blocks_of (vector_size (a ∷ [])) ≤ budget_of s.geometry) (sym c.requires.own.stored) alone.0 in
     rw c.geometry.ensures fits
 
@@ -48,7 +49,7 @@ pub returns-in_ok-merged-in-Some : goal.returns-in_ok-merged-in-Some
 returns-in_ok-merged-in-Some g c =
     let t = c.args.stripe.now in
     let s = state_in t in
-    let new = closing_alternate c.args.writer.now in
+    let new = alternate_at_close (written_as c.args.writer.now) in
     let alone : IsSpelledAlone s.geometry new (Some c.in-Some.alone) = subst (IsSpelledAlone s.geometry new) c.in-Some.is c.requires.own.alone in
     record {
       rests = rests_same t c.requires.writing.resting;
@@ -70,15 +71,15 @@ pub returns-in-None : goal.returns-in-None
 returns-in-None g c =
     let s = state_in c.args.stripe.now in
     let w = c.args.writer.now in
-    let large : IsSpelledAlone s.geometry (closing_alternate w) None = subst (IsSpelledAlone s.geometry (closing_alternate w)) c.in-None.is c.requires.own.alone in
-    let size : c.size_alone-bytes.result ≡ closing_size w =
+    let large : IsSpelledAlone s.geometry (alternate_at_close (written_as w)) None = subst (IsSpelledAlone s.geometry (alternate_at_close (written_as w))) c.in-None.is c.requires.own.alone in
+    let size : c.size_alone-bytes.result ≡ size_at_close (written_as w) =
     c.size_alone-bytes.ensures ∙ ap (λ (a : Stored). vector_size (a ∷ [])) c.requires.own.stored in
     record {
       rests = continues_rests _ _ c.give_up.ensures.continues (grind (arith, common_steps));
       fits = (size, subst (λ n. budget_of s.geometry < blocks_of n) (sym size) large);
       adds = c.give_up.ensures.adds;
       writer =
-          subst (λ t. IsStripeWriterOf t w) (sym (state_behind (kept_in c.args.stripe.now) (kept_in c.give_up.new.self) (rec.Aborted w.put w.key ∷ []) c.give_up.ensures.adds))
+          subst (λ t. IsWriterOf t (written_as w)) (sym (state_behind (kept_in c.args.stripe.now) (kept_in c.give_up.new.self) (rec.Aborted w.put w.key ∷ []) c.give_up.ensures.adds))
           (no_writer s w w.key);
       same = tt;
       still = c.give_up.ensures.still;

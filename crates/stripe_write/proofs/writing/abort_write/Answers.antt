@@ -8,11 +8,12 @@ use Rattle.stripe_answers.specs.Acts.{GivesUpAsAsked}
 use Rattle.stripe_core.specs.Stripe.{kept_in, state_in}
 use Rattle.stripe_core.proofs.Continuing.{continues_further, continues_still, rests_same}
 use Rattle.stripe_core.proofs.Stills.{still_as, still_then}
-use Rattle.stripe_write.specs.Writers.{IsStripeWriterOf}
 use Rattle.stripe_write.specs.Writes.{AbortsInStripe}
 use Rattle.stripe_write.proofs.Ended.{giving_up, no_writer, over}
 use Rattle.stripe_write.proofs.Spending.{nothing_more, quiet_behind, state_behind}
 use Rattle.stripe_write.proofs.writing.abort_write.Goals as goal
+use Rattle.cache_calls.specs.Actors.{IsWriterOf}
+use Rattle.stripe_write.specs.Writers.{written_as}
 
 pub returns-then-not-is_open : goal.returns-then-not-is_open
 returns-then-not-is_open g c =
@@ -33,7 +34,7 @@ give_up-requires-clause-writing g c =
     giving_up (state_in c.prepare.new.self) c.args.writer.now
     (subst (λ k. IsQuiet (state_of k)) (sym c.prepare.ensures.records) c.requires.resting.quiet)
     (ap (λ k. is_writing (state_of k) c.args.writer.now.put) c.prepare.ensures.records ∙ (sym c.is_open.ensures ∙ c.if-not-is_open.false))
-    (subst (λ k. IsStripeWriterOf (state_of k) c.args.writer.now) (sym c.prepare.ensures.records) c.requires.writer)
+    (subst (λ k. IsWriterOf (state_of k) (written_as c.args.writer.now)) (sym c.prepare.ensures.records) c.requires.writer)
 
 pub returns-in_err-prepare : goal.returns-in_err-prepare
 returns-in_err-prepare g c =
@@ -44,7 +45,7 @@ returns-in_err-prepare g c =
       adds = c.prepare.ensures.records ∙ sym (nothing_more (kept_in c.args.stripe.now));
       aborts = sym c.is_open.ensures ∙ c.if-not-is_open.false;
       does = tt;
-      writer = subst (λ k. IsStripeWriterOf (state_of k) w) (sym c.prepare.ensures.records) c.requires.writer;
+      writer = subst (λ k. IsWriterOf (state_of k) (written_as w)) (sym c.prepare.ensures.records) c.requires.writer;
       same = refl;
       still = c.prepare.ensures.still;
     })
@@ -63,7 +64,7 @@ returns g c =
       aborts = (refl, sym c.is_open.ensures ∙ c.if-not-is_open.false);
       does = subst (λ t. GivesUpAsAsked t w.put w.key) (ap state_of c.prepare.ensures.records) c.give_up.ensures.does;
       writer =
-          subst (λ t. IsStripeWriterOf t w) (sym (state_behind prepared new recs c.give_up.ensures.adds))
+          subst (λ t. IsWriterOf t (written_as w)) (sym (state_behind prepared new recs c.give_up.ensures.adds))
           (no_writer (state_of prepared) w w.key);
       same = refl;
       still = still_then _ _ _ c.prepare.ensures.still (still_as _ _ c.give_up.ensures.still);

@@ -5,11 +5,12 @@ use Rattle.stripe_answers.specs.Acts.{write_opened_record}
 use Rattle.stripe_core.specs.Stripe.{kept_in, state_in}
 use Rattle.stripe_core.proofs.Continuing.{continues_rests, continues_still, rests_same}
 use Rattle.stripe_write.specs.declared.writer.Writer.{Writer}
-use Rattle.stripe_write.specs.Writers.{IsStripeWriterOf}
 use Rattle.stripe_write.proofs.CallsRefused.{open_refused}
 use Rattle.stripe_write.proofs.Ended.{new_writer}
 use Rattle.stripe_write.proofs.Spending.{quiet_behind, state_behind}
 use Rattle.stripe_write.proofs.writing.begin.Goals as goal
+use Rattle.cache_calls.specs.Actors.{IsWriterOf}
+use Rattle.stripe_write.specs.Writers.{written_as}
 
 pub returns-in_err-kept_request : goal.returns-in_err-kept_request
 returns-in_err-kept_request g c =
@@ -55,7 +56,7 @@ returns g c =
       err = tt;
       does = c.in_ok-put.ensures.does;
       writer =
-          subst (λ t. IsStripeWriterOf t w) (sym (state_behind old new recs c.in_ok-put.ensures.adds))
+          subst (λ t. IsWriterOf t (written_as w)) (sym (state_behind old new recs c.in_ok-put.ensures.adds))
           (new_writer s c.args.actor c.args.key c.args.request c.args.response c.args.pin w c.in_ok-put.ensures.does.0 refl
           c.in_ok-kept_request.ensures.copy c.in_ok-kept_response.ensures.copy refl c.new-2.ensures c.new.ensures.items);
       empty = c.new.ensures.items;

@@ -13,21 +13,24 @@ use Rattle.piece_answers.specs.Standing.{IsToldPlaced}
 use Rattle.stripe_core.specs.Stripe.{AnswersOrWants, kept_in, seen_in, state_in}
 use Rattle.stripe_core.proofs.Continuing.{continues_rests, continues_with_rests, rests_with}
 use Rattle.stripe_core.proofs.Stills.{wanting_unstopped}
-use Rattle.stripe_write.specs.Writes.{CutsNextInStripe, IsToldNextInStripe, next_id, next_start}
+use Rattle.stripe_write.specs.Writes.{CutsNextInStripe, next_start}
 use Rattle.stripe_write.proofs.Counted.{cut_counted}
 use Rattle.stripe_write.proofs.Cutting.{cut_quiet, cut_stops, cut_writer, cuts_behind, next_no_vector, ready_fragment, rows_behind}
 use Rattle.stripe_write.proofs.Gathering.{failed_leaves}
 use Rattle.stripe_write.proofs.Spending.{state_behind}
 use Rattle.stripe_write.proofs.ToldPieces.{continues_as, told_of_next}
 use Rattle.stripe_write.proofs.writing.cut.Goals as goal
+use Rattle.cache_calls.specs.Writers.{piece_cut_next}
+use Rattle.cache_calls.specs.Standing.{IsToldNext}
+use Rattle.stripe_write.specs.Writers.{written_as}
 
 pub place_piece-requires-clause-placing : goal.place_piece-requires-clause-placing
 place_piece-requires-clause-placing g c =
     let s = state_in c.args.stripe.now in
     let w = c.args.writer.now in
-    let here : IsPlacing s (next_id w) w.pin (next_start w) w.gathered.items =
-    subst (λ b. MatchBool b (IsVectorFor s (next_id w) (next_start w) w.gathered.items)
-    (IsFragmentOf s (next_id w) w.pin (next_start w) w.gathered.items)) (sym (next_no_vector w))
+    let here : IsPlacing s (piece_cut_next (written_as w)) w.pin (next_start w) w.gathered.items =
+    subst (λ b. MatchBool b (IsVectorFor s (piece_cut_next (written_as w)) (next_start w) w.gathered.items)
+    (IsFragmentOf s (piece_cut_next (written_as w)) w.pin (next_start w) w.gathered.items)) (sym (next_no_vector w))
     (ready_fragment s w c.requires.resting.quiet c.requires.ready
     (subst IsBytes c.deref-payload.ensures.value (λ i. omega (arith, c.type_inv.payload i)))) in
     rw (c.len.ensures.len, c.total.ensures, c.deref-payload.ensures.value) here
@@ -37,8 +40,8 @@ pub place_piece-requires-clause-spelled : goal.place_piece-requires-clause-spell
 place_piece-requires-clause-spelled g c =
     let s = state_in c.args.stripe.now in
     let w = c.args.writer.now in
-    let told : IsToldAs contents_of_vectors s (next_id w) (next_start w) w.gathered.items =
-    told_of_next contents_of_vectors s (next_id w) (next_start w) w.gathered.items (next_no_vector w) tt in
+    let told : IsToldAs contents_of_vectors s (piece_cut_next (written_as w)) (next_start w) w.gathered.items =
+    told_of_next contents_of_vectors s (piece_cut_next (written_as w)) (next_start w) w.gathered.items (next_no_vector w) tt in
     λ tells. rw (c.len.ensures.len, c.total.ensures, c.deref-payload.ensures.value) told
 
 pub returns : goal.returns
@@ -48,15 +51,15 @@ returns g c =
     let s = state_in c.args.stripe.now in
     let w = c.args.writer.now in
     let cuts : CutsAsAsked g.R.Directory.purges c.args.now old new (seen_in c.args.stripe.now).device.past
-    (seen_in c.place_piece.new.self).device (next_id w) w.pin (next_start w) w.gathered.items (Ok c.in_ok-placed.placed) =
+    (seen_in c.place_piece.new.self).device (piece_cut_next (written_as w)) w.pin (next_start w) w.gathered.items (Ok c.in_ok-placed.placed) =
     cuts_behind w c.len.result c.total.result c.deref-payload.result.now c.len.ensures.len c.total.ensures c.deref-payload.ensures.value
     g.R.Directory.purges c.args.now old new (seen_in c.args.stripe.now).device.past (seen_in c.place_piece.new.self).device
     (Ok c.in_ok-placed.placed) c.in_ok-placed.ensures.does in
     let id : PieceId = record { first = w.key; put = w.put; index = c.len.result + 1 } in
-    let told : (contents : Contents) → IsToldNextInStripe w w.gathered.items contents
+    let told : (contents : Contents) → IsToldNext (written_as w) w.gathered.items contents
     → IsToldPlaced (seen_in c.place_piece.new.self).device s id c.total.result c.deref-payload.result.now contents = λ contents next tells.
     rw (c.len.ensures.len, c.total.ensures, c.deref-payload.ensures.value)
-    (told_of_next contents s (next_id w) (next_start w) w.gathered.items (next_no_vector w) next) in
+    (told_of_next contents s (piece_cut_next (written_as w)) (next_start w) w.gathered.items (next_no_vector w) next) in
     let rows : c.push-pushed.new.self.rows ≡ w.table.rows ++ made_row (length w.gathered.items) (digest_of w.gathered.items).0 ∷ [] =
     rows_behind c.push-pushed.result c.unwrap.result w.table.rows c.push-pushed.new.self.rows c.len-size.result
     c.in_ok-placed.placed.payload w.gathered.items c.unwrap.ensures c.push-pushed.ensures.ok
@@ -65,12 +68,12 @@ returns g c =
       rests =
           continues_with_rests _ _ _ (continues_as _ _ _ _ (λ contents tells next. told contents next) c.in_ok-placed.ensures.continues)
           (subst IsQuiet (sym (state_behind old new cuts.added cuts.adds))
-          (cut_quiet s (next_id w) w.pin (next_start w) w.gathered.items cuts.added c.in_ok-placed.placed (next_no_vector w) cuts.shape
+          (cut_quiet s (piece_cut_next (written_as w)) w.pin (next_start w) w.gathered.items cuts.added c.in_ok-placed.placed (next_no_vector w) cuts.shape
           c.requires.resting.quiet));
       does = cuts;
       number = tt;
       writer =
-          cut_writer s (state_in c.place_piece.new.self) w _ cuts.added c.in_ok-placed.placed c.requires.ready cuts.shape
+          cut_writer s (state_in c.place_piece.new.self) w (record w { table = c.push-pushed.new.self; gathered = c.clear.new.self }) cuts.added c.in_ok-placed.placed c.requires.ready cuts.shape
           (state_behind old new cuts.added cuts.adds) refl refl refl refl refl refl c.clear.ensures.items rows;
       rest = record { put = refl; key = refl; request = refl; response = refl; pin = refl; sealed = refl };
       rows = rows;
@@ -92,7 +95,7 @@ returns-in_err-placed g c =
     let w = c.args.writer.now in
     let why = c.in_err-placed.field-0.0 in
     let cuts : AnswersOrWants {X = Placed} (Err why)
-    (CutsAsAsked packed c.args.now old new past device (next_id w) w.pin (next_start w) w.gathered.items)
+    (CutsAsAsked packed c.args.now old new past device (piece_cut_next (written_as w)) w.pin (next_start w) w.gathered.items)
     (new ≡ old) =
     cuts_behind w c.len.result c.total.result c.deref-payload.result.now c.len.ensures.len c.total.ensures c.deref-payload.ensures.value
     packed c.args.now old new past device (Err why) c.in_err-placed.ensures.does in
@@ -100,10 +103,10 @@ returns-in_err-placed g c =
     subst (CutsNextInStripe packed c.args.now c.args.stripe.now c.place_piece.new.self w w) (sym (refused.1 ∙ ap Err refused.2)) (record {
       rests =
           rests_with _ _ _ (continues_rests _ _ c.in_err-placed.ensures.continues
-          ((failed_leaves packed c.args.now old new past device (next_id w) w.pin (next_start w) w.gathered.items why cuts).pending
+          ((failed_leaves packed c.args.now old new past device (piece_cut_next (written_as w)) w.pin (next_start w) w.gathered.items why cuts).pending
           ∙ c.requires.resting.quiet));
       does = cuts;
-      number = cut_stops packed c.args.now old new past device (next_id w) w.pin (next_start w) w.gathered.items why cuts;
+      number = cut_stops packed c.args.now old new past device (piece_cut_next (written_as w)) w.pin (next_start w) w.gathered.items why cuts;
       writer = tt;
       rest = tt;
       rows = tt;
@@ -111,7 +114,7 @@ returns-in_err-placed g c =
       same = refl;
       untouched = wanting_unstopped (Err why) _ _ _ c.in_err-placed.ensures.does c.in_err-placed.ensures.untouched;
       counts =
-          cut_counted packed c.args.now old new past device (next_id w) w.pin (next_start w) w.gathered.items (new ≡ old) (Err why) cuts;
+          cut_counted packed c.args.now old new past device (piece_cut_next (written_as w)) w.pin (next_start w) w.gathered.items (new ≡ old) (Err why) cuts;
       memory = λ units row. c.in_err-placed.ensures.memory units (λ kind. row);
       unit = c.place_piece.ensures.unit;
     })

@@ -7,11 +7,12 @@ use Rattle.cache_model.specs.Legal.{IsQuiet, is_writing}
 use Rattle.stripe_core.specs.Stripe.{kept_in, state_in}
 use Rattle.stripe_core.proofs.Continuing.{continues_further, continues_still}
 use Rattle.stripe_core.proofs.Stills.{still_as, still_then}
-use Rattle.stripe_write.specs.Writers.{IsStripeWriterOf}
 use Rattle.stripe_write.specs.Writes.{OverflowsInStripe}
 use Rattle.stripe_write.proofs.Ended.{giving_up, no_writer, overflows}
 use Rattle.stripe_write.proofs.Spending.{nothing_more, quiet_behind, state_behind}
 use Rattle.stripe_write.proofs.writing.overflow.Goals as goal
+use Rattle.cache_calls.specs.Actors.{IsWriterOf}
+use Rattle.stripe_write.specs.Writers.{written_as}
 
 pub give_up-requires-clause-writing : goal.give_up-requires-clause-writing
 give_up-requires-clause-writing g c =
@@ -19,7 +20,7 @@ give_up-requires-clause-writing g c =
     giving_up (state_in c.prepare.new.self) c.args.writer.now
     (subst (λ k. IsQuiet (state_of k)) (sym c.prepare.ensures.records) own.resting.quiet)
     (ap (λ k. is_writing (state_of k) c.args.writer.now.put) c.prepare.ensures.records ∙ own.is_open)
-    (subst (λ k. IsStripeWriterOf (state_of k) c.args.writer.now) (sym c.prepare.ensures.records) own.writer)
+    (subst (λ k. IsWriterOf (state_of k) (written_as c.args.writer.now)) (sym c.prepare.ensures.records) own.writer)
 
 pub returns-in_err-prepare : goal.returns-in_err-prepare
 returns-in_err-prepare g c =
@@ -31,7 +32,7 @@ returns-in_err-prepare g c =
       refused = tt;
       adds = c.prepare.ensures.records ∙ sym (nothing_more (kept_in c.args.stripe.now));
       does = λ p. overflows p (state_in c.args.stripe.now) w own.resting.quiet own.is_open own.writer c.requires.full;
-      writer = subst (λ k. IsStripeWriterOf (state_of k) w) (sym c.prepare.ensures.records) own.writer;
+      writer = subst (λ k. IsWriterOf (state_of k) (written_as w)) (sym c.prepare.ensures.records) own.writer;
       still = c.prepare.ensures.still;
     })
 
@@ -50,7 +51,7 @@ returns g c =
       adds = c.give_up.ensures.adds ∙ ap (λ k. with_records k recs) c.prepare.ensures.records;
       does = λ p. overflows p (state_in c.args.stripe.now) w own.resting.quiet own.is_open own.writer c.requires.full;
       writer =
-          subst (λ t. IsStripeWriterOf t w) (sym (state_behind prepared new recs c.give_up.ensures.adds))
+          subst (λ t. IsWriterOf t (written_as w)) (sym (state_behind prepared new recs c.give_up.ensures.adds))
           (no_writer (state_of prepared) w w.key);
       still = still_then _ _ _ c.prepare.ensures.still (still_as _ _ c.give_up.ensures.still);
     }

@@ -9,12 +9,16 @@ use Rattle.stripe_core.proofs.Continuing.{continues_still, rests_with, still_res
 use Rattle.stripe_core.proofs.Stills.{still_then, unstopped_map}
 use Rattle.stripe_write.specs.declared.writer.Writer.{Writer}
 use Rattle.stripe_answers.specs.Numbers.{StopsExhausted}
-use Rattle.stripe_write.specs.Writers.{IsStripeWriterOf}
-use Rattle.stripe_write.specs.Writes.{IsToldNextInStripe, IsToldWrittenInStripe, SameWriter, completes_fragment, gathered_behind, next_id, next_start, taken_up_to_cut}
+use Rattle.stripe_write.specs.Writes.{SameWriter, next_start}
 use Rattle.stripe_write.proofs.CallsRefused.{write_wanting}
 use Rattle.stripe_write.proofs.Gathering.{SameButGathered, back, cut_now, failed_leaves, few_gathered, gathered_length, is_ready, left_cut, left_more, left_writer, more_writer, not_cut, refused_where, same_as, same_writer, taken_back, writes_cut, writes_few, writes_refused}
 use Rattle.stripe_write.proofs.ToldPieces.{rests_behind, told_same}
 use Rattle.stripe_write.proofs.writing.take.Goals as goal
+use Rattle.cache_calls.specs.Actors.{IsWriterOf}
+use Rattle.cache_calls.specs.Asked.{taken_of, gathered_with, fills_fragment}
+use Rattle.cache_calls.specs.Writers.{piece_cut_next}
+use Rattle.cache_calls.specs.Standing.{IsToldNext, IsToldWritten}
+use Rattle.stripe_write.specs.Writers.{written_as}
 
 pub overflow_sub-room : goal.overflow_sub-room
 overflow_sub-room g c =
@@ -73,7 +77,7 @@ returns-then-taken-room g c =
     ap length c.in_ok-extend_from_slice.ensures.items ∙ gathered_length w c.args.bytes.now n (omega (arith, c.min-taken.ensures)) in
     let less : length c.extend_from_slice.new.self.items < s.geometry.fragment =
     omega (arith, size, few, fragment, c.len-before.ensures, c.if-taken-room.true) in
-    let short : completes_fragment s.geometry w n ≡ false =
+    let short : fills_fragment s.geometry (written_as w) n ≡ false =
     not_cut s.geometry w n (omega (arith, few, fragment, c.len-before.ensures, c.if-taken-room.true)) in
     record {
       rests = rests_with _ _ _ (continues_still _ _ c.prepare.ensures.continues c.prepare.ensures.records c.requires.writing.resting);
@@ -87,10 +91,10 @@ returns-then-taken-room g c =
           writes_few c.args.now (kept_in c.args.stripe.now) (kept_in c.prepare.new.self) _ _ w c.args.bytes.now n
           c.prepare.ensures.records short;
       writer =
-          more_writer (state_in c.prepare.new.self) w _
+          more_writer (state_in c.prepare.new.self) w (record w { table = c.reserve.new.self; gathered = c.extend_from_slice.new.self })
           (record { put = refl; key = refl; request = refl; response = refl; pin = refl; rows = c.reserve.ensures.rows; sealed = refl })
           c.requires.unsealed c.requires.few (rw (ap state_of c.prepare.ensures.records) less)
-          (subst (λ k. IsStripeWriterOf (state_of k) w) (sym c.prepare.ensures.records) c.requires.writing.writer);
+          (subst (λ k. IsWriterOf (state_of k) (written_as w)) (sym c.prepare.ensures.records) c.requires.writing.writer);
       gathers = record {
         put = refl;
         gathered = c.in_ok-extend_from_slice.ensures.items ∙ sym (left_more s.geometry w c.args.bytes.now n short);
@@ -117,7 +121,7 @@ cut-requires-clause-ready g c =
     omega (arith, size, few, fragment, c.len-before.ensures, c.min-taken.ensures, c.if-taken-room.false) in
     is_ready (state_in c.prepare.new.self) w _
     (ap (λ k. is_writing (state_of k) w.put) c.prepare.ensures.records ∙ c.requires.writing.is_open) c.requires.unsealed
-    (subst (λ k. IsStripeWriterOf (state_of k) w) (sym c.prepare.ensures.records) c.requires.writing.writer)
+    (subst (λ k. IsWriterOf (state_of k) (written_as w)) (sym c.prepare.ensures.records) c.requires.writing.writer)
     (record { put = refl; key = refl; request = refl; response = refl; pin = refl; rows = c.reserve.ensures.rows; sealed = refl })
     c.requires.few (rw (ap state_of c.prepare.ensures.records) whole) c.in_ok-reserve.ensures.room
 
@@ -138,14 +142,14 @@ returns-in-Ok g c =
       table = c.reserve.new.self;
       sealed = w.sealed;
     } in
-    let cuts : completes_fragment s.geometry w n ≡ true =
+    let cuts : fills_fragment s.geometry (written_as w) n ≡ true =
     cut_now s.geometry w n (omega (arith, few, fragment, c.len-before.ensures, c.min-taken.ensures, c.if-taken-room.false)) in
     record {
       rests =
-          rests_behind (IsToldNextInStripe held held.gathered.items) (IsToldWrittenInStripe s w c.args.bytes.now (Ok n)) _ _ _
+          rests_behind (IsToldNext (written_as held) held.gathered.items) (IsToldWritten s (written_as w) c.args.bytes.now (Ok n)) _ _ _
           (λ contents tells told.
-          subst (λ bytes. IsToldNextInStripe held bytes contents) (sym c.in_ok-extend_from_slice.ensures.items)
-          (told_same contents w held (gathered_behind w c.args.bytes.now n) refl refl c.reserve.ensures.rows (told cuts)))
+          subst (λ bytes. IsToldNext (written_as held) bytes contents) (sym c.in_ok-extend_from_slice.ensures.items)
+          (told_same contents w held (gathered_with (written_as w) c.args.bytes.now n) refl refl c.reserve.ensures.rows (told cuts)))
           (continues_still _ _ c.prepare.ensures.continues c.prepare.ensures.records c.requires.writing.resting) c.in-Ok.ensures.rests;
       writes = (
         (c.requires.writing.is_open, c.requires.unsealed),
@@ -201,7 +205,7 @@ returns-in-Err g c =
     ap length c.in_ok-extend_from_slice.ensures.items ∙ gathered_length w c.args.bytes.now n (omega (arith, c.min-taken.ensures)) in
     let whole : length c.extend_from_slice.new.self.items ≡ s.geometry.fragment =
     omega (arith, size, few, fragment, c.len-before.ensures, c.min-taken.ensures, c.if-taken-room.false) in
-    let taken : n ≡ taken_up_to_cut s.geometry w c.args.bytes.now = omega (arith, fragment, c.len-before.ensures, c.min-taken.ensures) in
+    let taken : n ≡ taken_of s.geometry (written_as w) c.args.bytes.now = omega (arith, fragment, c.len-before.ensures, c.min-taken.ensures) in
     let first : SameButGathered w held =
     record { put = refl; key = refl; request = refl; response = refl; pin = refl; rows = c.reserve.ensures.rows; sealed = refl } in
     let is : turned ≡ held = c.in-Err.ensures.same in
@@ -227,20 +231,20 @@ returns-in-Err g c =
             taking = (c.requires.writing.is_open, c.requires.unsealed);
             few = c.requires.few;
             full =
-                cut_now s.geometry w (taken_up_to_cut s.geometry w c.args.bytes.now)
+                cut_now s.geometry w (taken_of s.geometry (written_as w) c.args.bytes.now)
                 (omega (arith, few, fragment, c.len-before.ensures, c.min-taken.ensures, c.if-taken-room.false));
           });
       number = subst (λ k. StopsExhausted (state_in c.cut.new.stripe) k c.in-Err.refusal) whole c.in-Err.ensures.number;
       does =
           writes_refused c.args.now (kept_in c.args.stripe.now) (kept_in c.prepare.new.self) (kept_in c.cut.new.stripe) _ _ _ w held
           c.args.bytes.now c.in-Err.refusal c.prepare.ensures.records c.prepare.ensures.still.past first
-          (c.in_ok-extend_from_slice.ensures.items ∙ ap (gathered_behind w c.args.bytes.now) taken) c.in-Err.ensures.does;
+          (c.in_ok-extend_from_slice.ensures.items ∙ ap (gathered_with (written_as w) c.args.bytes.now) taken) c.in-Err.ensures.does;
       writer =
           left_writer (state_in c.prepare.new.self) (state_in c.cut.new.stripe) later
-          (failed_leaves g.R.Directory.purges c.args.now (kept_in c.prepare.new.self) (kept_in c.cut.new.stripe) _ _ (next_id held)
+          (failed_leaves g.R.Directory.purges c.args.now (kept_in c.prepare.new.self) (kept_in c.cut.new.stripe) _ _ (piece_cut_next (written_as held))
           held.pin (next_start held) held.gathered.items c.in-Err.refusal c.in-Err.ensures.does)
           (same_writer (state_in c.prepare.new.self) w later same
-          (subst (λ k. IsStripeWriterOf (state_of k) w) (sym c.prepare.ensures.records) c.requires.writing.writer));
+          (subst (λ k. IsWriterOf (state_of k) (written_as w)) (sym c.prepare.ensures.records) c.requires.writing.writer));
       gathers = tt;
       same = same;
       untouched = unstopped_map r _ _ (still_then _ _ _ c.prepare.ensures.still) c.in-Err.ensures.untouched;

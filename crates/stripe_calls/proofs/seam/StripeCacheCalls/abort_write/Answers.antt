@@ -1,11 +1,7 @@
-use Rattle.stripe_core.specs.Stripe.{kept_in, seen_in, state_in}
+use Rattle.stripe_core.specs.Stripe.{kept_in, seen_in}
 use Rattle.stripe_calls.proofs.Openings.{abort_gives, abort_owns, abort_serves}
 use Rattle.stripe_calls.proofs.Resting.{cache_keeps}
-use Rattle.stripe_calls.proofs.Words.{writer_as, writer_is}
 use Rattle.stripe_calls.proofs.seam.StripeCacheCalls.abort_write.Goals as goal
-
-pub abort_write-requires-clause-writer : goal.abort_write-requires-clause-writer
-abort_write-requires-clause-writer g c = writer_is (state_in c.args.self.now.stripe) c.args.writer.now c.requires.writer
 
 pub returns-clause-serves : goal.returns-clause-serves
 returns-clause-serves g c = λ now.
@@ -26,7 +22,7 @@ returns-clause-own g c =
     c.args.writer.now c.abort_write.result c.abort_write.ensures.adds c.abort_write.ensures.aborts
 
 pub returns-clause-writer : goal.returns-clause-writer
-returns-clause-writer g c = writer_as (state_in c.abort_write.new.stripe) c.abort_write.new.writer c.abort_write.ensures.writer
+returns-clause-writer g c = c.abort_write.ensures.writer
 
 pub returns-clause-keeps : goal.returns-clause-keeps
 returns-clause-keeps g c = cache_keeps _ _ c.abort_write.ensures.rests

@@ -1,13 +1,9 @@
-use Rattle.stripe_core.specs.Stripe.{kept_in, seen_in, state_in}
+use Rattle.stripe_core.specs.Stripe.{kept_in, seen_in}
 use Rattle.stripe_read.proofs.Owning.{owns_close}
+use Rattle.stripe_calls.specs.Seen.{at_of_stripe}
 use Rattle.stripe_calls.proofs.Looking.{close_reader_gives, close_reader_serves}
 use Rattle.stripe_calls.proofs.Resting.{cache_keeps}
-use Rattle.stripe_calls.proofs.Words.{reader_adds, reader_is}
 use Rattle.stripe_calls.proofs.seam.StripeCacheCalls.close_read.Goals as goal
-
-pub close_read-requires : goal.close_read-requires
-close_read-requires g c =
-    record { resting = c.requires.holds; reader = reader_is (state_in c.args.self.now.stripe) c.args.reader c.requires.reader }
 
 pub returns-clause-serves : goal.returns-clause-serves
 returns-clause-serves g c = λ now.
@@ -23,10 +19,8 @@ returns-clause-gives g c =
 
 pub returns-clause-own : goal.returns-clause-own
 returns-clause-own g c =
-    reader_adds c.args.reader.reader
-    (owns_close (kept_in c.args.self.now.stripe) (kept_in c.close_read.new.stripe) c.args.reader c.close_read.result
-    c.close_read.ensures.adds
-    c.close_read.ensures.err)
+    owns_close (at_of_stripe c.args.self.now.stripe) (at_of_stripe c.close_read.new.stripe) c.args.reader.reader c.close_read.result
+    c.close_read.ensures.adds c.close_read.ensures.err
 
 pub returns-clause-stands : goal.returns-clause-stands
 returns-clause-stands g c = c.close_read.ensures.rests.contents

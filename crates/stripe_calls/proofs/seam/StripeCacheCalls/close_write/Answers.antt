@@ -1,13 +1,10 @@
 use Rattle.std.proofs.Common.{refl, sym, ◌∙◌}
 use Rattle.stripe_core.specs.Stripe.{kept_in, seen_in, state_in}
 use Rattle.cache_calls.proofs.Keeping.{keeps_still}
-use Rattle.stripe_calls.proofs.Closing.{close_gives, close_serves, nothing_closed, not_open_serves, none_added, told_closed, writer_closes, writer_stays}
+use Rattle.stripe_calls.proofs.Closing.{close_gives, close_serves, nothing_closed, not_open_serves, none_added, writer_closes, writer_stays}
 use Rattle.stripe_calls.proofs.Resting.{cache_keeps}
-use Rattle.stripe_calls.proofs.Words.{put_adds, writer_is}
+use Rattle.stripe_calls.proofs.Words.{put_adds}
 use Rattle.stripe_calls.proofs.seam.StripeCacheCalls.close_write.Goals as goal
-
-pub close_write-requires-clause-writer : goal.close_write-requires-clause-writer
-close_write-requires-clause-writer g c = writer_is (state_in c.args.self.now.stripe) c.args.writer.now c.requires.writer
 
 pub returns-then-not-is_open-clause-serves : goal.returns-then-not-is_open-clause-serves
 returns-then-not-is_open-clause-serves g c =
@@ -24,7 +21,7 @@ returns-then-not-is_open-clause-own g c = none_added _ _
 pub returns-then-not-is_open-clause-writer : goal.returns-then-not-is_open-clause-writer
 returns-then-not-is_open-clause-writer g c =
     let s = state_in c.args.self.now.stripe in
-    writer_stays s c.args.writer.now (writer_is s c.args.writer.now c.requires.writer)
+    writer_stays s c.args.writer.now c.requires.writer
 
 pub returns-then-not-is_open-clause-keeps : goal.returns-then-not-is_open-clause-keeps
 returns-then-not-is_open-clause-keeps g c = keeps_still c.args.self.now c.requires.holds
@@ -34,7 +31,7 @@ returns-clause-serves g c =
     close_serves g.R.Directory.purges (kept_in c.args.self.now.stripe) (kept_in c.close_write.new.stripe)
     (seen_in c.args.self.now.stripe).device (seen_in c.close_write.new.stripe).device
     c.args.now c.args.writer.now c.close_write.ensures.rests.between.accounted c.close_write.result
-    (writer_is (state_in c.args.self.now.stripe) c.args.writer.now c.requires.writer) (sym c.is_open.ensures ∙ c.if-not-is_open.false)
+    c.requires.writer (sym c.is_open.ensures ∙ c.if-not-is_open.false)
     c.close_write.ensures.closes c.close_write.ensures.does
 
 pub returns-clause-gives : goal.returns-clause-gives
@@ -45,8 +42,7 @@ returns-clause-gives g c =
     c.close_write.ensures.recorded
 
 pub returns-clause-stands : goal.returns-clause-stands
-returns-clause-stands g c = λ contents told stands.
-    c.close_write.ensures.rests.contents contents (told_closed (state_in c.close_write.new.stripe) c.args.writer.now contents told) stands
+returns-clause-stands g c = c.close_write.ensures.rests.contents
 
 pub returns-clause-own : goal.returns-clause-own
 returns-clause-own g c = put_adds c.args.writer.now.put c.close_write.ensures.own

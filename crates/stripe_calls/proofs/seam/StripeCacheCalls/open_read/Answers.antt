@@ -1,8 +1,8 @@
-use Rattle.stripe_core.specs.Stripe.{kept_in, seen_in, state_in}
+use Rattle.stripe_core.specs.Stripe.{kept_in, seen_in}
 use Rattle.stripe_read.proofs.Owning.{owns_open}
+use Rattle.stripe_calls.specs.Seen.{at_of_stripe}
 use Rattle.stripe_calls.proofs.Looking.{look_gives, look_serves}
 use Rattle.stripe_calls.proofs.Resting.{cache_keeps}
-use Rattle.stripe_calls.proofs.Words.{reader_adds}
 use Rattle.stripe_calls.proofs.seam.StripeCacheCalls.open_read.Goals as goal
 
 pub returns-clause-serves : goal.returns-clause-serves
@@ -19,9 +19,8 @@ returns-clause-gives g c =
 
 pub returns-clause-own : goal.returns-clause-own
 returns-clause-own g c =
-    reader_adds (state_in c.args.self.now.stripe).next_reader
-    (owns_open (kept_in c.args.self.now.stripe) (kept_in c.open_read.new.stripe) c.args.actor c.args.key c.args.request
-    c.open_read.result c.open_read.ensures.adds c.open_read.ensures.err)
+    owns_open (at_of_stripe c.args.self.now.stripe) (at_of_stripe c.open_read.new.stripe) c.args.actor c.args.key c.args.request
+    c.open_read.result c.open_read.ensures.adds c.open_read.ensures.err
 
 pub returns-clause-stands : goal.returns-clause-stands
 returns-clause-stands g c = c.open_read.ensures.rests.contents

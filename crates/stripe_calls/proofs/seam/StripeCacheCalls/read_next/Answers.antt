@@ -1,13 +1,10 @@
 use Rattle.stripe_core.specs.Stripe.{kept_in, seen_in, state_in}
-use Rattle.stripe_read.proofs.Owning.{owns_read_or_none}
+use Rattle.stripe_read.specs.Readers.{reading_as}
+use Rattle.stripe_read.proofs.Owning.{owns_read}
+use Rattle.stripe_calls.specs.Seen.{at_of_stripe}
 use Rattle.stripe_calls.proofs.Reading.{next_exact, next_gives, next_goes, next_serves, next_unharmed}
 use Rattle.stripe_calls.proofs.Resting.{cache_goes}
-use Rattle.stripe_calls.proofs.Words.{reader_adds, reader_is}
 use Rattle.stripe_calls.proofs.seam.StripeCacheCalls.read_next.Goals as goal
-
-pub read_next-requires-clause-open : goal.read_next-requires-clause-open
-read_next-requires-clause-open g c =
-    record { resting = c.requires.holds; reader = reader_is (state_in c.args.self.now.stripe) c.args.reader.now c.requires.reader }
 
 pub returns-clause-serves : goal.returns-clause-serves
 returns-clause-serves g c = λ now.
@@ -38,10 +35,8 @@ returns-clause-unharmed g c =
 
 pub returns-clause-own : goal.returns-clause-own
 returns-clause-own g c =
-    reader_adds c.args.reader.now.reader
-    (owns_read_or_none (kept_in c.args.self.now.stripe) (kept_in c.read_next.new.stripe) c.args.reader.now c.read_next.result
-    c.read_next.ensures.adds
-    c.read_next.ensures.err)
+    owns_read (at_of_stripe c.args.self.now.stripe) (at_of_stripe c.read_next.new.stripe) (reading_as c.args.reader.now) c.read_next.result
+    c.read_next.ensures.adds c.read_next.ensures.err
 
 pub returns-clause-stands : goal.returns-clause-stands
 returns-clause-stands g c = c.read_next.ensures.proceeds.contents

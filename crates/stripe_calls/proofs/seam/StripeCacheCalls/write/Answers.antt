@@ -1,11 +1,7 @@
 use Rattle.stripe_core.specs.Stripe.{kept_in, seen_in, state_in}
-use Rattle.stripe_calls.proofs.Feeding.{told_written, write_gives, write_goes, write_owns, write_serves}
+use Rattle.stripe_calls.proofs.Feeding.{write_gives, write_goes, write_owns, write_serves}
 use Rattle.stripe_calls.proofs.Resting.{cache_keeps}
-use Rattle.stripe_calls.proofs.Words.{writer_is}
 use Rattle.stripe_calls.proofs.seam.StripeCacheCalls.write.Goals as goal
-
-pub write-requires-clause-writer : goal.write-requires-clause-writer
-write-requires-clause-writer g c = writer_is (state_in c.args.self.now.stripe) c.args.writer.now c.requires.writer
 
 pub returns-clause-serves : goal.returns-clause-serves
 returns-clause-serves g c =
@@ -20,9 +16,7 @@ returns-clause-gives g c =
     c.args.writer.now c.args.now c.args.bytes.now c.write.result c.write.ensures.writes c.write.ensures.number c.write.ensures.does
 
 pub returns-clause-stands : goal.returns-clause-stands
-returns-clause-stands g c =
-    λ contents told stands. c.write.ensures.rests.contents contents
-    (told_written (state_in c.args.self.now.stripe) c.args.writer.now c.args.bytes.now c.write.result contents told) stands
+returns-clause-stands g c = c.write.ensures.rests.contents
 
 pub returns-clause-own : goal.returns-clause-own
 returns-clause-own g c =
