@@ -1,28 +1,27 @@
 // What no clause says: streams and devices that fail, and when an answer is out.
-ghost use Rattle.std.specs.Prelude.{◌≡◌, true, false};
+ghost use Rattle.std.specs.Prelude.{◌≡◌, ℕ, ◌≤◌, List, true, false};
 ghost use Rattle.std.proofs.Props.{props};
 ghost use Rattle.device_log.specs.Image.{blank};
+ghost use Rattle.device_log.specs.Calls.{Flipped, PowerCut, Told};
+ghost use Rattle.device_log.specs.Calls as calls;
 ghost use Rattle.device_log.specs.DeviceLog.{calls_of};
 ghost use Rattle.device_log.specs.Faults.{faults_of, obeys_switch};
 ghost use Rattle.device_log.proofs.ReadLaws.{reads_are_prop};
-ghost use Rattle.logged_disk.specs.Device.{IsTrusted};
-ghost use Rattle.logged_disk.specs.FileTrust.{file_trust, seen_is_trusted, trusted_reads};
+ghost use Rattle.logged_disk.specs.Device.{Adds, CutLeaves, IsHonest, IsTrusted, Keeps, seen};
+ghost use Rattle.logged_disk.specs.Honest.{CutsAreHonest, cuts_are_prop};
+ghost use Rattle.logged_disk.specs.FileTrust.{file_trust, seen_is_trusted, trusted_reads, none_is_honest};
 ghost use Rattle.logged_disk.specs.MemDisk.{mem_state};
 ghost use Rattle.device_bay.specs.Register.{IsRegister};
 
 use cache_top::cache_main;
 use device_bay::{Bay, BayFault, MemBay, OWN_BLOCKS, Register};
-use device_log::DeviceLog;
+use device_log::{CutChoice, DeviceLog};
 use edge_io::{Failed, MemSink, MemSource, Sink, Source};
 use logged_disk::{BLOCK_BYTES, Disk, MemDisk, PowerDisk};
 use run_promise::Status;
 use std::alloc::{AllocError, Global};
 use std::cell::Cell;
 use std::test::Fail;
-
-const SMALL: &str = "format mem:a 1 64 64 8 16 4 7\n";
-
-const FORMATTED: &str = "formatted serial 1 cursor 64 floor 8\n";
 
 /// The status of a run.
 fn status_of<S: Source, K: Sink, B: Bay>(
@@ -152,11 +151,10 @@ fn each_answer_is_out_before_the_next_line_is_read(rt: HostRuntime) -> Result<()
     Ok(())
 }
 
-/// A device in memory that may give another first byte than was written: it is trusted while its reads agree with its log.
+/// A device that fails calls as one of memory does which was told to before it was attached. It has no switch of its own.
 #[derive(Drop)]
 struct Faulty {
     memory: MemDisk,
-    flips: bool,
     log: DeviceLog,
     ghost counted: { (mem_state memory).faults ≡ faults_of (calls_of log) },
 }
@@ -183,9 +181,6 @@ impl Disk for Faulty {
     fn read(&mut self, block: u64, into: &mut [u8]) -> Result<(), Failed> {
         match self.memory.read(block, into) {
             Ok(()) => {
-                if self.flips {
-                    into[0] ^= 1;
-                }
                 self.log.read(block, into);
                 Ok(())
             }
@@ -238,24 +233,50 @@ impl Disk for Faulty {
     ghost tells = { λ disk seen. seen_is_trusted blank (calls_of disk.log) seen };
 
     ghost switched = { λ disk. asks_none (IsTrusted (record (mem_state disk.memory) { trust = file_trust blank (calls_of disk.log); has_switch = false; past = calls_of disk.log })) };
+
+    ghost honest = { λ disk. none_is_honest blank (calls_of disk.log) (CutsAreHonest true blank (calls_of disk.log)) };
+
+    ghost unturned = { λ disk has none. asks_none (IsHonest (record (mem_state disk.memory) { trust = file_trust blank (calls_of disk.log); has_switch = false; past = calls_of disk.log })) has };
 }
 
-/// A bay of such devices, whose call of this number fails, or none for 0.
-#[derive(Drop)]
-struct FaultyBay {
-    flips: bool,
-    nth: u64,
-    register: Register<Faulty>,
-    ghost is_register: { IsRegister (λ disk. record (mem_state disk.memory) { trust = file_trust blank (calls_of disk.log); has_switch = false; past = calls_of disk.log }) register } by { Prim.hlevel (props, reads_are_prop) },
-}
+// Whatever its switch is told is noted alone.
+#[tactic(auto, using(logged_disk::proofs::FileLemmas::file_trust_falls), unfolding(device_log::specs::Faults::faults_of))]
+impl PowerDisk for Faulty {
+    fn has_switch(&self) -> bool {
+        false
+    }
 
-impl FaultyBay {
-    fn new(flips: bool, nth: u64) -> FaultyBay {
-        FaultyBay {
-            flips,
-            nth,
-            register: Register::new(),
-        }
+    fn cut(&mut self, choice: CutChoice)
+        ensures keeps { Keeps 1 0 (record (mem_state self.old.memory) { trust = file_trust blank (calls_of self.old.log); has_switch = false; past = calls_of self.old.log }) (record (mem_state self.new.memory) { trust = file_trust blank (calls_of self.new.log); has_switch = false; past = calls_of self.new.log }) }
+        ensures logs { (left : List ℕ)
+            × Adds (PowerCut choice left) (record (mem_state self.old.memory) { trust = file_trust blank (calls_of self.old.log); has_switch = false; past = calls_of self.old.log }) (record (mem_state self.new.memory) { trust = file_trust blank (calls_of self.new.log); has_switch = false; past = calls_of self.new.log }) }
+        ensures leaves { IsHonest (record (mem_state self.new.memory) { trust = file_trust blank (calls_of self.new.log); has_switch = false; past = calls_of self.new.log })
+            → CutLeaves (record (mem_state self.old.memory) { trust = file_trust blank (calls_of self.old.log); has_switch = false; past = calls_of self.old.log }) (seen (record (mem_state self.new.memory) { trust = file_trust blank (calls_of self.new.log); has_switch = false; past = calls_of self.new.log })) }
+    {
+        self.log.cut_in_memory(choice, 0);
+    }
+
+    fn fail(&mut self, nth: u64)
+        ensures keeps { Keeps 1 0 (record (mem_state self.old.memory) { trust = file_trust blank (calls_of self.old.log); has_switch = false; past = calls_of self.old.log }) (record (mem_state self.new.memory) { trust = file_trust blank (calls_of self.new.log); has_switch = false; past = calls_of self.new.log }) }
+        ensures logs { Adds (Told (calls.Fail nth)) (record (mem_state self.old.memory) { trust = file_trust blank (calls_of self.old.log); has_switch = false; past = calls_of self.old.log }) (record (mem_state self.new.memory) { trust = file_trust blank (calls_of self.new.log); has_switch = false; past = calls_of self.new.log }) }
+    {
+        self.log.told_fail(nth);
+    }
+
+    fn stop_after(&mut self, passed: u64)
+        ensures keeps { Keeps 1 0 (record (mem_state self.old.memory) { trust = file_trust blank (calls_of self.old.log); has_switch = false; past = calls_of self.old.log }) (record (mem_state self.new.memory) { trust = file_trust blank (calls_of self.new.log); has_switch = false; past = calls_of self.new.log }) }
+        ensures logs { Adds (Told (calls.StopAfter passed)) (record (mem_state self.old.memory) { trust = file_trust blank (calls_of self.old.log); has_switch = false; past = calls_of self.old.log }) (record (mem_state self.new.memory) { trust = file_trust blank (calls_of self.new.log); has_switch = false; past = calls_of self.new.log }) }
+    {
+        self.log.told_stop(passed);
+    }
+
+    #[tactic(auto, using(logged_disk::proofs::FileLemmas::file_trust_falls), unfolding(device_log::specs::Faults::faults_of, logged_disk::specs::FileTrust::file_trust))]
+    fn flip(&mut self, block: u64, byte: u32)
+        ensures keeps { Keeps 1 1 (record (mem_state self.old.memory) { trust = file_trust blank (calls_of self.old.log); has_switch = false; past = calls_of self.old.log }) (record (mem_state self.new.memory) { trust = file_trust blank (calls_of self.new.log); has_switch = false; past = calls_of self.new.log }) }
+        ensures logs { Adds (Flipped block byte) (record (mem_state self.old.memory) { trust = file_trust blank (calls_of self.old.log); has_switch = false; past = calls_of self.old.log }) (record (mem_state self.new.memory) { trust = file_trust blank (calls_of self.new.log); has_switch = false; past = calls_of self.new.log }) }
+        ensures trust { (record (mem_state self.new.memory) { trust = file_trust blank (calls_of self.new.log); has_switch = false; past = calls_of self.new.log }).trust ≤ 1 }
+    {
+        self.log.flipped(block, u64::from(byte));
     }
 }
 
@@ -274,8 +295,16 @@ fn armed(alloc: Global, number: u64, blocks: u64, nth: u64) -> MemDisk
     memory
 }
 
+/// A bay of devices in memory, each of which fails its call of this number.
+#[derive(Drop)]
+struct FailingBay {
+    nth: u64,
+    register: Register<Faulty>,
+    ghost is_register: { IsRegister (λ disk. record (mem_state disk.memory) { trust = file_trust blank (calls_of disk.log); has_switch = false; past = calls_of disk.log }) register } by { Prim.hlevel (props, reads_are_prop, cuts_are_prop) },
+}
+
 #[tactic(auto, unfolding(device_log::specs::Faults::faults_of))]
-impl Bay for FaultyBay {
+impl Bay for FailingBay {
     ghost use Rattle.device_bay.specs.Register.{calls_in};
 
     type Dev = Faulty;
@@ -288,7 +317,6 @@ impl Bay for FaultyBay {
         self.register.gave(name, blocks);
         Ok(Faulty {
             memory,
-            flips: self.flips,
             log: DeviceLog::new(),
         })
     }
@@ -304,191 +332,25 @@ impl Bay for FaultyBay {
     ghost is_log = { λ bay. bay.is_register.is_log };
 }
 
-/// A script over devices that give other bytes, or of which the call of this number fails, and its answers, both in parts.
-#[derive(Drop)]
-struct Row {
-    name: &'static str,
-    flips: bool,
-    nth: u64,
-    script: &'static [&'static str],
-    answers: &'static [&'static str],
-}
-
-fn join(alloc: Global, parts: &[&str]) -> Result<Vec<u8>, AllocError> {
-    let mut joined = Vec::new(alloc);
-    for part in parts {
-        joined.extend_from_slice(part.as_bytes())?;
-    }
-    Ok(joined)
-}
-
-/// Whether a run over such devices comes to its end, with these answers.
-fn is_answered(alloc: Global, row: &Row) -> Result<bool, AllocError> {
-    let mut source = MemSource::new(join(alloc, row.script)?, Vec::new(alloc));
-    let mut sink = MemSink::new(alloc, 4096)?;
-    let mut bay = FaultyBay::new(row.flips, row.nth);
-    let status = status_of(alloc, &mut source, &mut sink, &mut bay)?;
-    let answers = join(alloc, row.answers)?;
-    Ok(status == Status::Done && sink.taken() == answers.as_slice())
-}
-
-const SHORT: &str = "put /a 61\nflush\n";
-
-const SHORT_ANSWERS: &str = "put 1 length 1 fragments 1\nflushed 2 cursor 66 floor 10\n";
-
-// A small object that is pinned, in the first buffer.
-const PINNED: &str = "open-write w /a 100\ndata w 61\nclose w\nput /f 20*78\n";
-
-const PINNED_ANSWERS: &str =
-    "writer 1\ntook 1\nput 1 length 1 fragments 1\nput 2 length 20 fragments 5\n";
-
-// Buffers up to the end of the lap, and one more, with which the cursor passes the first one.
-const ROUND: &str =
-    "put /f 28*78\nput /f 28*78\nput /f 28*78\nput /f 28*78\nput /f 28*78\nput /f 28*78\nput /f 28*78\nput /f 28*78\n";
-
-const ROUND_BUT_ONE_ANSWERS: &str =
-    "put 3 length 28 fragments 7\nput 4 length 28 fragments 7\nput 5 length 28 fragments 7\nput 6 length 28 fragments 7\nput 7 length 28 fragments 7\nput 8 length 28 fragments 7\nput 9 length 28 fragments 7\n";
-
-// The digests are those of the documents, and of these with another first byte, by hashlib. The eighth
-// flush of a round reads both pinned pieces, of which the reader is due the fragment too, and copies
-// neither: the last buffer has the eight pieces of the last put alone.
-const OTHER_BYTES: [Row; 3] = [
-    Row {
-        name: "other bytes",
-        flips: true,
-        nth: 0,
-        script: &[SMALL, SHORT, "get /a\nput /b 62\n"],
-        answers: &[
-            FORMATTED,
-            SHORT_ANSWERS,
-            "miss damaged 65 b0d35252d031487b964d1c5dee54fa184dfdd27734c955621b03495db2cc3452 ec180fa01e0f4a0e025e550fee9cbc94fd4895b7b0831a82fe470eeacdcb80e3\n",
-            "put 2 length 1 fragments 1\n",
-        ],
-    },
-    Row {
-        name: "for a copy",
-        flips: true,
-        nth: 0,
-        script: &[SMALL, PINNED, ROUND, "get /a\nflush\n"],
-        answers: &[
-            FORMATTED,
-            PINNED_ANSWERS,
-            ROUND_BUT_ONE_ANSWERS,
-            "put 10 length 28 fragments 7\n",
-            "miss damaged 65 4905c4e40f5df1ca0444566e524e7a5c898a7cc42360c5329da574bbe857c3f1 8f054ff56761af18e512aab72c7f73890bcc102005d264df6d5b5700bc40f337\n",
-            "flushed 8 cursor 136 floor 80\n",
-        ],
-    },
-    Row {
-        name: "for a copy that a reader is due",
-        flips: true,
-        nth: 0,
-        script: &[SMALL, PINNED, "open-read r /a\n", ROUND, "next r\nflush\n"],
-        answers: &[
-            FORMATTED,
-            PINNED_ANSWERS,
-            "hit 1 length 1\n",
-            ROUND_BUT_ONE_ANSWERS,
-            "put 10 length 28 fragments 7\n",
-            "broken damaged 64 709281884c7de710731f2663eafb10333ab7cf74a1c2455392801fef6a3e40ea 8effd235588f84f3e843ba3663d52b399789026a9fd34b491540457c5a3ade59\n",
-            "flushed 8 cursor 136 floor 80\n",
-        ],
-    },
-];
-
-#[test]
-fn other_bytes_than_were_put_are_damage_from_then_on(rt: HostRuntime) -> Result<(), Fail> {
-    for row in &OTHER_BYTES {
-        assert!(rt; is_answered(rt.alloc(), row)?, "{}", row.name);
-    }
-    Ok(())
-}
-
-// A format makes seven calls. In a round seven buffers are written, and as many vectors read; then both
-// pieces are read, and the eighth buffer is written.
-const FAULTS: [Row; 5] = [
-    Row {
-        name: "the first write",
-        flips: false,
-        nth: 8,
-        script: &[SMALL, SHORT, "flush\nget /a\n"],
-        answers: &[
-            FORMATTED,
-            "put 1 length 1 fragments 1\ndevice-fault 1\n",
-            "flushed 2 cursor 66 floor 10\ngot 1 length 1 61\n",
-        ],
-    },
-    Row {
-        name: "the first read",
-        flips: false,
-        nth: 9,
-        script: &[SMALL, SHORT, "flush\nget /a\n"],
-        answers: &[
-            FORMATTED,
-            SHORT_ANSWERS,
-            "flushed 0 cursor 66 floor 10\ndevice-fault 1\n",
-        ],
-    },
-    Row {
-        name: "a read of a fragment for a copy",
-        flips: false,
-        nth: 22,
-        script: &[SMALL, PINNED, ROUND, "get /a\n"],
-        answers: &[
-            FORMATTED,
-            PINNED_ANSWERS,
-            ROUND_BUT_ONE_ANSWERS,
-            "put 10 length 28 fragments 7\nbroken passed 64 80 unsaved\n",
-        ],
-    },
-    Row {
-        name: "a read of a vector for a copy",
-        flips: false,
-        nth: 23,
-        script: &[SMALL, PINNED, ROUND, "get /a\n"],
-        answers: &[
-            FORMATTED,
-            PINNED_ANSWERS,
-            ROUND_BUT_ONE_ANSWERS,
-            "put 10 length 28 fragments 7\nmiss passed 65 80 unsaved\n",
-        ],
-    },
-    Row {
-        name: "the write behind the copies",
-        flips: false,
-        nth: 24,
-        script: &[SMALL, PINNED, ROUND, "get /a\n"],
-        answers: &[
-            FORMATTED,
-            PINNED_ANSWERS,
-            ROUND_BUT_ONE_ANSWERS,
-            "device-fault 1\ngot 1 length 1 61\n",
-        ],
-    },
-];
-
-#[test]
-fn a_call_that_fails_is_answered_and_a_copy_that_it_was_for_is_unsaved(
-    rt: HostRuntime,
-) -> Result<(), Fail> {
-    for row in &FAULTS {
-        assert!(rt; is_answered(rt.alloc(), row)?, "{}", row.name);
-    }
-    Ok(())
-}
-
 // The count is told, no session stands, and the run goes on.
 #[test]
 fn a_call_of_a_format_that_fails_leaves_no_session(rt: HostRuntime) -> Result<(), Fail> {
     for nth in 1..=7 {
-        let row = Row {
-            name: "a call of a format",
-            flips: false,
+        let script = b"format mem:a 1 64 64 8 16 4 7\nnow 7\n".to_vec(rt.alloc())?;
+        let mut source = MemSource::new(script, Vec::new(rt.alloc()));
+        let mut sink = MemSink::new(rt.alloc(), 99)?;
+        let mut bay = FailingBay {
             nth,
-            script: &[SMALL, "now 7\n"],
-            answers: &["device-fault 1\nnow 7\n"],
+            register: Register::new(),
         };
-        assert!(rt; is_answered(rt.alloc(), &row)?, "call {}", nth);
+        let status = status_of(rt.alloc(), &mut source, &mut sink, &mut bay)?;
+        assert_eq!(rt; status, Status::Done, "call {}", nth);
+        assert_eq!(rt;
+            sink.taken(),
+            b"device-fault 1\nnow 7\n".as_slice(),
+            "call {}",
+            nth
+        );
     }
     Ok(())
 }
