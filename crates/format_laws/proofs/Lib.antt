@@ -1,3 +1,3 @@
-mod Telling
-mod Standing
-mod Opening
+pub mod Telling
+pub mod Standing
+pub mod Opening

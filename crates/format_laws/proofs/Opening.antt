@@ -21,6 +21,7 @@ use Rattle.dir_table.specs.Wrap.{stored_from}
 use Rattle.dir_sync.specs.Moments.{IsOpen, IsShut}
 use Rattle.dir_sync.proofs.Stages.{shut_as}
 use Rattle.stripe_copies.specs.Format.{IsEmptyImage, first_state}
+use Rattle.stripe_copies.proofs.Copy.{body_length}
 use Rattle.cache_model.specs.declared.findings.FoundRow.{FoundRow}
 use Rattle.cache_model.specs.State.{mark_of_format, mark_of_opening}
 use Rattle.reopening.specs.Newest.{IsBeaten, body_at, bound_of, copy_at, directory_at, newest_of, unless_fault}
@@ -35,10 +36,10 @@ use Rattle.reopening.proofs.Whole.{image_is_sound, opens_newest}
 use Rattle.reopening.proofs.Winning.{copy_shut, wins}
 use Rattle.format_laws.specs.Laid.{FormattedIsGuarded, FormattedOpensNow, IsAreaLaidOut, behind_format, first_copy}
 use Rattle.format_laws.proofs.Telling.{span_length, span_tells}
-use Rattle.format_laws.proofs.Standing.{body_length, body_seen, directory_seen, first_open, formatted, none_pending, second_is_shut, span_seen}
+use Rattle.format_laws.proofs.Standing.{body_seen, directory_seen, first_open, formatted, none_pending, second_is_shut, span_seen}
 
 -- a stripe whose second lap begins may say so
-first_says : (g : Geometry) → IsTrue (may_say g (first_state g))
+pub first_says : (g : Geometry) → IsTrue (may_say g (first_state g))
 first_says g =
     let fits = g.accepted in
     rw (
@@ -156,7 +157,7 @@ module _ (a : Area) (settled : Bool) (first : Image) (old : List Call) (image : 
       (taken_up a image c blocks empty is)
 
 -- the calls of a format were made
-made : (a : Area) (old new : Device) (first : Image) (is : IsAreaLaidOut a old new)
+pub made : (a : Area) (old new : Device) (first : Image) (is : IsAreaLaidOut a old new)
     → new.past ≡ formatted first (span_bytes 2 (numbers_of a.geometry) (stripe_blocks a))
     (copy_bytes 2 (numbers_of a.geometry) (first_state a.geometry) is.laid.first.image) old.past
 made a old new first is =

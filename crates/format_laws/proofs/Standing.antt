@@ -1,7 +1,7 @@
 -- What is seen behind the calls of a format: the span, a gate that is open and one that is shut, and the first copy.
-use Rattle.std.proofs.Common.{◌≡◌, ◌≢◌, ◌<◌, ◌+◌, ◌*◌, ◌/◌, ◌%◌, ℕ, Bool, false, List, ◌∷◌, ◌++◌, length, take, drop, slice_index, refl, sym, ap, ◌∙◌, append_assoc, length-append, arith}
+use Rattle.std.proofs.Common.{◌≡◌, ◌≢◌, ◌<◌, ◌+◌, ◌*◌, ◌/◌, ◌%◌, ℕ, Bool, false, List, ◌∷◌, ◌++◌, length, take, drop, slice_index, refl, sym, ap, ◌∙◌, append_assoc, arith}
 use Rattle.std.proofs.lemmas.List.{take_at, drop_at}
-use Rattle.sha2.specs.Sha256.{sha256, digest_bytes}
+use Rattle.sha2.specs.Sha256.{sha256}
 use Rattle.device_log.specs.Image.{Image, IsImage, span}
 use Rattle.device_log.specs.Calls.{Call, Wrote, Synced}
 use Rattle.device_log.specs.Seen.{is_pending, seen_of}
@@ -86,23 +86,6 @@ module _ (first : Image) (told body : List ℕ) (old : List Call) where
       ∙ (ap (span (seen_of first written) 3) blocks ∙ wrote_puts first spanned 3 body whole)
 
 -- ---- the parts of a body
-
-foot_length : (serial : ℕ) (bytes : List ℕ) → length (foot_bytes serial (sha256 bytes)) ≡ 512
-unfolding foot_bytes sha256 digest_bytes
-foot_length serial bytes = refl
-
-pub body_length : (n : Numbers) (s : CopyState) (directory : List ℕ) (d : ℕ) → length directory ≡ 512 * d
-    → length (copy_bytes 2 n s directory) ≡ 512 * (d + 2)
-body_length n s directory d size =
-    let front = covered_bytes 2 n s directory in
-    omega (
-      arith,
-      size,
-      length-append front (foot_bytes s.serial (sha256 front)),
-      length-append (head_bytes 2 n s) directory,
-      length-head 2 n s,
-      foot_length s.serial front,
-    )
 
 inner : (x y z : List ℕ) (n : ℕ) → length x ≡ 512 → length y ≡ n → take n (drop 512 (x ++ (y ++ z))) ≡ y
 inner x y z n front size = ap (take n) (drop_at x (y ++ z) 512 front) ∙ take_at y z n size

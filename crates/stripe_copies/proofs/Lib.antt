@@ -1,2 +1,3 @@
 mod Going
-mod Copy
+pub mod Copy
+pub mod Calls

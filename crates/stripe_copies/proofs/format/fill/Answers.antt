@@ -1,4 +1,4 @@
-use Rattle.std.proofs.Common.{◌≡◌, ℕ, ◌*◌, ◌+◌, ◌-◌, List, length, take, drop, sym, ◌∙◌, ap, arith}
+use Rattle.std.proofs.Common.{◌≡◌, ℕ, ◌*◌, ◌-◌, List, length, take, drop, ◌∙◌, ap, arith}
 use Rattle.std.proofs.lemmas.List.{length-drop}
 use borrow.Rule.Slice.PartMut.{put_mid}
 use Rattle.edge_io.proofs.Ranges.{behind_put}

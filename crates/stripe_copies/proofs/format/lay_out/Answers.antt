@@ -1,6 +1,5 @@
-use Rattle.std.proofs.Common.{◌≡◌, ◌∙◌, refl, sym, ap, subst, arith}
+use Rattle.std.proofs.Common.{◌∙◌, refl, sym, subst, arith}
 use Rattle.device_log.specs.Along.{Stopped, Went}
-use Rattle.device_log.specs.Faults.{faults_of}
 use Rattle.logged_disk.proofs.GoingOn.{goes_by_none, goes_further, stays_put}
 use Rattle.std.specs.List.{AllByRecursion}
 use Rattle.stripe_copies.specs.Format.{IsFirstBody, format_calls}
