@@ -13,3 +13,5 @@ mod stripes;
 mod syncing;
 #[cfg(test)]
 mod trials;
+#[cfg(test)]
+mod wholes;

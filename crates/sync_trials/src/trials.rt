@@ -52,7 +52,7 @@ fn lay_copies(disk: &mut MemDisk, stripe: &Stripe, side: Side) -> Result<(), All
 }
 
 // All calls behind so many fail.
-fn stop_behind(disk: &mut MemDisk, calls: u64) -> Result<(), AllocError>
+pub fn stop_behind(disk: &mut MemDisk, calls: u64) -> Result<(), AllocError>
     ensures size { (mem_state disk.new).size ≡ (mem_state disk.old).size }
 {
     disk.make_room(1, 0)?;
@@ -61,7 +61,7 @@ fn stop_behind(disk: &mut MemDisk, calls: u64) -> Result<(), AllocError>
 }
 
 // The nth call from now on fails.
-fn fail_at(disk: &mut MemDisk, nth: u64) -> Result<(), AllocError>
+pub fn fail_at(disk: &mut MemDisk, nth: u64) -> Result<(), AllocError>
     requires { 0 < nth }
     ensures size { (mem_state disk.new).size ≡ (mem_state disk.old).size }
 {

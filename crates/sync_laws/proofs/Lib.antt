@@ -1,0 +1,11 @@
+mod Beside
+mod Watching
+mod Carrying
+mod Content
+mod Laying
+mod Naming
+mod ToCome
+mod Phases
+mod Whole
+mod Syncs
+mod First
