@@ -14,14 +14,14 @@ use Rattle.script_grammar.specs.declared.line.LineAnswer.TheVariants as line
 use Rattle.script_grammar.specs.declared.step.Step.{Step}
 use Rattle.script_grammar.specs.declared.answer.StepAnswer.{StepAnswer}
 use Rattle.script_grammar.specs.Grammar.{reading_of}
-use Rattle.script_run.specs.Run.{Harm, Run, fresh}
+use Rattle.script_run.specs.Run.{Harm, Run, at_hand, fresh}
 use Rattle.script_run.specs.Turn.{Turn, calls_in}
 use Rattle.script_run.specs.Asked.{asked}
 use Rattle.script_run.specs.Behind.{after_line, after_reading, harm_in, harm_of, harm_of_format, harms_of}
 use Rattle.script_run.specs.Takes.{IsRun, ReadingTakes, SessionTakes, run_after}
 use Rattle.script_run.specs.Losses.{NoLossIsAFault}
 use Rattle.script_run.specs.Ledger.{GoesOnFrom}
-use Rattle.script_run.specs.Goes.{StepGoes, begins, begins_session, fails, stays, waits, works}
+use Rattle.script_run.specs.Goes.{StepGoes, begins, begins_session, cuts_off, fails, stays, tells_bare, waits, works}
 use Rattle.script_run.proofs.Lift.{goes, states_keep}
 use Rattle.script_run.proofs.Losses.{formats_lose_none, losses_stay}
 use Rattle.script_laws.specs.Damages.{DamageStays}
@@ -43,11 +43,20 @@ session_length ended calls h o s e =
     subst (λ (x : Option State). length (ended ++ h ∷ []) ≡ length (ended ++ harm_of calls x)) (sym e)
     (omega (arith, length-append ended (h ∷ []), length-append ended (harm_in calls s ∷ [])))
 
+-- whatever calls its device made
+calls_length : (ended : List Harm) (calls others : List Call) (o : Option State) → length (ended ++ harm_of calls o) ≡ length (ended ++ harm_of others o)
+calls_length ended calls others None = refl
+calls_length ended calls others (Some s) = omega (arith, length-append ended (harm_in calls s ∷ []), length-append ended (harm_in others s ∷ []))
+
 step_length : (run : Run) (turn : Turn) {st : Step} {said : StepAnswer} {after : Run} → StepGoes run turn st said after → length (harms_of after) ≡ length (harms_of run) + begun_in (line.Step st)
 step_length run turn {st = st} (stays bad same none) = begun_none _ _ (begins_session st) same refl
 step_length run turn {st = st} (waits at same none) = begun_none _ _ (begins_session st) same refl
 step_length run turn {st = st} (works s same e takes) =
-    begun_none _ _ (begins_session st) same (session_length run.ended run.calls (harm_in (calls_in turn ++ run.calls) (after_all s turn.added)) run.state s e)
+    begun_none _ _ (begins_session st) same (session_length run.ended run.calls (harm_in (calls_in turn ++ run.calls) (after_all s turn.added)) (at_hand run.state run.last) s (ap (λ (x : Option State). at_hand x run.last) e))
+step_length run turn (cuts_off choice s e cut) =
+    begun_none _ _ false refl (session_length run.ended run.calls (harm_in (calls_in turn ++ run.calls) s) (at_hand run.state run.last) s (ap (λ (x : Option State). at_hand x run.last) e))
+step_length run turn {st = st} (tells_bare t same e last takes only) =
+    begun_none _ _ (begins_session st) same (calls_length run.ended (calls_in turn ++ run.calls) run.calls (at_hand run.state run.last))
 step_length run turn {st = st} (begins name g begun is) = begun_one (harms_of run) (harm_in turn.device.events (after_all nothing_yet turn.added)) (begins_session st) begun
 step_length run turn {st = st} (fails name count begun is refuses) =
     ap length (append-nil (harms_of run ++ harm_of_format turn.device.events count ∷ []))
@@ -116,12 +125,22 @@ module _ (law : DamageStays) (ds : List Device) where
     unharmed = λ tells. false_from_ne_true (has_damage s) (λ e. no_truth (sym (law turn.device s (asked run s st) turn.added turn.refused takes.legal e) ∙ h.unharmed tells));
   }
 
+  -- before the calls of a turn the same was told
+  calls_seen : (run : Run) (turn : Turn) (o : Option State) → AreSeen (run.ended ++ harm_of (calls_in turn ++ run.calls) o) ds → AreSeen (run.ended ++ harm_of run.calls o) ds
+  calls_seen run turn None h = h
+  calls_seen run turn (Some s) h =
+      last_seen run.ended (harm_in (calls_in turn ++ run.calls) s) (harm_in run.calls s) ds
+      (λ d seen. record { calls = goes_on run.calls (calls_in turn ++ run.calls) d.past (record { later = calls_in turn; is = refl }) seen.calls; unharmed = seen.unharmed }) h
+
   goes_seen : (run : Run) (turn : Turn) {st : Step} {said : StepAnswer} {after : Run} → StepGoes run turn st said after → AreSeen (harms_of after) ds → AreSeen (harms_of run) ds
   goes_seen run turn (stays bad same none) h = h
   goes_seen run turn (waits at same none) h = h
   goes_seen run turn {st = st} (works s same e takes) h =
-      subst (λ (x : Option State). AreSeen (run.ended ++ harm_of run.calls x) ds) (sym e)
+      subst (λ (x : Option State). AreSeen (run.ended ++ harm_of run.calls (at_hand x run.last)) ds) (sym e)
       (last_seen run.ended (harm_in (calls_in turn ++ run.calls) (after_all s turn.added)) (harm_in run.calls s) ds (session_seen run s turn st takes) h)
+  goes_seen run turn (cuts_off choice s e cut) h =
+      subst (λ (x : Option State). AreSeen (run.ended ++ harm_of run.calls (at_hand x run.last)) ds) (sym e) (calls_seen run turn (Some s) h)
+  goes_seen run turn (tells_bare t same e last takes only) h = calls_seen run turn (at_hand run.state run.last) h
   goes_seen run turn (begins name g same is) h = front_seen (harms_of run) (harm_in turn.device.events (after_all nothing_yet turn.added) ∷ []) ds h
   goes_seen run turn (fails name count same is refuses) h =
       front_seen (harms_of run) (harm_of_format turn.device.events count ∷ []) ds (front_seen (harms_of run ++ harm_of_format turn.device.events count ∷ []) [] ds h)

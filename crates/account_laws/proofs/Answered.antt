@@ -30,7 +30,7 @@ use Rattle.script_run.specs.Turn.{Turn}
 use Rattle.script_run.specs.Answers.{cause_of_lost, feed_said, if_has as has_said, put_said, refusal_said, remove_said, said, session_said, step_answer, took_of}
 use Rattle.script_run.specs.Behind.{after_line, after_step}
 use Rattle.script_run.specs.Takes.{IsRun, LineTakes, ReadingTakes, run_after}
-use Rattle.script_run.specs.Goes.{StepGoes, begins, fails, stays, waits, works}
+use Rattle.script_run.specs.Goes.{StepGoes, begins, cuts_off, fails, stays, tells_bare, waits, works}
 use Rattle.script_run.proofs.Lift.{goes}
 use Rattle.script_run.proofs.Ended.{IsNotOpen}
 use Rattle.script_run.proofs.Listed.{is_among}
@@ -104,6 +104,8 @@ module _ (told : Rec) (ends : SaysEnd told) where
   session_ends run turn (works s same e takes) answered next among = record { s = s; session = same; state = e; takes = takes; said = answered; next = next }
   session_ends run turn (begins name g same is) answered next among = absurd (format_ends_none g (subst (IsAmong told) is among))
   session_ends run turn (fails name count same is refuses) answered next among = absurd (fault_ends_none count (subst (IsAmong told) is among))
+  session_ends run turn (cuts_off choice s e cut) answered next among = absurd (subst (IsAmong told) cut.only.added among)
+  session_ends run turn (tells_bare t same e last takes only) answered next among = absurd (subst (IsAmong told) only.added among)
 
   module _ {l : RunLogs} (a : Account l) (lines : List (List ℕ)) (r : RecordsBehind a lines told) where
     abbrev pub Before : Run
@@ -242,6 +244,7 @@ asks_none run s (step.Now moment) = inr tt
 asks_none run s (step.Fail nth) = inr tt
 asks_none run s (step.StopAfter calls) = inr tt
 asks_none run s (step.Flip place byte) = inr tt
+asks_none run s (step.Cut choice) = inr tt
 
 -- ---- a removal
 
@@ -445,6 +448,7 @@ module _ (run : Run) (s : State) (turn : Turn) (none : (w : PutRow) → put_of s
   puts_of (step.Fail nth) legal = absurd (nothing_asked legal)
   puts_of (step.StopAfter calls) legal = absurd (nothing_asked legal)
   puts_of (step.Flip place byte) legal = absurd (nothing_asked legal)
+  puts_of (step.Cut choice) legal = absurd (nothing_asked legal)
 
 -- ---- completed
 

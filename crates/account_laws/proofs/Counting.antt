@@ -73,6 +73,7 @@ module _ (l : RunLogs) (lines : List (List ℕ)) (device : Device) where
   step_counts o (step.Fail nth) said is come at begun = switch_counts answer.Armed said refl is.fixed
   step_counts o (step.StopAfter calls) said is come at begun = switch_counts answer.Armed said refl is.fixed
   step_counts o (step.Flip place byte) said is come at begun = switch_counts answer.Flipped said refl is.fixed
+  step_counts o (step.Cut choice) said is come at begun = switch_counts answer.Cut said refl is.fixed
   step_counts o _ said is come at begun = session_counts o.ended o.session (count_in said) (is.session tt) come at begun
 
 pub counts_are_reached : (l : RunLogs) (a : Account l) (lines : List (List ℕ)) (asks : Step) (said : StepAnswer) (device : Device) → RunAnswers a lines asks said → IsDeviceOf l lines asks device

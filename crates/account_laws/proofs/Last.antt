@@ -15,7 +15,7 @@ use Rattle.script_run.specs.Run.{Run, fresh}
 use Rattle.script_run.specs.Turn.{Turn}
 use Rattle.script_run.specs.Behind.{after_line, after_reading}
 use Rattle.script_run.specs.Takes.{IsRun, ReadingTakes, run_after}
-use Rattle.script_run.specs.Goes.{StepGoes, begins, begins_session, fails, stays, waits, works}
+use Rattle.script_run.specs.Goes.{StepGoes, begins, begins_session, cuts_off, fails, stays, tells_bare, waits, works}
 use Rattle.script_run.proofs.Lift.{goes}
 use Rattle.script_laws.proofs.Groups.{IsKept}
 use Rattle.script_laws.proofs.Walking.{walked}
@@ -94,6 +94,8 @@ module _ (Holds : State → Type 0) (Tells Undoes : Rec → Type 0) where
     by_step run turn (works s same e takes) h = (by_added run turn s e (in_records turn.device s turn.added (walked takes.legal.grows).kept h), same)
     by_step run turn (begins name g same is) h = absurd (formats g (subst (λ recs. Holds (after_all nothing_yet recs)) is h))
     by_step run turn (fails name count same is refuses) h = absurd h
+    by_step run turn (cuts_off choice s e cut) h = absurd h
+    by_step run turn (tells_bare t same e last takes only) h = absurd (subst HoldsIn e h)
 
     by_reading : (run : Run) (turn : Turn) (l : LineAnswer) → ReadingTakes run turn l → HoldsIn (after_reading run turn l).state → ByTurn run turn × KeepsSession l
     by_reading run turn (line.Step st) takes h = by_step run turn (goes run turn st takes) h

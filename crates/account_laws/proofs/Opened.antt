@@ -1,6 +1,6 @@
 -- The reader that an actor has reads the put with which a line opened it, and was given no more than is cut.
 use Rattle.std.proofs.Common.{◌≡◌, ℕ, List, [], ◌∷◌, ◌++◌, refl, sym, ◌∙◌, ap, subst}
-use Rattle.std.specs.Prelude.{Option, Some}
+use Rattle.std.specs.Prelude.{Option, Some, is_some}
 use Rattle.cache_model.specs.State.{State, ReaderRow, after_all, reader_of}
 use Rattle.cache_model.specs.Legal.{IsQuiet}
 use Rattle.cache_model.proofs.Found.{same_some}
@@ -92,9 +92,10 @@ module _ (laws : OfReaders) (lines : List (List ℕ)) (turns : List Turn) (name 
   stays_open s u state found =
       let n : ℕ = o.s.next_reader in
       let after : Run = run_after Opened o.later o.rest in
+      let last : after.state ≡ Some s = subst (λ (run : Run). run.state ≡ Some s) o.ends state in
       let all : RunGoes n Begins Opened.streams after (given_to n Opened o.later o.rest) =
-      run_goes laws.steps n o.later o.rest Opened Begins state_opened o.goes along.0 stands.1 (reader_begun Opened Begins n o.r stands.0 o.opens.found) in
-      let same : all.t ≡ s = same_some all.t s after.state all.state (subst (λ (run : Run). run.state ≡ Some s) o.ends state) in
+      run_goes laws.steps n o.later o.rest Opened Begins state_opened o.goes along.0 stands.1 (reader_begun Opened Begins n o.r stands.0 o.opens.found) (ap is_some last) in
+      let same : all.t ≡ s = same_some all.t s after.state all.state last in
       let there : reader_of all.t n ≡ Some u = subst (λ k. reader_of all.t k ≡ Some u) (sym o.number) (subst (λ (x : State). reader_of x number ≡ Some u) (sym same) found) in
       let g = all.goes u there in
       let first : g.r ≡ o.r = same_some g.r o.r (reader_of Begins n) g.found first_open.found in

@@ -1,10 +1,12 @@
 -- What the answers of lines tell of devices.
 use Rattle.std.proofs.Common.{◌≡◌, ℕ, ◌+◌, List, [], ◌∷◌, ◌++◌, length, refl, ◌∙◌, arith, length-append, ◌<◌, sym, ap, subst, append-nil, inl, inr, ◌⊎◌}
-use Rattle.std.specs.Prelude.{Bool, Option, Some, None, map, option_map, if◌then◌else◌, is_none}
+use Rattle.std.specs.Prelude.{Bool, false, IsSome, Option, Some, None, map, option_map, if◌then◌else◌, is_none}
 use Rattle.device_log.specs.Calls.{Call}
 use Rattle.tape_base.specs.declared.geometries.BadGeometry.{BadGeometry}
 use Rattle.tape_base.specs.Limits.{first_refusal}
 use Rattle.cache_model.specs.State.{State}
+use Rattle.device_log.specs.declared.choice.CutChoice.{CutChoice}
+use Rattle.cache_model.proofs.Found.{no_truth}
 use Rattle.script_grammar.specs.declared.line.LineAnswer.{LineAnswer}
 use Rattle.script_grammar.specs.declared.line.LineAnswer.TheVariants as line
 use Rattle.script_grammar.specs.declared.step.Step.{Step}
@@ -12,15 +14,17 @@ use Rattle.script_grammar.specs.declared.step.Step.TheVariants as step
 use Rattle.script_grammar.specs.declared.answer.StepAnswer.{StepAnswer}
 use Rattle.script_grammar.specs.declared.answer.StepAnswer.TheVariants as answer
 use Rattle.script_grammar.specs.Grammar.{reading_of}
-use Rattle.script_run.specs.Run.{Harm, Run, fresh, loosened, no_harm}
+use Rattle.script_run.specs.Run.{Harm, Run, fresh, loosened, no_harm, at_hand}
 use Rattle.script_run.specs.Turn.{Turn, calls_in}
-use Rattle.script_run.specs.Behind.{harm_in, harm_of, harms_of}
+use Rattle.script_run.specs.Behind.{harm_in, harm_of, harms_of, own_harm, with_calls_of}
 use Rattle.script_run.specs.Takes.{run_after}
-use Rattle.run_promise.specs.Outline.{Outline, all_told, begun, begun_by, count_in, doubted, outline_in, raised, told_of, with_calls_of, with_told_count, IsAnswered, IsFormatAnswer, attached, has_switch_in, outline_after, switch_told, switched, with_told_switch}
+use Rattle.run_promise.specs.Outline.{Outline, all_told, begun, blank_outline, begun_by, count_in, doubted, outline_in, raised, told_of, with_told_count, IsAnswered, IsFormatAnswer, attached, has_switch_in, outline_after, switch_told, switched, with_told_switch}
 use Rattle.run_promise.specs.Lines.{AreAnswered, IsReadAs, outline_of, outline_read}
 use Rattle.run_promise.specs.Story.{ShownAlong, DevicesTold, all_in}
 use Rattle.headline.specs.Account.{ComeBackFrom, RunLogs, begun_in, doubted_harms, sessions_begun}
+use Rattle.headline.specs.Endings.{CutSince}
 use Rattle.headline.proofs.Honest.{doubt}
+use Rattle.line_laws.specs.Along.{AreOfSession, KeepsSession}
 use Rattle.account_laws.proofs.Devices.{AreWithin, IsWithin, all_within_self, all_within_trans, come_within, goes_on_none, within_behind, within_front}
 
 -- ---- more is told behind each line
@@ -88,12 +92,12 @@ doubted_calls calls made (Some s) = (record { faults = omega arith; damage = λ 
 
 called_within : (run : Run) (turn : Turn) → AreWithin (harms_of run) (doubted_harms (with_calls_of run turn))
 called_within run turn =
-    within_behind run.ended (harm_of run.calls run.state) (map doubt (harm_of (calls_in turn ++ run.calls) run.state))
-    (doubted_calls run.calls (calls_in turn) run.state)
+    within_behind run.ended (own_harm run) (map doubt (harm_of (calls_in turn ++ run.calls) (at_hand run.state run.last)))
+    (doubted_calls run.calls (calls_in turn) (at_hand run.state run.last))
 
 doubted_within : (run : Run) → AreWithin (doubted_harms run) (all_told (doubted (outline_in run)))
 doubted_within run =
-    within_behind run.ended (map doubt (harm_of run.calls run.state)) (told_of (doubted (outline_in run)).session) (doubted_told run.calls run.state)
+    within_behind run.ended (map doubt (own_harm run)) (told_of (doubted (outline_in run)).session) (doubted_told run.calls (at_hand run.state run.last))
 
 -- what the records told before a pair was shown, and the calls of the turn that shows it, are told in the end; of its device
 -- what is told is doubted
@@ -215,6 +219,11 @@ step_none o (step.Format name segments buckets content agg reach fragment genera
 step_none o (step.Fail nth) said is e = none_switched o said e
 step_none o (step.StopAfter calls) said is e = none_switched o said e
 step_none o (step.Flip place byte) said is e = none_switched o said e
+step_none o (step.Cut choice) said is e = inl (record {
+  session = none_raised (count_in said) o.session (none_told (has_switch_in said) (option_map (raised (count_in said)) o.session) e);
+  none = refl;
+  ended = refl;
+})
 step_none o _ said is e = inl (record { session = none_raised (count_in said) o.session e; none = refl; ended = refl })
 
 read_none : (o : Outline) (read : LineAnswer) (said : Option StepAnswer) → IsReadAs o read said → (outline_read o read said).session ≡ None
@@ -239,6 +248,71 @@ none_begun o (bytes ∷ lines) (said ∷ answers) are e =
         | inl here ↦ inl (record { session = here.session; none = omega (arith, here.none, rest.none); ended = rest.ended ∙ here.ended })
       ]
     ]
+
+-- ---- where a device is at hand with no session on it
+
+-- before the line it was so too, and the line begins no session; or the line cut its power
+abbrev IsFallen : Outline → LineAnswer → Type 0
+IsFallen o read = ((IsSome o.session × (o.stands ≡ false)) × KeepsSession read) ⊎ ((choice : CutChoice) × (read ≡ line.Step (step.Cut choice)))
+
+some_mapped : {X : Type 0} (f : X → X) (o : Option X) → IsSome (option_map f o) → IsSome o
+some_mapped f None some = some
+some_mapped f (Some x) some = refl
+
+format_fallen : (o : Outline) (name : List ℕ) (said : StepAnswer) (bad : Option BadGeometry) → IsSome (with_told_count (begun o name said bad) (count_in said)).session
+    → (begun o name said bad).stands ≡ false → (IsSome o.session × (o.stands ≡ false)) × (is_none bad ≡ false)
+format_fallen o name said (Some bad) some fallen = ((some_mapped (raised (count_in said)) o.session some, fallen), refl)
+format_fallen o name (answer.DeviceFault count took) None some fallen = absurd cc
+format_fallen o name _ None some fallen = no_truth fallen
+
+step_fallen : (o : Outline) (asks : Step) (said : StepAnswer) → IsSome (outline_after o asks said).session → (outline_after o asks said).stands ≡ false → IsFallen o (line.Step asks)
+step_fallen o (step.Format name segments buckets content agg reach fragment generation alternates) said some fallen =
+    inl (format_fallen o name said (first_refusal segments buckets content agg reach fragment alternates) some fallen)
+step_fallen o (step.Cut choice) said some fallen = inr (choice, refl)
+step_fallen o (step.Fail nth) said some fallen = inl ((some_mapped (raised (count_in said)) o.session (some_mapped (switched (has_switch_in said)) _ some), fallen), refl)
+step_fallen o (step.StopAfter calls) said some fallen = inl ((some_mapped (raised (count_in said)) o.session (some_mapped (switched (has_switch_in said)) _ some), fallen), refl)
+step_fallen o (step.Flip place byte) said some fallen = inl ((some_mapped (raised (count_in said)) o.session (some_mapped (switched (has_switch_in said)) _ some), fallen), refl)
+step_fallen o _ said some fallen = inl ((some_mapped (raised (count_in said)) o.session some, fallen), refl)
+
+read_fallen : (o : Outline) (read : LineAnswer) (said : Option StepAnswer) → IsReadAs o read said → IsSome (outline_read o read said).session
+    → (outline_read o read said).stands ≡ false → IsFallen o read
+read_fallen o (line.Step asks) (Some said) is some fallen = step_fallen o asks said some fallen
+read_fallen o (line.Step asks) None is some fallen = absurd is
+read_fallen o line.Nothing said is some fallen = inl ((some, fallen), tt)
+read_fallen o (line.Bad fault) said is some fallen = absurd is
+
+cut_later : (bytes : List ℕ) (lines : List (List ℕ)) → CutSince lines → CutSince (bytes ∷ lines)
+cut_later bytes lines c = record {
+  before = bytes ∷ c.before;
+  bytes = c.bytes;
+  later = c.later;
+  are = ap (λ (xs : List (List ℕ)). bytes ∷ xs) c.are;
+  choice = c.choice;
+  cuts = c.cuts;
+  same_session = c.same_session;
+}
+
+-- so a line cut its power, where one was begun
+fallen_along : (o : Outline) (lines : List (List ℕ)) (answers : List (Option StepAnswer)) → AreAnswered o lines answers → IsSome (outline_of o lines answers).session
+    → (outline_of o lines answers).stands ≡ false → ((IsSome o.session × (o.stands ≡ false)) × AreOfSession lines) ⊎ CutSince lines
+fallen_along o [] [] are some fallen = inl ((some, fallen), tt)
+fallen_along o [] (said ∷ answers) are some fallen = absurd are
+fallen_along o (bytes ∷ lines) [] are some fallen = absurd are
+fallen_along o (bytes ∷ lines) (said ∷ answers) are some fallen =
+    elim (fallen_along (outline_read o (reading_of bytes) said) lines answers are.1 some fallen) [
+      | inr later ↦ inr (cut_later bytes lines later)
+      | inl now ↦ elim (read_fallen o (reading_of bytes) said are.0 now.0.0 now.0.1) [
+        | inl old ↦ inl (old.0, (old.1, now.1))
+        | inr cut ↦ inr (record { before = []; bytes = bytes; later = lines; are = refl; choice = cut.0; cuts = cut.1; same_session = now.1 })
+      ]
+    ]
+
+pub cut_since : (lines : List (List ℕ)) (answers : List (Option StepAnswer)) → AreAnswered blank_outline lines answers → IsSome (outline_of blank_outline lines answers).session
+    → (outline_of blank_outline lines answers).stands ≡ false → CutSince lines
+cut_since lines answers are some fallen = elim (fallen_along blank_outline lines answers are some fallen) [
+  | inl old ↦ no_truth (sym old.0.0)
+  | inr cut ↦ cut
+]
 
 -- ---- the outline at a line
 

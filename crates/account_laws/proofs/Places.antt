@@ -1,21 +1,22 @@
 -- The line of a legal history that was answered so: what it did, in the run that the lines before it left.
 use Rattle.std.proofs.Common.{◌≡◌, ℕ, List, [], ◌∷◌, ◌++◌, length, refl, sym, ap, subst, arith, inl, inr, ◌⊎◌, false, true}
 use Rattle.std.specs.Prelude.{Option, Some, None}
-use Rattle.cache_model.specs.declared.record.Rec.{Rec}
 use Rattle.cache_model.specs.State.{State, after_all}
 use Rattle.cache_model.proofs.Found.{same_some}
 use Rattle.script_grammar.specs.declared.line.LineAnswer.{LineAnswer}
 use Rattle.script_grammar.specs.declared.line.LineAnswer.TheVariants as line
+use Rattle.device_log.specs.Calls.{Call}
 use Rattle.script_grammar.specs.declared.step.Step.{Step}
+use Rattle.script_grammar.specs.declared.step.Step.TheVariants as step
 use Rattle.script_grammar.specs.declared.answer.StepAnswer.{StepAnswer}
 use Rattle.script_grammar.specs.declared.answer.StepAnswer.TheVariants as answer
 use Rattle.script_grammar.specs.Grammar.{reading_of}
 use Rattle.script_run.specs.Run.{Run, fresh}
 use Rattle.script_run.specs.Turn.{Turn}
-use Rattle.script_run.specs.Answers.{session_said, step_answer, step_said}
+use Rattle.script_run.specs.Answers.{bare_said, session_said, step_answer, step_said, switch_said}
 use Rattle.script_run.specs.Behind.{after_line, after_reading, after_step, behind, in_session, without_session}
 use Rattle.script_run.specs.Takes.{IsRun, ReadingTakes, SessionTakes, StepTakes, run_after, RefusesCall}
-use Rattle.script_run.specs.Goes.{StepGoes, begins, fails, stays, waits, works, begins_session}
+use Rattle.script_run.specs.Goes.{StepGoes, begins, begins_session, cuts_off, fails, stays, tells_bare, waits, works}
 use Rattle.script_run.proofs.Lift.{goes}
 use Rattle.script_laws.specs.Causes.{cause_answered}
 use Rattle.script_laws.specs.Runs.{answers_damage, answers_fault}
@@ -108,11 +109,24 @@ pub record IsUntroubled (said : StepAnswer) : Type 0 where
   pub no_damage : answers_damage said ≡ false
   pub no_cause : cause_answered said ≡ None
 
+-- what a bare device is told
+switch_untroubled : (told : StepAnswer) (calls : List Call) → IsUntroubled told → IsUntroubled (switch_said calls told)
+switch_untroubled told [] is = record { no_fault = refl; no_damage = refl; no_cause = refl }
+switch_untroubled told (call ∷ calls) is = is
+
+bare_untroubled : (turn : Turn) (asks : Step) → IsUntroubled (bare_said turn asks)
+bare_untroubled turn (step.Fail nth) = switch_untroubled answer.Armed turn.told (record { no_fault = refl; no_damage = refl; no_cause = refl })
+bare_untroubled turn (step.StopAfter calls) = switch_untroubled answer.Armed turn.told (record { no_fault = refl; no_damage = refl; no_cause = refl })
+bare_untroubled turn (step.Cut choice) = switch_untroubled answer.Cut turn.told (record { no_fault = refl; no_damage = refl; no_cause = refl })
+bare_untroubled turn _ = record { no_fault = refl; no_damage = refl; no_cause = refl }
+
 kinds : (run : Run) (turn : Turn) {asks : Step} {said : StepAnswer} {after : Run} → StepGoes run turn asks said after → step_answer run turn asks ≡ said → after_step run turn asks ≡ after
     → OnSession run turn run.state asks ⊎ OnFormat run turn asks ⊎ IsUntroubled said
 kinds run turn (stays bad same none) answered next = inr (inr (record { no_fault = refl; no_damage = refl; no_cause = refl }))
 kinds run turn (waits at same none) answered next = inr (inr (record { no_fault = refl; no_damage = refl; no_cause = refl }))
 kinds run turn (works s same e takes) answered next = inl (record { s = s; session = same; state = e; takes = takes; said = answered; next = next })
+kinds run turn (cuts_off choice s e cut) answered next = inr (inr (record { no_fault = refl; no_damage = refl; no_cause = refl }))
+kinds run turn {asks = asks} (tells_bare t same e last takes only) answered next = inr (inr (bare_untroubled turn asks))
 kinds run turn (begins name g same is) answered next = inr (inr (record { no_fault = refl; no_damage = refl; no_cause = refl }))
 kinds run turn (fails name count same is refuses) answered next =
     inr (inl (record { name = name; count = count; begins = same; refuses = refuses; said = answered; next = next }))

@@ -21,7 +21,7 @@ use Rattle.script_run.specs.Run.{Run, fresh}
 use Rattle.script_run.specs.Turn.{Turn}
 use Rattle.script_run.specs.Behind.{after_line, after_reading}
 use Rattle.script_run.specs.Takes.{IsRun, ReadingTakes, run_after}
-use Rattle.script_run.specs.Goes.{StepGoes, begins, begins_session, fails, stays, waits, works}
+use Rattle.script_run.specs.Goes.{StepGoes, begins, begins_session, cuts_off, fails, stays, tells_bare, waits, works}
 use Rattle.script_run.proofs.Lift.{goes}
 use Rattle.script_laws.proofs.Groups.{IsKept}
 use Rattle.script_laws.proofs.Walking.{walked}
@@ -49,7 +49,7 @@ module _ (Makes : Rec → Type 0) (Has : State → Type 0)
     (has_still : (p : Permit) (s : State) (r : Rec) → IsKept p r → Has s → Has (state_after s r)) where
   -- so it is where there is a session
   abbrev pub HasWhere : Option State → Type 0
-  HasWhere None = ⊥
+  HasWhere None = Unit {0}
   HasWhere (Some s) = Has s
 
   still_all : (p : Permit) (s : State) (recs : List Rec) → AllByRecursion (IsKept p) recs → Has s → Has (after_all s recs)
@@ -73,6 +73,8 @@ module _ (Makes : Rec → Type 0) (Has : State → Type 0)
   by_step run turn told (works s same e takes) among makes = by_among turn.device s turn.added told (walked takes.legal.grows).kept among makes
   by_step run turn told (begins name g same is) among makes = absurd (none_of_format g told (subst (IsAmong told) is among) makes)
   by_step run turn told (fails name count same is refuses) among makes = absurd (only_fault count told (subst (IsAmong told) is among) makes)
+  by_step run turn told (cuts_off choice s e cut) among makes = tt
+  by_step run turn told (tells_bare t same e last takes only) among makes = absurd (subst (IsAmong told) only.added among)
 
   by_reading : (run : Run) (turn : Turn) (l : LineAnswer) (told : Rec) → ReadingTakes run turn l → IsAmong told turn.added → Makes told
       → HasWhere (after_reading run turn l).state
@@ -88,6 +90,8 @@ module _ (Makes : Rec → Type 0) (Has : State → Type 0)
   step_stays run turn (works s same e takes) keeps has = still_all turn.device s turn.added (walked takes.legal.grows).kept (subst HasWhere e has)
   step_stays run turn (begins name g begun is) keeps has = no_truth (sym begun ∙ keeps)
   step_stays run turn (fails name count begun is refuses) keeps has = no_truth (sym begun ∙ keeps)
+  step_stays run turn (cuts_off choice s e cut) keeps has = tt
+  step_stays run turn (tells_bare t same e last takes only) keeps has = has
 
   reading_stays : (run : Run) (turn : Turn) (l : LineAnswer) → KeepsSession l → ReadingTakes run turn l → HasWhere run.state → HasWhere (after_reading run turn l).state
   reading_stays run turn (line.Step st) keeps takes has = step_stays run turn (goes run turn st takes) keeps has

@@ -21,7 +21,7 @@ use Rattle.script_grammar.specs.declared.line.LineAnswer.TheVariants as line
 use Rattle.script_grammar.specs.declared.step.Step.{Step}
 use Rattle.device_log.specs.Calls.{RefusedCall}
 use Rattle.script_run.specs.Goes.{begins_session}
-use Rattle.script_run.specs.Run.{Harm, Run, fresh}
+use Rattle.script_run.specs.Run.{Harm, Run, fresh, at_hand}
 use Rattle.script_run.specs.Turn.{Turn, calls_in}
 use Rattle.script_run.specs.Asked.{asked}
 use Rattle.script_run.specs.Answers.{session_said}
@@ -58,7 +58,7 @@ module _ (l : RunLogs) (a : Account l) (lines : List (List ℕ)) (asks : Step) (
   begun_is : (on : On) → sessions_begun lines ≡ length Before.ended + 1
   begun_is on =
       let all : length (harms_of Before) ≡ length (harms_of fresh) + sessions_begun lines = run_length lines f.earlier fresh f.legal in
-      let here : length (harms_of Before) ≡ length (Before.ended ++ harm_in Before.calls on.s ∷ []) = ap (λ (o : Option State). length (Before.ended ++ harm_of Before.calls o)) on.state in
+      let here : length (harms_of Before) ≡ length (Before.ended ++ harm_in Before.calls on.s ∷ []) = ap (λ (o : Option State). length (Before.ended ++ harm_of Before.calls (at_hand o Before.last))) on.state in
       omega (arith, all, here, length-append Before.ended (harm_in Before.calls on.s ∷ []))
 
   -- what the devices that came back show of the run behind the line

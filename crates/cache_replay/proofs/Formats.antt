@@ -1,6 +1,6 @@
 -- What a format makes of a session and its bay.
-use Rattle.std.proofs.Common.{◌≡◌, ℕ, ◌+◌, ◌-◌, ◌*◌, ◌≤◌, List, [], ◌∷◌, ◌++◌, length, length-append, refl, sym, ◌∙◌, ap, subst, arith, inl, inr, Result, Ok, Err}
-use Rattle.std.specs.Prelude.{IfErr, Some, None}
+use Rattle.std.proofs.Common.{◌≡◌, ℕ, ◌+◌, ◌-◌, ◌*◌, ◌≤◌, List, [], ◌∷◌, ◌++◌, length, length-append, refl, sym, ◌∙◌, ap, subst, arith, inl, Result, Ok, Err}
+use Rattle.std.specs.Prelude.{IfErr, Some, None, is_some}
 use Rattle.std.specs.Result.{IsErr, IsErrAnd}
 use Rattle.std.proofs.lemmas.List.{append-nil, append_assoc}
 use Rattle.tape_base.specs.declared.geometries.Geometry.{Geometry}
@@ -19,6 +19,7 @@ use Rattle.stripe_copies.specs.Format.{IsFirstBody, IsRefusedFormat, first_state
 use Rattle.stripe_copies.specs.declared.format.FormatFault.TheVariants as fault
 use Rattle.std.specs.declared.alloc.AllocError.{AllocError}
 use Rattle.logged_disk.specs.Device.{DeviceState as Device, IsAfter}
+use Rattle.logged_disk.specs.declared.device.Disk.{Ghosts as DiskGhosts}
 use Rattle.logged_disk.proofs.GoingOn.{stays_put}
 use Rattle.cache_replay.proofs.OnPart.{later_device}
 use Rattle.device_bay.specs.Calls.{BayCall, Gave, TookBack, names_of, out_of, refusals_of, returned_by}
@@ -35,21 +36,21 @@ use Rattle.script_grammar.specs.declared.answer.StepAnswer.TheVariants as answer
 use Rattle.script_run.specs.Run.{Harm, Run, no_harm}
 use Rattle.script_run.specs.Turn.{Turn, no_turn}
 use Rattle.script_run.specs.Answers.{format_said, number_of_bad}
-use Rattle.script_run.specs.Behind.{after_format, harm_of, harm_of_format, with_format}
+use Rattle.script_run.specs.Behind.{after_format, harm_of_format, own_harm, with_format}
 use Rattle.script_run.specs.Ledger.{AreReached, Deals, IsReached, KeepsOrder, Ledger, ledger_behind}
 use Rattle.script_run.specs.Takes.{FormatTakes, HasBlocksOfCopy, LaysOut}
 use Rattle.cache_replay.specs.declared.session.Part.{Part}
-use Rattle.cache_replay.specs.declared.session.Session.{Session}
+use Rattle.cache_replay.specs.declared.session.Replay.{Replay}
 use Rattle.cache_replay.specs.declared.stop.Stop.{Stop}
 use Rattle.cache_replay.specs.declared.stop.Stop.TheVariants.{BayFault, Memory, NoCache}
 use Rattle.cache_replay.specs.declared.beginning.Tried.{Tried}
 use Rattle.cache_replay.specs.declared.beginning.Tried.TheVariants as tried
-use Rattle.cache_replay.specs.Session.{AreLater, IsAt, IsLaterDevice, IsSession, at_in, devices_of, names_in, return_in, return_of, slots_in}
+use Rattle.cache_replay.specs.Session.{AreLater, IsLaterDevice, at_in, slots_in}
+use Rattle.cache_replay.specs.Replay.{DeviceMoves, IsReplay, PlaysOn, actors_in, devices_in, returns_in, ended as both_came}
 use Rattle.cache_replay.specs.Deals.{AnswersStep, FormatsAs, GivesBack, GivesNone, HasFailed}
 use Rattle.run_promise.specs.Outline.{raised, told_of}
-use Rattle.cache_replay.specs.Plays.{DeviceMoves, Plays, ended as both_came}
 use Rattle.cache_replay.specs.Stop.{IsFormatStop, RefusesAtStop, StopsStep}
-use Rattle.cache_replay.proofs.Beginnings.{none_plays, session_begins, session_plays, session_reached}
+use Rattle.cache_replay.proofs.Beginnings.{none_begins, none_plays, none_returns, session_begins, session_plays, session_reached, session_returns}
 use Rattle.cache_replay.proofs.Order.{order_gave, order_same, order_stays, order_then, order_took}
 use Rattle.cache_replay.proofs.Outlines.{all_stays_left, failed_outlines, format_outlines, no_deals, refused_outlines, same_ledger}
 use Rattle.cache_replay.proofs.Unharming.{plays_reached}
@@ -166,19 +167,19 @@ format_left harms own name blocks harm device before given ended after last reac
 format_out : (b v e own : ℕ) {a n : ℕ} → v ≡ b + 1 → e + own ≡ v → a ≡ e - 1 → n ≡ 0 → own ≤ b → a + own ≡ b + n
 format_out b v e own gave gives took none held = omega (arith, gave, gives, took, none, held)
 
-module _ {S W R : Type 0} {c : CallsGhosts S W R} where
+module _ {D S W R : Type 0} {d : DiskGhosts D} {c : CallsGhosts S W R} where
   -- ---- formats
 
   -- numbers that are refused change nothing
   pub format_refused : (run : Run) (name : List ℕ) (segments buckets content agg reach fragment generation alternates number : ℕ) (bad : BadGeometry)
-      (session : Session S W R c) (ledger : Ledger)
-      → first_refusal segments buckets content agg reach fragment alternates ≡ Some bad → number ≡ number_of_bad bad → Plays run session
+      (session : Replay D S W R d c) (ledger : Ledger)
+      → first_refusal segments buckets content agg reach fragment alternates ≡ Some bad → number ≡ number_of_bad bad → PlaysOn run session
       → DeviceMoves run (step.Format name segments buckets content agg reach fragment generation alternates) session (answer.Refused (refused.Geometry number) None) ledger ledger
   format_refused run name segments buckets content agg reach fragment generation alternates number bad session ledger is numbered plays = record {
     moves = record {
       turn = no_turn;
       takes = subst (λ o. FormatTakes no_turn segments buckets content agg reach fragment generation alternates o) (sym is) (refl, refl);
-      plays = subst (λ o. Plays (after_format run no_turn name o) session) (sym is) plays;
+      plays = subst (λ o. PlaysOn (after_format run no_turn name o) session) (sym is) plays;
       says = ap (format_said no_turn) is ∙ ap (λ n. answer.Refused (refused.Geometry n) None) (sym numbered);
     };
     harms = [];
@@ -189,20 +190,20 @@ module _ {S W R : Type 0} {c : CallsGhosts S W R} where
   }
 
   -- a session begins with the geometry of its line
-  pub format_done : (run : Run) (name : List ℕ) (segments buckets content agg reach fragment generation alternates : ℕ) (g : Geometry) (calls : List Call) (floor : ℕ) (new : Session S W R c)
+  pub format_done : (run : Run) (name : List ℕ) (segments buckets content agg reach fragment generation alternates : ℕ) (g : Geometry) (calls : List Call) (floor : ℕ) (new : Replay D S W R d c)
       (before now : Ledger)
       → first_refusal segments buckets content agg reach fragment alternates ≡ None → floor ≡ floor_of g g.content
       → LaysOut g calls → HasNumbers g segments buckets content agg reach fragment generation alternates
-      → Plays (with_format run name calls (format_records g)) new → Deals before now (harm_of run.calls run.state) (name ∷ [])
+      → PlaysOn (with_format run name calls (format_records g)) new → Deals before now (own_harm run) (name ∷ [])
       → DeviceMoves run (step.Format name segments buckets content agg reach fragment generation alternates) new (answer.Formatted 1 g.content floor) before now
   format_done run name segments buckets content agg reach fragment generation alternates g calls floor new before now is floored laid numbers plays deals = record {
     moves = record {
       turn = format_turn g calls;
       takes = subst (λ o. FormatTakes (format_turn g calls) segments buckets content agg reach fragment generation alternates o) (sym is) (g, numbers, (refl, laid), refl);
-      plays = subst (λ o. Plays (after_format run (format_turn g calls) name o) new) (sym is) plays;
+      plays = subst (λ o. PlaysOn (after_format run (format_turn g calls) name o) new) (sym is) plays;
       says = ap (format_said (format_turn g calls)) is ∙ ap (λ n. answer.Formatted 1 g.content n) (sym floored);
     };
-    harms = harm_of run.calls run.state;
+    harms = own_harm run;
     ended = ap (λ o. (after_format run (format_turn g calls) name o).ended) is;
     names = name ∷ [];
     named = ap (λ o. (after_format run (format_turn g calls) name o).names) is;
@@ -210,56 +211,56 @@ module _ {S W R : Type 0} {c : CallsGhosts S W R} where
   }
 
   -- none does, for the device refused a call
-  pub format_faulted : (run : Run) (name : List ℕ) (segments buckets content agg reach fragment generation alternates : ℕ) (g : Geometry) (count : ℕ) (new : Session S W R c)
-      (before after : List BayCall) (old : Session S W R c)
+  pub format_faulted : (run : Run) (name : List ℕ) (segments buckets content agg reach fragment generation alternates : ℕ) (g : Geometry) (count : ℕ) (new : Replay D S W R d c)
+      (before after : List BayCall) (old : Replay D S W R d c)
       → first_refusal segments buckets content agg reach fragment alternates ≡ None
       → HasNumbers g segments buckets content agg reach fragment generation alternates
-      → (failed : HasFailed name g count old new before after) → Plays run old → AreReached (harm_of run.calls run.state) (return_in old)
+      → (failed : HasFailed name g count old new before after) → PlaysOn run old → AreReached (own_harm run) (returns_in old)
       → DeviceMoves run (step.Format name segments buckets content agg reach fragment generation alternates) new (answer.DeviceFault count None) (ledger_behind before) (ledger_behind after)
   format_faulted run name segments buckets content agg reach fragment generation alternates g count new before after old is numbers failed plays reached =
       let turn : Turn = failed_turn failed.calls count in
-      let more : List Harm = harm_of run.calls run.state ++ harm_of_format failed.calls count ∷ [] in
+      let more : List Harm = own_harm run ++ harm_of_format failed.calls count ∷ [] in
       record {
         moves = record {
           turn = turn;
           takes = subst (λ o. FormatTakes turn segments buckets content agg reach fragment generation alternates o) (sym is) (g, numbers, (refl, failed.some, failed.stopped), refl);
-          plays = subst (λ o. Plays (after_format run turn name o) new) (sym is) (failed.plays run plays);
+          plays = subst (λ o. PlaysOn (after_format run turn name o) new) (sym is) (failed.plays run plays);
           says = ap (format_said turn) is;
         };
         harms = more;
-        ended = ap (λ o. (after_format run turn name o).ended) is ∙ append_assoc run.ended (harm_of run.calls run.state) (harm_of_format failed.calls count ∷ []);
+        ended = ap (λ o. (after_format run turn name o).ended) is ∙ append_assoc run.ended (own_harm run) (harm_of_format failed.calls count ∷ []);
         names = name ∷ [];
         named = ap (λ o. (after_format run turn name o).names) is;
-        deals = failed.deals (harm_of run.calls run.state) reached;
+        deals = failed.deals (own_harm run) reached;
       }
 
   -- a format that ended the run before it had a device, which left all as it was
-  pub format_stopped : (name : List ℕ) (geometry : Geometry) (session : Session S W R c) (before after : List BayCall) (result : Result Tried Stop) → IsErr result
-      → IsSession session
+  pub format_stopped : (name : List ℕ) (geometry : Geometry) (session : Replay D S W R d c) (before after : List BayCall) (result : Result Tried Stop) → IsErr result
+      → IsReplay session
       → IfErr result (IsFormatStop name (device_blocks_of geometry) before after) → RefusesAtStop before after result → GivesNone before after
       → FormatsAs name geometry session session before after result
   format_stopped name geometry session before after (Ok x) ended h stop refusals gives = no_truth (sym ended)
   format_stopped name geometry session before after (Err why) ended h stop refusals gives = record {
-    session = h;
+    replay = h;
     tried = tt;
     left = all_stays_left {T = Tried} (Err why) name session (ledger_behind before) (ledger_behind after)
         (same_ledger (names_of before) (names_of after) (returned_by before) (returned_by after) gives.names gives.back);
     stop = stop;
-    out = ap (λ n. n + devices_of session) gives.out;
+    out = ap (λ n. n + devices_in session) gives.out;
     names = refl;
-    order = gives.order (return_in session);
+    order = gives.order (returns_in session);
     refusals = refusals;
   }
 
   -- one that began a session, behind that of the session before
-  pub format_begun : (name : List ℕ) (geometry : Geometry) (old new : Session S W R c) (part : Part S W R c) (device : Device) (before given after : List BayCall)
+  pub format_begun : (name : List ℕ) (geometry : Geometry) (old new : Replay D S W R d c) (part : Part S W R c) (device : Device) (before given after : List BayCall)
       → Begins c.at c.holds c.stands geometry device part.cache
-      → IsAtRest (at_in part) → length part.page.items ≡ 512 * budget_of geometry → new.part ≡ Some part → ((n : ℕ) → slots_in new n ≡ None) → names_in new ≡ names_in old
-      → new.now ≡ old.now
-      → IsNewDevice (device_blocks_of geometry) before device → given ≡ Gave name (device_blocks_of geometry) ∷ before → GivesBack (return_in old) given after
+      → IsAtRest (at_in part) → length part.page.items ≡ 512 * budget_of geometry → new.session.part ≡ Some part → new.bare ≡ None → ((n : ℕ) → slots_in new.session n ≡ None) → actors_in new ≡ actors_in old
+      → new.session.now ≡ old.session.now
+      → IsNewDevice (device_blocks_of geometry) before device → given ≡ Gave name (device_blocks_of geometry) ∷ before → GivesBack (returns_in old) given after
       → FormatsAs name geometry old new before after (Ok tried.Begun)
-  format_begun name geometry old new part device before given after begins rest page is none names now attached gave gives = record {
-    session = session_begins geometry device part begins new is none rest page;
+  format_begun name geometry old new part device before given after begins rest page is lone none names now attached gave gives = record {
+    replay = session_begins geometry device part begins new is lone none rest page;
     tried = record {
       calls = (at_in part).device.past;
       laid = (
@@ -267,41 +268,42 @@ module _ {S W R : Type 0} {c : CallsGhosts S W R} where
         first_length geometry begins.laid.body begins.laid.first,
         subst (λ (past : List Call). Went (format_calls geometry begins.laid.body) past (at_in part).device.past) attached.past_is begins.laid.made.went,
       );
-      plays = λ run plays. session_plays geometry device part begins new is none old run name names now plays;
-      begun = session_reached geometry device part begins new is none;
-      deals = λ harms reached. format_deals harms (return_in old) name (device_blocks_of geometry) before given after reached gave gives;
+      plays = λ run plays. session_plays geometry device part begins new is lone none old run name names now plays;
+      begun = session_reached geometry device part begins new is lone none;
+      stands = ap is_some is;
+      deals = λ harms reached. format_deals harms (returns_in old) name (device_blocks_of geometry) before given after reached gave gives;
     };
     left = tt;
     stop = tt;
-    out = gives.out ∙ (ap out_of gave ∙ ap (λ o. out_of before + length (return_of o)) (sym is));
+    out = gives.out ∙ (ap out_of gave ∙ ap (λ o. out_of before + length o) (sym (session_returns geometry device part begins new is lone none)));
     names = names;
-    order = subst (λ o. KeepsOrder (return_in old) before (return_of o) after) (sym is)
-        (tried_order (return_in old) device (at_in part).device name (device_blocks_of geometry) before given after
+    order = subst (λ o. KeepsOrder (returns_in old) before o after) (sym (session_returns geometry device part begins new is lone none))
+        (tried_order (returns_in old) device (at_in part).device name (device_blocks_of geometry) before given after
         (later_device (omega (arith, attached.faults)) begins.laid.goes) gave attached (gives.order ((at_in part).device ∷ [])));
     refusals = gives.refusals ∙ ap refusals_of gave;
   }
 
   -- a device that was attached, and went on as another one, came back
-  module _ (name : List ℕ) (geometry : Geometry) (old new : Session S W R c) (device back : Device) (before given ended after : List BayCall) (none : new.part ≡ None)
-      (slots : (n : ℕ) → slots_in new n ≡ None) (names : names_in new ≡ names_in old) (attached : IsNewDevice (device_blocks_of geometry) before device)
-      (gave : given ≡ Gave name (device_blocks_of geometry) ∷ before) (gives : GivesBack (return_in old) given ended) (took : after ≡ TookBack back ∷ ended)
-      (held : devices_of old ≤ out_of before) where
-    came_out : out_of after + devices_of old ≡ out_of before + devices_of new
-    came_out = format_out (out_of before) (out_of given) (out_of ended) (devices_of old) (ap out_of gave) gives.out (ap out_of took) (ap (λ o. length (return_of o)) none) held
+  module _ (name : List ℕ) (geometry : Geometry) (old new : Replay D S W R d c) (device back : Device) (before given ended after : List BayCall) (none : new.session.part ≡ None) (lone : new.bare ≡ None)
+      (slots : (n : ℕ) → slots_in new.session n ≡ None) (names : actors_in new ≡ actors_in old) (attached : IsNewDevice (device_blocks_of geometry) before device)
+      (gave : given ≡ Gave name (device_blocks_of geometry) ∷ before) (gives : GivesBack (returns_in old) given ended) (took : after ≡ TookBack back ∷ ended)
+      (held : devices_in old ≤ out_of before) where
+    came_out : out_of after + devices_in old ≡ out_of before + devices_in new
+    came_out = format_out (out_of before) (out_of given) (out_of ended) (devices_in old) (ap out_of gave) gives.out (ap out_of took) (ap length (none_returns new none lone slots)) held
 
-    came_order : IsAfter device back → KeepsOrder (return_in old) before (return_in new) after
-    came_order goes = subst (λ o. KeepsOrder (return_in old) before (return_of o) after) (sym none)
-        (order_then (return_in old) (back ∷ []) [] before ended after
-        (tried_order (return_in old) device back name (device_blocks_of geometry) before given ended (later_device (omega (arith, attached.faults)) goes) gave attached (gives.order (back ∷ [])))
+    came_order : IsAfter device back → KeepsOrder (returns_in old) before (returns_in new) after
+    came_order goes = subst (λ o. KeepsOrder (returns_in old) before o after) (sym (none_returns new none lone slots))
+        (order_then (returns_in old) (back ∷ []) [] before ended after
+        (tried_order (returns_in old) device back name (device_blocks_of geometry) before given ended (later_device (omega (arith, attached.faults)) goes) gave attached (gives.order (back ∷ [])))
         (order_took back [] ended after took))
 
     -- one that wanted memory, and made no call
     pub format_wanted : (e : AllocError) → IsRefusedFormat geometry device back (fault.Memory e) → FormatsAs name geometry old new before after (Err Memory)
     format_wanted e refused = record {
-      session = subst (λ o. IsAt o (slots_in new)) (sym none) slots;
+      replay = none_begins new none lone slots;
       tried = tt;
-      left = λ harms step attaches reached. both_came name attaches none
-          (format_left harms (return_in old) name (device_blocks_of geometry) no_harm back before given ended after (none_reached back (refused.unlaid ∙ attached.past_is)) reached gave gives took) refl;
+      left = λ harms step attaches reached. both_came name attaches (none_returns new none lone slots)
+          (format_left harms (returns_in old) name (device_blocks_of geometry) no_harm back before given ended after (none_reached back (refused.unlaid ∙ attached.past_is)) reached gave gives took) refl;
       stop = tt;
       out = came_out;
       names = names;
@@ -310,13 +312,13 @@ module _ {S W R : Type 0} {c : CallsGhosts S W R} where
     }
 
     -- one that refused a call
-    pub format_failed : (count : ℕ) → new.now ≡ old.now → IsRefusedFormat geometry device back (fault.Device count) → FormatsAs name geometry old new before after (Ok (tried.Refused count))
+    pub format_failed : (count : ℕ) → new.session.now ≡ old.session.now → IsRefusedFormat geometry device back (fault.Device count) → FormatsAs name geometry old new before after (Ok (tried.Refused count))
     format_failed count now refused =
         let calls : List Call = format_calls geometry refused.unlaid.body in
         let counted : Stopped calls count device.past back.past =
         subst (λ (n : ℕ). Stopped calls n device.past back.past) (sym refused.unlaid.counted) refused.unlaid.stopped in
         record {
-          session = subst (λ o. IsAt o (slots_in new)) (sym none) slots;
+          replay = none_begins new none lone slots;
           tried = record {
             calls = back.past;
             stopped = (
@@ -325,10 +327,11 @@ module _ {S W R : Type 0} {c : CallsGhosts S W R} where
               subst (λ (past : List Call). Stopped calls count past back.past) attached.past_is counted,
             );
             some = refused.unlaid.some;
-            none = none;
-            plays = λ run plays. none_plays new none slots old run name back.past count names now plays;
+            none = none_returns new none lone slots;
+            stands = ap is_some none;
+            plays = λ run plays. none_plays new none lone slots old run name back.past count names now plays;
             deals = λ harms reached.
-                format_left harms (return_in old) name (device_blocks_of geometry) (harm_of_format back.past count) back before given ended after
+                format_left harms (returns_in old) name (device_blocks_of geometry) (harm_of_format back.past count) back before given ended after
                 (record { made = record { later = []; is = refl }; all = λ yes. refl; counted = omega (arith, refused.unlaid.counted); unharmed = λ tells. refl; switched = tt }) reached gave gives took;
           };
           left = tt;
@@ -344,61 +347,61 @@ module _ {S W R : Type 0} {c : CallsGhosts S W R} where
 same_names : (a b : List (List ℕ)) → a ≡ b → length a ≤ length b + 1
 same_names a b is = omega (arith, ap length is)
 
-module _ {S W R : Type 0} {c : CallsGhosts S W R} (name : List ℕ) (segments buckets content agg reach fragment generation alternates : ℕ) where
+module _ {D S W R : Type 0} {d : DiskGhosts D} {c : CallsGhosts S W R} (name : List ℕ) (segments buckets content agg reach fragment generation alternates : ℕ) where
   -- numbers that were refused
-  pub line_refused : (number : ℕ) (bad : BadGeometry) (session : Session S W R c) (past : List BayCall) → IsSession session
+  pub line_refused : (number : ℕ) (bad : BadGeometry) (session : Replay D S W R d c) (past : List BayCall) → IsReplay session
       → first_refusal segments buckets content agg reach fragment alternates ≡ Some bad → number ≡ number_of_bad bad
       → AnswersStep (step.Format name segments buckets content agg reach fragment generation alternates) session session past past
       (Ok (answer.Refused (refused.Geometry number) None))
   line_refused number bad session past h is numbered = record {
-    session = h;
+    replay = h;
     ends = λ run plays. inl (format_refused run name segments buckets content agg reach fragment generation alternates number bad session (ledger_behind past) is numbered plays);
     outline = λ o told. refused_outlines o name segments buckets content agg reach fragment generation alternates number bad session (ledger_behind past) is numbered told;
     left = tt;
     stop = tt;
     out = refl;
-    names = same_names (names_in session) (names_in session) refl;
-    order = order_same (return_in session) past;
+    names = same_names (actors_in session) (actors_in session) refl;
+    order = order_same (returns_in session) past;
     refusals = refl;
   }
 
-  module _ (geometry : Geometry) (old new : Session S W R c) (before after : List BayCall)
+  module _ (geometry : Geometry) (old new : Replay D S W R d c) (before after : List BayCall)
       (accepted : first_refusal segments buckets content agg reach fragment alternates ≡ None)
       (numbers : HasNumbers geometry segments buckets content agg reach fragment generation alternates) where
     -- a session that began
-    pub line_begun : (floor : ℕ) → IsSession old → floor ≡ floor_of geometry geometry.content → FormatsAs name geometry old new before after (Ok tried.Begun)
+    pub line_begun : (floor : ℕ) → IsReplay old → floor ≡ floor_of geometry geometry.content → FormatsAs name geometry old new before after (Ok tried.Begun)
         → AnswersStep (step.Format name segments buckets content agg reach fragment generation alternates) old new before after (Ok (answer.Formatted 1 geometry.content floor))
     line_begun floor h floored formats = record {
-      session = formats.session;
+      replay = formats.replay;
       ends = λ run plays. inl (format_done run name segments buckets content agg reach fragment generation alternates geometry formats.tried.calls floor new (ledger_behind before)
           (ledger_behind after) accepted floored formats.tried.laid numbers
-          (formats.tried.plays run plays) (formats.tried.deals (harm_of run.calls run.state) (plays_reached run old h plays)));
+          (formats.tried.plays run plays) (formats.tried.deals (own_harm run) (plays_reached run old h plays)));
       outline = λ o told. format_outlines o name segments buckets content agg reach fragment generation alternates geometry.content floor new (ledger_behind before)
           (ledger_behind after) accepted
-          numbers.has_content (first_floor_is segments buckets content agg reach fragment generation alternates geometry floor numbers floored) formats.tried.begun
-          (formats.tried.deals (told_of o.session) told);
+          numbers.has_content (first_floor_is segments buckets content agg reach fragment generation alternates geometry floor numbers floored) formats.tried.begun formats.tried.stands
+          (formats.tried.deals (told_of o.session) told.reached);
       left = tt;
       stop = tt;
       out = formats.out;
-      names = same_names (names_in new) (names_in old) formats.names;
+      names = same_names (actors_in new) (actors_in old) formats.names;
       order = formats.order;
       refusals = formats.refusals;
     }
 
     -- a device that refused a call
-    pub line_failed : (count : ℕ) → IsSession old → FormatsAs name geometry old new before after (Ok (tried.Refused count))
+    pub line_failed : (count : ℕ) → IsReplay old → FormatsAs name geometry old new before after (Ok (tried.Refused count))
         → AnswersStep (step.Format name segments buckets content agg reach fragment generation alternates) old new before after (Ok (answer.DeviceFault count None))
     line_failed count h formats = record {
-      session = formats.session;
+      replay = formats.replay;
       ends = λ run plays. inl (format_faulted run name segments buckets content agg reach fragment generation alternates geometry count new before after old accepted numbers formats.tried plays
           (plays_reached run old h plays));
       outline = λ o told. failed_outlines o name segments buckets content agg reach fragment generation alternates count new (ledger_behind before)
-          (ledger_behind after) accepted formats.tried.some formats.tried.none
-          (failed_loosely (ledger_behind before) (ledger_behind after) (told_of o.session) formats.tried.calls count (name ∷ []) (formats.tried.deals (told_of o.session) told));
+          (ledger_behind after) accepted formats.tried.some formats.tried.none formats.tried.stands
+          (failed_loosely (ledger_behind before) (ledger_behind after) (told_of o.session) formats.tried.calls count (name ∷ []) (formats.tried.deals (told_of o.session) told.reached));
       left = tt;
       stop = tt;
       out = formats.out;
-      names = same_names (names_in new) (names_in old) formats.names;
+      names = same_names (actors_in new) (actors_in old) formats.names;
       order = formats.order;
       refusals = formats.refusals;
     }
@@ -422,13 +425,13 @@ module _ {S W R : Type 0} {c : CallsGhosts S W R} (name : List ℕ) (segments bu
     line_stopped_by : (why : Stop) → FormatsAs name geometry old new before after (Err why)
         → AnswersStep (step.Format name segments buckets content agg reach fragment generation alternates) old new before after (Err why)
     line_stopped_by why formats = record {
-      session = formats.session;
+      replay = formats.replay;
       ends = tt;
       outline = tt;
       left = λ harms told. formats.left harms (step.Format name segments buckets content agg reach fragment generation alternates) (refl, accepted) told;
       stop = stops_step why formats.stop;
       out = formats.out;
-      names = same_names (names_in new) (names_in old) formats.names;
+      names = same_names (actors_in new) (actors_in old) formats.names;
       order = formats.order;
       refusals = formats.refusals;
     }

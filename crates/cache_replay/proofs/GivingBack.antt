@@ -1,10 +1,11 @@
 -- Devices are given back, and nothing else is done.
-use Rattle.std.proofs.Common.{◌≡◌, ℕ, ◌+◌, ◌-◌, ◌≤◌, List, [], ◌∷◌, refl, sym, subst, arith}
-use Rattle.std.proofs.lemmas.List.{append-nil}
+use Rattle.std.proofs.Common.{◌≡◌, ℕ, ◌+◌, ◌-◌, ◌≤◌, List, [], ◌∷◌, ◌++◌, length-append, refl, sym, ◌∙◌, ap, subst, arith}
+use Rattle.std.proofs.lemmas.List.{append-nil, append_assoc}
 use Rattle.logged_disk.specs.Device.{DeviceState as Device}
 use Rattle.device_bay.specs.Calls.{BayCall, TookBack, out_of, returned_by}
 use Rattle.cache_replay.specs.Deals.{GivesBack}
-use Rattle.cache_replay.proofs.Order.{order_same, order_took}
+use Rattle.script_run.specs.Ledger.{KeepsOrder}
+use Rattle.cache_replay.proofs.Order.{order_same, order_then, order_took}
 
 -- one came back
 pub gives_one : (device : Device) (old new : List BayCall) → 1 ≤ out_of old → new ≡ TookBack device ∷ old → GivesBack (device ∷ []) old new
@@ -27,4 +28,15 @@ gives_nothing past = record {
   order = λ own. order_same own past;
   names = refl;
   refusals = refl;
+}
+
+-- these came back, and then those
+pub gives_then : (xs ys : List Device) (a b c : List BayCall) → GivesBack xs a b → GivesBack ys b c → GivesBack (xs ++ ys) a c
+gives_then xs ys a b c p q = record {
+  back = q.back ∙ (ap (λ (l : List Device). l ++ ys) p.back ∙ append_assoc (returned_by a) xs ys);
+  out = omega (arith, length-append xs ys, p.out, q.out);
+  order = λ own. subst (λ (l : List Device). KeepsOrder l a own c) (sym (append_assoc xs ys own))
+      (order_then (xs ++ (ys ++ own)) (ys ++ own) own a b c (p.order (ys ++ own)) (q.order own));
+  names = q.names ∙ p.names;
+  refusals = q.refusals ∙ p.refusals;
 }

@@ -1,6 +1,7 @@
 mod ActorLines
 mod ActorReads
 mod ActorWriters
+mod BareLines
 mod Beginnings
 mod Closings
 mod Counts

@@ -26,10 +26,16 @@ use Rattle.line_calls.specs.Moves.{ShowsIn}
 use Rattle.cache_replay.specs.Plays.{CallsAt, IsUnharmedAt, OwnStandsAt, PartEnds, PartMoves, Plays, PlaysAt, PlaysPart}
 use Rattle.cache_replay.specs.Plays.{StepEnds, StepMoves, StepPair}
 use Rattle.cache_replay.specs.OneLine.{AnswersActor, AnswersLine}
-use Rattle.run_promise.specs.Needs.{NeedsSession}
 use Rattle.cache_replay.specs.Stop.{IsSessionStop}
 
 -- ---- lines that need a session
+
+-- a line that works on a session, and neither begins nor ends one
+abbrev pub WorksOn : Step → Type 0
+WorksOn (step.Format name segments buckets content agg reach fragment generation alternates) = ⊥
+WorksOn (step.Now moment) = ⊥
+WorksOn (step.Cut choice) = ⊥
+WorksOn _ = Unit {0}
 
 -- where there is one a line is as its records say
 pub record IsOnSession (step : Step) : Type 0 where
@@ -37,9 +43,10 @@ pub record IsOnSession (step : Step) : Type 0 where
   pub says : (run : Run) (s : State) (turn : Turn) → step_said run turn (Some s) step ≡ session_said run s (after_all s turn.added) turn step
   pub behind : (run : Run) (s : State) (turn : Turn) → then.behind run turn (Some s) step ≡ in_session run s (after_all s turn.added) turn step
 
-pub on_session : (step : Step) → NeedsSession step → IsOnSession step
+pub on_session : (step : Step) → WorksOn step → IsOnSession step
 on_session (step.Format name segments buckets content agg reach fragment generation alternates) needs = absurd needs
 on_session (step.Now moment) needs = absurd needs
+on_session (step.Cut choice) needs = absurd needs
 on_session _ needs = record { takes = λ run s turn h. h; says = λ run s turn. refl; behind = λ run s turn. refl }
 
 -- a device that goes on is a later one
@@ -80,7 +87,7 @@ module _ {S W R : Type 0} {c : CallsGhosts S W R} where
     behind_it = record session { part = Some after; actors = actors }
 
     -- it did what it must, and no more pieces were told as damaged
-    moved : (run : Run) (step : Step) (said : StepAnswer) → NeedsSession step → Plays run session → StaysUnharmed (at_in before) (at_in after)
+    moved : (run : Run) (step : Step) (said : StepAnswer) → WorksOn step → Plays run session → StaysUnharmed (at_in before) (at_in after)
         → PartMoves run step before after actors said → StepMoves run step behind_it said
     moved run step said needs plays stays m =
         let s : State = state_in_part before in
@@ -115,7 +122,7 @@ module _ {S W R : Type 0} {c : CallsGhosts S W R} where
       untold = h.untold;
     }
 
-    pub part_ends : (run : Run) (step : Step) (said : StepAnswer) → NeedsSession step → Plays run session → StaysUnharmed (at_in before) (at_in after)
+    pub part_ends : (run : Run) (step : Step) (said : StepAnswer) → WorksOn step → Plays run session → StaysUnharmed (at_in before) (at_in after)
         → PartEnds run step before after actors said → StepEnds run step behind_it said
     part_ends run step said needs plays stays (inl m) = inl (moved run step said needs plays stays m)
     part_ends run step said needs plays stays (inr h) = inr (shown run step plays h)
@@ -133,7 +140,7 @@ module _ {S W R : Type 0} {c : CallsGhosts S W R} where
     wanting_stops (Ok said) wanting = tt
     wanting_stops (Err why) wanting = subst (IsSessionStop session) (sym wanting) tt
 
-    actor_ends : (step : Step) (result : Result StepAnswer Stop) → NeedsSession step → AnswersActor session.now step before after session.actors actors result
+    actor_ends : (step : Step) (result : Result StepAnswer Stop) → WorksOn step → AnswersActor session.now step before after session.actors actors result
         → IfOk result (λ said. (run : Run) → Plays run session → StepEnds run step behind_it said)
     actor_ends step (Ok said) needs h = λ run plays.
         let there = part_plays run session before was plays in
@@ -141,7 +148,7 @@ module _ {S W R : Type 0} {c : CallsGhosts S W R} where
     actor_ends step (Err why) needs h = tt
 
     -- a line of an actor
-    pub actor_line : (step : Step) (result : Result StepAnswer Stop) → NeedsSession step → AnswersActor session.now step before after session.actors actors result
+    pub actor_line : (step : Step) (result : Result StepAnswer Stop) → WorksOn step → AnswersActor session.now step before after session.actors actors result
         → AnswersLine step session behind_it result
     actor_line step result needs h = record {
       session = h.active;

@@ -25,10 +25,9 @@ use Rattle.line_calls.specs.Moves.{Moves, MovesOrShows, ShowsIn}
 use Rattle.cache_replay.specs.Plays.{IsHeldAs, PartEnds, Plays, PlaysIn, PlaysPart, StepEnds}
 use Rattle.cache_replay.specs.OneLine.{AnswersLine, AnswersPlainly}
 use Rattle.line_calls.specs.Standing.{IsToldPlainly, OwnStands, TellsPut, body_of_step}
-use Rattle.run_promise.specs.Needs.{NeedsSession}
 use Rattle.cache_replay.proofs.Frames.{SameStreams, some_is}
 use Rattle.cache_replay.proofs.Free.{no_next_put, none_reads_next, none_writes_next}
-use Rattle.cache_replay.proofs.OnPart.{active, device_goes, part_ends, part_plays, same_devices, shown, wanting_stops}
+use Rattle.cache_replay.proofs.OnPart.{WorksOn, active, device_goes, part_ends, part_plays, same_devices, shown, wanting_stops}
 use Rattle.cache_replay.proofs.Plain.{AllElse, none_else, still_held, still_plays}
 use Rattle.cache_replay.proofs.PutsGrown.{grows_same}
 use Rattle.cache_replay.proofs.Stood.{IsLawful, Stood, stands_then, stood}
@@ -62,7 +61,7 @@ stands_behind lawful run step old new said m slots a holds plays stands =
 
 -- it has no actor, of the streams it changes only that of this put, which begins with it, and no actor has that put or that reader
 pub record IsWithout (put reader : Option ℕ) (step : Step) (s : State) : Type 0 where
-  pub needs : NeedsSession step
+  pub needs : WorksOn step
   pub actor : actor_of step ≡ None
   pub streams : (run : Run) (t : State) (turn : Turn) → SameStreams put run (in_session run s t turn step)
   pub body : (run : Run) (t : State) (turn : Turn) → IfSome put (λ n. ((in_session run s t turn step).streams n).bytes ≡ body_of_step step)

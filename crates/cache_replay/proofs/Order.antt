@@ -26,7 +26,7 @@ numbered_later given (d ∷ old) (e ∷ new) later h = (later.0.number ∙ h.0, 
 
 -- ---- how many there are
 
-as_many : (old new : List Device) → AreLater old new → length new ≡ length old
+pub as_many : (old new : List Device) → AreLater old new → length new ≡ length old
 as_many [] [] later = refl
 as_many [] (e ∷ new) later = absurd later
 as_many (d ∷ old) [] later = absurd later

@@ -1,10 +1,11 @@
 -- What a line makes of an outline.
 use Rattle.std.proofs.Common.{◌≡◌, ℕ, true, false, List, [], ◌∷◌, ◌++◌, refl, sym, ◌∙◌, ap, subst, arith, inl, inr, ◌<◌, Result, Ok, Err}
 use Rattle.std.specs.List.{AllByRecursion}
-use Rattle.std.specs.Prelude.{Bool, Option, Some, None, IfOk, IfErr, IsSome, map, option_map}
+use Rattle.std.specs.Prelude.{Bool, Option, Some, None, IfOk, IfErr, IsSome, is_some, map, option_map}
 use Rattle.std.proofs.lemmas.List.{append-nil, append_assoc}
 use Rattle.device_log.specs.Calls.{Call}
 use Rattle.logged_disk.specs.Device.{DeviceState as Device}
+use Rattle.logged_disk.specs.declared.device.Disk.{Ghosts as DiskGhosts}
 use Rattle.cache_calls.specs.declared.calls.Calls.{Ghosts as CallsGhosts}
 use Rattle.tape_base.specs.declared.geometries.BadGeometry.{BadGeometry}
 use Rattle.tape_base.specs.Limits.{first_refusal}
@@ -15,21 +16,25 @@ use Rattle.script_grammar.specs.declared.answer.Refused.TheVariants as refused
 use Rattle.script_grammar.specs.declared.answer.StepAnswer.{StepAnswer}
 use Rattle.script_grammar.specs.declared.answer.StepAnswer.TheVariants as answer
 use Rattle.script_run.specs.Answers.{number_of_bad}
-use Rattle.script_run.specs.Run.{Harm, Run, loosened, no_harm}
+use Rattle.script_run.specs.Run.{Harm, Run, at_hand, loosened, no_harm}
 use Rattle.script_run.specs.Turn.{Turn}
-use Rattle.script_run.specs.Behind.{harm_in}
-use Rattle.script_run.specs.Switch.{is_of_switch}
+use Rattle.script_run.specs.Behind.{harm_in, with_calls_of}
+use Rattle.script_run.specs.Switch.{is_of_device, is_of_switch}
 use Rattle.cache_model.proofs.Found.{no_truth}
-use Rattle.cache_replay.specs.declared.session.Session.{Session}
+use Rattle.cache_replay.specs.declared.session.Bare.{Bare}
+use Rattle.cache_replay.specs.declared.session.Replay.{Replay}
 use Rattle.cache_replay.specs.declared.session.Part.{Part}
 use Rattle.cache_replay.specs.declared.stop.Stop.{Stop}
 use Rattle.cache_replay.specs.declared.stop.Stop.TheVariants.{BayFault, Memory, NoCache}
-use Rattle.run_promise.specs.Outline.{IsAnswerOf, IsFormatAnswer, Outline, attached, begun, begun_by, count_in, doubted, switch_told, with_calls_of, with_told_count, with_told_switch}
-use Rattle.run_promise.specs.Outline.{outline_after, outline_in, raised, told_of}
+use Rattle.run_promise.specs.Outline.{IsAnswerOf, IsFormatAnswer, Outline, attached, begun, begun_by, count_in, doubted, stands_behind, switch_told, told_behind, with_told_count, with_told_switch}
+use Rattle.run_promise.specs.Outline.{outline_in, raised, told_of}
 use Rattle.cache_replay.specs.Session.{AnswerTellsCount, AreLater, IsLaterDevice, return_of}
 use Rattle.run_promise.specs.Needs.{AttachesAs, NeedsSession}
 use Rattle.cache_replay.specs.Stop.{IsSessionStop}
-use Rattle.cache_replay.specs.Plays.{CallsAt, IsLeftAtEnd, IsOutlined, IsUntoldAt, Outlines, stays, tried}
+use Rattle.cache_replay.specs.Plays.{CallsAt, IsUntoldAt}
+use Rattle.cache_replay.specs.Replay.{IsAlone, IsLeftAtEnd, IsOutlined, IsReplay, Outlines, bare_return, returns_in, stays, tried}
+use Rattle.cache_replay.proofs.OnPart.{later_device}
+use Rattle.logged_disk.proofs.GoingOn.{stays_put}
 use Rattle.script_run.specs.Ledger.{AreReached, Deals, GoesOnFrom, Ledger}
 
 -- ---- what a bay tells
@@ -49,14 +54,14 @@ no_deals ledger = record {
 -- ---- devices that go on
 
 -- the calls with which its log begins are those with which it begins as it goes on
-from_later : (calls : List Call) (old new : Device) → IsLaterDevice old new → GoesOnFrom calls old.past → GoesOnFrom calls new.past
+pub from_later : (calls : List Call) (old new : Device) → IsLaterDevice old new → GoesOnFrom calls old.past → GoesOnFrom calls new.past
 from_later calls old new goes h = record {
   later = goes.made.later ++ h.later;
   is = goes.made.is ∙ (ap (λ made. goes.made.later ++ made) h.is ∙ sym (append_assoc goes.made.later h.later calls));
 }
 
 -- it has a switch or none, as before
-switched_later : (told : List Bool) (old new : Device) → IsLaterDevice old new → AllByRecursion (λ has. old.has_switch ≡ has) told
+pub switched_later : (told : List Bool) (old new : Device) → IsLaterDevice old new → AllByRecursion (λ has. old.has_switch ≡ has) told
     → AllByRecursion (λ has. new.has_switch ≡ has) told
 switched_later told old new goes h = subst (λ s. AllByRecursion (λ has. s ≡ has) told) (sym goes.switch) h
 
@@ -78,6 +83,18 @@ reached_later (harm ∷ harms) (d ∷ old) (e ∷ new) later h = (
   reached_later harms old new later.1 h.1,
 )
 
+-- devices that stay go on
+pub later_all : (devices : List Device) → AreLater devices devices
+later_all [] = tt
+later_all (d ∷ devices) = (later_device (omega arith) (stays_put d), later_all devices)
+
+-- and so do they behind others
+later_more : (old new rest : List Device) → AreLater old new → AreLater (old ++ rest) (new ++ rest)
+later_more [] [] rest later = later_all rest
+later_more [] (e ∷ new) rest later = absurd later
+later_more (d ∷ old) [] rest later = absurd later
+later_more (d ∷ old) (e ∷ new) rest later = (later.0, later_more old new rest later.1)
+
 -- a step that works on a session begins none
 begun_none : (o : Outline) (s : Step) (said : StepAnswer) → NeedsSession s → begun_by o s said ≡ o
 begun_none o (step.Format name segments buckets content agg reach fragment generation alternates) said needs = absurd needs
@@ -88,10 +105,11 @@ abbrev pub AreSwitched : Option Bool → List Device → Type 0
 AreSwitched None devices = Unit {0}
 AreSwitched (Some has) devices = AllByRecursion (λ (d : Device). d.has_switch ≡ has) devices
 
--- what a line tells beside a count: what is the step's alone, and of the switch of the session's device
+-- what a line tells beside a count: what is the step's alone, and of the switch of the session's device; and it ends no session
 pub record TellsBeside (s : Step) (said : StepAnswer) (devices : List Device) : Type 0 where
   pub fixed : IsAnswerOf s said
   pub switch : AreSwitched (switch_told s said) devices
+  pub stands : (b : Bool) → stands_behind s said b ≡ b
 
 -- of a line on a session that is not for its switch that is nothing
 pub nothing_beside : (s : Step) (said : StepAnswer) (devices : List Device) → NeedsSession s → is_of_switch s ≡ false → TellsBeside s said devices
@@ -100,19 +118,24 @@ nothing_beside (step.Now moment) said devices needs other = absurd needs
 nothing_beside (step.Fail nth) said devices needs other = no_truth other
 nothing_beside (step.StopAfter calls) said devices needs other = no_truth other
 nothing_beside (step.Flip place byte) said devices needs other = no_truth other
-nothing_beside _ said devices needs other = record { fixed = tt; switch = tt }
+nothing_beside (step.Cut choice) said devices needs other = no_truth other
+nothing_beside _ said devices needs other = record { fixed = tt; switch = tt; stands = λ b. refl }
 
 -- it is told of the session's device
-told_switched : (told : Option Bool) (session : Option Harm) (ended : List Harm) (names : List (List ℕ)) (devices : List Device) → AreSwitched told devices
+told_switched : (told : Option Bool) (session : Option Harm) (stands : Bool) (ended : List Harm) (names : List (List ℕ)) (devices : List Device) → AreSwitched told devices
     → AreReached (told_of session) devices
-    → AreReached (told_of (with_told_switch told (record { session = session; ended = ended; names = names })).session) devices
-told_switched None session ended names devices is h = h
-told_switched (Some has) None ended names devices is h = h
-told_switched (Some has) (Some harm) ended names [] is h = absurd h
-told_switched (Some has) (Some harm) ended names (d ∷ devices) is h = (
+    → AreReached (told_of (with_told_switch told (record { session = session; stands = stands; ended = ended; names = names })).session) devices
+told_switched None session stands ended names devices is h = h
+told_switched (Some has) None stands ended names devices is h = h
+told_switched (Some has) (Some harm) stands ended names [] is h = absurd h
+told_switched (Some has) (Some harm) stands ended names (d ∷ devices) is h = (
   record { made = h.0.made; all = h.0.all; counted = h.0.counted; unharmed = h.0.unharmed; switched = (is.0, h.0.switched) },
   h.1,
 )
+
+switch_stands : (told : Option Bool) (o : Outline) → (with_told_switch told o).stands ≡ o.stands
+switch_stands None o = refl
+switch_stands (Some has) o = refl
 
 switch_ended : (told : Option Bool) (o : Outline) → (with_told_switch told o).ended ≡ o.ended
 switch_ended None o = refl
@@ -138,7 +161,7 @@ joins_none (Some harm) [] h = absurd h
 joins_none (Some harm) (d ∷ returns) h = (record { made = h.0.made; all = λ no. cc; counted = omega (arith, h.0.counted); unharmed = h.0.unharmed; switched = h.0.switched }, h.1)
 
 module _ {S W R : Type 0} {c : CallsGhosts S W R} where
-  abbrev Returns : Option (Part S W R c) → List Device
+  abbrev pub Returns : Option (Part S W R c) → List Device
   Returns part = return_of part
 
   -- the count that is told is one that the device reached
@@ -167,33 +190,8 @@ module _ {S W R : Type 0} {c : CallsGhosts S W R} where
   has_session None (Some a) (Some b) said later tells h = absurd h
   has_session (Some harm) old (Some b) said later tells h = refl
 
-  -- a line on a session, behind which so much is told of its device
-  joined_outlines : (o : Outline) (s : Step) (new : Session S W R c) (said : StepAnswer) (ledger : Ledger) → NeedsSession s → IsSome o.session
-      → TellsBeside s said (Returns new.part) → AreReached (told_of (option_map (raised (count_in said)) o.session)) (Returns new.part)
-      → Outlines o s new said ledger ledger
-  joined_outlines o s new said ledger needs some beside h =
-      let same : begun_by o s said ≡ o = begun_none o s said needs in
-      let told : Option Bool = switch_told s said in
-      let counted : Outline = with_told_count o (count_in said) in
-      let after : outline_after o s said ≡ with_told_switch told counted = ap (λ x. with_told_switch told (with_told_count x (count_in said))) same in
-      record {
-        answered = record { session = λ x. some; fixed = beside.fixed };
-        outlined = subst (λ (x : Outline). AreReached (told_of x.session) (Returns new.part)) (sym after)
-            (told_switched told counted.session counted.ended counted.names (Returns new.part) beside.switch h);
-        harms = [];
-        ended = ap (λ (x : Outline). x.ended) after ∙ (switch_ended told counted ∙ sym (append-nil o.ended));
-        names = [];
-        named = ap (λ (x : Outline). x.names) after ∙ (switch_names told counted ∙ sym (append-nil o.names));
-        deals = no_deals ledger;
-      }
-
-  session_outlines : (o : Outline) (s : Step) (old new : Session S W R c) (said : StepAnswer) (ledger : Ledger) → NeedsSession s
-      → AreLater (Returns old.part) (Returns new.part) → AnswerTellsCount new.part said → TellsBeside s said (Returns new.part)
-      → IsOutlined o old → Outlines o s new said ledger ledger
-  session_outlines o s old new said ledger needs later tells beside h =
-      joined_outlines o s new said ledger needs (has_session o.session old.part new.part said later tells h) beside
-      (joins o.session (count_in said) old.part new.part said refl later tells h)
-
+-- what is told of a session whose calls another run has goes on
+module _ {S W R : Type 0} {c : CallsGhosts S W R} where
   -- where the calls of a device are those of another run, they are told of it, and where it did not tell its content that is doubted
   recalled : (state : Option State) (calls : List Call) (later : Run) (count : ℕ) (part : Option (Part S W R c)) → CallsAt later part
       → IsUntoldAt part → AreReached (told_of (option_map (raised count) (option_map (λ s. loosened (harm_in calls s)) state))) (Returns part)
@@ -212,58 +210,155 @@ module _ {S W R : Type 0} {c : CallsGhosts S W R} where
     tt,
   )
 
-  -- a line on a session that showed a pair: the calls of its turn are told of the device as well, and all that is told of it is
-  -- doubted
-  pub shown_outlines : (run : Run) (turn : Turn) (s : Step) (old new : Session S W R c) (said : StepAnswer) (ledger : Ledger) → NeedsSession s
-      → AreLater (Returns old.part) (Returns new.part) → AnswerTellsCount new.part said → TellsBeside s said (Returns new.part)
-      → CallsAt (with_calls_of run turn) new.part → IsUntoldAt new.part → IsOutlined (outline_in run) old
-      → Outlines (doubted (outline_in (with_calls_of run turn))) s new said ledger ledger
-  shown_outlines run turn s old new said ledger needs later tells beside calls untold h =
-      joined_outlines (doubted (outline_in (with_calls_of run turn))) s new said ledger needs
-      (some_still run.state run.calls (with_calls_of run turn).calls
-      (has_session (outline_in run).session old.part new.part said later tells h)) beside
-      (recalled run.state run.calls (with_calls_of run turn) (count_in said) new.part calls untold
-      (joins (outline_in run).session (count_in said) old.part new.part said refl later tells h))
+  later_part : (old new : Option (Part S W R c)) → AreLater (Returns old) (Returns new) → is_some new ≡ is_some old
+  later_part None None later = refl
+  later_part None (Some b) later = absurd later
+  later_part (Some a) None later = absurd later
+  later_part (Some a) (Some b) later = refl
 
-  pub all_outlines : (result : Result StepAnswer Stop) (s : Step) (old new : Session S W R c) (ledger : Ledger) → NeedsSession s → AreLater (Returns old.part) (Returns new.part)
-      → IfOk result (AnswerTellsCount new.part) → IfOk result (λ said. TellsBeside s said (Returns new.part))
-      → IfOk result (λ said. (o : Outline) → IsOutlined o old → Outlines o s new said ledger ledger)
-  all_outlines (Ok said) s old new ledger needs later tells beside = λ o h. session_outlines o s old new said ledger needs later tells beside h
-  all_outlines (Err why) s old new ledger needs later tells beside = tt
+  -- where there is none the others are the same
+  none_more : (harms : List Harm) (old new : Option (Part S W R c)) (rest : List Device) → old ≡ None → AreLater (Returns old) (Returns new)
+      → AreReached harms (Returns old ++ rest) → AreReached harms (Returns new ++ rest)
+  none_more harms (Some part) new rest none later h = cc
+  none_more harms None None rest none later h = h
+  none_more harms None (Some part) rest none later h = absurd later
 
-  -- without a session there is no device of which anything was told
-  none_left : (harms : List Harm) (old new : Option (Part S W R c)) → old ≡ None → AreLater (Returns old) (Returns new) → AreReached harms (Returns old)
-      → AreReached harms (Returns new)
-  none_left harms (Some part) new none later h = cc
-  none_left [] None None none later h = tt
-  none_left [] None (Some part) none later h = absurd later
-  none_left (harm ∷ harms) None new none later h = absurd h
+  told_part : (part : Option (Part S W R c)) (said : StepAnswer) → AnswerTellsCount part said → is_some part ≡ true
+  told_part None said tells = absurd tells
+  told_part (Some part) said tells = refl
 
-  pub all_left : (result : Result StepAnswer Stop) (s : Step) (old new : Session S W R c) (ledger : Ledger) → NeedsSession s → IfErr result (IsSessionStop old)
-      → AreLater (Returns old.part) (Returns new.part)
-      → IfErr result (λ why. (harms : List Harm) → AreReached harms (Returns old.part) → IsLeftAtEnd harms s new ledger ledger why)
-  all_left (Ok said) s old new ledger needs stop later = tt
-  all_left (Err Memory) s old new ledger needs stop later = λ harms h. tried needs refl (reached_later harms (Returns old.part) (Returns new.part) later h) refl
-  all_left (Err NoCache) s old new ledger needs stop later = λ harms h. stays (none_left harms old.part new.part stop later h) refl
-  all_left (Err BayFault) s old new ledger needs stop later = absurd stop
+module _ {D S W R : Type 0} {d : DiskGhosts D} {c : CallsGhosts S W R} where
+  -- a line on a session, behind which so much is told of its device
+  joined_outlines : (o : Outline) (s : Step) (new : Replay D S W R d c) (said : StepAnswer) (ledger : Ledger) → NeedsSession s → IsSome o.session
+      → (is_of_device s ≡ false → o.stands ≡ true) → o.stands ≡ is_some new.session.part
+      → TellsBeside s said (returns_in new) → AreReached (told_of (option_map (raised (count_in said)) o.session)) (returns_in new)
+      → Outlines o s new said ledger ledger
+  joined_outlines o s new said ledger needs some standing stands beside h =
+      let same : begun_by o s said ≡ o = begun_none o s said needs in
+      let told : Option Bool = switch_told s said in
+      let counted : Outline = with_told_count o (count_in said) in
+      let after : told_behind o s said ≡ with_told_switch told counted = ap (λ x. with_told_switch told (with_told_count x (count_in said))) same in
+      record {
+        answered = record { session = λ x. some; stands = λ x. standing; fixed = beside.fixed };
+        outlined = record {
+          reached = subst (λ (x : Outline). AreReached (told_of x.session) (returns_in new)) (sym after)
+              (told_switched told counted.session counted.stands counted.ended counted.names (returns_in new) beside.switch h);
+          stands = beside.stands (told_behind o s said).stands ∙ (ap (λ (x : Outline). x.stands) after ∙ (switch_stands told counted ∙ stands));
+        };
+        harms = [];
+        ended = ap (λ (x : Outline). x.ended) after ∙ (switch_ended told counted ∙ sym (append-nil o.ended));
+        names = [];
+        named = ap (λ (x : Outline). x.names) after ∙ (switch_names told counted ∙ sym (append-nil o.names));
+        deals = no_deals ledger;
+      }
+
+  -- ---- beside a session there is no bare device
+
+  lone_returns : (part : Option (Part S W R c)) (bare : Option (Bare D d)) (said : StepAnswer) → AnswerTellsCount part said → IsAlone part bare
+      → (return_of part ++ bare_return bare) ≡ return_of part
+  lone_returns None bare said tells alone = absurd tells
+  lone_returns (Some part) None said tells alone = refl
+  lone_returns (Some part) (Some bare) said tells alone = absurd alone
+
+  earlier_tells : (old new : Option (Part S W R c)) (said : StepAnswer) → AreLater (Returns old) (Returns new) → AnswerTellsCount new said
+      → (bare : Option (Bare D d)) → IsAlone old bare → (return_of old ++ bare_return bare) ≡ return_of old
+  earlier_tells old None said later tells bare alone = absurd tells
+  earlier_tells None (Some b) said later tells bare alone = absurd later
+  earlier_tells (Some a) (Some b) said later tells None alone = refl
+  earlier_tells (Some a) (Some b) said later tells (Some bare) alone = absurd alone
+
+  still_alone : (old new : Option (Part S W R c)) (bare : Option (Bare D d)) → AreLater (Returns old) (Returns new) → IsAlone old bare → IsAlone new bare
+  still_alone old None bare later alone = tt
+  still_alone old (Some b) None later alone = tt
+  still_alone None (Some b) (Some bare) later alone = absurd later
+  still_alone (Some a) (Some b) (Some bare) later alone = absurd alone
+
+  -- a line on a session makes no bare device
+  module _ (old new : Replay D S W R d c) (is : IsReplay old) (same : new.bare ≡ old.bare) (later : AreLater (Returns old.session.part) (Returns new.session.part)) where
+    pub alone_then : IsAlone new.session.part new.bare
+    alone_then = subst (IsAlone new.session.part) (sym same) (still_alone old.session.part new.session.part old.bare later is.alone)
+
+    -- the device at hand goes on
+    pub returns_later : AreLater (returns_in old) (returns_in new)
+    returns_later = subst (λ b. AreLater (returns_in old) (Returns new.session.part ++ bare_return b)) (sym same)
+        (later_more (Returns old.session.part) (Returns new.session.part) (bare_return old.bare) later)
+
+    module _ (said : StepAnswer) (tells : AnswerTellsCount new.session.part said) where
+      returns_before : returns_in old ≡ Returns old.session.part
+      returns_before = earlier_tells old.session.part new.session.part said later tells old.bare is.alone
+
+      returns_behind : returns_in new ≡ Returns new.session.part
+      returns_behind = lone_returns new.session.part new.bare said tells alone_then
+
+      part_stands : (o : Outline) → IsOutlined o old → o.stands ≡ is_some new.session.part
+      part_stands o h = h.stands ∙ sym (later_part old.session.part new.session.part later)
+
+      session_outlines : (o : Outline) (s : Step) (ledger : Ledger) → NeedsSession s → TellsBeside s said (Returns new.session.part) → IsOutlined o old
+          → Outlines o s new said ledger ledger
+      session_outlines o s ledger needs beside h =
+          let reached : AreReached (told_of o.session) (Returns old.session.part) = subst (AreReached (told_of o.session)) returns_before h.reached in
+          joined_outlines o s new said ledger needs (has_session o.session old.session.part new.session.part said later tells reached)
+          (λ other. part_stands o h ∙ told_part new.session.part said tells) (part_stands o h)
+          (subst (TellsBeside s said) (sym returns_behind) beside)
+          (subst (AreReached (told_of (option_map (raised (count_in said)) o.session))) (sym returns_behind)
+          (joins o.session (count_in said) old.session.part new.session.part said refl later tells reached))
+
+      -- a line on a session that showed a pair: the calls of its turn are told of the device as well, and all that is told of it is
+      -- doubted
+      pub shown_outlines : (run : Run) (turn : Turn) (s : Step) (ledger : Ledger) → NeedsSession s → TellsBeside s said (Returns new.session.part)
+          → CallsAt (with_calls_of run turn) new.session.part → IsUntoldAt new.session.part → IsOutlined (outline_in run) old
+          → Outlines (doubted (outline_in (with_calls_of run turn))) s new said ledger ledger
+      shown_outlines run turn s ledger needs beside calls untold h =
+          let state : Option State = at_hand run.state run.last in
+          let reached : AreReached (told_of (outline_in run).session) (Returns old.session.part) = subst (AreReached (told_of (outline_in run).session)) returns_before h.reached in
+          joined_outlines (doubted (outline_in (with_calls_of run turn))) s new said ledger needs
+          (some_still state run.calls (with_calls_of run turn).calls
+          (has_session (outline_in run).session old.session.part new.session.part said later tells reached))
+          (λ other. part_stands (outline_in run) h ∙ told_part new.session.part said tells) (part_stands (outline_in run) h)
+          (subst (TellsBeside s said) (sym returns_behind) beside)
+          (subst (AreReached (told_of (option_map (raised (count_in said)) (doubted (outline_in (with_calls_of run turn))).session))) (sym returns_behind)
+          (recalled state run.calls (with_calls_of run turn) (count_in said) new.session.part calls untold
+          (joins (outline_in run).session (count_in said) old.session.part new.session.part said refl later tells reached)))
+
+    pub all_outlines : (result : Result StepAnswer Stop) (s : Step) (ledger : Ledger) → NeedsSession s
+        → IfOk result (AnswerTellsCount new.session.part) → IfOk result (λ said. TellsBeside s said (Returns new.session.part))
+        → IfOk result (λ said. (o : Outline) → IsOutlined o old → Outlines o s new said ledger ledger)
+    all_outlines (Ok said) s ledger needs tells beside = λ o h. session_outlines said tells o s ledger needs beside h
+    all_outlines (Err why) s ledger needs tells beside = tt
+
+    -- without a session all stays
+    none_left : (harms : List Harm) → old.session.part ≡ None → AreReached harms (returns_in old) → AreReached harms (returns_in new)
+    none_left harms none h = subst (λ b. AreReached harms (Returns new.session.part ++ bare_return b)) (sym same)
+        (none_more harms old.session.part new.session.part (bare_return old.bare) none later h)
+
+    pub all_left : (result : Result StepAnswer Stop) (s : Step) (ledger : Ledger) → NeedsSession s → IfErr result (IsSessionStop old.session)
+        → IfErr result (λ why. (harms : List Harm) → AreReached harms (returns_in old) → IsLeftAtEnd harms s new ledger ledger why)
+    all_left (Ok said) s ledger needs stop = tt
+    all_left (Err Memory) s ledger needs stop = λ harms h. tried needs refl (reached_later harms (returns_in old) (returns_in new) returns_later h) refl
+    all_left (Err NoCache) s ledger needs stop = λ harms h. stays (none_left harms stop h) refl
+    all_left (Err BayFault) s ledger needs stop = absurd stop
+
+  -- ---- formats, and the moment
 
   -- a format that ended the run before it did anything, whatever it answered
-  pub all_stays_left : {T : Type 0} (result : Result T Stop) (name : List ℕ) (session : Session S W R c) (before now : Ledger) → now ≡ before
-      → IfErr result (λ why. (harms : List Harm) (s : Step) → AttachesAs name s → AreReached harms (Returns session.part) → IsLeftAtEnd harms s session before now why)
-  all_stays_left (Ok x) name session before now same = tt
-  all_stays_left (Err why) name session before now same = λ harms s attaches h. stays h same
+  pub all_stays_left : {T : Type 0} (result : Result T Stop) (name : List ℕ) (replay : Replay D S W R d c) (before now : Ledger) → now ≡ before
+      → IfErr result (λ why. (harms : List Harm) (s : Step) → AttachesAs name s → AreReached harms (returns_in replay) → IsLeftAtEnd harms s replay before now why)
+  all_stays_left (Ok x) name replay before now same = tt
+  all_stays_left (Err why) name replay before now same = λ harms s attaches h. stays h same
 
   -- a line that begins no session and tells no count
-  still_outlines : (o : Outline) (s : Step) (new : Session S W R c) (said : StepAnswer) (ledger : Ledger) → (NeedsSession s → ⊥) → begun_by o s said ≡ o → count_in said ≡ 0
-      → IsAnswerOf s said → switch_told s said ≡ None
-      → AreReached (told_of o.session) (Returns new.part) → Outlines o s new said ledger ledger
-  still_outlines o s new said ledger free same none fixed silent h =
-      let after : outline_after o s said ≡ with_told_count o 0 =
+  still_outlines : (o : Outline) (s : Step) (new : Replay D S W R d c) (said : StepAnswer) (ledger : Ledger) → (NeedsSession s → ⊥) → begun_by o s said ≡ o → count_in said ≡ 0
+      → IsAnswerOf s said → switch_told s said ≡ None → ((b : Bool) → stands_behind s said b ≡ b) → IsOutlined o new → Outlines o s new said ledger ledger
+  still_outlines o s new said ledger free same none fixed silent still h =
+      let after : told_behind o s said ≡ with_told_count o 0 =
       ap (λ x. with_told_switch x (with_told_count (begun_by o s said) (count_in said))) silent
       ∙ (ap (λ x. with_told_count x (count_in said)) same ∙ ap (with_told_count o) none) in
       record {
-        answered = record { session = λ needs. absurd (free needs); fixed = fixed };
-        outlined = subst (λ (x : Outline). AreReached (told_of x.session) (Returns new.part)) (sym after) (joins_none o.session (Returns new.part) h);
+        answered = record { session = λ needs. absurd (free needs); stands = λ needs. absurd (free needs); fixed = fixed };
+        outlined = record {
+          reached = subst (λ (x : Outline). AreReached (told_of x.session) (returns_in new)) (sym after) (joins_none o.session (returns_in new) h.reached);
+          stands = still (told_behind o s said).stands ∙ (ap (λ (x : Outline). x.stands) after ∙ h.stands);
+        };
         harms = [];
         ended = ap (λ (x : Outline). x.ended) after ∙ sym (append-nil o.ended);
         names = [];
@@ -272,38 +367,47 @@ module _ {S W R : Type 0} {c : CallsGhosts S W R} where
       }
 
   -- the moment is set
-  pub moment_outlines : (o : Outline) (at : ℕ) (old new : Session S W R c) (said : StepAnswer) (ledger : Ledger) → said ≡ answer.Now at → new.part ≡ old.part → IsOutlined o old
-      → Outlines o (step.Now at) new said ledger ledger
-  moment_outlines o at old new said ledger is same h =
-      still_outlines o (step.Now at) new said ledger (λ needs. needs) refl (ap count_in is) is refl (subst (λ part. AreReached (told_of o.session) (Returns part)) (sym same) h)
+  pub moment_outlines : (o : Outline) (at : ℕ) (old new : Replay D S W R d c) (said : StepAnswer) (ledger : Ledger) → said ≡ answer.Now at → new.session.part ≡ old.session.part
+      → new.bare ≡ old.bare → IsOutlined o old → Outlines o (step.Now at) new said ledger ledger
+  moment_outlines o at old new said ledger is same bare h =
+      still_outlines o (step.Now at) new said ledger (λ needs. needs) refl (ap count_in is) is refl (λ b. refl) (record {
+        reached = subst (λ part. AreReached (told_of o.session) (Returns part ++ bare_return new.bare)) (sym same)
+            (subst (λ b. AreReached (told_of o.session) (Returns old.session.part ++ bare_return b)) (sym bare) h.reached);
+        stands = h.stands ∙ ap is_some (sym same);
+      })
 
   -- numbers that are refused change nothing
   pub refused_outlines : (o : Outline) (name : List ℕ) (segments buckets content agg reach fragment generation alternates number : ℕ) (bad : BadGeometry)
-      (session : Session S W R c) (ledger : Ledger)
-      → first_refusal segments buckets content agg reach fragment alternates ≡ Some bad → number ≡ number_of_bad bad → IsOutlined o session
-      → Outlines o (step.Format name segments buckets content agg reach fragment generation alternates) session (answer.Refused (refused.Geometry number) None) ledger ledger
-  refused_outlines o name segments buckets content agg reach fragment generation alternates number bad session ledger is numbered h =
-      still_outlines o (step.Format name segments buckets content agg reach fragment generation alternates) session (answer.Refused (refused.Geometry number) None) ledger
+      (replay : Replay D S W R d c) (ledger : Ledger)
+      → first_refusal segments buckets content agg reach fragment alternates ≡ Some bad → number ≡ number_of_bad bad → IsOutlined o replay
+      → Outlines o (step.Format name segments buckets content agg reach fragment generation alternates) replay (answer.Refused (refused.Geometry number) None) ledger ledger
+  refused_outlines o name segments buckets content agg reach fragment generation alternates number bad replay ledger is numbered h =
+      still_outlines o (step.Format name segments buckets content agg reach fragment generation alternates) replay (answer.Refused (refused.Geometry number) None) ledger
       (λ needs. needs) (ap (begun o name (answer.Refused (refused.Geometry number) None)) is) refl
-      (subst (IsFormatAnswer content agg (answer.Refused (refused.Geometry number) None)) (sym is) (ap (λ n. answer.Refused (refused.Geometry n) None) numbered)) refl h
+      (subst (IsFormatAnswer content agg (answer.Refused (refused.Geometry number) None)) (sym is) (ap (λ n. answer.Refused (refused.Geometry n) None) numbered)) refl (λ b. refl) h
 
   -- a session begins
-  pub format_outlines : (o : Outline) (name : List ℕ) (segments buckets content agg reach fragment generation alternates cursor floor : ℕ) (new : Session S W R c)
+  pub format_outlines : (o : Outline) (name : List ℕ) (segments buckets content agg reach fragment generation alternates cursor floor : ℕ) (new : Replay D S W R d c)
       (before now : Ledger)
-      → first_refusal segments buckets content agg reach fragment alternates ≡ None → cursor ≡ content → floor ≡ agg → AreReached (loosened no_harm ∷ []) (Returns new.part)
-      → Deals before now (told_of o.session) (name ∷ [])
+      → first_refusal segments buckets content agg reach fragment alternates ≡ None → cursor ≡ content → floor ≡ agg → AreReached (loosened no_harm ∷ []) (returns_in new)
+      → is_some new.session.part ≡ true → Deals before now (told_of o.session) (name ∷ [])
       → Outlines o (step.Format name segments buckets content agg reach fragment generation alternates) new (answer.Formatted 1 cursor floor) before now
-  format_outlines o name segments buckets content agg reach fragment generation alternates cursor floor new before now is at low h deals =
-      let after : outline_after o (step.Format name segments buckets content agg reach fragment generation alternates) (answer.Formatted 1 cursor floor) ≡ with_told_count
-      (attached o name (answer.Formatted 1 cursor floor)) 0 = ap (λ x. with_told_count (begun o name (answer.Formatted 1 cursor floor) x) 0) is in
+  format_outlines o name segments buckets content agg reach fragment generation alternates cursor floor new before now is at low h part deals =
+      let said : StepAnswer = answer.Formatted 1 cursor floor in
+      let after : told_behind o (step.Format name segments buckets content agg reach fragment generation alternates) said ≡ with_told_count (attached o name said) 0 =
+      ap (λ x. with_told_count (begun o name said x) 0) is in
       record {
         answered = record {
           session = λ needs. absurd needs;
-          fixed = subst (IsFormatAnswer content agg (answer.Formatted 1 cursor floor)) (sym is)
+          stands = λ needs. absurd needs;
+          fixed = subst (IsFormatAnswer content agg said) (sym is)
               (inl (ap (λ n. answer.Formatted 1 n floor) at ∙ ap (answer.Formatted 1 content) low));
         };
-        outlined = subst (λ (x : Outline). AreReached (told_of x.session) (Returns new.part)) (sym after)
-            (joins_none (Some (loosened no_harm)) (Returns new.part) h);
+        outlined = record {
+          reached = subst (λ (x : Outline). AreReached (told_of x.session) (returns_in new)) (sym after)
+              (joins_none (Some (loosened no_harm)) (returns_in new) h);
+          stands = ap (λ (x : Outline). x.stands) after ∙ sym part;
+        };
         harms = told_of o.session;
         ended = ap (λ (x : Outline). x.ended) after;
         names = name ∷ [];
@@ -312,21 +416,25 @@ module _ {S W R : Type 0} {c : CallsGhosts S W R} where
       }
 
   -- a device refused a call of its format
-  pub failed_outlines : (o : Outline) (name : List ℕ) (segments buckets content agg reach fragment generation alternates count : ℕ) (new : Session S W R c)
+  pub failed_outlines : (o : Outline) (name : List ℕ) (segments buckets content agg reach fragment generation alternates count : ℕ) (new : Replay D S W R d c)
       (before now : Ledger)
-      → first_refusal segments buckets content agg reach fragment alternates ≡ None → 0 < count → new.part ≡ None
+      → first_refusal segments buckets content agg reach fragment alternates ≡ None → 0 < count → returns_in new ≡ [] → is_some new.session.part ≡ false
       → Deals before now (told_of o.session ++ raised count no_harm ∷ []) (name ∷ [])
       → Outlines o (step.Format name segments buckets content agg reach fragment generation alternates) new (answer.DeviceFault count None) before now
-  failed_outlines o name segments buckets content agg reach fragment generation alternates count new before now is some none deals =
+  failed_outlines o name segments buckets content agg reach fragment generation alternates count new before now is some none part deals =
       let said : StepAnswer = answer.DeviceFault count None in
-      let after : outline_after o (step.Format name segments buckets content agg reach fragment generation alternates) said ≡ with_told_count (attached o name said) count =
+      let after : told_behind o (step.Format name segments buckets content agg reach fragment generation alternates) said ≡ with_told_count (attached o name said) count =
       ap (λ x. with_told_count (begun o name said x) count) is in
       record {
         answered = record {
           session = λ needs. absurd needs;
+          stands = λ needs. absurd needs;
           fixed = subst (IsFormatAnswer content agg said) (sym is) (inr (count, some, refl));
         };
-        outlined = subst (λ (x : Outline). AreReached (told_of x.session) (Returns new.part)) (sym after) (subst (λ part. AreReached [] (Returns part)) (sym none) tt);
+        outlined = record {
+          reached = subst (λ (x : Outline). AreReached (told_of x.session) (returns_in new)) (sym after) (subst (AreReached []) (sym none) tt);
+          stands = ap (λ (x : Outline). x.stands) after ∙ sym part;
+        };
         harms = told_of o.session ++ raised count no_harm ∷ [];
         ended = ap (λ (x : Outline). x.ended) after ∙ append_assoc o.ended (told_of o.session) (raised count no_harm ∷ []);
         names = name ∷ [];

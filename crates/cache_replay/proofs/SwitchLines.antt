@@ -1,32 +1,30 @@
 -- A line for the switch of a session's device.
-use Rattle.std.proofs.Common.{◌≡◌, ℕ, ◌≤◌, List, [], ◌∷◌, ◌++◌, length, Bool, true, false, refl, sym, ◌∙◌, ap, subst, arith, inl, inr, ◌⊎◌, Result, Ok, Err}
-use Rattle.std.specs.Prelude.{◌*◌, Option, Some, None, IfOk, IfErr}
+use Rattle.std.proofs.Common.{◌≡◌, ℕ, List, [], ◌∷◌, ◌++◌, Bool, true, false, refl, sym, ◌∙◌, ap, subst, arith, inl, inr, ◌⊎◌, Result, Ok, Err}
+use Rattle.std.specs.Prelude.{◌*◌, Option, Some, None, IfOk}
 use Rattle.std.specs.declared.alloc.AllocError.{AllocError}
 use Rattle.std.proofs.lemmas.List.{append-nil}
 use Rattle.tape_base.specs.Geometry.{budget_of}
 use Rattle.device_log.specs.Calls.{Call, Flipped, PowerCut, Read, RefusedCall, Synced, Told, Wrote}
-use Rattle.logged_disk.specs.Device.{DeviceState as Device, TellsAll, has_flip}
+use Rattle.logged_disk.specs.Device.{DeviceState as Device, has_flip}
 use Rattle.cache_answers.specs.declared.answers.SwitchOrder.{SwitchOrder}
 use Rattle.cache_answers.specs.declared.answers.SwitchOrder.TheVariants as order
-use Rattle.cache_answers.specs.Orders.{HasMade, TellsSwitch, call_of_order, calls_of_order}
+use Rattle.cache_answers.specs.Orders.{HasMade, call_of_order, calls_of_order}
 use Rattle.cache_model.specs.State.{State}
 use Rattle.cache_model.specs.Kept.{state_of}
 use Rattle.cache_model.specs.Damage.{has_damage}
 use Rattle.cache_model.specs.Legal
 use Rattle.cache_model.specs.Legal.{IsStep}
-use Rattle.cache_model.specs.Permit.{Permit}
 use Rattle.cache_model.specs.Vectors.{AreTold}
 use Rattle.cache_model.proofs.Found.{no_truth}
 use Rattle.call_laws.specs.Moments.{permit_of}
 use Rattle.cache_calls.specs.declared.calls.Calls.{Ghosts as CallsGhosts}
-use Rattle.cache_calls.specs.Keeping.{IsAtRest, IsUnharmed, StaysUnharmed, plain_setting}
-use Rattle.actor_table.specs.Table.{TableSeen}
+use Rattle.cache_calls.specs.Keeping.{IsAtRest, StaysUnharmed}
 use Rattle.script_grammar.specs.declared.answer.Refused.TheVariants as refused
 use Rattle.script_grammar.specs.declared.answer.StepAnswer.{StepAnswer}
 use Rattle.script_grammar.specs.declared.answer.StepAnswer.TheVariants as answer
 use Rattle.script_grammar.specs.declared.step.Step.{Step}
 use Rattle.script_run.specs.Run.{Run, Stream, actor_of}
-use Rattle.script_run.specs.Turn.{Turn, calls_in}
+use Rattle.script_run.specs.Turn.{Turn}
 use Rattle.script_run.specs.Asked.{asked}
 use Rattle.script_run.specs.Answers.{session_said, switch_said}
 use Rattle.script_run.specs.Behind.{actors_behind, held_behind, in_session, streams_behind}
@@ -34,21 +32,19 @@ use Rattle.script_run.specs.Losses.{NoLossIsAFault}
 use Rattle.script_run.specs.Own.{AreOwn}
 use Rattle.script_run.specs.Switch.{TreatsSwitch, order_of_step}
 use Rattle.script_run.specs.Takes.{GivesOwn, TakesBehind}
-use Rattle.run_promise.specs.Needs.{NeedsSession}
-use Rattle.run_promise.specs.Outline.{IsAnswerOf, count_in, has_switch_in, switch_told}
+use Rattle.run_promise.specs.Outline.{count_in, has_switch_in}
 use Rattle.line_calls.specs.Moves.{Moves}
-use Rattle.line_calls.specs.Standing.{OwnStands, TellsOwn}
-use Rattle.cache_replay.specs.declared.session.ActorHolding.{ActorHolding}
+use Rattle.line_calls.specs.Standing.{TellsOwn}
 use Rattle.cache_replay.specs.declared.session.Part.{Part}
 use Rattle.cache_replay.specs.declared.session.Session.{Session}
 use Rattle.cache_replay.specs.declared.stop.Stop.{Stop}
 use Rattle.cache_replay.specs.declared.stop.Stop.TheVariants.{Memory}
-use Rattle.cache_replay.specs.Session.{AnswerTellsCount, AreHeld, AreLater, IsActive, IsLaterDevice, IsPart, IsSession, at_in, return_of, slots_in, state_in_part}
+use Rattle.cache_replay.specs.Session.{AreHeld, AreLater, IsActive, IsLaterDevice, IsPart, IsSession, at_in, return_of, slots_in, state_in_part}
 use Rattle.cache_replay.specs.OneLine.{AnswersLine}
-use Rattle.cache_replay.specs.Plays.{PartMoves, Plays, PlaysIn, PlaysPart, StepEnds}
+use Rattle.cache_replay.specs.Plays.{Plays, PlaysPart, StepEnds}
 use Rattle.cache_replay.specs.Switching.{AnswerTellsSwitch, AnswersOrder, step_of_order, switch_answer, told_answer}
 use Rattle.cache_replay.proofs.Frames.{leaves_all}
-use Rattle.cache_replay.proofs.OnPart.{active, part_ends, part_plays, same_devices, wanting_stops}
+use Rattle.cache_replay.proofs.OnPart.{WorksOn, active, part_ends, part_plays, same_devices, wanting_stops}
 use Rattle.cache_replay.proofs.Outlines.{TellsBeside}
 use Rattle.cache_replay.proofs.Plain.{none_else, still_plays}
 
@@ -86,7 +82,7 @@ made_later made old new h = record {
 
 -- a line that is an order asks nothing of the records, has no actor, and is answered by what the switch was told
 record IsLineOf (o : SwitchOrder) (step : Step) : Type 0 where
-  needs : NeedsSession step
+  on : WorksOn step
   asks : (run : Run) (s : State) → asked run s step ≡ []
   orders : order_of_step step ≡ Some o
   gives : (run : Run) (s : State) (turn : Turn) → turn.given ≡ [] → GivesOwn run s turn step
@@ -98,38 +94,38 @@ record IsLineOf (o : SwitchOrder) (step : Step) : Type 0 where
 
 line_of : (o : SwitchOrder) → IsLineOf o (step_of_order o)
 line_of (order.Fail nth) = record {
-  needs = tt;
   asks = λ run s. refl;
   orders = refl;
   gives = λ run s turn none. none;
   streams = λ run s t turn. refl;
   actor = refl;
   says = λ run s t turn. refl;
-  beside = λ said devices is switch. record { fixed = is; switch = switch };
+  beside = λ said devices is switch. record { fixed = is; switch = switch; stands = λ b. refl };
+  on = tt;
 }
 line_of (order.StopAfter calls) = record {
-  needs = tt;
   asks = λ run s. refl;
   orders = refl;
   gives = λ run s turn none. none;
   streams = λ run s t turn. refl;
   actor = refl;
   says = λ run s t turn. refl;
-  beside = λ said devices is switch. record { fixed = is; switch = switch };
+  beside = λ said devices is switch. record { fixed = is; switch = switch; stands = λ b. refl };
+  on = tt;
 }
 line_of (order.Flip place byte) = record {
-  needs = tt;
   asks = λ run s. refl;
   orders = refl;
   gives = λ run s turn none. none;
   streams = λ run s t turn. refl;
   actor = refl;
   says = λ run s t turn. refl;
-  beside = λ said devices is switch. record { fixed = is; switch = switch };
+  beside = λ said devices is switch. record { fixed = is; switch = switch; stands = λ b. refl };
+  on = tt;
 }
 
-pub order_needs : (o : SwitchOrder) → NeedsSession (step_of_order o)
-order_needs o = (line_of o).needs
+pub order_on : (o : SwitchOrder) → WorksOn (step_of_order o)
+order_on o = (line_of o).on
 
 -- ---- what is answered
 
@@ -280,7 +276,7 @@ module _ {S W R : Type 0} {c : CallsGhosts S W R} (session : Session S W R c) (b
         → StepEnds run (step_of_order o) (record session { part = Some after }) said
     unfolding moves_order
     order_ends said says run plays =
-        part_ends session before after session.actors was run (step_of_order o) said (order_needs o) plays unharmed_then
+        part_ends session before after session.actors was run (step_of_order o) said (order_on o) plays unharmed_then
         (inl (record { moves = moves_order run said says; plays = plays_then run (part_plays run session before was plays) }))
 
     later_then : AreLater (return_of session.part) (return_of (Some after))

@@ -2,8 +2,10 @@ pub mod Stop
 pub mod Replies
 pub mod Session
 pub mod Plays
+pub mod Replay
 pub mod OneLine
 pub mod Switching
+pub mod Bare
 pub mod Deals
 pub mod Feeding
 pub mod Putting

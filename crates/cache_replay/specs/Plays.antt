@@ -1,5 +1,5 @@
 -- What a session is for the run that it serves, and what a line makes of it.
-use Rattle.std.specs.Prelude.{ℕ, ◌≡◌, ◌≤◌, ◌⊎◌, List, [], ◌∷◌, ◌++◌, length, drop, map, Option, Some, None}
+use Rattle.std.specs.Prelude.{ℕ, ◌≡◌, ◌≤◌, ◌⊎◌, length, drop, Option, Some, None}
 use Rattle.fragment_table.specs.Table.{total_length}
 use Rattle.logged_disk.specs.Device.{TellsAll}
 use Rattle.cache_model.specs.State.{State}
@@ -10,23 +10,18 @@ use Rattle.cache_calls.specs.Keeping.{IsUnharmed}
 use Rattle.actor_table.specs.Table.{TableSeen}
 use Rattle.script_grammar.specs.declared.answer.StepAnswer.{StepAnswer}
 use Rattle.script_grammar.specs.declared.step.Step.{Step}
-use Rattle.script_run.specs.Run.{Harm, Run, Stream, HoldsWriter, HoldsReader, loosened, no_harm}
+use Rattle.script_run.specs.Run.{Run, Stream, HoldsWriter, HoldsReader}
 use Rattle.script_run.specs.Turn.{Turn}
 use Rattle.script_run.specs.Answers.{step_answer}
-use Rattle.script_run.specs.Behind.{after_step, harm_of, in_session}
-use Rattle.script_run.specs.Ledger.{AreReached, Deals, Ledger}
+use Rattle.script_run.specs.Behind.{after_step, in_session, with_calls_of}
 use Rattle.script_run.specs.Own.{AreOwn}
 use Rattle.script_run.specs.Takes.{StepShows, StepTakes}
 use Rattle.cache_replay.specs.declared.session.ActorHolding.{ActorHolding}
 use Rattle.cache_replay.specs.declared.session.Part.{Part}
 use Rattle.cache_replay.specs.declared.session.Session.{Session}
-use Rattle.cache_replay.specs.declared.stop.Stop.{Stop}
-use Rattle.cache_replay.specs.declared.stop.Stop.TheVariants.{Memory}
-use Rattle.cache_replay.specs.Session.{HoldingSeen, IsSession, ReaderHeld, WriterHeld, at_in, names_in, past_of, return_in, slots_in, slots_of, state_in_part}
+use Rattle.cache_replay.specs.Session.{HoldingSeen, ReaderHeld, WriterHeld, at_in, names_in, past_of, slots_in, slots_of, state_in_part}
 use Rattle.line_calls.specs.Moves.{Moves, ShowsIn}
 use Rattle.line_calls.specs.Standing.{OwnStands}
-use Rattle.run_promise.specs.Outline.{IsAnswered, Outline, doubted, outline_after, outline_in, told_of, with_calls_of}
-use Rattle.run_promise.specs.Needs.{AttachesAs, NeedsSession}
 
 -- ---- a session beside a run
 
@@ -91,10 +86,6 @@ module _ {S W R : Type 0} {c : CallsGhosts S W R} where
     -- all calls of its device are those of the lines since its attach
     pub calls : CallsAt run session.part
 
-  -- its device is as it was told
-  abbrev pub HasReached : Run → Session S W R c → Type 0
-  HasReached run session = AreReached (harm_of run.calls run.state) (return_in session)
-
   -- ---- a line
 
   -- a step did what it must, and this is its answer
@@ -116,11 +107,6 @@ module _ {S W R : Type 0} {c : CallsGhosts S W R} where
   abbrev pub StepEnds : Run → Step → Session S W R c → StepAnswer → Type 0
   StepEnds run step new said = StepMoves run step new said ⊎ StepPair run step new
 
--- a session as the run has it has a device that is as it was told
-module _ {S W R : Type 0} (c : CallsGhosts S W R) where
-  abbrev pub PlaysReach : Type 0
-  PlaysReach = (run : Run) (session : Session S W R c) → IsSession session → Plays run session → HasReached run session
-
 -- ---- a line on a part
 
 module _ {S W R : Type 0} {c : CallsGhosts S W R} where
@@ -139,58 +125,3 @@ module _ {S W R : Type 0} {c : CallsGhosts S W R} where
   -- so it is, or two documents of one SHA-256 are shown
   abbrev pub PartEnds : Run → Step → (old new : Part S W R c) → TableSeen (ActorHolding W R) → StepAnswer → Type 0
   PartEnds run step old new actors said = PartMoves run step old new actors said ⊎ ShowsIn run step (at_in old) (at_in new)
-
--- ---- devices
-
-module _ {S W R : Type 0} {c : CallsGhosts S W R} where
-  -- A step did what it must, this is its answer, the devices of what it ended came back, and its own was attached.
-  pub record DeviceMoves (run : Run) (step : Step) (new : Session S W R c) (said : StepAnswer) (before now : Ledger) : Type 0 where
-    pub moves : StepMoves run step new said
-    pub harms : List Harm
-    pub ended : (after_step run moves.turn step).ended ≡ run.ended ++ harms
-    pub names : List (List ℕ)
-    pub named : (after_step run moves.turn step).names ≡ run.names ++ names
-    pub deals : Deals before now harms names
-
--- ---- whatever the records are worth
-
-module _ {S W R : Type 0} {c : CallsGhosts S W R} where
-  -- an outline has a session where there is one, of whose device no count above its own was told
-  abbrev pub IsOutlined : Outline → Session S W R c → Type 0
-  IsOutlined o session = AreReached (told_of o.session) (return_in session)
-
-  -- A step was answered, the devices of what it ended came back, and its own was attached.
-  pub record Outlines (o : Outline) (step : Step) (new : Session S W R c) (said : StepAnswer) (before now : Ledger) : Type 0 where
-    pub answered : IsAnswered o step said
-    pub outlined : IsOutlined (outline_after o step said) new
-    pub harms : List Harm
-    pub ended : (outline_after o step said).ended ≡ o.ended ++ harms
-    pub names : List (List ℕ)
-    pub named : (outline_after o step said).names ≡ o.names ++ names
-    pub deals : Deals before now harms names
-
-  -- What a line leaves that ended the run for this reason, where so much was told of the session's device: it and the bay
-  -- are as they were; or the line works on the session and wanted memory, and may have made calls of the device; or, of a
-  -- format that wanted memory once its device was attached, both devices came back, that of the session first, and there is
-  -- no session.
-  pub data IsLeftAtEnd (harms : List Harm) (step : Step) (new : Session S W R c) (before now : Ledger) (why : Stop) : Type 0 where
-    stays : AreReached harms (return_in new) → now ≡ before → IsLeftAtEnd harms step new before now why
-    tried : NeedsSession step → why ≡ Memory → AreReached (map loosened harms) (return_in new) → now ≡ before
-        → IsLeftAtEnd harms step new before now why
-    ended : (name : List ℕ) → AttachesAs name step → new.part ≡ None → Deals before now (harms ++ no_harm ∷ []) (name ∷ []) → why ≡ Memory
-        → IsLeftAtEnd harms step new before now why
-
--- ---- a step that did what it must, or shows a pair
-
-module _ {S W R : Type 0} {c : CallsGhosts S W R} where
-  -- A step shows two documents of one SHA-256, and from there on the outline goes on by the answer, which has the calls of that
-  -- turn: the session's device made them. What is told of that device is doubted: it did not tell its content.
-  pub record DeviceShows (run : Run) (step : Step) (new : Session S W R c) (said : StepAnswer) (before now : Ledger) : Type 0 where
-    pub turn : Turn
-    pub shows : StepShows run turn run.state step
-    pub outlines : Outlines (doubted (outline_in (with_calls_of run turn))) step new said before now
-
-  -- it did what it must, or shows such a pair
-  abbrev pub DeviceEnds : Run → Step → Session S W R c → StepAnswer → (before now : Ledger) → Type 0
-  DeviceEnds run step new said before now =
-      DeviceMoves run step new said before now ⊎ DeviceShows run step new said before now

@@ -5,6 +5,9 @@ use Rattle.device_bay.specs.Bay.{Refuses}
 use Rattle.cache_calls.specs.declared.calls.Calls.{Ghosts as CallsGhosts}
 use Rattle.script_grammar.specs.declared.step.Step.{Step}
 use Rattle.run_promise.specs.Needs.{AttachesWith, NeedsSession}
+use Rattle.logged_disk.specs.declared.device.Disk.{Ghosts as DiskGhosts}
+use Rattle.script_run.specs.Switch.{is_of_device}
+use Rattle.cache_replay.specs.declared.session.Replay.{Replay}
 use Rattle.cache_replay.specs.declared.session.Session.{Session}
 use Rattle.cache_replay.specs.declared.stop.Stop.{Stop}
 use Rattle.cache_replay.specs.declared.stop.Stop.TheVariants.{NoCache, BayFault, Memory}
@@ -28,11 +31,17 @@ module _ {S W R : Type 0} {c : CallsGhosts S W R} where
   IsSessionStop session BayFault = ⊥
   IsSessionStop session Memory = ⊤
 
-  -- why a step ends the run, by the session before it
-  abbrev pub StopsStep : Session S W R c → Step → (old new : List BayCall) → Stop → Type 0
-  StopsStep session s old new NoCache = NeedsSession s × (session.part ≡ None)
-  StopsStep session s old new BayFault = RefusesStep s old new
-  StopsStep session s old new Memory = ⊤
+module _ {D S W R : Type 0} {d : DiskGhosts D} {c : CallsGhosts S W R} where
+  -- what a line needs is not there: a session, or for a line of a device any device
+  pub record LacksIn (replay : Replay D S W R d c) (s : Step) : Type 0 where
+    pub part : replay.session.part ≡ None
+    pub bare : is_of_device s ≡ true → replay.bare ≡ None
+
+  -- why a step ends the run, by the replay before it
+  abbrev pub StopsStep : Replay D S W R d c → Step → (old new : List BayCall) → Stop → Type 0
+  StopsStep replay s old new NoCache = NeedsSession s × LacksIn replay s
+  StopsStep replay s old new BayFault = RefusesStep s old new
+  StopsStep replay s old new Memory = ⊤
 
 -- a fault of the bay ended the run
 abbrev pub is_bay_stop : Stop → Bool

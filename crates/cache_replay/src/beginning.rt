@@ -1,5 +1,5 @@
 // Sessions begin, formats give them devices, and the devices come back.
-ghost use Rattle.std.specs.Prelude.{◌≡◌, ◌+◌, ◌*◌, ◌<◌, ◌≤◌, ◌∷◌, [], ℕ, List, None, Some, length, IfOk, IfErr, OnOk, OnErr};
+ghost use Rattle.std.specs.Prelude.{◌≡◌, ◌+◌, ◌++◌, ◌*◌, ◌<◌, ◌≤◌, ◌∷◌, [], ℕ, List, None, Some, length, IfOk, IfErr, OnOk, OnErr};
 ghost use Rattle.std.specs.Result.{result_err};
 ghost use Rattle.tape_base.specs.Geometry.{HasNumbers, budget_of};
 ghost use Rattle.tape_base.specs.Limits.{first_refusal};
@@ -12,56 +12,89 @@ ghost use Rattle.script_run.specs.Answers.{number_of_bad};
 ghost use Rattle.script_run.specs.Ledger.{AreReached, ComeBack, KeepsOrder};
 ghost use Rattle.cache_replay.specs.Deals.{AnswersStep, FormatsAs, GivesBack, GivesNone};
 ghost use Rattle.run_promise.specs.Outline.{blank_outline};
-ghost use Rattle.cache_replay.specs.Plays.{IsOutlined, Plays, PlaysReach};
-ghost use Rattle.cache_replay.specs.Session.{IsPart, IsSession, at_in, devices_of, names_in, return_in, return_of, slots_in};
+ghost use Rattle.cache_replay.specs.Replay.{IsOutlined, IsReplay, PlaysOn, PlaysReach, actors_in, bare_return, devices_in, returns_in};
+ghost use Rattle.cache_replay.specs.Session.{at_in, return_of, slots_in};
 ghost use Rattle.cache_replay.specs.Stop.{IsFormatStop, RefusesAtStop};
 
-use crate::session::{Part, Session};
+use crate::session::{Bare, Part, Replay, Session};
 use crate::stop::Stop;
 use actor_table::Actors;
 use cache_calls::{Calls, Formats};
 use device_bay::{Bay, BayFault};
+use logged_disk::Disk;
 use script_grammar::{Refused, StepAnswer};
 use std::alloc::{AllocError, Global};
 use std::mem;
 use stripe_copies::FormatFault;
 use tape_base::{BadGeometry, Geometry, alternates_are_last, device_blocks, floor_of};
 
-/// A session in which nothing was formatted yet.
-pub fn begin<S: Calls>(alloc: Global) -> Session<S>
-    ensures session { IsSession result }
-    ensures plays { Plays fresh result }
+/// A replay in which nothing was formatted yet.
+pub fn begin<D: Disk, S: Calls>(alloc: Global) -> Replay<D, S>
+    ensures replay { IsReplay result }
+    ensures plays { PlaysOn fresh result }
     ensures outline { IsOutlined blank_outline result }
-    ensures devices { devices_of result ≡ 0 }
-    ensures names { names_in result ≡ [] }
+    ensures devices { devices_in result ≡ 0 }
+    ensures names { actors_in result ≡ [] }
 {
-    Session {
-        alloc,
-        actors: Actors::new(alloc),
-        part: None,
-        now: 0,
+    Replay {
+        session: Session {
+            alloc,
+            actors: Actors::new(alloc),
+            part: None,
+            now: 0,
+        },
+        bare: None,
     }
 }
 
-/// A session's device has counted as far as the run was told, its calls are those of the lines since its attach, and
+/// The device at hand has counted as far as the run was told, its calls are those of the lines since its attach, and
 /// where it tells its content no piece was told as damaged.
-pub fn plays_reach<S: Calls>()
-    ensures { PlaysReach S.Calls }
+pub fn plays_reach<D: Disk, S: Calls>()
+    ensures { PlaysReach D.Disk S.Calls }
 {}
 
-/// Gives the session's device back.
-pub fn close<B: Bay, S: Formats<B::Dev>>(session: Session<S>, bay: &mut B)
-    requires held { devices_of session ≤ out_of (B.past bay.old) }
-    ensures back { (harms : List Harm) → AreReached harms (return_in session)
+/// Gives the device at hand back.
+pub fn close<B: Bay, S: Formats<B::Dev>>(replay: Replay<B::Dev, S>, bay: &mut B)
+    requires held { devices_in replay ≤ out_of (B.past bay.old) }
+    ensures back { (harms : List Harm) → AreReached harms (returns_in replay)
         → ComeBack (returned_by (B.past bay.old)) (returned_by (B.past bay.new)) harms }
-    ensures gives { GivesBack (return_in session) (B.past bay.old) (B.past bay.new) }
+    ensures gives { GivesBack (returns_in replay) (B.past bay.old) (B.past bay.new) }
 {
+    let Replay { session, bare } = replay;
     let Session { part, .. } = session;
-    give_back(bay, part);
+    give_back(bay, part, bare);
+}
+
+// Gives back the device at hand, that of a cache or a bare one.
+fn give_back<B: Bay, S: Formats<B::Dev>>(
+    bay: &mut B,
+    part: Option<Part<S>>,
+    bare: Option<Bare<B::Dev>>,
+)
+    requires held { length (return_of part ++ bare_return bare) ≤ out_of (B.past bay.old) }
+    ensures gives { GivesBack (return_of part ++ bare_return bare) (B.past bay.old) (B.past bay.new) }
+{
+    give_back_part(bay, part);
+    give_back_bare(bay, bare);
+}
+
+/// Gives back a bare device, where there is one.
+pub(crate) fn give_back_bare<B: Bay>(bay: &mut B, bare: Option<Bare<B::Dev>>)
+    requires held { length (bare_return bare) ≤ out_of (B.past bay.old) }
+    ensures gives { GivesBack (bare_return bare) (B.past bay.old) (B.past bay.new) }
+    ensures none { bare ≡ None → B.past bay.new ≡ B.past bay.old }
+{
+    match bare {
+        Some(bare) => {
+            let Bare { device, .. } = bare;
+            bay.give_back(device)
+        }
+        None => {}
+    }
 }
 
 // Gives back the device of a cache, where there is one.
-fn give_back<B: Bay, S: Formats<B::Dev>>(bay: &mut B, part: Option<Part<S>>)
+fn give_back_part<B: Bay, S: Formats<B::Dev>>(bay: &mut B, part: Option<Part<S>>)
     requires held { length (return_of part) ≤ out_of (B.past bay.old) }
     ensures gives { GivesBack (return_of part) (B.past bay.old) (B.past bay.new) }
 {
@@ -132,23 +165,25 @@ fn attach<B: Bay>(alloc: Global, bay: &mut B, name: &[u8], blocks: u64) -> Resul
     }
 }
 
-// Ends the session, and gives its device back.
-fn end<B: Bay, S: Formats<B::Dev>>(session: &mut Session<S>, bay: &mut B)
-    requires held { devices_of session.old ≤ out_of (B.past bay.old) }
-    ensures part { session.new.part ≡ None }
-    ensures slots { (n : ℕ) → slots_in session.new n ≡ None }
-    ensures names { names_in session.new ≡ names_in session.old }
-    ensures now { session.new.now ≡ session.old.now }
-    ensures gives { GivesBack (return_in session.old) (B.past bay.old) (B.past bay.new) }
+// Ends the session, and gives the device at hand back.
+fn end<B: Bay, S: Formats<B::Dev>>(replay: &mut Replay<B::Dev, S>, bay: &mut B)
+    requires held { devices_in replay.old ≤ out_of (B.past bay.old) }
+    ensures part { replay.new.session.part ≡ None }
+    ensures bare { replay.new.bare ≡ None }
+    ensures slots { (n : ℕ) → slots_in replay.new.session n ≡ None }
+    ensures names { actors_in replay.new ≡ actors_in replay.old }
+    ensures now { replay.new.session.now ≡ replay.old.session.now }
+    ensures gives { GivesBack (returns_in replay.old) (B.past bay.old) (B.past bay.new) }
 {
-    session.actors.clear();
-    let part = mem::replace(&mut session.part, None);
-    give_back(bay, part);
+    replay.session.actors.clear();
+    let part = mem::replace(&mut replay.session.part, None);
+    let bare = mem::replace(&mut replay.bare, None);
+    give_back(bay, part, bare);
 }
 
 /// `format NAME S B N A R F G M`: the session before it ends, and one begins on the device of that name.
 pub(crate) fn format_line<B: Bay, S: Formats<B::Dev>>(
-    session: &mut Session<S>,
+    replay: &mut Replay<B::Dev, S>,
     bay: &mut B,
     name: &[u8],
     segments: u32,
@@ -160,10 +195,10 @@ pub(crate) fn format_line<B: Bay, S: Formats<B::Dev>>(
     generation: u64,
     alternates: u32,
 ) -> Result<StepAnswer, Stop>
-    requires session { IsSession session.old }
-    requires held { devices_of session.old ≤ out_of (B.past bay.old) }
+    requires replay { IsReplay replay.old }
+    requires held { devices_in replay.old ≤ out_of (B.past bay.old) }
     ensures answers { AnswersStep (step.Format name.now segments buckets content agg reach fragment
-        generation alternates) session.old session.new (B.past bay.old) (B.past bay.new) result }
+        generation alternates) replay.old replay.new (B.past bay.old) (B.past bay.new) result }
 {
     match checked(
         segments, buckets, content, agg, reach, fragment, generation, alternates,
@@ -174,7 +209,7 @@ pub(crate) fn format_line<B: Bay, S: Formats<B::Dev>>(
             },
             took: None,
         }),
-        Ok(geometry) => match format(session, bay, name, geometry)? {
+        Ok(geometry) => match format(replay, bay, name, geometry)? {
             Tried::Begun => Ok(StepAnswer::Formatted {
                 serial: 1,
                 cursor: geometry.content,
@@ -195,26 +230,26 @@ pub enum Tried {
 
 // Lays the device of that name out, and begins a session on it.
 fn format<B: Bay, S: Formats<B::Dev>>(
-    session: &mut Session<S>,
+    replay: &mut Replay<B::Dev, S>,
     bay: &mut B,
     name: &[u8],
     geometry: Geometry,
 ) -> Result<Tried, Stop>
-    requires session { IsSession session.old }
-    requires held { devices_of session.old ≤ out_of (B.past bay.old) }
-    ensures formats { FormatsAs name.now geometry session.old session.new (B.past bay.old)
+    requires replay { IsReplay replay.old }
+    requires held { devices_in replay.old ≤ out_of (B.past bay.old) }
+    ensures formats { FormatsAs name.now geometry replay.old replay.new (B.past bay.old)
         (B.past bay.new) result }
 {
-    let alloc = session.alloc;
+    let alloc = replay.session.alloc;
     let page = make_page(alloc, &geometry)?;
     let device = attach(alloc, bay, name, device_blocks(&geometry))?;
     match S::format(alloc, device, geometry) {
         Ok(cache) => {
-            start(session, bay, Part { cache, page });
+            start(replay, bay, Part { cache, page });
             Ok(Tried::Begun)
         }
         Err((fault, device)) => {
-            end(session, bay);
+            end(replay, bay);
             bay.give_back(device);
             match fault {
                 FormatFault::Memory(_) => Err(Stop::Memory),
@@ -224,16 +259,18 @@ fn format<B: Bay, S: Formats<B::Dev>>(
     }
 }
 
-// Puts another cache in the place of the session's, whose device it gives back.
-fn start<B: Bay, S: Formats<B::Dev>>(session: &mut Session<S>, bay: &mut B, part: Part<S>)
-    requires held { devices_of session.old ≤ out_of (B.past bay.old) }
-    ensures part { session.new.part ≡ Some part }
-    ensures slots { (n : ℕ) → slots_in session.new n ≡ None }
-    ensures names { names_in session.new ≡ names_in session.old }
-    ensures now { session.new.now ≡ session.old.now }
-    ensures gives { GivesBack (return_in session.old) (B.past bay.old) (B.past bay.new) }
+// Puts another cache in the place of the session's, and gives the device at hand back.
+fn start<B: Bay, S: Formats<B::Dev>>(replay: &mut Replay<B::Dev, S>, bay: &mut B, part: Part<S>)
+    requires held { devices_in replay.old ≤ out_of (B.past bay.old) }
+    ensures part { replay.new.session.part ≡ Some part }
+    ensures bare { replay.new.bare ≡ None }
+    ensures slots { (n : ℕ) → slots_in replay.new.session n ≡ None }
+    ensures names { actors_in replay.new ≡ actors_in replay.old }
+    ensures now { replay.new.session.now ≡ replay.old.session.now }
+    ensures gives { GivesBack (returns_in replay.old) (B.past bay.old) (B.past bay.new) }
 {
-    session.actors.clear();
-    let before = mem::replace(&mut session.part, Some(part));
-    give_back(bay, before);
+    replay.session.actors.clear();
+    let before = mem::replace(&mut replay.session.part, Some(part));
+    let bare = mem::replace(&mut replay.bare, None);
+    give_back(bay, before, bare);
 }

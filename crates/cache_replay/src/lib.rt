@@ -2,6 +2,7 @@
 #![tactic(auto, using(logged_disk::proofs::GoingOn::stays_as))]
 
 mod answers;
+mod bare_lines;
 mod beginning;
 mod feeding;
 mod getting;
@@ -16,6 +17,6 @@ mod switch_lines;
 mod writer_lines;
 
 pub use beginning::{begin, close, plays_reach};
-pub use session::Session;
+pub use session::{Replay, Session};
 pub use stepping::{in_session, step, takes_actors};
 pub use stop::Stop;

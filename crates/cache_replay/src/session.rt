@@ -3,6 +3,7 @@ ghost use Rattle.std.specs.Prelude.{◌≤◌};
 
 use actor_table::Actors;
 use cache_calls::Calls;
+use logged_disk::Disk;
 use std::alloc::Global;
 
 /// Runs the steps of a script, one after the other.
@@ -13,6 +14,21 @@ pub struct Session<S: Calls> {
     pub(crate) part: Option<Part<S>>,
     /// The moment for pins. It goes on behind a format.
     pub(crate) now: u64,
+}
+
+/// What the lines of a script work on: a session, or the device that a cut left without one.
+#[derive(Drop)]
+pub struct Replay<D: Disk, S: Calls> {
+    pub(crate) session: Session<S>,
+    pub(crate) bare: Option<Bare<D>>,
+}
+
+/// A device with no session on it.
+#[derive(Drop)]
+pub(crate) struct Bare<D: Disk> {
+    pub(crate) device: D,
+    // Of any device: with it the type carries what `D` tells of itself.
+    ghost told: { 0 ≤ (D.state device).faults },
 }
 
 /// What a format began.

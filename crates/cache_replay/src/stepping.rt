@@ -8,32 +8,35 @@ ghost use Rattle.script_run.specs.Switch.{is_of_switch};
 ghost use Rattle.cache_replay.specs.Deals.{AnswersStep};
 ghost use Rattle.cache_replay.specs.OneLine.{AnswersLine};
 ghost use Rattle.cache_replay.specs.Plays.{Plays, StepMoves};
-ghost use Rattle.cache_replay.specs.Session.{IsSession, devices_of, names_in};
+ghost use Rattle.cache_replay.specs.Replay.{IsReplay, actors_in, devices_in};
+ghost use Rattle.cache_replay.specs.Session.{IsSession, names_in};
 ghost use Rattle.run_promise.specs.Needs.{NeedsSession};
 
+use crate::bare_lines::{BareOrder, bare_line, is_switchless, lay_bare};
 use crate::beginning::format_line;
 use crate::getting::get_line;
 use crate::plain_lines::{flush_line, remove_line};
 use crate::put_line::put_line;
 use crate::reader_lines::{done_line, next_line, open_read_line};
-use crate::session::Session;
+use crate::session::{Replay, Session};
 use crate::stop::Stop;
 use crate::switch_lines::switch_line;
 use crate::writer_lines::{abort_line, close_line, data_line, open_write_line};
 use cache_calls::{Calls, Formats, Powered, SwitchOrder};
 use device_bay::Bay;
-use script_grammar::{Step, StepAnswer};
+use device_log::CutChoice;
+use script_grammar::{Refused, Step, StepAnswer};
 
 /// Does a step, and says what came of it.
 pub fn step<B: Bay, S: Formats<B::Dev> + Powered>(
-    session: &mut Session<S>,
+    replay: &mut Replay<B::Dev, S>,
     bay: &mut B,
     step: Step,
 ) -> Result<StepAnswer, Stop>
-    requires session { IsSession session.old }
-    requires held { devices_of session.old ≤ out_of (B.past bay.old) }
-    requires few { length (names_in session.old) < 2 ^ 32 - 1 }
-    ensures answers { AnswersStep step session.old session.new (B.past bay.old) (B.past bay.new)
+    requires replay { IsReplay replay.old }
+    requires held { devices_in replay.old ≤ out_of (B.past bay.old) }
+    requires few { length (actors_in replay.old) < 2 ^ 32 - 1 }
+    ensures answers { AnswersStep step replay.old replay.new (B.past bay.old) (B.past bay.new)
         result }
 {
     match step {
@@ -48,7 +51,7 @@ pub fn step<B: Bay, S: Formats<B::Dev> + Powered>(
             generation,
             alternates,
         } => format_line(
-            session,
+            replay,
             bay,
             name.bytes(),
             segments,
@@ -60,12 +63,41 @@ pub fn step<B: Bay, S: Formats<B::Dev> + Powered>(
             generation,
             alternates,
         ),
-        Step::Now { moment } => Ok(now_line(session, moment)),
-        Step::Fail { nth } => switch_line(session, SwitchOrder::Fail { nth }),
-        Step::StopAfter { calls } => switch_line(session, SwitchOrder::StopAfter { calls }),
-        Step::Flip { place, byte } => switch_line(session, SwitchOrder::Flip { place, byte }),
-        other => in_session(session, other),
+        Step::Now { moment } => Ok(now_line(&mut replay.session, moment)),
+        Step::Fail { nth } => match &replay.bare {
+            Some(_) => bare_line(replay, BareOrder::Fail { nth }),
+            None => switch_line(&mut replay.session, SwitchOrder::Fail { nth }),
+        },
+        Step::StopAfter { calls } => match &replay.bare {
+            Some(_) => bare_line(replay, BareOrder::StopAfter { calls }),
+            None => switch_line(&mut replay.session, SwitchOrder::StopAfter { calls }),
+        },
+        Step::Flip { place, byte } => {
+            switch_line(&mut replay.session, SwitchOrder::Flip { place, byte })
+        }
+        Step::Cut { choice } => cut_line(replay, bay, choice),
+        other => in_session(&mut replay.session, other),
     }
+}
+
+// `cut CHOICE`: the session is over where its device has a switch, and a bare device stays.
+fn cut_line<B: Bay, S: Formats<B::Dev>>(
+    replay: &mut Replay<B::Dev, S>,
+    bay: &mut B,
+    choice: CutChoice,
+) -> Result<StepAnswer, Stop>
+    requires replay { IsReplay replay.old }
+    ensures answers { AnswersStep (step.Cut choice) replay.old replay.new (B.past bay.old)
+        (B.past bay.new) result }
+{
+    if is_switchless(replay) {
+        return Ok(StepAnswer::Refused {
+            why: Refused::NoSwitch,
+            took: None,
+        });
+    }
+    lay_bare(replay, bay);
+    bare_line(replay, BareOrder::Cut { choice })
 }
 
 // `now MOMENT`: the moment is another, and all else stays.
@@ -129,5 +161,6 @@ pub fn in_session<S: Calls>(session: &mut Session<S>, step: Step) -> Result<Step
         Step::Fail { .. } => Err(Stop::NoCache),
         Step::StopAfter { .. } => Err(Stop::NoCache),
         Step::Flip { .. } => Err(Stop::NoCache),
+        Step::Cut { .. } => Err(Stop::NoCache),
     }
 }

@@ -30,7 +30,7 @@ use Rattle.script_grammar.specs.declared.answer.StepAnswer.TheVariants as answer
 use Rattle.device_log.specs.Calls.{Call}
 use Rattle.script_run.specs.Run.{Holding, Run, fresh, gathered_of, held_by, put_written_by, reader_by}
 use Rattle.script_run.specs.Asked
-use Rattle.script_run.specs.Asked.{asked, close_intents, count_with, cut_intents, feed_intents, put_intents, rest_intents}
+use Rattle.script_run.specs.Asked.{close_intents, cut_intents, feed_intents, put_intents, rest_intents}
 use Rattle.script_run.specs.Turn.{Turn, lookup_in, told_in}
 use Rattle.script_run.specs.Answers
 use Rattle.script_run.specs.Answers.{broken_said, cause_of_lost, end_said, format_said, get_said, lookup_said, miss_said, next_said, put_said, refusal_said, remove_said, said, step_answer, step_said, took_of, tried_said}
@@ -494,6 +494,10 @@ module _ (run : Run) (turn : Turn) (index : ℕ) (why : Cause) (took : Option �
   state_loses (step.Fail nth) (Some s) e takes h = absurd (switch_loses turn.told answer.Armed (λ x. cc) h)
   state_loses (step.StopAfter calls) (Some s) e takes h = absurd (switch_loses turn.told answer.Armed (λ x. cc) h)
   state_loses (step.Flip place byte) (Some s) e takes h = absurd (switch_loses turn.told answer.Flipped (λ x. cc) h)
+  state_loses (step.Cut choice) (Some s) e takes h = absurd (switch_loses turn.told answer.Cut (λ x. cc) h)
+  state_loses (step.Fail nth) None e takes h = absurd (switch_loses turn.told answer.Armed (λ x. cc) h)
+  state_loses (step.StopAfter calls) None e takes h = absurd (switch_loses turn.told answer.Armed (λ x. cc) h)
+  state_loses (step.Cut choice) None e takes h = absurd (switch_loses turn.told answer.Cut (λ x. cc) h)
   state_loses _ None e takes h = absurd takes
 
   loses_here : (asks : Step) → StepTakes run turn asks → Answer index why took ≡ step_answer run turn asks → LosesHere run turn asks index why

@@ -9,11 +9,10 @@ use Rattle.script_grammar.specs.declared.step.Step.{Step}
 use Rattle.script_grammar.specs.declared.line.LineAnswer.{LineAnswer}
 use Rattle.script_grammar.specs.declared.line.LineAnswer.TheVariants as line
 use Rattle.script_grammar.specs.Grammar.{reading_of}
-use Rattle.script_run.specs.Run.{Harm, Run, fresh}
+use Rattle.script_run.specs.Run.{Harm, Run, at_hand, fresh}
 use Rattle.script_run.specs.Turn.{Turn, calls_in}
-use Rattle.script_run.specs.Behind.{harm_in, harm_of}
+use Rattle.script_run.specs.Behind.{harm_in, harm_of, with_calls_of}
 use Rattle.script_run.specs.Takes.{LineShows, ReadingShows, StepShows, run_after}
-use Rattle.run_promise.specs.Outline.{with_calls_of}
 use Rattle.headline.specs.Account.{Account, AllTell, AreBack, ComeBackFrom, RunLogs, ShowsNext, doubted_harms}
 
 -- what was told of a device that did not tell its content
@@ -29,7 +28,7 @@ none_doubted (x ∷ hs) h (d ∷ ds) back tell = none_doubted hs h ds back.1 tel
 module _ (l : RunLogs) (tell : AllTell l) (run : Run) where
   -- a line without a session shows nothing
   step_shows : (turn : Turn) (o : Option State) (step : Step) → StepShows run turn o step
-      → ComeBackFrom l (run.ended ++ map doubt (harm_of (calls_in turn ++ run.calls) o)) → ⊥
+      → ComeBackFrom l (run.ended ++ map doubt (harm_of (calls_in turn ++ run.calls) (at_hand o run.last))) → ⊥
   step_shows turn None step shows come = absurd shows
   step_shows turn (Some s) step shows come =
       none_doubted run.ended (harm_in (calls_in turn ++ run.calls) s) come.devices come.told (tell come.devices come.returned)

@@ -13,11 +13,11 @@ use Rattle.script_grammar.specs.declared.answer.StepAnswer.{StepAnswer}
 use Rattle.script_grammar.specs.Grammar.{reading_of}
 use Rattle.script_run.specs.Run.{Harm, Run, fresh, loosened}
 use Rattle.script_run.specs.Turn.{Turn}
-use Rattle.script_run.specs.Behind.{harm_of, harms_of}
+use Rattle.script_run.specs.Behind.{harms_of, own_harm, with_calls_of}
 use Rattle.script_run.specs.Takes.{IsRun, LineShows, run_after}
 use Rattle.script_run.specs.Ledger.{IsReached, Ledger}
 use Rattle.script_run.specs.Goes.{begins_session}
-use Rattle.run_promise.specs.Outline.{all_told, blank_outline, with_calls_of}
+use Rattle.run_promise.specs.Outline.{all_told, blank_outline}
 use Rattle.run_promise.specs.Lines.{AreAnswered, answers_of, outline_of}
 use Rattle.run_promise.specs.declared.status.Status.{Status}
 use Rattle.run_promise.specs.Story.{Refusals, Taken}
@@ -61,9 +61,9 @@ pub record ComeBackFrom (l : RunLogs) (harms : List Harm) : Type 0 where
   pub returned : l.now.returned ≡ l.before.returned ++ devices
   pub told : AreBack harms devices
 
--- what was told of devices, of which that of the session is doubted: it did not tell its content to the end
+-- what was told of devices, of which the one at hand is doubted: it did not tell its content to the end
 abbrev pub doubted_harms : Run → List Harm
-doubted_harms run = run.ended ++ map (λ (harm : Harm). record harm { damaged = true }) (harm_of run.calls run.state)
+doubted_harms run = run.ended ++ map (λ (harm : Harm). record harm { damaged = true }) (own_harm run)
 
 -- each device that came back since told its content to the end
 abbrev pub AllTell : RunLogs → Type 0

@@ -1,6 +1,6 @@
 -- Completeness: how a run ends, by the text that the source gave and the calls that were refused; and what ties an account
 -- to its run.
-use Rattle.std.specs.Prelude.{◌≡◌, ◌≢◌, ℕ, ◌+◌, ◌<◌, ◌≤◌, ◌⊎◌, List, [], ◌∷◌, ◌++◌, length, Option, ⊤}
+use Rattle.std.specs.Prelude.{◌≡◌, ◌≢◌, ℕ, ◌+◌, ◌<◌, ◌≤◌, ◌⊎◌, false, List, [], ◌∷◌, ◌++◌, length, Option, ⊤}
 use Rattle.logged_disk.specs.Device.{DeviceState as Device}
 use Rattle.device_log.specs.Faults.{next_count}
 use Rattle.device_log.specs.Streams.{SourceRead, SinkWrite, RefusedWrite, refused_writes, write_faults}
@@ -11,12 +11,16 @@ use Rattle.edge_io.specs.Lines.{AreLines, IsLine, IsTooLong, IsTooMany, first_li
 use Rattle.script_grammar.specs.declared.line.BadLine.{BadLine}
 use Rattle.script_grammar.specs.declared.line.LineAnswer.{LineAnswer}
 use Rattle.script_grammar.specs.declared.line.LineAnswer.TheVariants as line
+use Rattle.device_log.specs.declared.choice.CutChoice.{CutChoice}
 use Rattle.script_grammar.specs.declared.step.Step.{Step}
+use Rattle.script_grammar.specs.declared.step.Step.TheVariants as step
 use Rattle.script_grammar.specs.declared.last_line.LastLine.{LastLine}
 use Rattle.script_grammar.specs.declared.answer.StepAnswer.{StepAnswer}
 use Rattle.script_grammar.specs.Texts.{last_line}
 use Rattle.script_grammar.specs.Grammar.{reading_of}
 use Rattle.script_run.specs.Run.{fresh}
+use Rattle.script_run.specs.Switch.{is_of_device}
+use Rattle.line_laws.specs.Along.{AreOfSession}
 use Rattle.script_run.specs.Takes.{run_after}
 use Rattle.run_promise.specs.Outline.{blank_outline}
 use Rattle.run_promise.specs.Lines.{outline_of, texts_before, texts_of}
@@ -68,21 +72,42 @@ pub record LostItsFormat (l : RunLogs) (s : Status) : Type 0 where
   pub lines : List (List ℕ)
   pub failed : FormatFailed l lines
 
+-- one of these lines cuts the power of its device, and no line behind it begins a session
+pub record CutSince (lines : List (List ℕ)) : Type 0 where
+  pub before : List (List ℕ)
+  pub bytes : List ℕ
+  pub later : List (List ℕ)
+  pub are : lines ≡ before ++ bytes ∷ later
+  pub choice : CutChoice
+  pub cuts : reading_of bytes ≡ line.Step (step.Cut choice)
+  pub same_session : AreOfSession later
+
+-- a run ended for want of a session behind a cut, in one of the lines that it took
+pub record LostItsPower (l : RunLogs) (s : Status) : Type 0 where
+  pub is : s ≡ status.NoCache
+  pub reads : List SourceRead
+  pub since : l.read ≡ reads ++ l.first
+  pub lines : List (List ℕ)
+  pub held : List ℕ
+  pub taken : Taken (text_read reads) lines held
+  pub cut : CutSince lines
+
 -- The status is Done where the words were the command, memory was not wanting, no read, no write and no attach was refused,
--- and the text that was read is fine; or a device refused a call of its format.
+-- and the text that was read is fine; or a device refused a call of its format, or a line cut its power.
 abbrev pub DoneWhereFine : Type 0
 DoneWhereFine = (l : RunLogs) (s : Status) → IsConcluded l s → ReadsFailed l.first l.read s → s ≢ status.Usage → s ≢ status.OutOfMemory
     → NoReadFailed l.first l.read → refused_writes l.new ≡ refused_writes l.old → l.bay.now ≡ l.bay.before
-    → ((reads : List SourceRead) → l.read ≡ reads ++ l.first → IsFine (text_read reads)) → (s ≡ status.Done) ⊎ LostItsFormat l s
+    → ((reads : List SourceRead) → l.read ≡ reads ++ l.first → IsFine (text_read reads)) → (s ≡ status.Done) ⊎ LostItsFormat l s ⊎ LostItsPower l s
 
--- the next line needs a session, and none was begun, or the last format failed
+-- the next line needs a session, and none was begun, or the last format failed; or it works on a session, and a line cut the
+-- power of its device
 pub record HasNoSession (l : RunLogs) (lines : List (List ℕ)) (held : List ℕ) : Type 0 where
   pub bytes : List ℕ
   pub next : IsNextLine (length lines) held bytes
   pub step : Step
   pub asks : reading_of bytes ≡ line.Step step
   pub needs : NeedsSession step
-  pub none : (sessions_begun lines ≡ 0) ⊎ FormatFailed l lines
+  pub none : (sessions_begun lines ≡ 0) ⊎ FormatFailed l lines ⊎ ((is_of_device step ≡ false) × CutSince lines)
 
 -- the last write failed, by the next count, and no other one of the run did
 pub record LastWriteFailed (old new : List SinkWrite) : Type 0 where

@@ -6,6 +6,7 @@ pub mod Asking
 mod Pieces
 pub mod Fronts
 pub mod Nexts
+pub mod Nones
 pub mod Lines
 pub mod Running
 mod Writing

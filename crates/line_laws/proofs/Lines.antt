@@ -1,9 +1,10 @@
 -- What each line gives to a reader, and where it stands behind that.
-use Rattle.std.proofs.Common.{arith, ◌≡◌, ℕ, ◌-◌, ◌*◌, ◌<◌, List, [], ◌∷◌, take, refl, sym, ◌∙◌, ap, subst, Bool, true, false, eqb-true}
+use Rattle.std.proofs.Common.{arith, ◌≡◌, ℕ, ◌-◌, ◌*◌, ◌<◌, List, [], ◌∷◌, take, refl, sym, ◌∙◌, ap, subst, inl, inr, ◌⊎◌, Bool, true, false, eqb-true}
 use Rattle.std.specs.Prelude.{Option, Some, None, is_none, if◌then◌else◌, ◌==◌}
 use Rattle.std.proofs.lemmas.Bool.{eq-eqb}
 use Rattle.tape_base.specs.declared.geometries.BadGeometry.{BadGeometry}
 use Rattle.tape_base.specs.Limits.{first_refusal}
+use Rattle.device_log.specs.declared.choice.CutChoice.{CutChoice}
 use Rattle.cache_model.specs.declared.record.Rec.{Rec}
 use Rattle.cache_model.specs.declared.record.Rec.TheVariants as rec
 use Rattle.cache_model.specs.State.{State, ReaderRow, after_all, reader_of, state_after, AllAlong}
@@ -19,7 +20,7 @@ use Rattle.script_grammar.specs.declared.line.LineAnswer.TheVariants as line
 use Rattle.script_run.specs.Run.{Run, Stream, held_by, put_written_by, reader_by}
 use Rattle.script_run.specs.Asked.{asked, asks_if_has}
 use Rattle.script_run.specs.Turn.{Turn, told_in}
-use Rattle.script_run.specs.Behind.{after_format, after_reading, behind, in_session, streams_behind}
+use Rattle.script_run.specs.Behind.{after_cut, after_format, after_reading, behind, in_session, streams_behind}
 use Rattle.script_run.specs.Takes.{IsNextPiece, IsPiece, ReadingTakes, SessionTakes, Takes}
 use Rattle.script_run.specs.Goes.{begins_session}
 use Rattle.line_laws.specs.Along.{KeepsSession, StandsKept}
@@ -159,28 +160,37 @@ module _ (laws : OfSteps) (n : ℕ) (run : Run) (s : State) (turn : Turn) (stand
   asked_line : (st : Step) → SessionTakes run s turn st → AllOther (OtherThan n) AnyNumber (asked run s st) → Goes st []
   asked_line st takes other = beside_line st (asked run s st) takes.legal other
 
-  step_line : (st : Step) → run.state ≡ Some s → begins_session st ≡ false → Takes run turn (Some s) st → LineGoes n s run.streams (behind run turn (Some s) st) (given_by_step n run turn st)
-  step_line (step.Format name segments buckets content agg reach fragment generation alternates) e keeps takes =
-      format_line name (first_refusal segments buckets content agg reach fragment alternates) e keeps
-  step_line (step.Put key body request response) e keeps takes = asked_line (step.Put key body request response) takes (put_other (OtherThan n) AnyNumber s key body request response tt)
-  step_line (step.Get key request) e keeps takes = asked_line (step.Get key request) takes (get_other (OtherThan n) AnyNumber s key request (λ e. omega (arith, opened, e)))
-  step_line (step.OpenWrite actor key pin request response) e keeps takes = asked_line (step.OpenWrite actor key pin request response) takes (free_other (OtherThan n) AnyNumber (held_by run actor) _ tt)
-  step_line (step.Feed actor body) e keeps takes = asked_line (step.Feed actor body) takes (feeding_other (OtherThan n) AnyNumber run s body (put_written_by run actor) (λ put h. tt))
-  step_line (step.Close actor) e keeps takes = asked_line (step.Close actor) takes (close_other (OtherThan n) AnyNumber run s (put_written_by run actor) (λ put h. tt))
-  step_line (step.Abort actor) e keeps takes = asked_line (step.Abort actor) takes (has_other (OtherThan n) AnyNumber (put_written_by run actor) _ (λ k h. tt))
-  step_line (step.OpenRead actor key request) e keeps takes = asked_line (step.OpenRead actor key request) takes (free_other (OtherThan n) AnyNumber (held_by run actor) _ tt)
-  step_line (step.Next actor) e keeps takes = next_line actor (reader_by run actor) takes.legal takes.own
-  step_line (step.Done actor) e keeps takes = done_line actor (reader_by run actor) takes.legal
-  step_line (step.Remove key) e keeps takes = asked_line (step.Remove key) takes (tt, tt)
-  step_line step.Flush e keeps takes = asked_line step.Flush takes (tt, tt)
-  step_line (step.Now at) e keeps takes = unchanged n s run.streams _ e refl quiet opened
-  step_line (step.Fail nth) e keeps takes = asked_line (step.Fail nth) takes tt
-  step_line (step.StopAfter calls) e keeps takes = asked_line (step.StopAfter calls) takes tt
-  step_line (step.Flip place byte) e keeps takes = asked_line (step.Flip place byte) takes tt
+  -- a cut that was refused
+  cut_refused : (choice : CutChoice) → SessionTakes run s turn (step.Cut choice) → LineGoes n s run.streams (after_cut run s turn choice turn.told) []
+  cut_refused choice takes = subst (λ told. LineGoes n s run.streams (after_cut run s turn choice told) []) (sym takes.switch) (asked_line (step.Cut choice) takes tt)
 
-  pub line_goes : (l : LineAnswer) → run.state ≡ Some s → KeepsSession l → ReadingTakes run turn l → LineGoes n s run.streams (after_reading run turn l) (given_by_line n run turn l)
+  step_line : (st : Step) → run.state ≡ Some s → begins_session st ≡ false → Takes run turn (Some s) st
+      → LineGoes n s run.streams (behind run turn (Some s) st) (given_by_step n run turn st) ⊎ ((behind run turn (Some s) st).state ≡ None)
+  step_line (step.Format name segments buckets content agg reach fragment generation alternates) e keeps takes =
+      inl (format_line name (first_refusal segments buckets content agg reach fragment alternates) e keeps)
+  step_line (step.Put key body request response) e keeps takes = inl (asked_line (step.Put key body request response) takes (put_other (OtherThan n) AnyNumber s key body request response tt))
+  step_line (step.Get key request) e keeps takes = inl (asked_line (step.Get key request) takes (get_other (OtherThan n) AnyNumber s key request (λ e. omega (arith, opened, e))))
+  step_line (step.OpenWrite actor key pin request response) e keeps takes = inl (asked_line (step.OpenWrite actor key pin request response) takes (free_other (OtherThan n) AnyNumber (held_by run actor) _ tt))
+  step_line (step.Feed actor body) e keeps takes = inl (asked_line (step.Feed actor body) takes (feeding_other (OtherThan n) AnyNumber run s body (put_written_by run actor) (λ put h. tt)))
+  step_line (step.Close actor) e keeps takes = inl (asked_line (step.Close actor) takes (close_other (OtherThan n) AnyNumber run s (put_written_by run actor) (λ put h. tt)))
+  step_line (step.Abort actor) e keeps takes = inl (asked_line (step.Abort actor) takes (has_other (OtherThan n) AnyNumber (put_written_by run actor) _ (λ k h. tt)))
+  step_line (step.OpenRead actor key request) e keeps takes = inl (asked_line (step.OpenRead actor key request) takes (free_other (OtherThan n) AnyNumber (held_by run actor) _ tt))
+  step_line (step.Next actor) e keeps takes = inl (next_line actor (reader_by run actor) takes.legal takes.own)
+  step_line (step.Done actor) e keeps takes = inl (done_line actor (reader_by run actor) takes.legal)
+  step_line (step.Remove key) e keeps takes = inl (asked_line (step.Remove key) takes (tt, tt))
+  step_line step.Flush e keeps takes = inl (asked_line step.Flush takes (tt, tt))
+  step_line (step.Now at) e keeps takes = inl (unchanged n s run.streams _ e refl quiet opened)
+  step_line (step.Fail nth) e keeps takes = inl (asked_line (step.Fail nth) takes tt)
+  step_line (step.StopAfter calls) e keeps takes = inl (asked_line (step.StopAfter calls) takes tt)
+  step_line (step.Flip place byte) e keeps takes = inl (asked_line (step.Flip place byte) takes tt)
+  step_line (step.Cut choice) e keeps (inl takes) = inl (cut_refused choice takes)
+  step_line (step.Cut choice) e keeps (inr cut) = inr (ap (λ told. (after_cut run s turn choice told).state) cut.told)
+
+  -- the session goes on, or the line cuts it
+  pub line_goes : (l : LineAnswer) → run.state ≡ Some s → KeepsSession l → ReadingTakes run turn l
+      → LineGoes n s run.streams (after_reading run turn l) (given_by_line n run turn l) ⊎ ((after_reading run turn l).state ≡ None)
   line_goes (line.Step st) e keeps takes =
-      subst (λ (o : Option State). LineGoes n s run.streams (behind run turn o st) (given_by_step n run turn st)) (sym e)
+      subst (λ (o : Option State). LineGoes n s run.streams (behind run turn o st) (given_by_step n run turn st) ⊎ ((behind run turn o st).state ≡ None)) (sym e)
       (step_line st e keeps (subst (λ (o : Option State). Takes run turn o st) e takes))
-  line_goes line.Nothing e keeps takes = unchanged n s run.streams run e refl quiet opened
+  line_goes line.Nothing e keeps takes = inl (unchanged n s run.streams run e refl quiet opened)
   line_goes (line.Bad fault) e keeps takes = absurd takes

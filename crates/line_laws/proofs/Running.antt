@@ -1,6 +1,6 @@
 -- What lines give to a reader, one after the other.
-use Rattle.std.proofs.Common.{◌≡◌, ℕ, ◌<◌, List, [], ◌∷◌, refl, sym, ◌∙◌, ap, subst}
-use Rattle.std.specs.Prelude.{Some}
+use Rattle.std.proofs.Common.{◌≡◌, ℕ, ◌<◌, List, [], ◌∷◌, refl, sym, ◌∙◌, ap, subst, inl, inr}
+use Rattle.std.specs.Prelude.{IsSome, Option, Some, None, is_some}
 use Rattle.cache_model.specs.State.{State, ReaderRow, reader_of}
 use Rattle.cache_model.specs.Legal.{IsQuiet}
 use Rattle.cache_model.proofs.Found.{same_some}
@@ -9,7 +9,8 @@ use Rattle.script_run.specs.Run.{Run, Stream}
 use Rattle.script_run.specs.Turn.{Turn}
 use Rattle.script_run.specs.Behind.{after_line}
 use Rattle.script_run.specs.Takes.{IsRun, run_after}
-use Rattle.line_laws.specs.Along.{IsOpenAt, KeptAlong, StandsKept, StandsWhere}
+use Rattle.line_laws.proofs.Nones.{none_along}
+use Rattle.line_laws.specs.Along.{AreOfSession, IsOpenAt, KeptAlong, StandsKept, StandsWhere}
 use Rattle.line_laws.specs.Given.{given_to}
 use Rattle.line_laws.specs.Laws.{HasGiven}
 use Rattle.line_laws.proofs.Keeping.{keeps_self}
@@ -26,12 +27,21 @@ pub record RunGoes (n : ℕ) (s : State) (old : ℕ → Stream) (after : Run) (g
   pub stands : StandsKept after t
   pub goes : (u : ReaderRow) → reader_of t n ≡ Some u → GoesOn n s.geometry.fragment s t old after.streams given u
 
+-- no line but a format begins a session
+session_along : (run : Run) (lines : List (List ℕ)) (turns : List Turn) → IsRun run lines turns → KeptAlong run lines turns → AreOfSession lines
+session_along run [] turns takes along = tt
+session_along run (bytes ∷ lines) [] takes along = absurd takes
+session_along run (bytes ∷ lines) (turn ∷ turns) takes along = (along.0, session_along (after_line run turn bytes) lines turns takes.1 along.2)
+
+not_some : (let none : Option State = None in IsSome none) → ⊥
+not_some is = cc
+
 stands_in : (run : Run) (s : State) → run.state ≡ Some s → StandsWhere StandsKept run run.state → StandsKept run s
 stands_in run s e h = subst (StandsWhere StandsKept run) e h
 
 pub run_goes : (laws : OfSteps) (n : ℕ) (lines : List (List ℕ)) (turns : List Turn) (run : Run) (s : State) → run.state ≡ Some s → IsRun run lines turns → KeptAlong run lines turns → IsQuiet s → n < s.next_reader
-    → RunGoes n s run.streams (run_after run lines turns) (given_to n run lines turns)
-run_goes laws n [] [] run s e takes along quiet opened = record {
+    → IsSome (run_after run lines turns).state → RunGoes n s run.streams (run_after run lines turns) (given_to n run lines turns)
+run_goes laws n [] [] run s e takes along quiet opened stands = record {
   t = s;
   state = e;
   geometry = refl;
@@ -39,24 +49,27 @@ run_goes laws n [] [] run s e takes along quiet opened = record {
   stands = stands_in run s e along;
   goes = λ u found. stays n s s run.streams run.streams u opened (keeps_self n u.put s) (λ at. refl) found;
 }
-run_goes laws n [] (turn ∷ turns) run s e takes along quiet opened = absurd takes
-run_goes laws n (bytes ∷ lines) [] run s e takes along quiet opened = absurd takes
-run_goes laws n (bytes ∷ lines) (turn ∷ turns) run s e takes along quiet opened =
+run_goes laws n [] (turn ∷ turns) run s e takes along quiet opened stands = absurd takes
+run_goes laws n (bytes ∷ lines) [] run s e takes along quiet opened stands = absurd takes
+run_goes laws n (bytes ∷ lines) (turn ∷ turns) run s e takes along quiet opened last =
     let stands : StandsKept run s = stands_in run s e along.1 in
     let mid : Run = after_line run turn bytes in
-    let first = line_goes laws n run s turn stands quiet opened (reading_of bytes) e along.0 takes.0 in
-    let rest = run_goes laws n lines turns mid first.t first.state takes.1 along.2 first.quiet first.opened in
-    record {
-      t = rest.t;
-      state = rest.state;
-      geometry = rest.geometry ∙ first.geometry;
-      quiet = rest.quiet;
-      stands = rest.stands;
-      goes = λ u found.
-          let g : GoesOn n s.geometry.fragment first.t rest.t mid.streams (run_after mid lines turns).streams (given_to n mid lines turns) u =
-          subst (λ f. GoesOn n f first.t rest.t mid.streams (run_after mid lines turns).streams (given_to n mid lines turns) u) (ap (λ (x : Rattle.tape_base.specs.declared.geometries.Geometry.Geometry). x.fragment) first.geometry) (rest.goes u found) in
-          goes_then n s.geometry.fragment s first.t rest.t run.streams mid.streams (run_after mid lines turns).streams _ (given_to n mid lines turns) u g (first.goes g.r g.found);
-    }
+    elim (line_goes laws n run s turn stands quiet opened (reading_of bytes) e along.0 takes.0) [
+      | inl first ↦
+          let rest = run_goes laws n lines turns mid first.t first.state takes.1 along.2 first.quiet first.opened last in
+          record {
+            t = rest.t;
+            state = rest.state;
+            geometry = rest.geometry ∙ first.geometry;
+            quiet = rest.quiet;
+            stands = rest.stands;
+            goes = λ u found.
+                let g : GoesOn n s.geometry.fragment first.t rest.t mid.streams (run_after mid lines turns).streams (given_to n mid lines turns) u =
+                subst (λ f. GoesOn n f first.t rest.t mid.streams (run_after mid lines turns).streams (given_to n mid lines turns) u) (ap (λ (x : Rattle.tape_base.specs.declared.geometries.Geometry.Geometry). x.fragment) first.geometry) (rest.goes u found) in
+                goes_then n s.geometry.fragment s first.t rest.t run.streams mid.streams (run_after mid lines turns).streams _ (given_to n mid lines turns) u g (first.goes g.r g.found);
+          }
+      | inr none ↦ absurd (not_some (subst IsSome (none_along mid lines turns none takes.1 (session_along mid lines turns takes.1 along.2)) last))
+    ]
 
 -- it stands before the first line
 pub stands_first : (run : Run) (lines : List (List ℕ)) (turns : List Turn) (s : State) → run.state ≡ Some s → IsRun run lines turns → KeptAlong run lines turns → StandsKept run s
@@ -77,7 +90,7 @@ pub fragments_given : (laws : OfSteps) (run : Run) (lines : List (List ℕ)) (tu
     → HasGiven s.geometry.fragment ((run_after run lines turns).streams r.put).bytes (given_to reader run lines turns) r u
 fragments_given laws run lines turns s t reader r u takes along e quiet at last found =
     let stands : StandsKept run s = stands_first run lines turns s e takes along in
-    let all = run_goes laws reader lines turns run s e takes along quiet (reader_begun run s reader r stands at.found) in
+    let all = run_goes laws reader lines turns run s e takes along quiet (reader_begun run s reader r stands at.found) (ap is_some last) in
     let same : all.t ≡ t = same_some all.t t (run_after run lines turns).state all.state last in
     let g = all.goes u (subst (λ (x : State). reader_of x reader ≡ Some u) (sym same) found) in
     let first : g.r ≡ r = same_some g.r r (reader_of s reader) g.found at.found in

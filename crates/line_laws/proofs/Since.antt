@@ -15,7 +15,7 @@ use Rattle.script_run.specs.Run.{Run}
 use Rattle.script_run.specs.Turn.{Turn}
 use Rattle.script_run.specs.Behind.{after_line, after_reading, in_session}
 use Rattle.script_run.specs.Takes.{IsRun, LineTakes, ReadingTakes, SessionTakes, run_after}
-use Rattle.script_run.specs.Goes.{StepGoes, begins, begins_session, fails, stays, waits, works}
+use Rattle.script_run.specs.Goes.{StepGoes, begins, begins_session, cuts_off, fails, stays, tells_bare, waits, works}
 use Rattle.script_run.proofs.Lift.{goes}
 use Rattle.line_laws.specs.Along.{AreOfSession, KeepsSession}
 
@@ -173,6 +173,8 @@ module _ (Holds : State → Type 0) (Tells : Rec → Type 0) where
     by_goes run turn {st = st} (works s same e takes) ends h = (by_steps run turn st s _ refl e takes (line.Step st) ends (told_in s turn.added h), same)
     by_goes run turn (begins name g same is) ends h = absurd (formats g (subst (λ recs. Holds (after_all nothing_yet recs)) is h))
     by_goes run turn (fails name count same is refuses) ends h = absurd h
+    by_goes run turn (cuts_off choice s e cut) ends h = absurd h
+    by_goes run turn (tells_bare t same e last takes only) ends h = absurd (subst HoldsWhere e h)
 
     by_line : ByLine (λ run. HoldsWhere run.state) AnyTurn ToldHere
     by_line run turn (line.Step st) takes h = by_goes run turn (goes run turn st takes) refl h

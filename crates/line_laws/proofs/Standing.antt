@@ -25,10 +25,10 @@ use Rattle.script_run.specs.Run.{Run, fresh, no_stream}
 use Rattle.script_run.specs.Asked.{asked}
 use Rattle.script_run.specs.Turn.{Turn}
 use Rattle.device_log.specs.Calls.{Call}
-use Rattle.script_run.specs.Behind.{after_line, after_reading, at_moment, in_session, with_format}
+use Rattle.script_run.specs.Behind.{after_line, after_reading, at_moment, in_session, with_calls_of, with_format}
 use Rattle.script_run.specs.Laws.{FormatsKeep, FormatsOwn, OwnIsKept, StepsKeep, StepsOwn}
 use Rattle.script_run.specs.Own.{AreOwn, ArePayloadsOwn, IsPlacedAs}
-use Rattle.script_run.specs.Goes.{StepGoes, begins, fails, stays, waits, works}
+use Rattle.script_run.specs.Goes.{StepGoes, begins, cuts_off, fails, stays, tells_bare, waits, works}
 use Rattle.script_run.specs.Takes.{IsRun, ReadingShows, ReadingTakes, SessionShows, SessionTakes, StepShows, run_after, streams_with}
 use Rattle.line_laws.specs.Along.{AreOfSession, KeptAlong, OwnAlong, QuietWhere, ShowsAlong, StandsKept, StandsOwn, StandsWhere}
 use Rattle.script_run.proofs.Alone.{shows_taken}
@@ -165,6 +165,8 @@ module _ (laws : OfLines) where
         subst (λ (o : Option State). HoldsIn (in_session run s (after_all s turn.added) turn st) ⊎ StepShows run turn o st) (sym e) (holds_step s st takes (subst (StandsWhere Holds run) e h))
     goes_holds (begins name g same is) h = inl (subst (λ recs. HoldsIn (with_format run name turn.device.events recs)) (sym is) (formatted_holds run name turn.device.events g))
     goes_holds (fails name count same is refuses) h = inl tt
+    goes_holds (cuts_off choice s e cut) h = inl tt
+    goes_holds (tells_bare t same e last takes only) h = inl (subst (StandsWhere Holds (with_calls_of run turn)) (sym e) tt)
 
     reading_holds : (l : LineAnswer) → ReadingTakes run turn l → HoldsIn run → HoldsIn (after_reading run turn l) ⊎ ReadingShows run turn l
     reading_holds (line.Step st) takes h = goes_holds (goes run turn st takes) h

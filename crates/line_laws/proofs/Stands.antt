@@ -1,5 +1,5 @@
 -- What is said of a run and its session's state, where there is a session, is kept by each kind of step.
-use Rattle.std.proofs.Common.{ℕ, List, subst}
+use Rattle.std.proofs.Common.{ℕ, List, sym, subst}
 use Rattle.std.specs.Prelude.{Option, Some, None}
 use Rattle.tape_base.specs.declared.geometries.Geometry.{Geometry}
 use Rattle.device_log.specs.Calls.{Call}
@@ -8,7 +8,7 @@ use Rattle.cache_model.specs.Legal.{format_records}
 use Rattle.script_grammar.specs.declared.step.Step.{Step}
 use Rattle.script_run.specs.Run.{Run}
 use Rattle.script_run.specs.Turn.{Turn}
-use Rattle.script_run.specs.Behind.{at_moment, in_session, with_format}
+use Rattle.script_run.specs.Behind.{at_moment, in_session, with_calls_of, with_format}
 use Rattle.script_run.specs.Takes.{SessionTakes}
 use Rattle.script_run.proofs.Lift.{EachKeeps}
 use Rattle.line_laws.specs.Along.{StandsWhere}
@@ -26,4 +26,6 @@ module _ (Stands : Run → State → Type 0) (moments : (run : Run) (at : ℕ) (
     steps = λ run s turn asks e takes h. steps run s turn asks takes (subst (StandsWhere Stands run) e h);
     formats = λ run name calls g h. formats run name calls g;
     fails = λ run name calls count h. tt;
+    ends = λ run s turn choice e cut h. tt;
+    tells = λ run turn e only h. subst (StandsWhere Stands (with_calls_of run turn)) (sym e) tt;
   }

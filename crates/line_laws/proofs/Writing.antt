@@ -242,3 +242,4 @@ module _ (numbers : NumbersFollow) (run : Run) (s : State) (turn : Turn) (own : 
   held_step (step.Fail nth) legal = alone_held _ legal (λ m w. tt)
   held_step (step.StopAfter calls) legal = alone_held _ legal (λ m w. tt)
   held_step (step.Flip place byte) legal = alone_held _ legal (λ m w. tt)
+  held_step (step.Cut choice) legal = alone_held _ legal (λ m w. tt)

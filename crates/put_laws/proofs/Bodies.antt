@@ -30,7 +30,7 @@ use Rattle.script_run.specs.Answers.{feed_said, idle, if_has as has_said, put_sa
 use Rattle.script_run.specs.Behind.{after_line, after_reading, behind, fed, in_session, of_put, sealed_by, streams_behind, streams_closed, streams_fed, streams_opened, taken_in_line}
 use Rattle.script_run.specs.Own.{AreWriting}
 use Rattle.script_run.specs.Takes.{IsRun, LineTakes, ReadingTakes, SessionTakes, Takes, run_after}
-use Rattle.script_run.specs.Goes.{StepGoes, begins, begins_session, fails, stays, waits, works}
+use Rattle.script_run.specs.Goes.{StepGoes, begins, begins_session, cuts_off, fails, stays, tells_bare, waits, works}
 use Rattle.script_run.proofs.Lift.{goes}
 use Rattle.script_run.proofs.Changed.{Changes, Was, changed, changed_from, either, itself}
 use Rattle.script_run.proofs.Ended.{IsNotOpen, open_row}
@@ -177,44 +177,45 @@ module _ (put : ℕ) where
 
   -- ---- lines
 
-  -- it is over, and this is what its writer took
+  -- where there is a session it is over
+  abbrev IsOverWhere : Option State → Type 0
+  IsOverWhere None = Unit {0}
+  IsOverWhere (Some s) = Over s × (put < s.next_put)
+
+  -- and this is what its writer took
   record HasTaken (run : Run) (body : List ℕ) : Type 0 where
-    s : State
-    state : run.state ≡ Some s
-    over : Over s
-    below : put < s.next_put
+    over : IsOverWhere run.state
     bytes : (run.streams put).bytes ≡ body
 
   module _ (numbers : NumbersFollow) (body : List ℕ) where
     in_session_taken : (run : Run) (turn : Turn) (s : State) (st : Step) → SessionTakes run s turn st → (k : HasTaken run body)
         → run.state ≡ Some s
-        → StandsKept run k.s → HasTaken (in_session run s (after_all s turn.added) turn st) body
+        → StandsWhere StandsKept run run.state → HasTaken (in_session run s (after_all s turn.added) turn st) body
     in_session_taken run turn s st takes k e stands =
-        let same : k.s ≡ s = same_some k.s s run.state k.state e in
-        let below : put < s.next_put = subst (λ (x : State). put < x.next_put) same k.below in
-        let over : Over s = subst Over same k.over in
-        let writing : AreWriting run s = subst (AreWriting run) same stands.writing in
+        let was : Over s × (put < s.next_put) = subst IsOverWhere e k.over in
+        let below : put < s.next_put = was.1 in
+        let over : Over s = was.0 in
+        let writing : AreWriting run s = (subst (StandsWhere StandsKept run) e stands).writing in
         let now = over_all turn.device s turn.added (walked takes.legal.grows).kept
         (numbers turn.device s (asked run s st) turn.added turn.refused takes.legal) below over in
         record {
-          s = after_all s turn.added;
-          state = refl;
-          over = now.0;
-          below = now.1;
+          over = now;
           bytes = bytes_stay run s (after_all s turn.added) turn below over writing st ∙ k.bytes;
         }
 
     step_taken : (run : Run) (turn : Turn) {st : Step} {says : StepAnswer} {after : Run} → StepGoes run turn st says after → begins_session st ≡ false
-        → (k : HasTaken run body) → StandsKept run k.s → HasTaken after body
+        → HasTaken run body → StandsWhere StandsKept run run.state → HasTaken after body
     step_taken run turn (stays bad same none) keeps k stands = k
     step_taken run turn (waits at same none) keeps k stands =
-        record { s = k.s; state = k.state; over = k.over; below = k.below; bytes = k.bytes }
+        record { over = k.over; bytes = k.bytes }
     step_taken run turn {st = st} (works s same e takes) keeps k stands = in_session_taken run turn s st takes k e stands
     step_taken run turn (begins name g begun is) keeps k stands = no_truth (sym begun ∙ keeps)
     step_taken run turn (fails name count begun is refuses) keeps k stands = no_truth (sym begun ∙ keeps)
+    step_taken run turn (cuts_off choice s e cut) keeps k stands = record { over = tt; bytes = k.bytes }
+    step_taken run turn (tells_bare t same e last takes only) keeps k stands = record { over = k.over; bytes = k.bytes }
 
-    reading_taken : (run : Run) (turn : Turn) (x : LineAnswer) → KeepsSession x → ReadingTakes run turn x → (k : HasTaken run body)
-        → StandsKept run k.s
+    reading_taken : (run : Run) (turn : Turn) (x : LineAnswer) → KeepsSession x → ReadingTakes run turn x → HasTaken run body
+        → StandsWhere StandsKept run run.state
         → HasTaken (after_reading run turn x) body
     reading_taken run turn (line.Step st) same takes k stands = step_taken run turn (goes run turn st takes) same k stands
     reading_taken run turn line.Nothing same takes k stands = k
@@ -227,7 +228,7 @@ module _ (put : ℕ) where
     taken_along (bytes ∷ lines) [] run is along k = absurd is
     taken_along (bytes ∷ lines) (turn ∷ turns) run is along k =
         taken_along lines turns (after_line run turn bytes) is.1 along.2
-        (reading_taken run turn (reading_of bytes) along.0 is.0 k (subst (StandsWhere StandsKept run) k.state along.1))
+        (reading_taken run turn (reading_of bytes) along.0 is.0 k along.1)
 
 -- ---- lines behind others
 
@@ -380,10 +381,7 @@ module _ (numbers : NumbersFollow) (l : RunLogs) (a : Account l) (lines : List (
         let over = put_over f.turn.device o.s put r.key size r.alternates f.turn.added opens same (walked o.takes.legal.grows).kept
         (numbers f.turn.device o.s (asked Before o.s St) f.turn.added f.turn.refused o.takes.legal) among in
         subst (λ (run : Run). HasTaken put run body) (sym o.next) (record {
-          s = t;
-          state = refl;
-          over = over.0;
-          below = over.1;
+          over = over;
           bytes = ap (λ (x : Stream). x.bytes)
               (value_here (record { bytes = body; sealed = false }) (Before.streams put) put o.s.next_put same);
         })
@@ -487,10 +485,7 @@ module _ (law : LegalIsKept) (numbers : NumbersFollow) (l : RunLogs) (a : Accoun
       let over = over_in put f.turn.device o.s f.turn.added r.key size r.alternates (walked o.takes.legal.grows).kept
       (numbers f.turn.device o.s (asked Then o.s (step.Close name)) f.turn.added f.turn.refused o.takes.legal) below among in
       subst (λ (run : Run). HasTaken put run Old) (sym o.next) (record {
-        s = t;
-        state = refl;
-        over = over.0;
-        below = over.1;
+        over = over;
         bytes = closed_streams (put_written_by Then name) f.turn.refused c;
       })
 

@@ -29,11 +29,11 @@ use Rattle.device_log.specs.Calls.{Call}
 use Rattle.script_run.specs.Run.{Holding, Run, fresh, gathered_of, held_by, put_written_by, reader_by}
 use Rattle.script_run.specs.Turn.{Turn, lookup_in, told_in}
 use Rattle.script_run.specs.Asked.{asked, asks_if_has, body_intents, close_intents, closing, feed_intents, put_intents, rest_behind, rest_intents, whole_fragments}
-use Rattle.script_run.specs.Answers.{broken_said, end_said, get_said, if_free, if_has as has_said, lookup_said, miss_said, next_said, put_said, refusal_said, remove_said, said, session_said, step_answer, switch_said}
+use Rattle.script_run.specs.Answers.{bare_said, broken_said, end_said, get_said, if_free, if_has as has_said, lookup_said, miss_said, next_said, put_said, refusal_said, remove_said, said, session_said, step_answer, switch_said}
 use Rattle.script_run.specs.Behind.{after_step}
 use Rattle.script_run.specs.Own.{AreWriting}
 use Rattle.script_run.specs.Takes.{run_after}
-use Rattle.script_run.specs.Goes.{StepGoes, begins, fails, stays, waits, works}
+use Rattle.script_run.specs.Goes.{StepGoes, begins, cuts_off, fails, stays, tells_bare, waits, works}
 use Rattle.script_run.proofs.Lift.{goes}
 use Rattle.script_laws.proofs.Among.{among_left, among_right}
 use Rattle.line_laws.specs.Laws.{LegalIsKept}
@@ -202,7 +202,14 @@ other_kind run s t turn (step.Now moment) other = refl
 other_kind run s t turn (step.Fail nth) other = switch_kind turn.told answer.Armed refl
 other_kind run s t turn (step.StopAfter calls) other = switch_kind turn.told answer.Armed refl
 other_kind run s t turn (step.Flip place byte) other = switch_kind turn.told answer.Flipped refl
+other_kind run s t turn (step.Cut choice) other = switch_kind turn.told answer.Cut refl
 other_kind run s t turn _ other = absurd other
+
+bare_kind : (turn : Turn) (asks : Step) → kind (bare_said turn asks) ≡ 0
+bare_kind turn (step.Fail nth) = switch_kind turn.told answer.Armed refl
+bare_kind turn (step.StopAfter calls) = switch_kind turn.told answer.Armed refl
+bare_kind turn (step.Cut choice) = switch_kind turn.told answer.Cut refl
+bare_kind turn _ = refl
 
 -- a line that is answered so is one of a session
 on_session : (run : Run) (turn : Turn) {asks : Step} {says : StepAnswer} {after : Run} → StepGoes run turn asks says after
@@ -212,6 +219,8 @@ on_session run turn (waits at same none) answered next ends = absurd (ends refl)
 on_session run turn (works s same e takes) answered next ends = record { s = s; session = same; state = e; takes = takes; said = answered; next = next }
 on_session run turn (begins name g same is) answered next ends = absurd (ends refl)
 on_session run turn (fails name count same is refuses) answered next ends = absurd (ends refl)
+on_session run turn (cuts_off choice s e cut) answered next ends = absurd (ends refl)
+on_session run turn {asks = asks} (tells_bare t same e last takes only) answered next ends = absurd (ends (bare_kind turn asks))
 
 -- a put or a close is answered a put, where nothing is refused, and else none of these
 data PutKind (why : Option Reason) (n : ℕ) : Type 0 where

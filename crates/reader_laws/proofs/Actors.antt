@@ -24,7 +24,7 @@ use Rattle.script_run.specs.Turn.{Turn}
 use Rattle.script_run.specs.Behind.{after_line, after_reading, behind, held_behind, holds_behind, in_session, open_reader_at, or_else, still_open, writer_at}
 use Rattle.script_run.specs.Takes.{IsRun, ReadingTakes, SessionTakes, run_after}
 use Rattle.script_run.proofs.Values.{value_by}
-use Rattle.script_run.specs.Goes.{StepGoes, begins, begins_session, fails, stays, waits, works}
+use Rattle.script_run.specs.Goes.{StepGoes, begins, begins_session, cuts_off, fails, stays, tells_bare, waits, works}
 use Rattle.script_run.proofs.Lift.{EachKeeps, goes, line_keeps, lines_keep}
 use Rattle.line_laws.specs.Given.{given_by_line, given_to, given_where}
 use Rattle.line_laws.specs.Actors.{asked_by, given_by_name}
@@ -124,6 +124,8 @@ module _ (k n : ℕ) where
   step_before run turn {st = st} (works s same e takes) h = (held_before run turn s st (actor_of st) e refl h, same)
   step_before run turn (begins name g same is) h = none_is h
   step_before run turn (fails name count same is refuses) h = none_is h
+  step_before run turn (cuts_off choice s e cut) h = none_is h
+  step_before run turn (tells_bare t same e last takes only) h = (inl (h, tt), same)
 
   pub line_before : ByLine Has AnyTurn Makes
   line_before run turn (line.Step st) takes h = step_before run turn (goes run turn st takes) h
@@ -138,6 +140,8 @@ grows actors = record {
   steps = λ run s turn st e takes h. extends_then actors run.actors _ h (behind_extends run.actors (actor_of st));
   formats = λ run name calls g h. h;
   fails = λ run name calls count h. h;
+  ends = λ run s turn choice e cut h. h;
+  tells = λ run turn e only h. h;
 }
 
 reading_extends : (run : Run) (turn : Turn) (l : LineAnswer) → ReadingTakes run turn l → Extends run.actors (after_reading run turn l).actors
@@ -256,6 +260,8 @@ module _ (laws : OfKept) (run : Run) (turn : Turn) where
   goes_apart {st = st} (works s same e takes) keeps h = step_apart s st e takes keeps h
   goes_apart (begins name g same is) keeps h = record { apart = λ i j m has. none_is has; below = λ s same i m has. none_is has }
   goes_apart (fails name count same is refuses) keeps h = record { apart = λ i j m has. none_is has; below = λ s same i m has. none_is has }
+  goes_apart (cuts_off choice s e cut) keeps h = record { apart = λ i j m has. none_is has; below = λ s same i m has. none_is has }
+  goes_apart (tells_bare t same e last takes only) keeps h = record { apart = h.apart; below = h.below }
 
   pub reading_apart : (l : LineAnswer) → ReadingTakes run turn l → KeepsIn (after_reading run turn l) → AreApart run → AreApart (after_reading run turn l)
   reading_apart (line.Step st) takes keeps h = goes_apart (goes run turn st takes) keeps h

@@ -323,6 +323,7 @@ asks_of run s (step.Now at) = inl tt
 asks_of run s (step.Fail nth) = inl tt
 asks_of run s (step.StopAfter calls) = inl tt
 asks_of run s (step.Flip place byte) = inl tt
+asks_of run s (step.Cut choice) = inl tt
 
 -- ---- a line of a legal script
 

@@ -1,6 +1,6 @@
 -- A reader that is answered the end was given all.
 use Rattle.std.proofs.Common.{◌≡◌, ℕ, ◌-◌, ◌*◌, ◌<◌, List, [], ◌∷◌, ◌++◌, length, take, drop, refl, sym, ◌∙◌, ap, subst, inl, inr}
-use Rattle.std.specs.Prelude.{Option, Some, None, option_map, unwrap_or}
+use Rattle.std.specs.Prelude.{IsSome, Option, Some, None, option_map, unwrap_or}
 use Rattle.fragment_table.specs.Table.{TableRow, total_length}
 use Rattle.cache_model.specs.declared.answer.NextAnswer.{NextAnswer}
 use Rattle.cache_model.specs.declared.answer.NextAnswer.TheVariants as next
@@ -153,6 +153,11 @@ has_all s t n r u old now given size at g first geometry own quiet found verdict
       told = subst (λ k. size ≡ length (now k).bytes) put (end_told n t now u size u.table refl own quiet found verdict);
     }
 
+-- a reader is asked on a session alone
+next_stands : (run : Run) (turn : Turn) (actor : List ℕ) (o : Option State) → Takes run turn o (step.Next actor) → IsSome o
+next_stands run turn actor None takes = absurd takes
+next_stands run turn actor (Some s) takes = refl
+
 pub end_is_all : (laws : OfSteps) (run : Run) (lines : List (List ℕ)) (turns : List Turn) (s : State) (reader : ℕ) (r : ReaderRow) (actor : List ℕ) (turn : Turn) (size : ℕ)
     → IsRun run lines turns → KeptAlong run lines turns → run.state ≡ Some s → IsQuiet s → IsOpenAt s reader r
     → reader_by (run_after run lines turns) actor ≡ Some reader → StepTakes (run_after run lines turns) turn (step.Next actor)
@@ -160,7 +165,7 @@ pub end_is_all : (laws : OfSteps) (run : Run) (lines : List (List ℕ)) (turns :
     → HasGivenAll ((r.next - 1) * s.geometry.fragment) ((run_after run lines turns).streams r.put).bytes (given_to reader run lines turns) size
 end_is_all laws run lines turns s reader r actor turn size takes along e quiet at by next said =
     let after : Run = run_after run lines turns in
-    let all = run_goes laws reader lines turns run s e takes along quiet (reader_begun run s reader r (stands_first run lines turns s e takes along) at.found) in
+    let all = run_goes laws reader lines turns run s e takes along quiet (reader_begun run s reader r (stands_first run lines turns s e takes along) at.found) (next_stands after turn actor after.state next) in
     let ended : IsEnded reader all.t size = ended_line laws after all.t reader actor turn size all.state by next said in
     let g = all.goes ended.r ended.found in
     has_all s all.t reader r ended.r run.streams after.streams (given_to reader run lines turns) size at g (same_some g.r r (reader_of s reader) g.found at.found)

@@ -1,6 +1,6 @@
 -- All that a reader is given from the line that opened it on.
 use Rattle.std.proofs.Common.{◌≡◌, ℕ, ◌-◌, ◌*◌, List, drop, take, sym, ◌∙◌, ap, subst, arith}
-use Rattle.std.specs.Prelude.{Option, Some}
+use Rattle.std.specs.Prelude.{Option, Some, is_some}
 use Rattle.tape_base.specs.declared.geometries.Geometry.{Geometry}
 use Rattle.cache_model.specs.State.{State, ReaderRow, after_all, reader_of}
 use Rattle.step_laws.specs.StepLaws.{NothingAsked}
@@ -77,7 +77,7 @@ module _ (laws : OfReaders) (run : Run) (s : State) (turn : Turn) (bytes : List 
       let h : HasGiven Begins.geometry.fragment ((run_after Opened lines turns).streams r.put).bytes (given_to s.next_reader Opened lines turns) r u =
       fragments_given laws.steps Opened lines turns Begins t s.next_reader r u goes along state keeps_now.quiet first.0 last found in
       let all : RunGoes s.next_reader Begins Opened.streams (run_after Opened lines turns) (given_to s.next_reader Opened lines turns) =
-      run_goes laws.steps s.next_reader lines turns Opened Begins state goes along keeps_now.quiet (own_begun Begins Opened.streams s.next_reader r keeps_now.kept opens.found) in
+      run_goes laws.steps s.next_reader lines turns Opened Begins state goes along keeps_now.quiet (own_begun Begins Opened.streams s.next_reader r keeps_now.kept opens.found) (ap is_some last) in
       let same : all.t ≡ t = same_some all.t t (run_after Opened lines turns).state all.state last in
       let fragment : Begins.geometry.fragment ≡ t.geometry.fragment = ap (λ (g : Geometry). g.fragment) (sym all.geometry ∙ ap (λ (x : State). x.geometry) same) in
       let body : List ℕ = ((run_after Opened lines turns).streams r.put).bytes in

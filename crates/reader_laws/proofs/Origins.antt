@@ -22,7 +22,7 @@ use Rattle.script_run.specs.Behind.{after_line, after_reading}
 use Rattle.script_run.specs.Takes.{IsRun, LineTakes, ReadingTakes, run_after}
 use Rattle.script_run.proofs.Changed.{either}
 use Rattle.script_run.proofs.Finding.{found_in}
-use Rattle.script_run.specs.Goes.{StepGoes, begins, begins_session, fails, stays, waits, works}
+use Rattle.script_run.specs.Goes.{StepGoes, begins, begins_session, cuts_off, fails, stays, tells_bare, waits, works}
 use Rattle.script_run.proofs.Lift.{goes}
 use Rattle.line_laws.specs.Along.{AreOfSession, KeepsSession, OpenedAlong}
 
@@ -120,6 +120,8 @@ module _ (P : ℕ → Key → List Field → List Field → ℕ → Type 0) wher
   goes_puts run turn (works s same e takes) said now = records_puts s turn.added (subst OfPuts e (now same)) said
   goes_puts run turn (begins name g same is) said now = records_puts nothing_yet turn.added tt said
   goes_puts run turn (fails name count same is refuses) said now = tt
+  goes_puts run turn (cuts_off choice s e cut) said now = tt
+  goes_puts run turn (tells_bare t same e last takes only) said now = now same
 
   reading_puts : (run : Run) (turn : Turn) (l : LineAnswer) → ReadingTakes run turn l → AllByRecursion OfRecord turn.added → (KeepsSession l → OfPuts run.state) → OfPuts (after_reading run turn l).state
   reading_puts run turn (line.Step st) takes said now = goes_puts run turn (goes run turn st takes) said now

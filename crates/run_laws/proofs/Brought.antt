@@ -504,6 +504,7 @@ asks_of run s (step.Now at) = inl tt
 asks_of run s (step.Fail nth) = inl tt
 asks_of run s (step.StopAfter calls) = inl tt
 asks_of run s (step.Flip place byte) = inl tt
+asks_of run s (step.Cut choice) = inl tt
 
 -- ---- what stands behind lines
 

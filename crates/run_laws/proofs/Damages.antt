@@ -18,7 +18,7 @@ use Rattle.script_grammar.specs.declared.answer.StepAnswer.{StepAnswer}
 use Rattle.script_grammar.specs.declared.step.Step.{Step}
 use Rattle.script_grammar.specs.Grammar.{reading_of}
 use Rattle.device_log.specs.Calls.{Call}
-use Rattle.script_run.specs.Run.{Harm, Run, fresh}
+use Rattle.script_run.specs.Run.{Harm, Run, at_hand, fresh}
 use Rattle.script_run.specs.Turn.{Turn, calls_in}
 use Rattle.script_run.specs.Behind.{after_line, harm_in, harm_of, harms_of}
 use Rattle.script_run.specs.Takes.{run_after}
@@ -117,7 +117,7 @@ module _ (laws : OfDamage) (l : RunLogs) (a : Account l) (lines : List (List ℕ
     begun : sessions_begun t.before ≡ length Then.ended + 1
     begun =
         let all : length (harms_of Then) ≡ length (harms_of fresh) + sessions_begun t.before = run_length t.before t.earlier fresh t.legal in
-        let here : length (harms_of Then) ≡ length (Then.ended ++ harm_in Then.calls t.made.s ∷ []) = ap (λ (o : Option State). length (Then.ended ++ harm_of Then.calls o)) t.made.state in
+        let here : length (harms_of Then) ≡ length (Then.ended ++ harm_in Then.calls t.made.s ∷ []) = ap (λ (o : Option State). length (Then.ended ++ harm_of Then.calls (at_hand o Then.last))) t.made.state in
         omega (arith, all, here, length-append Then.ended (harm_in Then.calls t.made.s ∷ []))
 
     same_device : IsDeviceBehind l t.before device

@@ -8,11 +8,10 @@ use Rattle.script_grammar.specs.declared.step.Step.{Step}
 use Rattle.script_grammar.specs.declared.line.LineAnswer.{LineAnswer}
 use Rattle.script_grammar.specs.declared.line.LineAnswer.TheVariants as line
 use Rattle.script_grammar.specs.Grammar.{reading_of}
-use Rattle.script_run.specs.Run.{Harm, Run, fresh}
+use Rattle.script_run.specs.Run.{Harm, Run, at_hand, fresh}
 use Rattle.script_run.specs.Turn.{Turn, calls_in}
-use Rattle.script_run.specs.Behind.{harm_in, harm_of, harms_of}
+use Rattle.script_run.specs.Behind.{harm_in, harm_of, harms_of, with_calls_of}
 use Rattle.script_run.specs.Takes.{ReadingShows, StepShows, run_after}
-use Rattle.run_promise.specs.Outline.{with_calls_of}
 use Rattle.headline.specs.Account.{Account, AreBack, ComeBackFrom, IsDoubtedBehind, RunLogs, ShowsNext, doubted_harms, sessions_begun}
 use Rattle.account_laws.proofs.Along.{run_length}
 use Rattle.account_laws.proofs.Counting.{device_of}
@@ -59,8 +58,8 @@ module _ (l : RunLogs) (told : List (List ℕ)) (run : Run) (begun : length (har
         none_tells = λ other at tells. no_truth ((device_of l run.ended (doubt h) (sessions_begun told) other come at which).unharmed tells);
       }
 
-  step_doubted : (turn : Turn) (o : Option State) (step : Step) → length (run.ended ++ harm_of run.calls o) ≡ sessions_begun told → StepShows run turn o step
-      → ComeBackFrom l (run.ended ++ map doubt (harm_of (calls_in turn ++ run.calls) o)) → IsDoubtedBehind l told
+  step_doubted : (turn : Turn) (o : Option State) (step : Step) → length (run.ended ++ harm_of run.calls (at_hand o run.last)) ≡ sessions_begun told → StepShows run turn o step
+      → ComeBackFrom l (run.ended ++ map doubt (harm_of (calls_in turn ++ run.calls) (at_hand o run.last))) → IsDoubtedBehind l told
   step_doubted turn None step count shows come = absurd shows
   step_doubted turn (Some s) step count shows come =
       last_doubted (harm_in (calls_in turn ++ run.calls) s) (omega (arith, count, length-append run.ended (harm_in run.calls s ∷ []))) come

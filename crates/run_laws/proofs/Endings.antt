@@ -1,6 +1,6 @@
 -- How a run ends, by the text that the source gave and the calls that were refused.
 use Rattle.std.proofs.Common.{◌≡◌, ℕ, ◌+◌, ◌<◌, List, [], ◌∷◌, ◌++◌, length, refl, sym, ◌∙◌, ap, subst, arith, length-append, inl, inr}
-use Rattle.std.specs.Prelude.{◌≢◌, ◌⊎◌, IsSome, Option, Some, None}
+use Rattle.std.specs.Prelude.{◌≢◌, ◌⊎◌, false, is_some, IsSome, Option, Some, None}
 use Rattle.std.proofs.lemmas.List.{append-nil}
 use Rattle.device_log.specs.Streams.{SourceRead, SinkWrite, RefusedRead, RefusedWrite, refused_reads, refused_writes, write_faults}
 use Rattle.device_log.specs.Faults.{next_count}
@@ -14,6 +14,8 @@ use Rattle.script_grammar.specs.declared.last_line.LastLine.{LastLine}
 use Rattle.script_grammar.specs.declared.last_line.LastLine.TheVariants as last
 use Rattle.script_grammar.specs.Grammar.{reading_of}
 use Rattle.script_run.specs.Run.{Harm, Run}
+use Rattle.script_run.specs.Switch.{is_of_device}
+use Rattle.script_grammar.specs.declared.step.Step.{Step}
 use Rattle.run_promise.specs.Outline.{Outline, all_told, blank_outline, told_of}
 use Rattle.run_promise.specs.Lines.{AreAnswered, IsReadAs, outline_of, outline_read}
 use Rattle.run_promise.specs.declared.status.Status.{Status}
@@ -21,10 +23,10 @@ use Rattle.run_promise.specs.declared.status.Status.TheVariants as status
 use Rattle.run_promise.specs.Story.{Because, CutsLast, HoldsNoLine, IsBadLine, LacksCache, MeetsBayFault, Story, DevicesTold}
 use Rattle.run_promise.specs.Top.{EndsEarly, ReadsFailed, status_of}
 use Rattle.headline.specs.Account.{ComeBackFrom, IsConcluded, IsDeviceBehind, RunLogs, begun_in, sessions_begun}
-use Rattle.headline.specs.Endings.{AreTakeable, EndsFirst, EndsHere, FormatFailed, GoesOnWith, HasNoSession, IsFine, LastWriteFailed, LostItsFormat, MayBeTaken}
+use Rattle.headline.specs.Endings.{AreTakeable, CutSince, EndsFirst, EndsHere, FormatFailed, GoesOnWith, HasNoSession, IsFine, LastWriteFailed, LostItsFormat, LostItsPower, MayBeTaken}
 use Rattle.account_laws.proofs.Counting.{device_of}
 use Rattle.account_laws.proofs.Devices.{come_back}
-use Rattle.account_laws.proofs.Outlines.{EndsFaulted, none_begun, outline_length, read_length}
+use Rattle.account_laws.proofs.Outlines.{EndsFaulted, cut_since, none_begun, outline_length, read_length}
 use Rattle.run_laws.proofs.Doubted.{split_back}
 
 -- ---- lines that were taken
@@ -73,6 +75,19 @@ format_failed l lines o come counted none faulted =
 
 module _ (l : RunLogs) (lines : List (List ℕ)) (held : List ℕ) (given : ℕ) (answers : List (Option StepAnswer)) (counted : given ≡ length lines) (are : AreAnswered blank_outline lines answers)
     (come : ComeBackFrom l (all_told (outline_of blank_outline lines answers))) where
+  -- no device is at hand
+  no_device : {Cut : Type 0} → (outline_of blank_outline lines answers).session ≡ None → (sessions_begun lines ≡ 0) ⊎ FormatFailed l lines ⊎ Cut
+  no_device none = elim (none_begun blank_outline lines answers are none) [
+    | inl begins ↦ inl begins.none
+    | inr faulted ↦ inr (inl (format_failed l lines (outline_of blank_outline lines answers) come (omega (arith, outline_length blank_outline lines answers are)) none faulted))
+  ]
+
+  -- or one is with no session on it
+  by_session : (asks : Step) → is_of_device asks ≡ false → (outline_of blank_outline lines answers).stands ≡ false → (session : Option Harm)
+      → (outline_of blank_outline lines answers).session ≡ session → (sessions_begun lines ≡ 0) ⊎ FormatFailed l lines ⊎ ((is_of_device asks ≡ false) × CutSince lines)
+  by_session asks other fallen None is = no_device is
+  by_session asks other fallen (Some harm) is = inr (inr (other, cut_since lines answers are (ap is_some is) fallen))
+
   because_ends : (why : LastLine) → Because l.bay held given (outline_of blank_outline lines answers) why → ReadsFailed l.first l.read (status_of why) → EndsHere l lines held (status_of why)
   because_ends last.Usage because failed = absurd because
   because_ends (last.BadScript number fault) because failed = (fault, subst (λ n. IsBadLine n held fault) counted because.1)
@@ -88,9 +103,9 @@ module _ (l : RunLogs) (lines : List (List ℕ)) (held : List ℕ) (given : ℕ)
         step = lacks.step;
         asks = lacks.asks;
         needs = lacks.needs;
-        none = elim (none_begun blank_outline lines answers are lacks.none) [
-          | inl begins ↦ inl begins.none
-          | inr faulted ↦ inr (format_failed l lines (outline_of blank_outline lines answers) come (omega (arith, outline_length blank_outline lines answers are)) lacks.none faulted)
+        none = elim lacks.lacks [
+          | inl none ↦ no_device none
+          | inr fallen ↦ by_session lacks.step fallen.0 fallen.1 (outline_of blank_outline lines answers).session refl
         ];
       }
 
@@ -168,7 +183,7 @@ module _ (l : RunLogs) (read_none : NoReadFailed l.first l.read) (write_none : r
   none_below : (n : ℕ) → n ≡ 0 → 0 < n → ⊥
   none_below n e above = omega (arith, e, above)
 
-  only_done : (s : Status) → EndsFirst l s → s ≢ status.Usage → s ≢ status.OutOfMemory → (s ≡ status.Done) ⊎ LostItsFormat l s
+  only_done : (s : Status) → EndsFirst l s → s ≢ status.Usage → s ≢ status.OutOfMemory → (s ≡ status.Done) ⊎ LostItsFormat l s ⊎ LostItsPower l s
   only_done status.Done h begun found = inl refl
   only_done status.Usage h begun found = absurd h.ends
   only_done status.BadScript h begun found =
@@ -184,13 +199,16 @@ module _ (l : RunLogs) (read_none : NoReadFailed l.first l.read) (write_none : r
       let may : MayBeTaken (sessions_begun h.lines) (reading_of lacks.bytes) = (goes_on h).next lacks.bytes lacks.next.0 lacks.next.1.is_line lacks.next.1.first in
       elim lacks.none [
         | inl none ↦ absurd (none_below (sessions_begun h.lines) none (subst (MayBeTaken (sessions_begun h.lines)) lacks.asks may lacks.needs))
-        | inr failed ↦ inr (record { is = refl; lines = h.lines; failed = failed })
+        | inr lost ↦ elim lost [
+          | inl failed ↦ inr (inl (record { is = refl; lines = h.lines; failed = failed }))
+          | inr cut ↦ inr (inr (record { is = refl; reads = h.reads; since = h.since; lines = h.lines; held = h.held; taken = h.taken; cut = cut.1 }))
+        ]
       ]
   only_done status.OutOfMemory h begun found = absurd (found refl)
   only_done status.TooManyLines h begun found = absurd (h.ends.more ((goes_on h).few h.ends.all))
 
 pub done_where_fine : (l : RunLogs) (s : Status) → IsConcluded l s → ReadsFailed l.first l.read s → s ≢ status.Usage → s ≢ status.OutOfMemory
     → NoReadFailed l.first l.read → refused_writes l.new ≡ refused_writes l.old → l.bay.now ≡ l.bay.before
-    → ((reads : List SourceRead) → l.read ≡ reads ++ l.first → IsFine (text_read reads)) → (s ≡ status.Done) ⊎ LostItsFormat l s
+    → ((reads : List SourceRead) → l.read ≡ reads ++ l.first → IsFine (text_read reads)) → (s ≡ status.Done) ⊎ LostItsFormat l s ⊎ LostItsPower l s
 done_where_fine l s c failed begun memory read_none write_none bay_none fine =
     only_done l read_none write_none bay_none fine s (ends_are_caused l s c failed begun) begun memory

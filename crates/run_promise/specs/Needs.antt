@@ -5,7 +5,7 @@ use Rattle.tape_base.specs.Place.{device_blocks}
 use Rattle.script_grammar.specs.declared.step.Step.{Step}
 use Rattle.script_grammar.specs.declared.step.Step.TheVariants as step
 
--- a line that works on a session
+-- a line that works on a session, or on a bare device
 abbrev pub NeedsSession : Step → Type 0
 NeedsSession (step.Format name segments buckets content agg reach fragment generation alternates) = ⊥
 NeedsSession (step.Now moment) = ⊥

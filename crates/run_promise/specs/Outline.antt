@@ -1,6 +1,6 @@
 -- What the answers of a run tell of its devices, whatever its records are worth: whether a session stands, which
 -- devices were given back, and up to which count their faults were told.
-use Rattle.std.specs.Prelude.{ℕ, ◌≡◌, ◌<◌, ◌⊎◌, max, Bool, false, true, List, [], ◌∷◌, ◌++◌, IsSome, Option, Some, None, option_map, ⊤}
+use Rattle.std.specs.Prelude.{ℕ, ◌≡◌, ◌<◌, ◌⊎◌, max, Bool, false, true, IsSome, List, [], ◌∷◌, ◌++◌, Option, Some, None, is_some, option_map, ⊤}
 use Rattle.tape_base.specs.declared.geometries.BadGeometry.{BadGeometry}
 use Rattle.tape_base.specs.Limits.{first_refusal}
 use Rattle.cache_model.specs.declared.cause.Cause.{Cause}
@@ -11,8 +11,8 @@ use Rattle.script_grammar.specs.declared.answer.Refused.{Refused}
 use Rattle.script_grammar.specs.declared.answer.Refused.TheVariants as refused
 use Rattle.script_grammar.specs.declared.answer.StepAnswer.{StepAnswer}
 use Rattle.script_grammar.specs.declared.answer.StepAnswer.TheVariants as answer
-use Rattle.script_run.specs.Run.{Harm, Run, loosened, no_harm}
-use Rattle.script_run.specs.Turn.{Turn, calls_in}
+use Rattle.script_run.specs.Run.{Harm, Run, at_hand, loosened, no_harm}
+use Rattle.script_run.specs.Switch.{is_of_device}
 use Rattle.script_run.specs.Answers.{number_of_bad}
 use Rattle.script_run.specs.Behind.{harm_in}
 use Rattle.run_promise.specs.Needs.{NeedsSession}
@@ -40,28 +40,30 @@ count_in _ = 0
 
 -- ---- outlines
 
--- what was told of the session's device, where there is a session; what was told of each device that was given back; and
--- the name of each device that was attached
+-- what was told of the device at hand, that of the session or a bare one, and whether a session stands on it; what was told
+-- of each device that was given back; and the name of each device that was attached
 pub record Outline : Type 0 where
   pub session : Option Harm
+  pub stands : Bool
   pub ended : List Harm
   pub names : List (List ℕ)
 
 -- before the first line
 abbrev pub blank_outline : Outline
-blank_outline = record { session = None; ended = []; names = [] }
+blank_outline = record { session = None; stands = false; ended = []; names = [] }
 
--- what a run tells of its devices, of which that of the session may make more calls then
+-- what a run tells of its devices, of which the one at hand may make more calls then
 abbrev pub outline_in : Run → Outline
-outline_in run = record { session = option_map (λ s. loosened (harm_in run.calls s)) run.state; ended = run.ended; names = run.names }
+outline_in run = record {
+  session = option_map (λ s. loosened (harm_in run.calls s)) (at_hand run.state run.last);
+  stands = is_some run.state;
+  ended = run.ended;
+  names = run.names;
+}
 
 -- what an outline tells of the session's device is doubted: where that told its content to the end, it is not so
 abbrev pub doubted : Outline → Outline
-doubted o = record { session = option_map (λ (harm : Harm). record harm { damaged = true }) o.session; ended = o.ended; names = o.names }
-
--- a run of which behind a turn only this is known: that the session's device made the calls of that turn
-abbrev pub with_calls_of : Run → Turn → Run
-with_calls_of run turn = record run { calls = calls_in turn ++ run.calls }
+doubted o = record o { session = option_map (λ (harm : Harm). record harm { damaged = true }) o.session }
 
 -- a count that is told raises what was told; of damage it tells nothing, nor of the calls that were made meanwhile
 abbrev pub raised : ℕ → Harm → Harm
@@ -79,15 +81,15 @@ all_told o = o.ended ++ told_of o.session
 -- the device of this name is attached, and the session before it has ended; where that device refused a call it was given back
 abbrev pub attached : Outline → List ℕ → StepAnswer → Outline
 attached o name (answer.DeviceFault count took) =
-    record { session = None; ended = all_told o ++ raised count no_harm ∷ []; names = o.names ++ name ∷ [] }
-attached o name _ = record { session = Some (loosened no_harm); ended = all_told o; names = o.names ++ name ∷ [] }
+    record { session = None; stands = false; ended = all_told o ++ raised count no_harm ∷ []; names = o.names ++ name ∷ [] }
+attached o name _ = record { session = Some (loosened no_harm); stands = true; ended = all_told o; names = o.names ++ name ∷ [] }
 
 -- a format whose numbers are accepted ends the session before it, and begins one on the device of its name
 abbrev pub begun : Outline → List ℕ → StepAnswer → Option BadGeometry → Outline
 begun o name said (Some bad) = o
 begun o name said None = attached o name said
 
--- no other step ends a session, or begins one
+-- no other step begins a session
 abbrev pub begun_by : Outline → Step → StepAnswer → Outline
 begun_by o (step.Format name segments buckets content agg reach fragment generation alternates) said =
     begun o name said (first_refusal segments buckets content agg reach fragment alternates)
@@ -95,7 +97,7 @@ begun_by o _ said = o
 
 -- a count that is told of the session's device
 abbrev pub with_told_count : Outline → ℕ → Outline
-with_told_count o count = record { session = option_map (raised count) o.session; ended = o.ended; names = o.names }
+with_told_count o count = record o { session = option_map (raised count) o.session }
 
 -- whether a device has a switch, by the answer of a line that is for it
 abbrev pub has_switch_in : StepAnswer → Bool
@@ -107,6 +109,7 @@ abbrev pub switch_told : Step → StepAnswer → Option Bool
 switch_told (step.Fail nth) said = Some (has_switch_in said)
 switch_told (step.StopAfter calls) said = Some (has_switch_in said)
 switch_told (step.Flip place byte) said = Some (has_switch_in said)
+switch_told (step.Cut choice) said = Some (has_switch_in said)
 switch_told _ said = None
 
 -- that is told of the session's device
@@ -116,11 +119,24 @@ switched has harm = record harm { switches = has ∷ harm.switches }
 -- where it is told
 abbrev pub with_told_switch : Option Bool → Outline → Outline
 with_told_switch None o = o
-with_told_switch (Some has) o = record { session = option_map (switched has) o.session; ended = o.ended; names = o.names }
+with_told_switch (Some has) o = record o { session = option_map (switched has) o.session }
+
+-- whether the session stands behind a step: a cut ends it, where that is answered
+abbrev pub stands_behind : Step → StepAnswer → Bool → Bool
+stands_behind (step.Cut choice) answer.Cut stands = false
+stands_behind _ said stands = stands
+
+-- what is told of devices behind a step, by its answer
+abbrev pub told_behind : Outline → Step → StepAnswer → Outline
+told_behind o step said = with_told_switch (switch_told step said) (with_told_count (begun_by o step said) (count_in said))
 
 -- the outline behind a step, by its answer
 abbrev pub outline_after : Outline → Step → StepAnswer → Outline
-outline_after o step said = with_told_switch (switch_told step said) (with_told_count (begun_by o step said) (count_in said))
+outline_after o step said = record (told_behind o step said) { stands = stands_behind step said (told_behind o step said).stands }
+
+-- what a line needs is not there: no device is at hand, or no session stands on it, for a line that works on one
+abbrev pub Lacks : Outline → Step → Type 0
+Lacks o step = (o.session ≡ None) ⊎ ((is_of_device step ≡ false) × (o.stands ≡ false))
 
 -- what a format answers, by its numbers: the first one that is refused, or where cursor and floor then stand, if its device
 -- refused no call
@@ -140,9 +156,12 @@ IsAnswerOf (step.Now moment) said = said ≡ answer.Now moment
 IsAnswerOf (step.Fail nth) said = IsSwitchAnswer answer.Armed said
 IsAnswerOf (step.StopAfter calls) said = IsSwitchAnswer answer.Armed said
 IsAnswerOf (step.Flip place byte) said = IsSwitchAnswer answer.Flipped said
+IsAnswerOf (step.Cut choice) said = IsSwitchAnswer answer.Cut said
 IsAnswerOf _ said = ⊤
 
--- a step that needs a session is answered where there is one, and what no record decides is answered as the step has it
+-- a step that needs a session or a device is answered where there is one, and what no record decides is answered as the step
+-- has it
 pub record IsAnswered (o : Outline) (step : Step) (said : StepAnswer) : Type 0 where
   pub session : NeedsSession step → IsSome o.session
+  pub stands : NeedsSession step → is_of_device step ≡ false → o.stands ≡ true
   pub fixed : IsAnswerOf step said

@@ -1,5 +1,5 @@
 -- How far a run has come, and how it may end.
-use Rattle.std.specs.Prelude.{◌≡◌, ℕ, ◌+◌, ◌≤◌, ◌⊎◌, List, [], ◌∷◌, ◌++◌, length, map, Option, None, ⊤}
+use Rattle.std.specs.Prelude.{◌≡◌, ℕ, ◌+◌, ◌≤◌, ◌⊎◌, List, [], ◌∷◌, ◌++◌, length, map, Option, ⊤}
 use Rattle.device_log.specs.Faults.{next_count}
 use Rattle.device_log.specs.Streams.{SourceRead, SinkWrite, RefusedWrite, taken_by, refused_writes, write_faults}
 use Rattle.edge_io.specs.declared.reader.TheConstants.{MAX_LINES}
@@ -17,9 +17,9 @@ use Rattle.script_grammar.specs.Texts.{answer_line}
 use Rattle.script_grammar.specs.Grammar.{reading_of}
 use Rattle.script_run.specs.Run.{Harm, Run, fresh, loosened, no_harm}
 use Rattle.script_run.specs.Turn.{Turn}
-use Rattle.script_run.specs.Behind.{harm_of}
+use Rattle.script_run.specs.Behind.{own_harm, with_calls_of}
 use Rattle.script_run.specs.Takes.{IsRun, run_after, LineShows}
-use Rattle.run_promise.specs.Outline.{Outline, blank_outline, doubted, outline_in, told_of, with_calls_of}
+use Rattle.run_promise.specs.Outline.{Outline, blank_outline, doubted, Lacks, outline_in, told_of}
 use Rattle.run_promise.specs.Lines.{AreAnswered, answers_of, outline_of, texts_before, texts_of}
 use Rattle.script_run.specs.Ledger.{Ledger, Deals}
 use Rattle.device_bay.specs.Calls.{AttachRefusal}
@@ -33,7 +33,7 @@ pub record Taken (text : List ℕ) (lines : List (List ℕ)) (held : List ℕ) :
 
 -- ---- what was told of devices
 
--- of those that were given back, of the session's own, where there is one, and the names of all that were attached
+-- of those that were given back, of the one at hand, where there is one, and the names of all that were attached
 pub record DevicesTold : Type 0 where
   pub ended : List Harm
   pub own : List Harm
@@ -45,7 +45,7 @@ told_by o = record { ended = o.ended; own = told_of o.session; names = o.names }
 
 -- by the records: counts of faults, damage, and of each session all calls that its lines made
 abbrev pub told_by_records : Run → DevicesTold
-told_by_records run = record { ended = run.ended; own = harm_of run.calls run.state; names = run.names }
+told_by_records run = record { ended = run.ended; own = own_harm run; names = run.names }
 
 -- the same, where the session's own device may have made more calls
 abbrev pub own_loosened : DevicesTold → DevicesTold
@@ -126,14 +126,14 @@ pub record IsBadLine (given : ℕ) (held : List ℕ) (fault : BadLine) : Type 0 
   pub next : IsNextLine given held bytes
   pub bad : reading_of bytes ≡ line.Bad fault
 
--- a line needs a session, and there is none
+-- a line needs a session or a device, and there is none
 pub record LacksCache (o : Outline) (given : ℕ) (held : List ℕ) : Type 0 where
   pub bytes : List ℕ
   pub next : IsNextLine given held bytes
   pub step : Step
   pub asks : reading_of bytes ≡ line.Step step
   pub needs : NeedsSession step
-  pub none : o.session ≡ None
+  pub lacks : Lacks o step
 
 -- the next line is a format whose attach was refused, as the bay's log has it, and no other was
 pub record MeetsBayFault (given : ℕ) (held : List ℕ) (before now : List AttachRefusal) : Type 0 where

@@ -19,15 +19,19 @@ use Rattle.script_grammar.specs.declared.last_line.LastLine.TheVariants as last
 use Rattle.script_grammar.specs.Texts.{answer_line}
 use Rattle.script_grammar.specs.Grammar.{reading_of}
 use Rattle.script_run.specs.Run.{Harm, Run, fresh, no_harm}
-use Rattle.script_run.specs.Behind.{harm_of}
+use Rattle.script_run.specs.Behind.{own_harm}
 use Rattle.script_run.specs.Takes.{run_after}
-use Rattle.run_promise.specs.Outline.{Outline, blank_outline, told_of}
+use Rattle.run_promise.specs.Outline.{Lacks, Outline, blank_outline, told_of}
 use Rattle.run_promise.specs.Lines.{texts_before, texts_of}
-use Rattle.cache_replay.specs.declared.session.Session.{Session}
+use Rattle.logged_disk.specs.declared.device.Disk.{Ghosts as DiskGhosts}
+use Rattle.cache_replay.specs.declared.session.Replay.{Replay}
 use Rattle.cache_replay.specs.declared.stop.Stop.TheVariants as stop
 use Rattle.cache_replay.specs.declared.stop.Stop.{Stop as Stopped}
-use Rattle.cache_replay.specs.Session.{IsSession, devices_of, return_in, return_of}
-use Rattle.cache_replay.specs.Plays.{IsLeftAtEnd, IsOutlined, stays, tried, ended, Plays}
+use Rattle.cache_replay.specs.Replay.{IsLeftAtEnd, IsOutlined, IsReplay, PlaysOn, bare_return, devices_in, ended, returns_in, stays, tried}
+use Rattle.cache_replay.specs.Session.{return_of}
+use Rattle.cache_replay.specs.Stop.{LacksIn}
+use Rattle.script_run.specs.Switch.{is_of_device}
+use Rattle.std.specs.Prelude.{Bool, false, is_some, true}
 use Rattle.script_run.specs.Ledger.{AreReached, ComeBack, Deals, Ledger}
 use Rattle.run_script.specs.declared.run.Ending.{Ending}
 use Rattle.run_script.specs.declared.run.Ending.TheVariants as ending
@@ -58,12 +62,12 @@ holds_none given before (GaveBytes bytes ∷ more) old now count grew failed nee
 holds_none given before (CameToEnd ∷ more) old now count grew failed needed = let no : CameToEnd ∷ (more ++ old) ≡ RefusedRead count ∷ failed.older = sym grew ∙ failed.is in absurd cc
 holds_none given before (RefusedRead k ∷ more) old now count grew failed needed = needed.0
 
-module _ (first now : List SourceRead) (taken_first taken : List SinkWrite) (ledger_first ledger : Ledger) (unread : List ℕ) (given : ℕ) (Outlined : Outline → Type 0) (Plays' : Run → Type 0)
-    (Reached : List Harm → Type 0) (devices : ℕ) (reach : (o : Outline) → Outlined o → Reached (told_of o.session)) (reach_run : (run : Run) → Plays' run → Reached (harm_of run.calls run.state))
-    (story : GoesOn first taken_first ledger_first now unread given taken ledger Outlined Plays') where
+module _ (first now : List SourceRead) (taken_first taken : List SinkWrite) (ledger_first ledger : Ledger) (unread : List ℕ) (given : ℕ) (Outlined : Outline → Type 0) (PlaysOn' : Run → Type 0)
+    (Reached : List Harm → Type 0) (devices : ℕ) (reach : (o : Outline) → Outlined o → Reached (told_of o.session)) (reach_run : (run : Run) → PlaysOn' run → Reached (own_harm run))
+    (story : GoesOn first taken_first ledger_first now unread given taken ledger Outlined PlaysOn') where
   -- what the records are worth as they stand
   still_recorded : (Devices : DevicesTold → Type 0) (Behind : Outline → Type 0) → ((t : DevicesTold) → Deals ledger_first ledger t.ended t.names → Reached t.own → Devices t) → ((o : Outline) → Outlined o → Behind o)
-      → Recorded story.lines story.answers (λ t. Deals ledger_first ledger t.ended t.names) Plays' ⊎ ShownAlong story.lines story.answers (λ t. Deals ledger_first ledger t.ended t.names) Outlined
+      → Recorded story.lines story.answers (λ t. Deals ledger_first ledger t.ended t.names) PlaysOn' ⊎ ShownAlong story.lines story.answers (λ t. Deals ledger_first ledger t.ended t.names) Outlined
       → Recorded story.lines story.answers Devices (λ run. Unit {0}) ⊎ ShownAlong story.lines story.answers Devices Behind
   still_recorded Devices Behind settle behind (inl r) = inl (record { turns = r.turns; legal = r.legal; says = r.says; devices = settle _ r.devices (reach_run _ r.known); known = tt })
   still_recorded Devices Behind settle behind (inr along) =
@@ -116,31 +120,31 @@ module _ (first now : List SourceRead) (taken_first taken : List SinkWrite) (led
         stopped bay (last.BadScript given' bad) (λ o out. (counted, record { bytes = bytes; next = (unread', known); bad = e }))
 
 -- the next line is a step
-module _ {S W R : Type 0} {c : CallsGhosts S W R} (old : Session S W R c) (first now : List SourceRead) (taken_first taken : List SinkWrite) (ledger_first ledger : Ledger)
+module _ {D S W R : Type 0} {d : DiskGhosts D} {c : CallsGhosts S W R} (old : Replay D S W R d c) (first now : List SourceRead) (taken_first taken : List SinkWrite) (ledger_first ledger : Ledger)
     (unread unread' : List ℕ) (given given' : ℕ)
-    (story : GoesOn first taken_first ledger_first now unread given taken ledger (λ o. IsOutlined o old) (λ run. Plays run old))
+    (story : GoesOn first taken_first ledger_first now unread given taken ledger (λ o. IsOutlined o old) (λ run. PlaysOn run old))
     (bytes : List ℕ) (known : GivesLine given unread bytes unread') (counted : given' ≡ given + 1)
-    (step : Step) (asks : reading_of bytes ≡ line.Step step) (session : Session S W R c) (ledger' : Ledger) (taken' : List SinkWrite) where
+    (step : Step) (asks : reading_of bytes ≡ line.Step step) (session : Replay D S W R d c) (ledger' : Ledger) (taken' : List SinkWrite) where
   -- the session before it
   abbrev Before : Outline → Type 0
   Before = λ o. IsOutlined o old
 
   abbrev Reaches : List Harm → Type 0
-  Reaches = λ harms. AreReached harms (return_in session)
+  Reaches = λ harms. AreReached harms (returns_in session)
 
   abbrev Wanting : List ℕ → ℕ → DevicesTold → Type 0
-  Wanting = OwesOrGave ledger_first ledger' (devices_of session) Reaches
+  Wanting = OwesOrGave ledger_first ledger' (devices_in session) Reaches
 
   -- the run goes on behind it
-  pub step_goes : IsSession old → AnswerIsWritten old step session ledger ledger' (SinkTook taken taken')
-      → GoesOn first taken_first ledger_first now unread' given' taken' ledger' (λ o. IsOutlined o session) (λ run. Plays run session)
+  pub step_goes : IsReplay old → AnswerIsWritten old step session ledger ledger' (SinkTook taken taken')
+      → GoesOn first taken_first ledger_first now unread' given' taken' ledger' (λ o. IsOutlined o session) (λ run. PlaysOn run session)
   step_goes was w =
       step_more first now taken_first taken ledger_first ledger unread unread' given given' _ _ story bytes known counted step asks w.said ledger' session
       (SendsAll taken_first taken') (λ t. Deals ledger_first ledger' t.ended t.names) _ _ w.outlines w.ends
       (λ out appends. Took-trans taken_first taken taken' out _ appends w.text) (λ o is deals. deals) (λ run plays deals. deals) (λ o is. is) (λ run plays. plays)
 
   -- or ends with it
-  module _ (was : IsSession old) (is : IsSession session) (bay_old bay_new : List BayCall) where
+  module _ (was : IsReplay old) (is : IsReplay session) (bay_old bay_new : List BayCall) where
     -- what the bay refused before and behind the line
     abbrev bay : Refusals
     bay = refusals_around (refusals_of bay_old) (refusals_of bay_new)
@@ -150,7 +154,7 @@ module _ {S W R : Type 0} {c : CallsGhosts S W R} (old : Session S W R c) (first
         → Story first now unread' given' Sent Devices Behind (λ run. Unit {0})
     written_ends Text Sent Devices Behind w sent owed behind =
         step_more first now taken_first taken ledger_first ledger unread unread' given given' _ _ story bytes known counted step asks w.said ledger' session
-        Sent Devices Behind (λ run. Unit {0}) w.outlines w.ends sent (λ o reached deals. owed (told_by o) (record { deals = deals; reached = reached }))
+        Sent Devices Behind (λ run. Unit {0}) w.outlines w.ends sent (λ o reached deals. owed (told_by o) (record { deals = deals; reached = reached.reached }))
         (λ run plays deals. owed (told_by_records run) (record { deals = deals; reached = plays_reach session is run plays })) (λ o reached. behind o) (λ run plays. tt)
 
     -- what a line leaves that was not done
@@ -158,7 +162,7 @@ module _ {S W R : Type 0} {c : CallsGhosts S W R} (old : Session S W R c) (first
         → StepLeaves old step session ledger ledger' why → (Text : (before all : List ℕ) → Type 0) (Behind : Outline → Type 0) → Text (texts_before story.answers) (texts_of story.answers)
         → ((o : Outline) → Before o → Behind o) → Story first now unread given Text Devices Behind (λ run. Unit {0})
     left_ends why Devices settle leaves Text Behind text behind =
-        let left : (o : Outline) → Deals ledger_first ledger o.ended o.names → Before o → Devices (told_by o) = λ o deals is. settle (told_by o) deals (leaves (told_of o.session) is) in
+        let left : (o : Outline) → Deals ledger_first ledger o.ended o.names → Before o → Devices (told_by o) = λ o deals is. settle (told_by o) deals (leaves (told_of o.session) is.reached) in
         record {
           reads = story.reads;
           since = story.since;
@@ -171,12 +175,12 @@ module _ {S W R : Type 0} {c : CallsGhosts S W R} (old : Session S W R c) (first
           records = elim story.records [
             | inl r ↦
                 let run : Run = run_after fresh story.lines r.turns in
-                inl (record { turns = r.turns; legal = r.legal; says = r.says; devices = settle (told_by_records run) r.devices (leaves (harm_of run.calls run.state) (plays_reach old was run r.known)); known = tt })
+                inl (record { turns = r.turns; legal = r.legal; says = r.says; devices = settle (told_by_records run) r.devices (leaves (own_harm run) (plays_reach old was run r.known)); known = tt })
             | inr along ↦ inr (along_with story.lines story.answers (λ t. Deals ledger_first ledger t.ended t.names) Devices Before Behind left behind along)
           ];
         }
 
-    stays_owes : (t : DevicesTold) → Deals ledger_first ledger t.ended t.names → AreReached t.own (return_in session) → ledger' ≡ ledger → Owes ledger_first ledger' Reaches t
+    stays_owes : (t : DevicesTold) → Deals ledger_first ledger t.ended t.names → AreReached t.own (returns_in session) → ledger' ≡ ledger → Owes ledger_first ledger' Reaches t
     stays_owes t deals reached same = record { deals = rw same deals; reached = reached }
 
     not_ended : (by : Stopped) → (by ≡ stop.Memory → ⊥) → (t : DevicesTold) → Deals ledger_first ledger t.ended t.names → IsLeftAtEnd t.own step session ledger ledger' by → Owes ledger_first ledger' Reaches t
@@ -202,7 +206,7 @@ module _ {S W R : Type 0} {c : CallsGhosts S W R} (old : Session S W R c) (first
     wants t deals (tried needs wanting reached same) =
         inr (inl (record { bytes = bytes; next = (unread', known); step = step; asks = asks; needs = needs; devices = stays_owes (own_loosened t) deals reached same }))
     wants t deals (ended name attaches none more wanting) = inr (inr (
-      rw none refl,
+      ap length none,
       record {
         bytes = bytes;
         next = (unread', known);
@@ -214,19 +218,22 @@ module _ {S W R : Type 0} {c : CallsGhosts S W R} (old : Session S W R c) (first
       },
     ))
 
-    -- without a session there is none in the outline
+    -- without a device there is none in the outline
     none_told : (told : Option Harm) → AreReached (told_of told) [] → told ≡ None
     none_told None h = refl
     none_told (Some harm) h = absurd h
 
-    none_found : (told : Option Harm) (session : Session S W R c) → session.part ≡ None → AreReached (told_of told) (return_in session) → told ≡ None
-    none_found told session none h = none_told told (subst (λ o. AreReached (told_of told) (return_of o)) none h)
+    -- what a line lacks is not in the outline
+    lacks_by : (o : Outline) → IsOutlined o old → LacksIn old step → (b : Bool) → is_of_device step ≡ b → Lacks o step
+    lacks_by o is lacks true of_device = inl (none_told o.session (subst (AreReached (told_of o.session))
+        (ap (λ p. return_of p ++ bare_return old.bare) lacks.part ∙ ap bare_return (lacks.bare of_device)) is.reached))
+    lacks_by o is lacks false other = inr (other, is.stands ∙ ap is_some lacks.part)
 
     halt_ends : (halt : Halt) → StepHalts old step session ledger ledger' taken taken' bay_old bay_new halt
         → EndsRun first now taken_first taken' bay (Owes ledger_first ledger' Reaches) Wanting (ending_of given' halt)
     halt_ends (Stop stop.NoCache) h =
         halted (last.NoCache given') stop.NoCache (λ e. absurd cc) h.0 h.1
-        (λ o is. (counted, record { bytes = bytes; next = (unread', known); step = step; asks = asks; needs = h.2.0; none = none_found o.session old h.2.1 is }))
+        (λ o is. (counted, record { bytes = bytes; next = (unread', known); step = step; asks = asks; needs = h.2.0; lacks = lacks_by o is h.2.1 (is_of_device step) refl }))
     halt_ends (Stop stop.BayFault) h =
         halted last.BayFault stop.BayFault (λ e. absurd cc) h.0 h.1 (λ o is. record { bytes = bytes; next = (unread', known); step = step; asks = asks; refusal = h.2.refusal; attaches = h.2.attaches; refused = ap refusals_of h.2.refuses.past })
     halt_ends (Stop stop.Memory) h = inl (record {
@@ -321,8 +328,8 @@ halt_failed old new number Memory h = h
 nothing_taken : Taken [] [] []
 nothing_taken = record { all = refl; each = tt; within = lit≤ tt }
 
-pub begins : (now : List SourceRead) (taken : List SinkWrite) (ledger : Ledger) (held : List ℕ) (given : ℕ) (Outlined : Outline → Type 0) (Plays' : Run → Type 0) → held ≡ [] → given ≡ 0 → Outlined blank_outline → Plays' fresh → GoesOn now taken ledger now held given taken ledger Outlined Plays'
-begins now taken ledger held given Outlined Plays' empty none outlined plays = record {
+pub begins : (now : List SourceRead) (taken : List SinkWrite) (ledger : Ledger) (held : List ℕ) (given : ℕ) (Outlined : Outline → Type 0) (PlaysOn' : Run → Type 0) → held ≡ [] → given ≡ 0 → Outlined blank_outline → PlaysOn' fresh → GoesOn now taken ledger now held given taken ledger Outlined PlaysOn'
+begins now taken ledger held given Outlined PlaysOn' empty none outlined plays = record {
   reads = [];
   since = refl;
   lines = [];
@@ -394,10 +401,10 @@ pub none_own : (devices : List Device) → length devices ≡ 0 → devices ≡ 
 none_own [] e = refl
 none_own (d ∷ devices) e = absurd cc
 
-module _ {S W R : Type 0} {c : CallsGhosts S W R} where
+module _ {D S W R : Type 0} {d : DiskGhosts D} {c : CallsGhosts S W R} where
   -- with no session nothing more comes back
-  pub gave_settled : (session : Session S W R c) (a b c : Ledger) (held : List ℕ) (given : ℕ) (t : DevicesTold) → ((harms : List Harm) → AreReached harms (return_in session) → ComeBack b.returned c.returned harms)
-      → c.names ≡ b.names → devices_of session ≡ 0 → GaveBack a b held given t → GaveBack a c held given t
+  pub gave_settled : (session : Replay D S W R d c) (a b c : Ledger) (held : List ℕ) (given : ℕ) (t : DevicesTold) → ((harms : List Harm) → AreReached harms (returns_in session) → ComeBack b.returned c.returned harms)
+      → c.names ≡ b.names → devices_in session ≡ 0 → GaveBack a b held given t → GaveBack a c held given t
   gave_settled session a b c held given t back same none gave = record {
     bytes = gave.bytes;
     next = gave.next;
@@ -405,5 +412,5 @@ module _ {S W R : Type 0} {c : CallsGhosts S W R} where
     asks = gave.asks;
     name = gave.name;
     attaches = gave.attaches;
-    deals = rw append-nil at (Deals-settled a b c (all_in t ++ no_harm ∷ []) [] (t.names ++ gave.name ∷ []) gave.deals (back [] (returns_none (return_in session) none)) same);
+    deals = rw append-nil at (Deals-settled a b c (all_in t ++ no_harm ∷ []) [] (t.names ++ gave.name ∷ []) gave.deals (back [] (returns_none (returns_in session) none)) same);
   }

@@ -10,10 +10,10 @@ use Rattle.script_grammar.specs.declared.step.Step.{Step}
 use Rattle.script_grammar.specs.declared.answer.StepAnswer.{StepAnswer}
 use Rattle.script_grammar.specs.Texts.{answer_line}
 use Rattle.script_run.specs.Run.{Run}
-use Rattle.cache_replay.specs.declared.session.Session.{Session}
-use Rattle.cache_replay.specs.Session.{IsSession}
+use Rattle.logged_disk.specs.declared.device.Disk.{Ghosts as DiskGhosts}
+use Rattle.cache_replay.specs.declared.session.Replay.{Replay}
 use Rattle.run_promise.specs.Outline.{Outline}
-use Rattle.cache_replay.specs.Plays.{DeviceEnds, HasReached, IsOutlined, Outlines, Plays}
+use Rattle.cache_replay.specs.Replay.{DeviceEnds, HasReached, IsOutlined, IsReplay, Outlines, PlaysOn}
 use Rattle.script_run.specs.Ledger.{Ledger}
 use Rattle.cache_replay.proofs.Unharming.{plays_reached}
 use Rattle.run_script.specs.declared.run.Halt.{Halt}
@@ -38,17 +38,17 @@ pub either-both : {A B S T : Type 0} → (A → B) → (S → T) → A ⊎ S →
 either-both f g (inl a) = inl (f a)
 either-both f g (inr s) = inr (g s)
 
-module _ {S W R : Type 0} {c : CallsGhosts S W R} where
-  pub unwritten_halts : (session : Session S W R c) (step : Step) (new : Session S W R c) (said : StepAnswer) (before now : Ledger) (taken_old taken_new : List SinkWrite) (bay_old bay_new : List BayCall)
+module _ {D S W R : Type 0} {d : DiskGhosts D} {c : CallsGhosts S W R} where
+  pub unwritten_halts : (session : Replay D S W R d c) (step : Step) (new : Replay D S W R d c) (said : StepAnswer) (before now : Ledger) (taken_old taken_new : List SinkWrite) (bay_old bay_new : List BayCall)
       → ((o : Outline) → IsOutlined o session → Outlines o step new said before now)
-      → ((run : Run) → Plays run session → DeviceEnds run step new said before now)
+      → ((run : Run) → PlaysOn run session → DeviceEnds run step new said before now)
       → (halt : Halt) → AnswerIsUnwritten taken_old taken_new (answer_line said) halt → StepHalts session step new before now taken_old taken_new bay_old bay_new halt
   unwritten_halts session step new said before now taken_old taken_new bay_old bay_new outlines ends WriteFault h = record { said = said; outlines = outlines; ends = ends; text = h }
   unwritten_halts session step new said before now taken_old taken_new bay_old bay_new outlines ends Memory h = record { said = said; outlines = outlines; ends = ends; text = h }
   unwritten_halts session step new said before now taken_old taken_new bay_old bay_new outlines ends (Stop why) h = absurd h
 
   -- the device of a session is as it was told
-  pub plays_reach : (session : Session S W R c) → IsSession session → (run : Run) → Plays run session → HasReached run session
+  pub plays_reach : (session : Replay D S W R d c) → IsReplay session → (run : Run) → PlaysOn run session → HasReached run session
   plays_reach session is run plays = plays_reached run session is plays
 
 -- ---- the text so far

@@ -12,15 +12,15 @@ use Rattle.script_grammar.specs.Grammar.{reading_of}
 use Rattle.script_grammar.specs.Texts.{answer_line}
 use Rattle.script_run.specs.Run.{Harm, Run, fresh}
 use Rattle.script_run.specs.Turn.{Turn, no_turn}
-use Rattle.script_run.specs.Behind.{after_line, after_step}
+use Rattle.script_run.specs.Behind.{after_line, after_step, with_calls_of}
 use Rattle.script_run.specs.Takes.{LineShows, LineTakes, run_after}
 use Rattle.cache_calls.specs.declared.calls.Calls.{Ghosts as CallsGhosts}
-use Rattle.cache_replay.specs.declared.session.Session.{Session}
-use Rattle.run_promise.specs.Outline.{Outline, blank_outline, doubted, outline_after, outline_in, with_calls_of}
+use Rattle.logged_disk.specs.declared.device.Disk.{Ghosts as DiskGhosts}
+use Rattle.cache_replay.specs.declared.session.Replay.{Replay}
+use Rattle.run_promise.specs.Outline.{Outline, blank_outline, doubted, outline_after, outline_in}
 use Rattle.run_promise.specs.Lines.{AreAnswered, answers_of, outline_of, outline_read, reading_answer, text_of, texts_of}
-use Rattle.cache_replay.specs.Plays.{DeviceEnds, IsOutlined, Outlines}
 use Rattle.script_run.specs.Ledger.{ComeBack, Ledger, Deals}
-use Rattle.cache_replay.specs.Plays.{Plays as PlaysNow}
+use Rattle.cache_replay.specs.Replay.{DeviceEnds, IsOutlined, Outlines, PlaysOn as PlaysNow}
 use Rattle.run_promise.specs.Story.{AnsweredFrom, Story, DevicesTold, Taken, SinkTook, Recorded, ShownAlong, GoesOn, SendsAll, told_by, told_by_records}
 use Rattle.run_script.proofs.Runs.{AreAnswered-more, IsRun-more, answers_of-more, outline_of-more, run_after-more, texts_before-more, texts_of-more, AreReached-append}
 
@@ -175,15 +175,15 @@ shown_last lines answers From To Known Behind bytes said r turn shows outline = 
   outline = outline;
 }
 
-module _ (first now : List SourceRead) (taken_first taken : List SinkWrite) (ledger_first ledger : Ledger) (unread unread' : List ℕ) (given given' : ℕ) (Outlined : Outline → Type 0) (Plays : Run → Type 0)
-    (story : GoesOn first taken_first ledger_first now unread given taken ledger Outlined Plays) (bytes : List ℕ) (known : GivesLine given unread bytes unread') (counted : given' ≡ given + 1) where
+module _ (first now : List SourceRead) (taken_first taken : List SinkWrite) (ledger_first ledger : Ledger) (unread unread' : List ℕ) (given given' : ℕ) (Outlined : Outline → Type 0) (PlaysOn : Run → Type 0)
+    (story : GoesOn first taken_first ledger_first now unread given taken ledger Outlined PlaysOn) (bytes : List ℕ) (known : GivesLine given unread bytes unread') (counted : given' ≡ given + 1) where
   -- how the devices stand before the line
   abbrev Dealt : DevicesTold → Type 0
   Dealt = λ t. Deals ledger_first ledger t.ended t.names
 
   module _ (said : Option StepAnswer) (Text : (before all : List ℕ) → Type 0) (Devices : DevicesTold → Type 0) (Behind : Outline → Type 0) (Known : Run → Type 0) where
     -- a line that did what it must
-    recorded_more : (r : Recorded story.lines story.answers Dealt Plays) (turn : Turn) → LineTakes (run_after fresh story.lines r.turns) turn bytes
+    recorded_more : (r : Recorded story.lines story.answers Dealt PlaysOn) (turn : Turn) → LineTakes (run_after fresh story.lines r.turns) turn bytes
         → said ≡ reading_answer (run_after fresh story.lines r.turns) turn (reading_of bytes) → Devices (told_by_records (after_line (run_after fresh story.lines r.turns) turn bytes)) → Known (after_line (run_after fresh story.lines r.turns) turn bytes)
         → Recorded (story.lines ++ bytes ∷ []) (story.answers ++ said ∷ []) Devices Known
     recorded_more r turn takes says devices behind =
@@ -198,7 +198,7 @@ module _ (first now : List SourceRead) (taken_first taken : List SinkWrite) (led
 
     -- it does, or it shows a pair, and the outline with the calls of that turn goes on, its device doubted
     abbrev EndsRecords : Type 0
-    EndsRecords = (r : Recorded story.lines story.answers Dealt Plays)
+    EndsRecords = (r : Recorded story.lines story.answers Dealt PlaysOn)
         → Recorded (story.lines ++ bytes ∷ []) (story.answers ++ said ∷ []) Devices Known ⊎ ((turn : Turn) × LineShows (run_after fresh story.lines r.turns) turn bytes × AnsweredFrom (doubted (outline_in (with_calls_of (run_after fresh story.lines r.turns) turn))) (bytes ∷ []) (said ∷ []) Devices Behind)
 
     pub line_more : ((o : Outline) → Dealt (told_by o) → Outlined o → AnsweredFrom o (bytes ∷ []) (said ∷ []) Devices Behind) → ((out : List ℕ) → SinkTook taken_first taken out → Text out (out ++ text_of said))
@@ -216,18 +216,18 @@ module _ (first now : List SourceRead) (taken_first taken : List SinkWrite) (led
       records = elim story.records [
         | inl r ↦ elim (records r) [
           | inl more ↦ inl more
-          | inr shows ↦ inr (shown_last story.lines story.answers Dealt Devices Plays Behind bytes said r shows.0 shows.1 shows.2)
+          | inr shows ↦ inr (shown_last story.lines story.answers Dealt Devices PlaysOn Behind bytes said r shows.0 shows.1 shows.2)
         ]
         | inr along ↦ inr (along_more story.lines story.answers bytes said Dealt Devices Outlined Behind follows along)
       ];
     }
 
   -- an empty line or a comment
-  pub passed_more : reading_of bytes ≡ line.Nothing → GoesOn first taken_first ledger_first now unread' given' taken ledger Outlined Plays
+  pub passed_more : reading_of bytes ≡ line.Nothing → GoesOn first taken_first ledger_first now unread' given' taken ledger Outlined PlaysOn
   passed_more e =
-      line_more None (SendsAll taken_first taken) Dealt Outlined Plays
+      line_more None (SendsAll taken_first taken) Dealt Outlined PlaysOn
       (λ o deals is. record { each = (rw e tt, tt); devices = rw e deals; behind = rw e is }) (λ out appends. rw append-nil appends)
-      (λ r. inl (recorded_more None (SendsAll taken_first taken) Dealt Outlined Plays r no_turn (rw e refl) (rw e refl) (rw e r.devices) (rw e r.known)))
+      (λ r. inl (recorded_more None (SendsAll taken_first taken) Dealt Outlined PlaysOn r no_turn (rw e refl) (rw e refl) (rw e r.devices) (rw e r.known)))
 
   -- a step, whose answer was written as far as this
   module _ (step : Step) (asks : reading_of bytes ≡ line.Step step) (said : StepAnswer) (ledger' : Ledger) where
@@ -236,7 +236,7 @@ module _ (first now : List SourceRead) (taken_first taken : List SinkWrite) (led
         → Deals ledger_first ledger ended names → Deals ledger ledger' more others → Deals ledger_first ledger' all called
     deals_all ended more names others all called e n first second = rw (e, n) (Deals-trans ledger_first ledger ledger' ended more names others first second)
 
-    module _ {S W R : Type 0} {c : CallsGhosts S W R} (new : Session S W R c) where
+    module _ {D S W R : Type 0} {d : DiskGhosts D} {c : CallsGhosts S W R} (new : Replay D S W R d c) where
       -- an outline goes on by the answer
       step_follows : (Devices : DevicesTold → Type 0) (Behind : Outline → Type 0) (o : Outline) → Outlines o step new said ledger ledger'
           → ((o : Outline) → IsOutlined o new → Deals ledger_first ledger' o.ended o.names → Devices (told_by o)) → ((o : Outline) → IsOutlined o new → Behind o)
@@ -249,7 +249,7 @@ module _ (first now : List SourceRead) (taken_first taken : List SinkWrite) (led
 
       pub step_more : (Text : (before all : List ℕ) → Type 0) (Devices : DevicesTold → Type 0) (Behind : Outline → Type 0) (Known : Run → Type 0)
           → ((o : Outline) → Outlined o → Outlines o step new said ledger ledger')
-          → ((run : Run) → Plays run → DeviceEnds run step new said ledger ledger')
+          → ((run : Run) → PlaysOn run → DeviceEnds run step new said ledger ledger')
           → ((out : List ℕ) → SinkTook taken_first taken out → Text out (out ++ answer_line said))
           → ((o : Outline) → IsOutlined o new → Deals ledger_first ledger' o.ended o.names → Devices (told_by o))
           → ((run : Run) → PlaysNow run new → Deals ledger_first ledger' run.ended run.names → Devices (told_by_records run))

@@ -11,12 +11,12 @@ use Rattle.script_grammar.specs.declared.last_line.LastLine.{LastLine}
 use Rattle.script_grammar.specs.declared.last_line.LastLine.TheVariants as last
 use Rattle.script_grammar.specs.Texts.{answer_line}
 use Rattle.script_run.specs.Run.{Harm, Run}
-use Rattle.cache_replay.specs.declared.session.Session.{Session}
+use Rattle.logged_disk.specs.declared.device.Disk.{Ghosts as DiskGhosts}
+use Rattle.cache_replay.specs.declared.session.Replay.{Replay}
 use Rattle.cache_replay.specs.declared.stop.Stop.TheVariants as stop
 use Rattle.cache_replay.specs.declared.stop.Stop.{Stop as Reason}
 use Rattle.run_promise.specs.Outline.{Outline}
-use Rattle.cache_replay.specs.Session.{return_in}
-use Rattle.cache_replay.specs.Plays.{DeviceEnds, IsLeftAtEnd, IsOutlined, Outlines, Plays}
+use Rattle.cache_replay.specs.Replay.{DeviceEnds, IsLeftAtEnd, IsOutlined, Outlines, PlaysOn, returns_in}
 use Rattle.script_run.specs.Ledger.{AreReached, Ledger}
 use Rattle.cache_replay.specs.Stop.{StopsStep, is_bay_stop}
 use Rattle.run_script.specs.declared.run.Ending.{Ending}
@@ -25,22 +25,22 @@ use Rattle.run_script.specs.declared.run.Halt.{Halt}
 use Rattle.run_script.specs.declared.run.Halt.TheVariants.{Stop, WriteFault, Memory}
 use Rattle.run_promise.specs.Story.{SendsFront}
 
-module _ {S W R : Type 0} {c : CallsGhosts S W R} where
-  -- A step was answered so: each outline goes on by the answer, and each run that the session plays, or two documents of one
+module _ {D S W R : Type 0} {d : DiskGhosts D} {c : CallsGhosts S W R} where
+  -- A step was answered so: each outline goes on by the answer, and each run that the replay plays, or two documents of one
   -- SHA-256 are shown; and this became of the text.
-  pub record AnswerIsWritten (old : Session S W R c) (step : Step) (new : Session S W R c) (before now : Ledger) (Text : List ℕ → Type 0) : Type 0 where
+  pub record AnswerIsWritten (old : Replay D S W R d c) (step : Step) (new : Replay D S W R d c) (before now : Ledger) (Text : List ℕ → Type 0) : Type 0 where
     pub said : StepAnswer
     pub outlines : (o : Outline) → IsOutlined o old → Outlines o step new said before now
-    pub ends : (run : Run) → Plays run old → DeviceEnds run step new said before now
+    pub ends : (run : Run) → PlaysOn run old → DeviceEnds run step new said before now
     pub text : Text (answer_line said)
 
   -- what a step leaves that was not done, whatever was told of the session's device
-  abbrev pub StepLeaves : (old : Session S W R c) → Step → (new : Session S W R c) → (before now : Ledger) → Reason → Type 0
+  abbrev pub StepLeaves : (old : Replay D S W R d c) → Step → (new : Replay D S W R d c) → (before now : Ledger) → Reason → Type 0
   StepLeaves old step new before now why =
-      (harms : List Harm) → AreReached harms (return_in old) → IsLeftAtEnd harms step new before now why
+      (harms : List Harm) → AreReached harms (returns_in old) → IsLeftAtEnd harms step new before now why
 
   -- what a step that ends the run leaves
-  abbrev pub StepHalts : (old : Session S W R c) → Step → (new : Session S W R c) → (before now : Ledger) → (taken_old taken_new : List SinkWrite) → (bay_old bay_new : List BayCall) → Halt → Type 0
+  abbrev pub StepHalts : (old : Replay D S W R d c) → Step → (new : Replay D S W R d c) → (before now : Ledger) → (taken_old taken_new : List SinkWrite) → (bay_old bay_new : List BayCall) → Halt → Type 0
   StepHalts old step new before now taken_old taken_new bay_old bay_new (Stop why) = StepLeaves old step new before now why × (taken_new ≡ taken_old) × StopsStep old step bay_old bay_new why
   StepHalts old step new before now taken_old taken_new bay_old bay_new WriteFault = AnswerIsWritten old step new before now (SendsFront taken_old taken_new [])
   StepHalts old step new before now taken_old taken_new bay_old bay_new Memory =

@@ -8,8 +8,7 @@ ghost use Rattle.device_bay.specs.Calls.{out_of, refusals_of};
 ghost use Rattle.script_grammar.specs.Texts.{answer_line};
 ghost use Rattle.script_run.specs.Run.{fresh};
 ghost use Rattle.run_promise.specs.Outline.{blank_outline};
-ghost use Rattle.cache_replay.specs.Session.{IsSession, devices_of, names_in, return_in};
-ghost use Rattle.cache_replay.specs.Plays.{IsOutlined, Plays};
+ghost use Rattle.cache_replay.specs.Replay.{IsOutlined, IsReplay, PlaysOn, actors_in, devices_in, returns_in};
 ghost use Rattle.script_run.specs.Ledger.{AreReached, KeepsOrder, Ledger, ledger_of};
 ghost use Rattle.cache_replay.specs.Stop.{RefusesNone};
 ghost use Rattle.run_promise.specs.Story.{GoesOn, Owes, OwesOrGave, SinkTook, refusals_around};
@@ -18,7 +17,7 @@ ghost use Rattle.run_script.specs.Ending.{EndsRun, FailedReads, IsOfRun, is_bay_
 
 use crate::lines::{Reading, next_reading};
 use cache_calls::{Formats, Powered};
-use cache_replay::{Session, Stop, step};
+use cache_replay::{Replay, Stop, step};
 use device_bay::Bay;
 use edge_io::{LineFault, LineReader, MAX_LINES, Sink, Source};
 use script_grammar::{LastLine, LineAnswer, Step, StepAnswer};
@@ -65,28 +64,28 @@ pub fn take_step<K: Sink, B: Bay, C: Formats<B::Dev> + Powered>(
     alloc: Global,
     sink: &mut K,
     bay: &mut B,
-    session: &mut Session<C>,
+    replay: &mut Replay<B::Dev, C>,
     asked: Step,
 ) -> Result<(), Halt>
-    requires session { IsSession session.old }
-    requires held { devices_of session.old ≤ out_of (B.past bay.old) }
-    requires few { length (names_in session.old) ≤ MAX_LINES }
+    requires replay { IsReplay replay.old }
+    requires held { devices_in replay.old ≤ out_of (B.past bay.old) }
+    requires few { length (actors_in replay.old) ≤ MAX_LINES }
     ensures done { OnOk result
-        (AnswerIsWritten session.old asked session.new (ledger_of B.Bay bay.old)
+        (AnswerIsWritten replay.old asked replay.new (ledger_of B.Bay bay.old)
         (ledger_of B.Bay bay.new) (SinkTook (K.writes sink.old) (K.writes sink.new))) }
-    ensures halted { IfErr result (StepHalts session.old asked session.new
+    ensures halted { IfErr result (StepHalts replay.old asked replay.new
         (ledger_of B.Bay bay.old) (ledger_of B.Bay bay.new) (K.writes sink.old) (K.writes sink.new)
         (B.past bay.old) (B.past bay.new)) }
-    ensures session { IsSession session.new }
-    ensures names { length (names_in session.new) ≤ length (names_in session.old) + 1 }
-    ensures out { out_of (B.past bay.new) + devices_of session.old ≡ out_of (B.past bay.old) + devices_of session.new }
+    ensures replay { IsReplay replay.new }
+    ensures names { length (actors_in replay.new) ≤ length (actors_in replay.old) + 1 }
+    ensures out { out_of (B.past bay.new) + devices_in replay.old ≡ out_of (B.past bay.old) + devices_in replay.new }
     ensures sink { Grows (K.writes sink.old) (K.writes sink.new) }
-    ensures order { KeepsOrder (return_in session.old) (B.past bay.old)
-        (return_in session.new) (B.past bay.new) }
+    ensures order { KeepsOrder (returns_in replay.old) (B.past bay.old)
+        (returns_in replay.new) (B.past bay.new) }
     ensures refusals { MatchResult result (λ _. RefusesNone (B.past bay.old) (B.past bay.new))
         (λ halt. is_bay_halt halt ≡ false → RefusesNone (B.past bay.old) (B.past bay.new)) }
 {
-    match step(session, bay, asked) {
+    match step(replay, bay, asked) {
         Ok(said) => write_answer(alloc, sink, &said),
         Err(why) => Err(Halt::Stop(why)),
     }
@@ -121,40 +120,40 @@ fn line<S: Source, K: Sink, B: Bay, C: Formats<B::Dev> + Powered>(
     reader: &mut LineReader<'_, S>,
     sink: &mut K,
     bay: &mut B,
-    session: &mut Session<C>,
+    replay: &mut Replay<B::Dev, C>,
 ) -> Result<(), Ending>
-    requires session { IsSession session.old }
-    requires held { devices_of session.old ≤ out_of (B.past bay.old) }
-    requires few { length (names_in session.old) ≤ lines_given reader.old }
+    requires replay { IsReplay replay.old }
+    requires held { devices_in replay.old ≤ out_of (B.past bay.old) }
+    requires few { length (actors_in replay.old) ≤ lines_given reader.old }
     ensures goes { OnOk result ((first : List SourceRead) (told : List SinkWrite) (back : Ledger)
         → GoesOn first told back (S.reads (source_of reader.old).now) (held reader.old)
         (lines_given reader.old) (K.writes sink.old) (ledger_of B.Bay bay.old)
-        (λ o. IsOutlined o session.old) (λ run. Plays run session.old)
+        (λ o. IsOutlined o replay.old) (λ run. PlaysOn run replay.old)
         → GoesOn first told back (S.reads (source_of reader.new).now) (held reader.new)
         (lines_given reader.new) (K.writes sink.new) (ledger_of B.Bay bay.new)
-        (λ o. IsOutlined o session.new) (λ run. Plays run session.new)) }
+        (λ o. IsOutlined o replay.new) (λ run. PlaysOn run replay.new)) }
     ensures ends { IfErr result (λ ending. (first : List SourceRead) (told : List SinkWrite)
         (back : Ledger) → GoesOn first told back (S.reads (source_of reader.old).now)
         (held reader.old) (lines_given reader.old) (K.writes sink.old) (ledger_of B.Bay bay.old)
-        (λ o. IsOutlined o session.old) (λ run. Plays run session.old)
+        (λ o. IsOutlined o replay.old) (λ run. PlaysOn run replay.old)
         → EndsRun first (S.reads (source_of reader.new).now) told (K.writes sink.new)
         (refusals_around (refusals_of (B.past bay.old)) (refusals_of (B.past bay.new)))
         (Owes back (ledger_of B.Bay bay.new)
-        (λ harms. AreReached harms (return_in session.new)))
-        (OwesOrGave back (ledger_of B.Bay bay.new) (devices_of session.new)
-        (λ harms. AreReached harms (return_in session.new))) ending) }
+        (λ harms. AreReached harms (returns_in replay.new)))
+        (OwesOrGave back (ledger_of B.Bay bay.new) (devices_in replay.new)
+        (λ harms. AreReached harms (returns_in replay.new))) ending) }
     ensures begun { IfErr result IsOfRun }
     ensures reads { MatchResult result (λ _. NoReadFailed (S.reads (source_of reader.old).now) (S.reads (source_of reader.new).now))
         (FailedReads (S.reads (source_of reader.old).now) (S.reads (source_of reader.new).now)) }
     ensures nearer { OnOk result ((lines_given reader.old < MAX_LINES) × (lines_given reader.new ≡ lines_given reader.old + 1)) }
-    ensures session { IsSession session.new }
-    ensures few { OnOk result (length (names_in session.new) ≤ lines_given reader.new) }
+    ensures replay { IsReplay replay.new }
+    ensures few { OnOk result (length (actors_in replay.new) ≤ lines_given reader.new) }
     ensures source { (source_of reader.new).ghost_name ≡ (source_of reader.old).ghost_name }
-    ensures out { out_of (B.past bay.new) + devices_of session.old ≡ out_of (B.past bay.old) + devices_of session.new }
+    ensures out { out_of (B.past bay.new) + devices_in replay.old ≡ out_of (B.past bay.old) + devices_in replay.new }
     ensures draws { Draws S.reads S.left (source_of reader.old).now (source_of reader.new).now }
     ensures sink { Grows (K.writes sink.old) (K.writes sink.new) }
-    ensures order { KeepsOrder (return_in session.old) (B.past bay.old)
-        (return_in session.new) (B.past bay.new) }
+    ensures order { KeepsOrder (returns_in replay.old) (B.past bay.old)
+        (returns_in replay.new) (B.past bay.new) }
     ensures refusals { MatchResult result (λ _. RefusesNone (B.past bay.old) (B.past bay.new))
         (λ ending. is_bay_ending ending ≡ false → RefusesNone (B.past bay.old) (B.past bay.new)) }
 {
@@ -167,9 +166,7 @@ fn line<S: Source, K: Sink, B: Bay, C: Formats<B::Dev> + Powered>(
             line: reader.lines_given(),
             fault,
         })),
-        Reading::Line(LineAnswer::Step(asked)) => match take_step(
-            alloc, sink, bay, session, asked,
-        ) {
+        Reading::Line(LineAnswer::Step(asked)) => match take_step(alloc, sink, bay, replay, asked) {
             Ok(()) => Ok(()),
             Err(halt) => Err(ending_of(reader.lines_given(), halt)),
         },
@@ -182,34 +179,34 @@ pub(crate) fn run_lines<S: Source, K: Sink, B: Bay, C: Formats<B::Dev> + Powered
     reader: &mut LineReader<'_, S>,
     sink: &mut K,
     bay: &mut B,
-    session: &mut Session<C>,
+    replay: &mut Replay<B::Dev, C>,
 ) -> Ending
     requires given { lines_given reader.old ≡ 0 }
     requires held { held reader.old ≡ [] }
-    requires session { IsSession session.old }
-    requires fresh { Plays fresh session.old }
-    requires blank { IsOutlined blank_outline session.old }
-    requires none { devices_of session.old ≡ 0 }
-    requires names { names_in session.old ≡ [] }
+    requires replay { IsReplay replay.old }
+    requires fresh { PlaysOn fresh replay.old }
+    requires blank { IsOutlined blank_outline replay.old }
+    requires none { devices_in replay.old ≡ 0 }
+    requires names { actors_in replay.old ≡ [] }
     ensures ends { EndsRun (S.reads (source_of reader.old).now) (S.reads (source_of reader.new).now)
         (K.writes sink.old) (K.writes sink.new)
         (refusals_around (refusals_of (B.past bay.old)) (refusals_of (B.past bay.new)))
         (Owes (ledger_of B.Bay bay.old) (ledger_of B.Bay bay.new)
-        (λ harms. AreReached harms (return_in session.new)))
-        (OwesOrGave (ledger_of B.Bay bay.old) (ledger_of B.Bay bay.new) (devices_of session.new)
-        (λ harms. AreReached harms (return_in session.new))) result }
+        (λ harms. AreReached harms (returns_in replay.new)))
+        (OwesOrGave (ledger_of B.Bay bay.old) (ledger_of B.Bay bay.new) (devices_in replay.new)
+        (λ harms. AreReached harms (returns_in replay.new))) result }
     ensures begun { IsOfRun result }
     ensures reads { FailedReads (S.reads (source_of reader.old).now) (S.reads (source_of reader.new).now) result }
     ensures source { (source_of reader.new).ghost_name ≡ (source_of reader.old).ghost_name }
-    ensures out { out_of (B.past bay.new) ≡ out_of (B.past bay.old) + devices_of session.new }
+    ensures out { out_of (B.past bay.new) ≡ out_of (B.past bay.old) + devices_in replay.new }
     ensures draws { Draws S.reads S.left (source_of reader.old).now (source_of reader.new).now }
     ensures sink { Grows (K.writes sink.old) (K.writes sink.new) }
-    ensures order { KeepsOrder (return_in session.old) (B.past bay.old)
-        (return_in session.new) (B.past bay.new) }
+    ensures order { KeepsOrder (returns_in replay.old) (B.past bay.old)
+        (returns_in replay.new) (B.past bay.new) }
     ensures refusals { is_bay_ending result ≡ false → RefusesNone (B.past bay.old) (B.past bay.new) }
 {
     'lines: loop {
-        match line(alloc, reader, sink, bay, session) {
+        match line(alloc, reader, sink, bay, replay) {
             Ok(()) => {}
             Err(ending) => return ending,
         }

@@ -15,7 +15,7 @@ ghost use Rattle.run_promise.specs.Top.{WentOut, EachBack, EachBackOrMore, Reads
 use crate::inspect::inspect_named;
 use crate::run::{Ending, run_lines};
 use cache_calls::{Formats, Powered};
-use cache_replay::{Session, begin, close};
+use cache_replay::{Replay, begin, close};
 use command_words::{Command, help_text, read_words, version_text};
 use device_bay::Bay;
 use edge_io::{LineBuffer, LineReader, Sink, Source};
@@ -104,10 +104,10 @@ fn replay<S: Source, K: Sink, B: Bay, C: Formats<B::Dev> + Powered>(
         return Ending::OutOfMemory;
     };
     let mut reader = LineReader::with_buffer(source, buffer);
-    let mut session: Session<C> = begin(alloc);
-    let ending = run_lines(alloc, &mut reader, sink, bay, &mut session);
+    let mut replay: Replay<B::Dev, C> = begin(alloc);
+    let ending = run_lines(alloc, &mut reader, sink, bay, &mut replay);
     let _source = reader.into_source();
-    close(session, bay);
+    close(replay, bay);
     ending
 }
 

@@ -1,5 +1,7 @@
 -- Which line is which step, and where the first word that does not fit stands.
 use Rattle.std.specs.Prelude.{ℕ, ◌+◌, ◌^◌, ◌==◌, Bool, ◌||◌, if◌then◌else◌, List, [], ◌∷◌, length, codes, slice_index, Option, Some, None, Result, Ok, Err}
+use Rattle.device_log.specs.declared.choice.CutChoice.{CutChoice}
+use Rattle.device_log.specs.declared.choice.CutChoice.TheVariants as choice
 use Rattle.script_grammar.specs.declared.line.BadKind.TheVariants as kind
 use Rattle.script_grammar.specs.declared.line.BadLine.{BadLine}
 use Rattle.script_grammar.specs.declared.line.LineAnswer.{LineAnswer}
@@ -170,6 +172,28 @@ flip_of end words = do
   done ← take_end byte.1
   Ok (step.Flip place.0 byte.0)
 
+-- the cut that a word names
+unfoldable pub choice_of : List ℕ → Option CutChoice
+choice_of word =
+    if same_word word (codes "lost") then Some choice.Lost
+    else if same_word word (codes "kept") then Some choice.Kept
+    else if same_word word (codes "torn") then Some choice.Torn
+    else if same_word word (codes "junk") then Some choice.Junk
+    else None
+
+-- a word that names none is the fault
+abbrev pub choice_by : WordAt → Option CutChoice → Result CutChoice BadLine
+choice_by w (Some choice) = Ok choice
+choice_by w None = Err (bad w.column kind.Word)
+
+-- cut CHOICE
+unfoldable pub cut_of : ℕ → List WordAt → Result Step BadLine
+cut_of end words = do
+  w ← take_word end words
+  choice ← choice_by w.0 (choice_of w.0.bytes)
+  done ← take_end w.1
+  Ok (step.Cut choice)
+
 -- the step of a verb and the words behind it
 abbrev pub step_by : ℕ → Verb → List WordAt → Result Step BadLine
 step_by end verb.Format words = format_of end words
@@ -188,6 +212,7 @@ step_by end verb.Now words = now_of end words
 step_by end verb.Fail words = fail_of end words
 step_by end verb.StopAfter words = stop_of end words
 step_by end verb.Flip words = flip_of end words
+step_by end verb.Cut words = cut_of end words
 
 -- a first word that is no verb is the fault, at its own column, whatever follows
 abbrev pub step_named : ℕ → WordAt → Option Verb → List WordAt → Result Step BadLine

@@ -161,6 +161,10 @@ armed_line = codes "armed" ++ newline
 unfoldable pub flipped_line : List ℕ
 flipped_line = codes "flipped" ++ newline
 
+-- the power was cut
+unfoldable pub cut_line : List ℕ
+cut_line = codes "cut" ++ newline
+
 -- the line of an answer
 abbrev pub answer_line : StepAnswer → List ℕ
 answer_line (answer.Formatted serial cursor floor) = formatted_line serial cursor floor
@@ -183,6 +187,7 @@ answer_line (answer.Flushed blocks cursor floor synced) = flushed_line blocks cu
 answer_line (answer.Now moment) = number_line (codes "now") moment
 answer_line answer.Armed = armed_line
 answer_line answer.Flipped = flipped_line
+answer_line answer.Cut = cut_line
 answer_line (answer.Refused why took) = refused_line why took
 answer_line (answer.DeviceFault count took) = fault_line count took
 

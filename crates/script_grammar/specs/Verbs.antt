@@ -27,4 +27,5 @@ verb_of word =
     else if same_word word (codes "fail") then Some verb.Fail
     else if same_word word (codes "stop-after") then Some verb.StopAfter
     else if same_word word (codes "flip") then Some verb.Flip
+    else if same_word word (codes "cut") then Some verb.Cut
     else None

@@ -101,6 +101,8 @@ pub enum StepAnswer {
     Armed,
     /// A bit was turned.
     Flipped,
+    /// The power was cut, and the session is over.
+    Cut,
     /// `took` is there for a line that gives bytes: how many of them the writer took.
     Refused {
         why: Refused,

@@ -2,6 +2,7 @@
 ghost use Rattle.std.specs.Prelude.{◌≡◌};
 
 use alternate_vector::Fields;
+use device_log::CutChoice;
 use std::marker::Model;
 use tape_base::Key;
 
@@ -111,5 +112,9 @@ pub enum Step {
     Flip {
         place: u64,
         byte: u32,
+    },
+    /// Cuts the power of the device, which ends the session. The device stays at hand.
+    Cut {
+        choice: CutChoice,
     },
 }

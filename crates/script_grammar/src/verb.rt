@@ -18,4 +18,5 @@ pub enum Verb {
     Fail,
     StopAfter,
     Flip,
+    Cut,
 }

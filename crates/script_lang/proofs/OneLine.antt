@@ -20,7 +20,7 @@ use Rattle.script_grammar.specs.declared.answer.StepAnswer.TheVariants as answer
 use Rattle.script_grammar.specs.declared.last_line.LastLine.{LastLine}
 use Rattle.script_grammar.specs.declared.last_line.LastLine.TheVariants as last
 use Rattle.script_lang.specs.Lines.{AnswersAreLines, LastLinesAreLines, is_line}
-use Rattle.script_grammar.specs.Texts.{answer_line, bad_script_line, bay_fault_line, cause_line, cause_text, damaged_text, displaced_text, done_line, fault_line, flushed_line, formatted_line, got_line, hit_line, kind_word, last_line, lost_text, newline, no_cache_line, number_line, numbered, open_text, passed_text, piece_line, put_line, read_fault_line, refusal_text, refused_line, shown, synced_text, too_long_line, too_many_line, took_text, unsaved_text, usage_line, why_line, armed_line, flipped_line}
+use Rattle.script_grammar.specs.Texts.{answer_line, bad_script_line, bay_fault_line, cause_line, cause_text, damaged_text, displaced_text, done_line, fault_line, flushed_line, formatted_line, got_line, hit_line, kind_word, last_line, lost_text, newline, no_cache_line, number_line, numbered, open_text, passed_text, piece_line, put_line, read_fault_line, refusal_text, refused_line, shown, synced_text, too_long_line, too_many_line, took_text, unsaved_text, usage_line, why_line, armed_line, flipped_line, cut_line}
 
 abbrev is_plain_byte : ℕ → Bool
 is_plain_byte byte = not (byte == 10)
@@ -158,7 +158,7 @@ why_is_line text (cause.DeviceFault count) p = fault_is_line count None
 why_is_line text why p = cause_is_line text why p
 
 each_answer : (a : StepAnswer) → Line (answer_line a)
-unfolding formatted_line put_line got_line hit_line piece_line flushed_line refused_line done_line armed_line flipped_line
+unfolding formatted_line put_line got_line hit_line piece_line flushed_line refused_line done_line armed_line flipped_line cut_line
 each_answer (answer.Formatted serial cursor floor) =
     word (codes "formatted serial ") _ refl
     (behind (decimal serial) _ (number serial) (word (codes " cursor ") _ refl (behind (decimal cursor) _ (number cursor) (word (codes " floor ") _ refl (behind (decimal floor) newline (number floor) ended)))))
@@ -189,6 +189,7 @@ each_answer (answer.Flushed blocks cursor floor synced) =
 each_answer (answer.Now at) = number_is_line (codes "now") at refl
 each_answer answer.Armed = record { holds = refl }
 each_answer answer.Flipped = record { holds = refl }
+each_answer answer.Cut = record { holds = refl }
 each_answer (answer.Refused why took) = word (codes "refused ") _ refl (behind (refusal_text why) _ (refusal_plain why) (behind (took_text took) newline (took_plain took) ended))
 each_answer (answer.DeviceFault count took) = fault_is_line count took
 

@@ -8,6 +8,8 @@ use Rattle.std.proofs.lemmas.Bool.Decides.{nat_tests}
 use Rattle.hex.specs.Hex.{IsBytes}
 use Rattle.tape_base.specs.declared.keys.Key.{Key}
 use Rattle.alternate_vector.specs.Field.{Field}
+use Rattle.device_log.specs.declared.choice.CutChoice.{CutChoice}
+use Rattle.device_log.specs.declared.choice.CutChoice.TheVariants as choice
 use Rattle.script_grammar.specs.declared.sides.FieldKinds.TheVariants.{Request}
 use Rattle.script_grammar.specs.declared.line.LineAnswer.TheVariants as answer
 use Rattle.script_grammar.specs.declared.step.Step.{Step}
@@ -17,8 +19,8 @@ use Rattle.script_grammar.specs.declared.verb.Verb.TheVariants as verb
 use Rattle.script_grammar.specs.Words.{WordAt, is_word_byte, located}
 use Rattle.script_grammar.specs.Tokens.{is_digit, is_actor_byte, actor_of_word, count_below}
 use Rattle.script_grammar.specs.Verbs.{same_word, verb_of}
-use Rattle.script_grammar.specs.Grammar.{take_number, alternates_kept, format_of_numbers, format_of, put_line_of, get_of, take_actor, open_write_of, data_of, open_read_of, only_actor, by_actor, remove_of, now_of, fail_of, stop_of, flip_of, step_by, step_of, is_passed_over, reading_of}
-use Rattle.script_lang.specs.Spelled.{FitsFormat, HoldsFields, IsActor, IsKey, SpelledIsRead, alternates_words, body_word, key_word, request_words, response_words, spelled_step, step_words}
+use Rattle.script_grammar.specs.Grammar.{take_number, alternates_kept, format_of_numbers, format_of, put_line_of, get_of, take_actor, open_write_of, data_of, open_read_of, only_actor, by_actor, remove_of, now_of, fail_of, stop_of, flip_of, choice_of, cut_of, step_by, step_of, is_passed_over, reading_of}
+use Rattle.script_lang.specs.Spelled.{FitsFormat, HoldsFields, IsActor, IsKey, SpelledIsRead, alternates_words, body_word, choice_word, key_word, request_words, response_words, spelled_step, step_words}
 use Rattle.script_lang.proofs.Joined.{IsWord, all_wider, words_joined}
 use Rattle.script_lang.proofs.Numbers.{number_below-decimal, all_digits-decimal}
 use Rattle.script_lang.proofs.WrittenWords.{body_of-body_word, body_word_is_word, decimal_is_word, key_word_is_word, object_of-key_word}
@@ -181,6 +183,19 @@ flip_read : (end column place byte : ℕ) → place < 2 ^ 64 → byte < 512 → 
 unfolding flip_of
 flip_read end column place byte fits small = rw (long_taken end column place _ fits, byte_taken end _ byte [] small) refl
 
+choice_is_word : (how : CutChoice) → IsWord (choice_word how)
+choice_is_word choice.Lost = refl
+choice_is_word choice.Kept = refl
+choice_is_word choice.Torn = refl
+choice_is_word choice.Junk = refl
+
+cut_read : (end column : ℕ) (how : CutChoice) → cut_of end (located column (choice_word how ∷ [])) ≡ Ok (step.Cut how)
+unfolding cut_of choice_of
+cut_read end column choice.Lost = refl
+cut_read end column choice.Kept = refl
+cut_read end column choice.Torn = refl
+cut_read end column choice.Junk = refl
+
 by_actor_read : (end column : ℕ) (actor : List ℕ) (make : List ℕ → Step) → IsActor actor → by_actor end (located column (actor ∷ [])) make ≡ Ok (make actor)
 by_actor_read end column actor make who = rw (only_actor_read end column actor who) refl
 
@@ -217,3 +232,4 @@ spelled_is_read (step.StopAfter calls) h =
 spelled_is_read (step.Flip place byte) h =
     step_read _ _ _ verb.Flip _ refl refl (refl, (decimal_is_word place h.0, (decimal_is_word byte (omega (arith, h.1)), tt))) refl
     (λ end column. flip_read end column place byte h.0 h.1)
+spelled_is_read (step.Cut choice) h = step_read _ _ _ verb.Cut _ refl refl (refl, (choice_is_word choice, tt)) refl (λ end column. cut_read end column choice)

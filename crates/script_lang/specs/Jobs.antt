@@ -27,6 +27,7 @@ is_job_verb verb.Now = false
 is_job_verb verb.Fail = false
 is_job_verb verb.StopAfter = false
 is_job_verb verb.Flip = false
+is_job_verb verb.Cut = false
 is_job_verb _ = true
 
 -- a word that is no such verb is the fault, whatever follows

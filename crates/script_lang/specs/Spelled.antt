@@ -7,6 +7,8 @@ use Rattle.percent_encoding.specs.Percent.{percent_encode_byte}
 use Rattle.tape_base.specs.declared.keys.Key.{Key}
 use Rattle.tape_base.specs.Key.{key_bytes, key_of_bytes}
 use Rattle.alternate_vector.specs.Field.{Field, AreFields}
+use Rattle.device_log.specs.declared.choice.CutChoice.{CutChoice}
+use Rattle.device_log.specs.declared.choice.CutChoice.TheVariants as choice
 use Rattle.script_grammar.specs.declared.line.LineAnswer.TheVariants as answer
 use Rattle.script_grammar.specs.declared.step.Step.{Step}
 use Rattle.script_grammar.specs.declared.step.Step.TheVariants as step
@@ -51,6 +53,13 @@ response_words fields = map (field_word 60) fields
 abbrev pub alternates_words : ℕ → List (List ℕ)
 alternates_words alternates = if alternates == 5 then [] else decimal alternates ∷ []
 
+-- the word of a cut
+abbrev pub choice_word : CutChoice → List ℕ
+choice_word choice.Lost = codes "lost"
+choice_word choice.Kept = codes "kept"
+choice_word choice.Torn = codes "torn"
+choice_word choice.Junk = codes "junk"
+
 -- the verb and the words behind it: a geometry by its numbers, request lines before response lines
 abbrev pub step_words : Step → List (List ℕ)
 step_words (step.Format name segments buckets content agg reach fragment generation alternates) =
@@ -71,6 +80,7 @@ step_words (step.Now moment) = codes "now" ∷ decimal moment ∷ []
 step_words (step.Fail nth) = codes "fail" ∷ decimal nth ∷ []
 step_words (step.StopAfter calls) = codes "stop-after" ∷ decimal calls ∷ []
 step_words (step.Flip place byte) = codes "flip" ∷ decimal place ∷ decimal byte ∷ []
+step_words (step.Cut choice) = codes "cut" ∷ choice_word choice ∷ []
 
 -- the line of a step: its words with a space between any two
 abbrev pub spelled_step : Step → List ℕ
@@ -126,6 +136,7 @@ HasSpelling (step.Now moment) = moment < 2 ^ 64
 HasSpelling (step.Fail nth) = (0 < nth) × (nth < 2 ^ 64)
 HasSpelling (step.StopAfter calls) = calls < 2 ^ 64
 HasSpelling (step.Flip place byte) = (place < 2 ^ 64) × (byte < 512)
+HasSpelling (step.Cut choice) = ⊤
 
 -- the line of a step is read as that step
 abbrev pub SpelledIsRead : Type 0

@@ -44,7 +44,7 @@ fn is_job_verb(verb: &Verb) -> bool
 {
     !matches!(
         verb,
-        Verb::Format | Verb::Now | Verb::Fail | Verb::StopAfter | Verb::Flip
+        Verb::Format | Verb::Now | Verb::Fail | Verb::StopAfter | Verb::Flip | Verb::Cut
     )
 }
 

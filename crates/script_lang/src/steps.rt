@@ -1,12 +1,14 @@
 // The step of each verb, from the words behind it.
 ghost use Rattle.std.specs.Prelude.{◌≡◌, ◌^◌};
-ghost use Rattle.script_grammar.specs.Grammar.{take_number, alternates_kept, usual_of, format_of_numbers, geometry_of, format_of, put_line_of, get_of, take_actor, open_write_of, data_of, open_read_of, only_actor, remove_of, flush_of, now_of, fail_of, stop_of, flip_of, step_by};
+ghost use Rattle.script_grammar.specs.Grammar.{take_number, alternates_kept, usual_of, format_of_numbers, geometry_of, format_of, put_line_of, get_of, take_actor, open_write_of, data_of, open_read_of, only_actor, remove_of, flush_of, now_of, fail_of, stop_of, flip_of, cut_of, step_by};
 ghost use Rattle.script_lang.specs.Taken.{seen_word, words_in, TakesNumber};
 ghost use Rattle.script_lang.specs.Refusal.{ReadsValue, TakesValue};
 
 use crate::fields::fields;
 use crate::left::{Word, Words};
-use crate::tokens::{Refusal, actor, body, byte_number, count, long_number, object, short_number};
+use crate::tokens::{
+    Refusal, actor, body, byte_number, choice, count, long_number, object, short_number,
+};
 use crate::verbs::is_word;
 use script_grammar::{BadLine, ByteList, FieldKinds, Step, Verb};
 use std::alloc::Global;
@@ -279,6 +281,16 @@ fn flip_line(words: &mut Words) -> Result<Step, Refusal>
     Ok(Step::Flip { place, byte })
 }
 
+/// `cut CHOICE`
+#[tactic(auto, unfolding(script_grammar::specs::Grammar::cut_of))]
+fn cut_line(words: &mut Words) -> Result<Step, Refusal>
+    ensures { ReadsValue (cut_of words.old.end (words_in words.old)) result }
+{
+    let choice = choice(words.word()?)?;
+    words.end()?;
+    Ok(Step::Cut { choice })
+}
+
 /// The step of a verb and the words behind it.
 pub(crate) fn step_by(alloc: Global, verb: Verb, words: &mut Words) -> Result<Step, Refusal>
     ensures { ReadsValue (step_by words.old.end verb (words_in words.old)) result }
@@ -308,5 +320,6 @@ pub(crate) fn step_by(alloc: Global, verb: Verb, words: &mut Words) -> Result<St
         Verb::Fail => fail_line(words),
         Verb::StopAfter => stop_line(words),
         Verb::Flip => flip_line(words),
+        Verb::Cut => cut_line(words),
     }
 }

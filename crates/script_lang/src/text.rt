@@ -1,6 +1,6 @@
 // The text of each answer: one line, ended by a newline.
 ghost use Rattle.std.specs.Prelude.{◌≡◌, ◌++◌, IfOk, OnOk, OnErr, string_bytes};
-ghost use Rattle.script_grammar.specs.Texts.{shown, numbered, passed_text, displaced_text, damaged_text, cause_text, lost_text, open_text, refusal_text, took_text, synced_text, number_line, formatted_line, put_line, got_line, hit_line, piece_line, flushed_line, refused_line, fault_line, cause_line, why_line, done_line, armed_line, flipped_line, answer_line};
+ghost use Rattle.script_grammar.specs.Texts.{shown, numbered, passed_text, displaced_text, damaged_text, cause_text, lost_text, open_text, refusal_text, took_text, synced_text, number_line, formatted_line, put_line, got_line, hit_line, piece_line, flushed_line, refused_line, fault_line, cause_line, why_line, done_line, armed_line, flipped_line, cut_line, answer_line};
 
 use cache_model::Cause;
 use hex::encode;
@@ -250,6 +250,13 @@ fn flipped(alloc: Global) -> Result<String, AllocError>
     String::from_str(alloc, "flipped\n")
 }
 
+#[tactic(auto, unfolding(script_grammar::specs::Texts::cut_line))]
+fn cut(alloc: Global) -> Result<String, AllocError>
+    ensures { IfOk result (λ text. string_bytes text ≡ cut_line) }
+{
+    String::from_str(alloc, "cut\n")
+}
+
 /// The line of an answer, with its newline.
 fn line(alloc: Global, answer: &StepAnswer) -> Result<String, AllocError>
     ensures { IfOk result (λ text. string_bytes text ≡ answer_line answer.now) }
@@ -292,6 +299,7 @@ fn line(alloc: Global, answer: &StepAnswer) -> Result<String, AllocError>
         StepAnswer::Now { moment } => number(alloc, "now", *moment),
         StepAnswer::Armed => armed(alloc),
         StepAnswer::Flipped => flipped(alloc),
+        StepAnswer::Cut => cut(alloc),
         StepAnswer::Refused { why, took } => refused(alloc, *why, *took),
         StepAnswer::DeviceFault { count, took } => fault(alloc, *count, *took),
     }

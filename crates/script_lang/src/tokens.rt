@@ -2,11 +2,14 @@
 ghost use Rattle.std.specs.Prelude.{◌≡◌, ◌/◌, ◌+◌, ◌<◌, ◌≤◌, ◌^◌, ◌==◌, slice_index, true, length, position, nat_le, ◌&&◌, false, Some, IfSome, IfNone};
 ghost use Rattle.std.specs.List.{list_all};
 ghost use Rattle.script_grammar.specs.Tokens.{is_digit, is_number_word, number_of_digits, number_of_word, number_below, count_below, is_lower_hex, is_key_word, key_in, object_of, is_star, is_dash, hex_body, repeated_body, body_of_word, is_actor_byte, is_actor, actor_of_word};
+ghost use Rattle.script_grammar.specs.Grammar.{choice_by, choice_of};
 ghost use Rattle.script_lang.specs.Taken.{seen_word};
 ghost use Rattle.script_grammar.specs.Words.{bad};
 ghost use Rattle.script_lang.specs.Refusal.{ReadsValue};
 
 use crate::left::Word;
+use crate::verbs::is_word;
+use device_log::CutChoice;
 use hex::decode_to_slice;
 use script_grammar::{BadKind, BadLine, ByteList};
 use std::alloc::{AllocError, Global};
@@ -282,6 +285,37 @@ fn is_actor(bytes: &[u8]) -> bool
     ensures { result ≡ is_actor bytes.now }
 {
     !bytes.is_empty() && bytes.len() <= MAX_ACTOR && are_actor_bytes(bytes)
+}
+
+/// The cut that a word names.
+#[tactic(auto, unfolding(script_grammar::specs::Grammar::choice_of))]
+fn choice_in(bytes: &[u8]) -> Option<CutChoice>
+    ensures { result ≡ choice_of bytes.now }
+{
+    if is_word(bytes, b"lost") {
+        Some(CutChoice::Lost)
+    } else if is_word(bytes, b"kept") {
+        Some(CutChoice::Kept)
+    } else if is_word(bytes, b"torn") {
+        Some(CutChoice::Torn)
+    } else if is_word(bytes, b"junk") {
+        Some(CutChoice::Junk)
+    } else {
+        None
+    }
+}
+
+/// The same; a word that names none is the fault.
+pub(crate) fn choice(word: Word) -> Result<CutChoice, BadLine>
+    ensures { result ≡ choice_by (seen_word word.entry) (choice_of word.entry.bytes.now) }
+{
+    match choice_in(word.bytes) {
+        Some(choice) => Ok(choice),
+        None => Err(BadLine {
+            column: word.column,
+            kind: BadKind::Word,
+        }),
+    }
 }
 
 /// The actor that a word names.

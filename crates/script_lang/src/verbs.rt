@@ -47,6 +47,8 @@ pub(crate) fn verb_of(word: &[u8]) -> Option<Verb>
         Some(Verb::StopAfter)
     } else if is_word(word, b"flip") {
         Some(Verb::Flip)
+    } else if is_word(word, b"cut") {
+        Some(Verb::Cut)
     } else {
         None
     }

@@ -21,11 +21,11 @@ use Rattle.script_grammar.specs.declared.step.Step.TheVariants as step
 use Rattle.script_grammar.specs.declared.answer.Refused.TheVariants as refused
 use Rattle.script_grammar.specs.declared.answer.StepAnswer.{StepAnswer}
 use Rattle.script_grammar.specs.declared.answer.StepAnswer.TheVariants as answer
-use Rattle.script_run.specs.Run.{Harm, Run, held_by, put_written_by, reader_by}
+use Rattle.script_run.specs.Run.{Harm, Run, at_hand, held_by, put_written_by, reader_by}
 use Rattle.script_run.specs.Turn.{Turn, is_told, later, lookup_in, no_turn, told_in}
 use Rattle.script_run.specs.Asked.{asked}
 use Rattle.script_run.specs.Answers.{feed_said, if_free, if_has, lookup_said, next_said, get_said, put_said, refusal_said, remove_said, said, session_said, took_of}
-use Rattle.script_run.specs.Behind.{at_moment, harm_of, harms_of, in_session, with_format}
+use Rattle.script_run.specs.Behind.{at_moment, cut_off, harm_of, harms_of, in_session, with_format}
 use Rattle.script_run.specs.Takes.{GivesOwn}
 use Rattle.script_laws.specs.Agreeing.{without_calls, without_devices}
 
@@ -122,6 +122,7 @@ says_too run s t turn (step.Now at) = refl
 says_too run s t turn (step.Fail nth) = refl
 says_too run s t turn (step.StopAfter calls) = refl
 says_too run s t turn (step.Flip place byte) = refl
+says_too run s t turn (step.Cut choice) = refl
 
 -- ---- what is left
 
@@ -135,39 +136,54 @@ told_harms : (run : Run) (o : Option State)
 told_harms run None = map-append without_calls run.ended []
 told_harms run (Some s) = map-append without_calls run.ended (harm_of run.calls (Some s))
 
--- a run but for these, where another state is left and other devices were given back
-left_as : Run → Option State → List Harm → Run
-left_as run state ended = record run { state = state; calls = []; ended = ended }
+-- of the device at hand, whether a session stands on it or not
+at_hand_too : (state last : Option State) → option_map without_digests (at_hand state last) ≡ at_hand (option_map without_digests state) (option_map without_digests last)
+at_hand_too None last = refl
+at_hand_too (Some s) last = refl
 
-left_twice : (run : Run) (t : State) → left_as run (Some (without_digests t)) (map without_calls run.ended)
-    ≡ left_as run (Some (without_digests (without_digests t))) (map without_calls (map without_calls run.ended))
-left_twice run t =
-    ap (λ (u : State). left_as run (Some u) (map without_calls run.ended)) (digests_twice t)
-    ∙ ap (left_as run (Some (without_digests (without_digests t)))) (sym (twice run.ended))
+told_own : (run : Run) → map without_calls (harms_of run)
+    ≡ map without_calls run.ended ++ harm_of [] (at_hand (option_map without_digests run.state) (option_map without_digests run.last))
+told_own run =
+    told_harms run (at_hand run.state run.last)
+    ∙ ap (λ (o : Option State). map without_calls run.ended ++ harm_of [] o) (at_hand_too run.state run.last)
 
-pub leaves_too : (run : Run) (s t : State) (turn : Turn) (step : Step)
-    → without_devices (in_session run s t turn step) ≡ without_devices (in_session (without_devices run) (without_digests s) (without_digests t) (without_device turn) step)
-unfolding left_as
-leaves_too run s t turn (step.Format name segments buckets content agg reach fragment generation alternates) =
-    left_twice (in_session run s t turn (step.Format name segments buckets content agg reach fragment generation alternates)) t
-leaves_too run s t turn step = left_twice (in_session run s t turn step) t
+-- a run but for these, where another state and another last one are left and other devices were given back
+left_as : Run → (state last : Option State) → List Harm → Run
+left_as run state last ended = record run { state = state; calls = []; last = last; ended = ended }
 
 state_twice : (o : Option State) → option_map without_digests o ≡ option_map without_digests (option_map without_digests o)
 state_twice None = refl
 state_twice (Some s) = ap (λ (t : State). Some t) (digests_twice s)
 
+left_twice : (run : Run) (state last : Option State) → left_as run (option_map without_digests state) (option_map without_digests last) (map without_calls run.ended)
+    ≡ left_as run (option_map without_digests (option_map without_digests state)) (option_map without_digests (option_map without_digests last)) (map without_calls (map without_calls run.ended))
+left_twice run state last =
+    ap (λ (o : Option State). left_as run o (option_map without_digests last) (map without_calls run.ended)) (state_twice state)
+    ∙ (ap (λ (o : Option State). left_as run (option_map without_digests (option_map without_digests state)) o (map without_calls run.ended)) (state_twice last)
+    ∙ ap (left_as run (option_map without_digests (option_map without_digests state)) (option_map without_digests (option_map without_digests last))) (sym (twice run.ended)))
+
+pub leaves_too : (run : Run) (s t : State) (turn : Turn) (step : Step)
+    → without_devices (in_session run s t turn step) ≡ without_devices (in_session (without_devices run) (without_digests s) (without_digests t) (without_device turn) step)
+unfolding left_as
+leaves_too run s t turn (step.Format name segments buckets content agg reach fragment generation alternates) =
+    left_twice (in_session run s t turn (step.Format name segments buckets content agg reach fragment generation alternates)) (Some t) run.last
+leaves_too run s t turn step = left_twice (in_session run s t turn step) (Some t) run.last
+
+-- a cut leaves the same, whatever the log tells of it
+pub cut_too : (run : Run) (s : State) (turn : Turn) → without_devices (cut_off run s turn) ≡ without_devices (cut_off (without_devices run) (without_digests s) no_turn)
+unfolding left_as
+cut_too run s turn = left_twice (cut_off run s turn) None (Some s)
+
 run_twice : (run : Run) → without_devices run ≡ without_devices (without_devices run)
 unfolding left_as
-run_twice run =
-    ap (λ (o : Option State). left_as run o (map without_calls run.ended)) (state_twice run.state)
-    ∙ ap (left_as run (option_map without_digests (option_map without_digests run.state))) (sym (twice run.ended))
+run_twice run = left_twice run run.state run.last
 
 pub format_too : (run : Run) (name : List ℕ) (calls : List Call) (added : List Rec)
     → without_devices (with_format run name calls added) ≡ without_devices (with_format (without_devices run) name [] added)
 unfolding left_as
 format_too run name calls added =
-    ap (left_as (with_format run name [] added) (Some (without_digests (after_all nothing_yet added))))
-    (told_harms run run.state ∙ sym (ap (map without_calls) (sym (told_harms run run.state)) ∙ twice (harms_of run) ∙ told_harms run run.state))
+    ap (left_as (with_format run name [] added) (Some (without_digests (after_all nothing_yet added))) None)
+    (told_own run ∙ sym (ap (map without_calls) (sym (told_own run)) ∙ twice (harms_of run) ∙ told_own run))
 
 pub moment_too : (run : Run) (at : ℕ) → without_devices (at_moment run at) ≡ without_devices (at_moment (without_devices run) at)
 moment_too run at = ap (λ (x : Run). record x { now = at }) (run_twice run)

@@ -24,17 +24,23 @@ use Rattle.script_grammar.specs.Texts.{answer_line}
 use Rattle.script_run.specs.Run.{Run}
 use Rattle.script_run.specs.Turn.{Turn, lookup_in, no_turn, told_in}
 use Rattle.script_run.specs.Asked.{asked}
-use Rattle.script_run.specs.Answers.{format_said, session_said, step_said, tried_said}
-use Rattle.script_run.specs.Behind.{after_format, after_line, after_reading, at_moment, behind, in_session, tried_format, with_format}
+use Rattle.script_run.specs.Answers.{format_said, session_said, step_said, switch_said, tried_said}
+use Rattle.script_run.specs.Behind.{after_cut, after_format, after_line, after_reading, at_moment, behind, cut_off, in_session, tried_format, with_calls_of, with_format}
 use Rattle.script_run.proofs.Listed.{is_among}
-use Rattle.script_run.specs.Takes.{FormatTakes, GivesOwn, IsRun, LineTakes, ReadingTakes, SessionTakes, Takes, line_text, output_of, reading_text, run_after}
+use Rattle.script_run.specs.Takes.{BareTakes, CutTakes, FormatTakes, GivesOwn, IfBare, IsRun, LineTakes, ReadingTakes, SessionTakes, Takes, line_text, output_of, reading_text, run_after}
 use Rattle.script_laws.specs.Agreeing.{AreSame, without_devices}
-use Rattle.script_run.specs.Switch.{TreatsSwitch, order_of_step}
+use Rattle.script_run.specs.Switch.{CutsNothing, CutsPower, OnlyTells, TreatsSwitch, order_of_step}
+use Rattle.script_run.proofs.Lift.{no_bare, only_tells}
+use Rattle.device_log.specs.declared.choice.CutChoice.{CutChoice}
+use Rattle.device_log.specs.Calls.{Call, PowerCut}
+use Rattle.cache_answers.specs.declared.answers.SwitchOrder.TheVariants as order
+use Rattle.script_grammar.specs.declared.answer.StepAnswer.{StepAnswer}
+use Rattle.script_grammar.specs.declared.answer.StepAnswer.TheVariants as answer
 use Rattle.cache_answers.specs.declared.answers.SwitchOrder.{SwitchOrder}
 use Rattle.cache_answers.specs.Orders.{call_of_order}
 use Rattle.script_laws.specs.Parting.{AreToldApart, DisplacesPiece, IsUntroubledUpTo, LinesPart, MeetsDeviceTrouble, TurnsPart, both_displace, first_in_trouble, second_in_trouble, told_apart}
 use Rattle.script_laws.proofs.Formats.{same_numbers, untroubled_format}
-use Rattle.script_laws.proofs.Devices.{asked_too, format_too, gives_too, leaves_too, lookup_too, moment_too, says_too, told_too, without_device}
+use Rattle.script_laws.proofs.Devices.{asked_too, cut_too, format_too, gives_too, leaves_too, lookup_too, moment_too, says_too, told_too, without_device}
 use Rattle.script_laws.proofs.Alike.{same_given}
 
 -- two runs print the same, and leave the same but for what the devices fix
@@ -88,6 +94,15 @@ displaces_or_not turn = elim (none_or_one is_displacement turn.added) [ inl none
 displaces_none : (turn : Turn) → IsUntroubled turn.added → DisplacesPiece turn → ⊥
 displaces_none turn none d = no_truth (is_among (λ r. is_trouble r ≡ false) (rec.Displaced d.piece d.segment d.live) turn.added none d.recorded)
 
+-- whether there are no calls
+abbrev is_empty : List Call → Bool
+is_empty [] = true
+is_empty (call ∷ calls) = false
+
+bare_only : (turn : Turn) (last : Option State) (asks : Step) → BareTakes turn last asks → OnlyTells turn
+bare_only turn None asks takes = no_bare turn asks takes
+bare_only turn (Some t) asks takes = only_tells turn t asks takes
+
 -- ---- one line
 
 -- turns that are the same but for their devices
@@ -140,10 +155,11 @@ same_state s t same = cc
 
 -- ---- what switches are told
 
--- a line that is no format and sets no moment tells both switches the same
+-- a line that is no format and sets no moment tells both switches the same, but for what a cut left
 abbrev IsToldSame : Step → Turn → Turn → Type 0
 IsToldSame (step.Format name segments buckets content agg reach fragment generation alternates) a b = Unit {0}
 IsToldSame (step.Now at) a b = Unit {0}
+IsToldSame (step.Cut choice) a b = is_empty a.told ≡ is_empty b.told
 IsToldSame _ a b = a.told ≡ b.told
 
 abbrev IsReadSame : LineAnswer → Turn → Turn → Type 0
@@ -154,6 +170,7 @@ IsReadSame (line.Bad fault) a b = Unit {0}
 step_back : (asks : Step) (a b : Turn) → IsToldSame asks a b → IsToldSame asks b a
 step_back (step.Format name segments buckets content agg reach fragment generation alternates) a b h = tt
 step_back (step.Now at) a b h = tt
+step_back (step.Cut choice) a b h = sym h
 step_back _ a b h = sym h
 
 told_back : (reading : LineAnswer) (a b : Turn) → IsReadSame reading a b → IsReadSame reading b a
@@ -174,18 +191,60 @@ orders_told g h (Some o) a b same one other = elim one.1 [
   ]
 ]
 
-steps_told : (u v : Run) (a b : Turn) (o p : Option State) (asks : Step) → option_map without_digests o ≡ option_map without_digests p → Takes u a o asks → Takes v b p asks
+-- what a cut told, or nothing
+cut_told : (choice : CutChoice) (a : Turn) → CutsPower choice a ⊎ (a.told ≡ []) → ((call : Call) × (a.told ≡ call ∷ [])) ⊎ (a.told ≡ [])
+cut_told choice a (inl cut) = inl (PowerCut choice cut.left, cut.told)
+cut_told choice a (inr none) = inr none
+
+cuts_told : (a b : Turn) → ((call : Call) × (a.told ≡ call ∷ [])) ⊎ (a.told ≡ []) → ((call : Call) × (b.told ≡ call ∷ [])) ⊎ (b.told ≡ [])
+    → (is_empty a.told ≡ is_empty b.told) ⊎ AreToldApart a b
+cuts_told a b (inl is) (inl too) = inl (ap is_empty is.1 ∙ sym (ap is_empty too.1))
+cuts_told a b (inl is) (inr none) = inr (inl (record { call = is.0; told = is.1; none = none }))
+cuts_told a b (inr none) (inl too) = inr (inr (record { call = too.0; told = too.1; none = none }))
+cuts_told a b (inr none) (inr none_too) = inl (ap is_empty none ∙ sym (ap is_empty none_too))
+
+session_cut : (run : Run) (s : State) (a : Turn) (choice : CutChoice) → CutTakes run s a choice → CutsPower choice a ⊎ (a.told ≡ [])
+session_cut run s a choice (inl takes) = inr takes.switch
+session_cut run s a choice (inr cut) = inl cut
+
+-- of a bare device
+orders_bare : (o : SwitchOrder) (a b : Turn) (last other : Option State) → option_map without_digests last ≡ option_map without_digests other
+    → IfBare last (λ t. OnlyTells a × TreatsSwitch t.geometry (Some o) a) → IfBare other (λ t. OnlyTells b × TreatsSwitch t.geometry (Some o) b)
+    → (a.told ≡ b.told) ⊎ AreToldApart a b
+orders_bare o a b None other same takes other_takes = absurd takes
+orders_bare o a b (Some s) None same takes other_takes = absurd other_takes
+orders_bare o a b (Some s) (Some t) same takes other_takes =
+    orders_told s.geometry t.geometry (Some o) a b (ap (λ (x : State). x.geometry) (same_state s t same)) takes.1 other_takes.1
+
+cut_bare : (choice : CutChoice) (a : Turn) (last : Option State) → IfBare last (λ t. CutsPower choice a ⊎ CutsNothing a) → CutsPower choice a ⊎ (a.told ≡ [])
+cut_bare choice a None takes = absurd takes
+cut_bare choice a (Some t) (inl cut) = inl cut
+cut_bare choice a (Some t) (inr none) = inr none.told
+
+bare_told : (u v : Run) (a b : Turn) (last other : Option State) (asks : Step) → option_map without_digests last ≡ option_map without_digests other
+    → BareTakes a last asks → BareTakes b other asks → IsToldSame asks a b ⊎ AreToldApart a b
+bare_told u v a b last other (step.Fail nth) same takes other_takes = orders_bare (order.Fail nth) a b last other same takes other_takes
+bare_told u v a b last other (step.StopAfter calls) same takes other_takes = orders_bare (order.StopAfter calls) a b last other same takes other_takes
+bare_told u v a b last other (step.Cut choice) same takes other_takes =
+    cuts_told a b (cut_told choice a (cut_bare choice a last takes)) (cut_told choice b (cut_bare choice b other other_takes))
+bare_told u v a b last other _ same takes other_takes = absurd takes
+
+steps_told : (u v : Run) (a b : Turn) (o p : Option State) (asks : Step) → option_map without_digests o ≡ option_map without_digests p
+    → option_map without_digests u.last ≡ option_map without_digests v.last → Takes u a o asks → Takes v b p asks
     → IsToldSame asks a b ⊎ AreToldApart a b
-steps_told u v a b o p (step.Format name segments buckets content agg reach fragment generation alternates) states takes other_takes = inl tt
-steps_told u v a b o p (step.Now at) states takes other_takes = inl tt
-steps_told u v a b (Some s) (Some t) asks states takes other_takes =
+steps_told u v a b o p (step.Format name segments buckets content agg reach fragment generation alternates) states lasts takes other_takes = inl tt
+steps_told u v a b o p (step.Now at) states lasts takes other_takes = inl tt
+steps_told u v a b (Some s) (Some t) (step.Cut choice) states lasts takes other_takes =
+    cuts_told a b (cut_told choice a (session_cut u s a choice takes)) (cut_told choice b (session_cut v t b choice other_takes))
+steps_told u v a b (Some s) (Some t) asks states lasts takes other_takes =
     orders_told s.geometry t.geometry (order_of_step asks) a b (ap (λ (x : State). x.geometry) (same_state s t states)) takes.switch other_takes.switch
-steps_told u v a b None p asks states takes other_takes = absurd takes
-steps_told u v a b (Some s) None asks states takes other_takes = absurd other_takes
+steps_told u v a b None None asks states lasts takes other_takes = bare_told u v a b u.last v.last asks lasts takes other_takes
+steps_told u v a b None (Some t) asks states lasts takes other_takes = absurd cc
+steps_told u v a b (Some s) None asks states lasts takes other_takes = absurd cc
 
 reading_told : (u v : Run) (a b : Turn) (reading : LineAnswer) → without_devices u ≡ without_devices v → ReadingTakes u a reading → ReadingTakes v b reading
     → IsReadSame reading a b ⊎ AreToldApart a b
-reading_told u v a b (line.Step asks) runs takes other_takes = steps_told u v a b u.state v.state asks (ap (λ (run : Run). run.state) runs) takes other_takes
+reading_told u v a b (line.Step asks) runs takes other_takes = steps_told u v a b u.state v.state asks (ap (λ (run : Run). run.state) runs) (ap (λ (run : Run). run.last) runs) takes other_takes
 reading_told u v a b line.Nothing runs takes other_takes = inl tt
 reading_told u v a b (line.Bad fault) runs takes other_takes = inl tt
 
@@ -238,6 +297,44 @@ module _ (agree : StepsAgree) (displace : DisplacementsAgree) where
         },
       )
 
+  -- a device was cut or told something, or neither was
+  same_answer : (whole : StepAnswer) (one other : List Call) → is_empty one ≡ is_empty other → switch_said one whole ≡ switch_said other whole
+  same_answer whole [] [] same = refl
+  same_answer whole [] (call ∷ calls) same = no_truth same
+  same_answer whole (call ∷ calls) [] same = no_truth (sym same)
+  same_answer whole (call ∷ calls) (other ∷ others) same = refl
+
+  same_bare : (u v : Run) (a b : Turn) (whole : StepAnswer) → without_devices u ≡ without_devices v → OnlyTells a → OnlyTells b → is_empty a.told ≡ is_empty b.told
+      → IsUntroubled b.added × IsSame (answer_line (switch_said a.told whole)) (answer_line (switch_said b.told whole)) (with_calls_of u a) (with_calls_of v b)
+  same_bare u v a b whole runs only other same =
+      (subst IsUntroubled (sym other.added) tt, record { printed = ap answer_line (same_answer whole a.told b.told same); left = runs })
+
+  same_cut : (u v : Run) (s t : State) (a b : Turn) (choice : CutChoice) → without_devices u ≡ without_devices v → HoldTheSame s t
+      → CutTakes u s a choice → CutTakes v t b choice → is_empty a.told ≡ is_empty b.told → IsUntroubled a.added → TellNoDeviceTrouble b.added
+      → IsUntroubled b.added × IsSame (answer_line (switch_said a.told answer.Cut)) (answer_line (switch_said b.told answer.Cut)) (after_cut u s a choice a.told) (after_cut v t b choice b.told)
+  same_cut u v s t a b choice runs states (inl takes) (inl other_takes) switch calm quiet =
+      let same = same_session u v s t a b (step.Cut choice) runs states takes other_takes (takes.switch ∙ sym other_takes.switch) calm quiet in (
+        same.0,
+        record {
+          printed = same.1.printed;
+          left = ap (λ told. without_devices (after_cut u s a choice told)) takes.switch
+              ∙ (same.1.left ∙ sym (ap (λ told. without_devices (after_cut v t b choice told)) other_takes.switch));
+        },
+      )
+  same_cut u v s t a b choice runs states (inl takes) (inr cut) switch calm quiet = no_truth (sym (ap is_empty takes.switch) ∙ (switch ∙ ap is_empty cut.told))
+  same_cut u v s t a b choice runs states (inr cut) (inl takes) switch calm quiet = no_truth (sym (ap is_empty takes.switch) ∙ (sym switch ∙ ap is_empty cut.told))
+  same_cut u v s t a b choice runs states (inr one) (inr other) switch calm quiet = (
+    subst IsUntroubled (sym other.only.added) tt,
+    record {
+      printed = ap answer_line (same_answer answer.Cut a.told b.told switch);
+      left = ap (λ told. without_devices (after_cut u s a choice told)) one.told
+          ∙ (cut_too u s a
+          ∙ (ap (λ (run : Run). without_devices (cut_off run (without_digests s) no_turn)) runs
+          ∙ (ap (λ (x : State). without_devices (cut_off (without_devices v) x no_turn)) states
+          ∙ (sym (cut_too v t b) ∙ sym (ap (λ told. without_devices (after_cut v t b choice told)) other.told)))));
+    },
+  )
+
   same_step : (u v : Run) (a b : Turn) (o p : Option State) (step : Step) → without_devices u ≡ without_devices v
       → option_map without_digests o ≡ option_map without_digests p
       → Takes u a o step → Takes v b p step → IsToldSame step a b
@@ -247,10 +344,19 @@ module _ (agree : StepsAgree) (displace : DisplacementsAgree) where
       same_tried u v a b name segments buckets content agg reach fragment generation alternates (first_refusal segments buckets content agg reach fragment alternates) runs takes other_takes calm quiet
   same_step u v a b o p (step.Now at) runs states takes other_takes switch calm quiet =
       (nothing_told b other_takes, record { printed = refl; left = moment_too u at ∙ ap (λ (run : Run). without_devices (at_moment run at)) runs ∙ sym (moment_too v at) })
+  same_step u v a b (Some s) (Some t) (step.Cut choice) runs states takes other_takes switch calm quiet =
+      same_cut u v s t a b choice runs (same_state s t states) takes other_takes switch calm quiet
+  same_step u v a b None None (step.Fail nth) runs states takes other_takes switch calm quiet =
+      same_bare u v a b answer.Armed runs (bare_only a u.last (step.Fail nth) takes) (bare_only b v.last (step.Fail nth) other_takes) (ap is_empty switch)
+  same_step u v a b None None (step.StopAfter calls) runs states takes other_takes switch calm quiet =
+      same_bare u v a b answer.Armed runs (bare_only a u.last (step.StopAfter calls) takes) (bare_only b v.last (step.StopAfter calls) other_takes) (ap is_empty switch)
+  same_step u v a b None None (step.Cut choice) runs states takes other_takes switch calm quiet =
+      same_bare u v a b answer.Cut runs (bare_only a u.last (step.Cut choice) takes) (bare_only b v.last (step.Cut choice) other_takes) switch
   same_step u v a b (Some s) (Some t) step runs states takes other_takes switch calm quiet =
       same_session u v s t a b step runs (same_state s t states) takes other_takes switch calm quiet
-  same_step u v a b None p step runs states takes other_takes switch calm quiet = absurd takes
-  same_step u v a b (Some s) None step runs states takes other_takes switch calm quiet = absurd other_takes
+  same_step u v a b None None step runs states takes other_takes switch calm quiet = absurd takes
+  same_step u v a b None (Some t) step runs states takes other_takes switch calm quiet = absurd cc
+  same_step u v a b (Some s) None step runs states takes other_takes switch calm quiet = absurd cc
 
   same_reading : (u v : Run) (a b : Turn) (reading : LineAnswer) → without_devices u ≡ without_devices v → ReadingTakes u a reading
       → ReadingTakes v b reading → IsReadSame reading a b

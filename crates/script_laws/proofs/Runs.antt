@@ -12,19 +12,21 @@ use Rattle.cache_model.specs.Legal.{format_records}
 use Rattle.cache_model.proofs.Found.{no_truth}
 use Rattle.cache_model.specs.Damage.{has_damage, is_damage}
 use Rattle.script_grammar.specs.declared.step.Step.{Step}
+use Rattle.script_grammar.specs.declared.step.Step.TheVariants as step
 use Rattle.script_grammar.specs.declared.line.LineAnswer.{LineAnswer}
 use Rattle.script_grammar.specs.declared.line.LineAnswer.TheVariants as line
 use Rattle.script_grammar.specs.declared.answer.Refused.TheVariants as refused
 use Rattle.script_grammar.specs.declared.answer.StepAnswer.{StepAnswer}
 use Rattle.script_grammar.specs.declared.answer.StepAnswer.TheVariants as answer
 use Rattle.script_grammar.specs.Grammar.{reading_of}
-use Rattle.device_log.specs.Calls.{Call}
-use Rattle.script_run.specs.Run.{Harm, Run, fresh}
-use Rattle.script_run.specs.Turn.{Turn, calls_in}
+use Rattle.device_log.specs.declared.choice.CutChoice.TheVariants as choice
+use Rattle.device_log.specs.Calls.{Call, PowerCut}
+use Rattle.script_run.specs.Run.{Harm, Run, at_hand, fresh}
+use Rattle.script_run.specs.Turn.{Turn, calls_in, no_turn}
 use Rattle.script_run.specs.Asked.{asked}
-use Rattle.script_run.specs.Answers.{number_of_bad, session_said, tried_said}
+use Rattle.script_run.specs.Answers.{bare_said, number_of_bad, session_said, switch_said, tried_said}
 use Rattle.script_run.specs.Behind.{after_line, after_reading, harm_in, harm_of, harm_of_format, harms_of, in_session}
-use Rattle.script_run.specs.Goes.{StepGoes, begins, fails, stays, waits, works}
+use Rattle.script_run.specs.Goes.{StepGoes, begins, cuts_off, fails, stays, tells_bare, waits, works}
 use Rattle.script_run.specs.Takes.{IsRun, ReadingTakes, SessionTakes, run_after}
 use Rattle.script_laws.specs.Causes.{cause_answered}
 use Rattle.script_run.specs.Losses.{NoLossIsAFault, is_fault}
@@ -59,6 +61,8 @@ record IsWitnessed (test : StepAnswer → Bool) (Fine : Harm → Type 0) (Sound 
   refused : (bad : BadGeometry) → test (answer.Refused (refused.Geometry (number_of_bad bad)) None) ≡ false
   fails : (calls : List Call) (count : ℕ) → 0 < count → Fine (harm_of_format calls count) → test (answer.DeviceFault count None) ≡ false
   moment : (at : ℕ) → test (answer.Now at) ≡ false
+  same : (s : State) (old new : List Call) → Fine (harm_in new s) → Fine (harm_in old s)
+  bare : (turn : Turn) (step : Step) → test (bare_said turn step) ≡ false
 
 module _ (test : StepAnswer → Bool) (Fine : Harm → Type 0) (Sound : State → Type 0) (w : IsWitnessed test Fine Sound) where
   abbrev IsSound : Option State → Type 0
@@ -86,10 +90,20 @@ module _ (test : StepAnswer → Bool) (Fine : Harm → Type 0) (Sound : State �
             let last : Fine new = All-head Fine new [] (all_behind Fine run.ended (new ∷ []) fine) in
             let here : Fine old = w.before run s turn step run.calls calls takes last in (
               w.without run s turn step calls takes sound last,
-              subst (λ (x : Option State). AreFine (run.ended ++ harm_of run.calls x)) (sym e)
+              subst (λ (x : Option State). AreFine (run.ended ++ harm_of run.calls (at_hand x run.last))) (sym e)
                   (All-append Fine run.ended (old ∷ []) (all_front Fine run.ended (new ∷ []) fine) (All-cons Fine old [] here (All-nil Fine))),
             );
       }
+
+  -- what is told of a device, whatever calls it made
+  last_fine : (run : Run) (s : State) (calls : List Call) → AreFine (run.ended ++ harm_in calls s ∷ []) → AreFine (run.ended ++ harm_in run.calls s ∷ [])
+  last_fine run s calls fine =
+      All-append Fine run.ended (harm_in run.calls s ∷ []) (all_front Fine run.ended (harm_in calls s ∷ []) fine)
+      (All-cons Fine (harm_in run.calls s) [] (w.same s run.calls calls (All-head Fine (harm_in calls s) [] (all_behind Fine run.ended (harm_in calls s ∷ []) fine))) (All-nil Fine))
+
+  -- a turn that tells of a cut
+  abbrev cutting : Turn
+  cutting = record no_turn { told = PowerCut choice.Lost [] ∷ [] }
 
   -- ---- each line
 
@@ -111,6 +125,24 @@ module _ (test : StepAnswer → Bool) (Fine : Harm → Type 0) (Sound : State �
           all_front Fine (harms_of run) (h ∷ []) (whole fine),
         );
       }
+  played run turn (cuts_off choice s e cut) sound = record {
+    sound = tt;
+    back = λ fine. (
+      w.bare cutting (step.Cut choice),
+      subst (λ (x : Option State). AreFine (run.ended ++ harm_of run.calls (at_hand x run.last))) (sym e) (last_fine run s (calls_in turn ++ run.calls) fine),
+    );
+  }
+  played run turn {step = step} (tells_bare t same e last takes only) sound = record {
+    sound = sound;
+    back = λ fine. (
+      w.bare turn step,
+      subst (λ (x : Option State). AreFine (run.ended ++ harm_of run.calls (at_hand x run.last))) (sym e)
+          (subst (λ (x : Option State). AreFine (run.ended ++ harm_of run.calls x)) (sym last)
+          (last_fine run t (calls_in turn ++ run.calls)
+          (subst (λ (x : Option State). AreFine (run.ended ++ harm_of (calls_in turn ++ run.calls) x)) last
+          (subst (λ (x : Option State). AreFine (run.ended ++ harm_of (calls_in turn ++ run.calls) (at_hand x run.last))) e fine)))),
+    );
+  }
 
   read : (run : Run) (turn : Turn) (reading : LineAnswer) → IsSound run.state → ReadingTakes run turn reading
       → IsPlayed run (after_reading run turn reading) (ReadsWithout test run turn reading)
@@ -140,6 +172,20 @@ none_named : (test : Cause → Bool) (o : Option Cause) → ((why : Cause) → o
 none_named test None h = refl
 none_named test (Some why) h = false_from_ne_true (test why) (h why refl)
 
+-- the answer of a switch tells none
+told_without : (test : StepAnswer → Bool) → test (answer.Refused refused.NoSwitch None) ≡ false → (told : StepAnswer) (calls : List Call) → test told ≡ false
+    → test (switch_said calls told) ≡ false
+told_without test none told [] is = none
+told_without test none told (call ∷ calls) is = is
+
+bare_without : (test : StepAnswer → Bool)
+    → (test answer.Armed ≡ false) × (test answer.Cut ≡ false) × (test (answer.Refused refused.NoSwitch None) ≡ false) × (test answer.Done ≡ false)
+    → (turn : Turn) (step : Step) → test (bare_said turn step) ≡ false
+bare_without test none turn (step.Fail nth) = told_without test none.2 answer.Armed turn.told none.0
+bare_without test none turn (step.StopAfter calls) = told_without test none.2 answer.Armed turn.told none.0
+bare_without test none turn (step.Cut choice) = told_without test none.2 answer.Cut turn.told none.1
+bare_without test none turn _ = none.3
+
 -- ---- device faults
 
 no_fault : (a : StepAnswer) → ((count : ℕ) (took : Option ℕ) → a ≡ answer.DeviceFault count took → ⊥) → ((why : Cause) → cause_answered a ≡ Some why → is_fault why ≡ true → ⊥)
@@ -166,6 +212,8 @@ faultless = record {
   refused = λ bad. refl;
   fails = λ calls count some fine. absurd (none_below count fine some);
   moment = λ at. refl;
+  same = λ s old new fine. fine;
+  bare = λ turn step. bare_without answers_fault (refl, refl, refl, refl) turn step;
 }
 
 pub faultless_runs : (lines : List (List ℕ)) (turns : List Turn) → IsRun fresh lines turns → All (λ (harm : Harm). harm.fault ≡ 0) (harms_of (run_after fresh lines turns)) → NoneAnswers answers_fault fresh lines turns
@@ -187,6 +235,8 @@ undamaged = record {
   refused = λ bad. refl;
   fails = λ calls count some fine. refl;
   moment = λ at. refl;
+  same = λ s old new fine. fine;
+  bare = λ turn step. bare_without answers_damage (refl, refl, refl, refl) turn step;
 }
 
 pub undamaged_runs : (lines : List (List ℕ)) (turns : List Turn) → IsRun fresh lines turns → All (λ (harm : Harm). harm.damaged ≡ false) (harms_of (run_after fresh lines turns)) → NoneAnswers answers_damage fresh lines turns
@@ -195,7 +245,8 @@ undamaged_runs = whole answers_damage (λ harm. harm.damaged ≡ false) (λ s. U
 -- ---- what was told before
 
 -- no answer is asked about: what was told is followed back alone
-module _ (Fine : Harm → Type 0) (before : (run : Run) (s : State) (turn : Turn) (step : Step) (old new : List Call) → SessionTakes run s turn step → Fine (harm_in new (after_all s turn.added)) → Fine (harm_in old s)) where
+module _ (Fine : Harm → Type 0) (before : (run : Run) (s : State) (turn : Turn) (step : Step) (old new : List Call) → SessionTakes run s turn step → Fine (harm_in new (after_all s turn.added)) → Fine (harm_in old s))
+    (same : (s : State) (old new : List Call) → Fine (harm_in new s) → Fine (harm_in old s)) where
   followed : IsWitnessed (λ a. false) Fine (λ s. Unit {0})
   followed = record {
     formats = λ geometry. tt;
@@ -206,6 +257,8 @@ module _ (Fine : Harm → Type 0) (before : (run : Run) (s : State) (turn : Turn
     refused = λ bad. refl;
     fails = λ calls count some fine. refl;
     moment = λ at. refl;
+    same = same;
+    bare = λ turn step. refl;
   }
 
   any_session : (o : Option State) → IsSound (λ a. false) Fine (λ s. Unit {0}) followed o
@@ -218,8 +271,8 @@ module _ (Fine : Harm → Type 0) (before : (run : Run) (s : State) (turn : Turn
 -- what was told of no device behind lines was told of none before them
 pub faultless_before : (run : Run) (lines : List (List ℕ)) (turns : List Turn) → IsRun run lines turns
     → All (λ (harm : Harm). harm.fault ≡ 0) (harms_of (run_after run lines turns)) → All (λ (harm : Harm). harm.fault ≡ 0) (harms_of run)
-faultless_before = fine_before (λ harm. harm.fault ≡ 0) faultless.before
+faultless_before = fine_before (λ harm. harm.fault ≡ 0) faultless.before faultless.same
 
 pub undamaged_before : (run : Run) (lines : List (List ℕ)) (turns : List Turn) → IsRun run lines turns
     → All (λ (harm : Harm). harm.damaged ≡ false) (harms_of (run_after run lines turns)) → All (λ (harm : Harm). harm.damaged ≡ false) (harms_of run)
-undamaged_before = fine_before (λ harm. harm.damaged ≡ false) undamaged.before
+undamaged_before = fine_before (λ harm. harm.damaged ≡ false) undamaged.before undamaged.same

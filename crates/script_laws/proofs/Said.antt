@@ -237,6 +237,7 @@ module _ (s t : State) (turn : Turn) (told_traced : (why : Cause) → IsToldBy t
   line run (step.Fail nth) = switch turn.told answer.Armed tt
   line run (step.StopAfter calls) = switch turn.told answer.Armed tt
   line run (step.Flip place byte) = switch turn.told answer.Flipped tt
+  line run (step.Cut choice) = switch turn.told answer.Cut tt
 
 pub line_said : (run : Run) (s : State) (turn : Turn) (step : Step) → IsStep turn.device s (asked run s step) turn.added turn.refused
     → IsSaid s turn.refused turn.added (session_said run s (after_all s turn.added) turn step)
@@ -281,6 +282,7 @@ answered_by s refused added (answer.Flushed blocks cursor floor synced) why said
 answered_by s refused added (answer.Now at) why said e = none_is e
 answered_by s refused added answer.Armed why said e = none_is e
 answered_by s refused added answer.Flipped why said e = none_is e
+answered_by s refused added answer.Cut why said e = none_is e
 answered_by s refused added (answer.DeviceFault count took) why said e = none_is e
 
 pub answers_are_traced : (run : Run) (s : State) (turn : Turn) (step : Step) (why : Cause) → SessionTakes run s turn step

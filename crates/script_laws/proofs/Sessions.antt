@@ -1,5 +1,5 @@
 -- Each session of a script goes from its format on by legal steps of one setting.
-use Rattle.std.proofs.Common.{◌≡◌, ℕ, List, [], ◌∷◌, ◌++◌, refl, sym, ◌∙◌, ap, subst, append_assoc, inl, inr}
+use Rattle.std.proofs.Common.{ℕ, List, [], ◌∷◌, ◌++◌, refl, sym, ◌∙◌, ap, subst, append_assoc, inl, inr}
 use Rattle.std.specs.Prelude.{Option, Some, None}
 use Rattle.tape_base.specs.declared.geometries.Geometry.{Geometry}
 use Rattle.device_log.specs.Calls.{Call}
@@ -16,7 +16,7 @@ use Rattle.script_grammar.specs.declared.step.Step.{Step}
 use Rattle.script_run.specs.Asked.{asked}
 use Rattle.script_run.specs.Run.{Run, fresh}
 use Rattle.script_run.specs.Takes.{IsRun, SessionTakes, run_after}
-use Rattle.script_run.specs.Turn.{Turn}
+use Rattle.script_run.specs.Turn.{Turn, calls_in}
 use Rattle.script_run.specs.Switch.{TreatsSwitch, order_of_step}
 use Rattle.script_run.proofs.Lift.{lines_keep}
 use Rattle.cache_calls.specs.Keeping.{plain_setting}
@@ -67,4 +67,6 @@ sessions_are_legal lines turns is = lines_keep (λ run. IsLegalWhere run.calls r
   steps = λ run s turn asks e takes h. goes_on run s turn asks (subst (IsLegalWhere run.calls) e h) takes;
   formats = λ run name calls g h. record { courses = []; recs = format_records g; legal = Legal.IsLegal.begins g; comes_to = refl };
   fails = λ run name calls count h. tt;
+  ends = λ run s turn choice e cut h. tt;
+  tells = λ run turn e only h. subst (IsLegalWhere (calls_in turn ++ run.calls)) (sym e) tt;
 }) lines turns fresh is tt

@@ -21,7 +21,7 @@ use Rattle.script_grammar.specs.Grammar.{reading_of}
 use Rattle.script_run.specs.Run.{Harm, Run}
 use Rattle.script_run.specs.Turn.{Turn, calls_in}
 use Rattle.script_run.specs.Behind.{after_line, after_reading, harm_in, harm_of_format, harms_of}
-use Rattle.script_run.specs.Goes.{StepGoes, begins, fails, stays, waits, works}
+use Rattle.script_run.specs.Goes.{StepGoes, begins, cuts_off, fails, stays, tells_bare, waits, works}
 use Rattle.script_run.specs.Takes.{IsRun, ReadingTakes, run_after}
 use Rattle.script_run.proofs.Lift.{goes}
 use Rattle.script_run.proofs.Listed.{is_among}
@@ -53,6 +53,8 @@ module _ (Are : Permit → List Rec → Type 0) (Fine : Harm → Type 0)
       subst (Are turn.device) (sym is)
       (failed turn.device count refuses.0 refuses.1
       (All-head Fine h [] (all_behind Fine (harms_of run) (h ∷ []) (all_front Fine (harms_of run ++ h ∷ []) [] fine))))
+  by_step run turn (cuts_off choice s e cut) fine = subst (Are turn.device) (sym cut.only.added) (none turn.device)
+  by_step run turn (tells_bare t same e last takes only) fine = subst (Are turn.device) (sym only.added) (none turn.device)
 
   by_reading : (run : Run) (turn : Turn) (reading : LineAnswer) → ReadingTakes run turn reading
       → All Fine (harms_of (after_reading run turn reading)) → Are turn.device turn.added

@@ -6,7 +6,7 @@ use Rattle.model_laws.specs.RoomLaws.{TellNoDisplacement}
 use Rattle.script_run.specs.Run.{Harm, IsHarmless, Run}
 use Rattle.script_run.specs.Turn.{Turn}
 use Rattle.script_run.specs.Behind.{harms_of}
-use Rattle.script_run.specs.Takes.{IsRun, output_of, run_after}
+use Rattle.script_run.specs.Takes.{output_of, run_after}
 
 -- nothing was displaced in these turns
 abbrev pub NoneDisplaced : List Turn → Type 0
@@ -22,7 +22,12 @@ without_calls harm = record harm { calls = [] }
 
 -- a run but for what its devices alone fix: their calls, and the digests of the documents of its session
 abbrev pub without_devices : Run → Run
-without_devices run = record run { state = option_map without_digests run.state; calls = []; ended = map without_calls run.ended }
+without_devices run = record run {
+  state = option_map without_digests run.state;
+  calls = [];
+  last = option_map without_digests run.last;
+  ended = map without_calls run.ended;
+}
 
 -- with either turns the lines print the same, and leave the same but for what the devices fix
 pub record AreSame (run : Run) (lines : List (List ℕ)) (one other : List Turn) : Type 0 where

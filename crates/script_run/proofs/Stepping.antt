@@ -264,6 +264,7 @@ steps_leave kind ended run s turn (step.Now at) sound none quiet stands writing 
 steps_leave kind ended run s turn (step.Fail nth) sound none quiet stands writing step = stepped kind turn.device s run.streams [] turn.added turn.refused sound none quiet stands tt step
 steps_leave kind ended run s turn (step.StopAfter calls) sound none quiet stands writing step = stepped kind turn.device s run.streams [] turn.added turn.refused sound none quiet stands tt step
 steps_leave kind ended run s turn (step.Flip place byte) sound none quiet stands writing step = stepped kind turn.device s run.streams [] turn.added turn.refused sound none quiet stands tt step
+steps_leave kind ended run s turn (step.Cut choice) sound none quiet stands writing step = stepped kind turn.device s run.streams [] turn.added turn.refused sound none quiet stands tt step
 
 pub steps_own : (ended : WriterIsEnded) (run : Run) (s : State) (turn : Turn) (step : Step) → IsSound s → AreTold s → IsQuiet s → AreOwn s run.streams → AreWriting run s
     → IsStep turn.device s (asked run s step) turn.added turn.refused

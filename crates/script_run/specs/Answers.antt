@@ -193,14 +193,22 @@ session_said run s t turn (step.Now moment) = answer.Now moment
 session_said run s t turn (step.Fail nth) = switch_said turn.told answer.Armed
 session_said run s t turn (step.StopAfter calls) = switch_said turn.told answer.Armed
 session_said run s t turn (step.Flip place byte) = switch_said turn.told answer.Flipped
+session_said run s t turn (step.Cut choice) = switch_said turn.told answer.Cut
 
--- the same; without a session only a format and a moment are answered
+-- what a step answers on a bare device
+abbrev pub bare_said : Turn → Step → StepAnswer
+bare_said turn (step.Fail nth) = switch_said turn.told answer.Armed
+bare_said turn (step.StopAfter calls) = switch_said turn.told answer.Armed
+bare_said turn (step.Cut choice) = switch_said turn.told answer.Cut
+bare_said turn _ = answer.Done
+
+-- the same; without a session only a format and a moment are answered, and on a bare device what is for its switch
 abbrev pub step_said : Run → Turn → Option State → Step → StepAnswer
 step_said run turn state (step.Format name segments buckets content agg reach fragment generation alternates) =
     format_said turn (first_refusal segments buckets content agg reach fragment alternates)
 step_said run turn state (step.Now moment) = answer.Now moment
 step_said run turn (Some s) step = session_said run s (after_all s turn.added) turn step
-step_said run turn None step = answer.Done
+step_said run turn None step = bare_said turn step
 
 -- what a line answers that is a step, with the session that stands before it
 abbrev pub step_answer : Run → Turn → Step → StepAnswer

@@ -11,10 +11,11 @@ use Rattle.script_grammar.specs.declared.step.Step.TheVariants as step
 use Rattle.script_grammar.specs.declared.line.LineAnswer.{LineAnswer}
 use Rattle.script_grammar.specs.declared.line.LineAnswer.TheVariants as line
 use Rattle.script_grammar.specs.Grammar.{reading_of}
+use Rattle.device_log.specs.declared.choice.CutChoice.{CutChoice}
 use Rattle.device_log.specs.Calls.{Call}
 use Rattle.actor_table.specs.Table.{number_of_name, with_actor}
 use Rattle.cache_model.specs.Damage.{has_damage}
-use Rattle.script_run.specs.Run.{Harm, Run, Stream, Holding, HoldsWriter, HoldsReader, no_stream, with_value, put_written_by, held_by, actor_of}
+use Rattle.script_run.specs.Run.{Harm, Run, Stream, Holding, HoldsWriter, HoldsReader, at_hand, no_stream, with_value, put_written_by, held_by, actor_of}
 use Rattle.script_run.specs.Turn.{Turn, calls_in}
 use Rattle.script_run.specs.Answers.{took_of}
 
@@ -123,9 +124,13 @@ abbrev pub harm_of : List Call → Option State → List Harm
 harm_of calls None = []
 harm_of calls (Some s) = harm_in calls s ∷ []
 
+-- what was told of the device at hand, where there is one
+abbrev pub own_harm : Run → List Harm
+own_harm run = harm_of run.calls (at_hand run.state run.last)
+
 -- what was told of all devices, once the last one is given back
 abbrev pub harms_of : Run → List Harm
-harms_of run = run.ended ++ harm_of run.calls run.state
+harms_of run = run.ended ++ own_harm run
 
 -- a format ends the session before it, with its writers and readers, and attaches the device of its name, which has made
 -- these calls since
@@ -136,6 +141,7 @@ with_format run name calls added = record {
   actors = run.actors;
   held = λ actor. None;
   calls = calls;
+  last = None;
   ended = harms_of run;
   names = run.names ++ name ∷ [];
   now = run.now;
@@ -153,6 +159,7 @@ without_session run name calls count = record {
   actors = run.actors;
   held = λ actor. None;
   calls = [];
+  last = None;
   ended = harms_of run ++ harm_of_format calls count ∷ [];
   names = run.names ++ name ∷ [];
   now = run.now;
@@ -177,22 +184,47 @@ in_session run s t turn step = record {
   actors = actors_behind run.actors (actor_of step);
   held = held_behind run s t step (actor_of step);
   calls = calls_in turn ++ run.calls;
+  last = run.last;
   ended = run.ended;
   names = run.names;
   now = run.now;
 }
 
+-- a cut ends the session, with its writers and readers, and its device stays at hand
+abbrev pub cut_off : Run → State → Turn → Run
+cut_off run s turn = record {
+  state = None;
+  streams = run.streams;
+  actors = run.actors;
+  held = λ actor. None;
+  calls = calls_in turn ++ run.calls;
+  last = Some s;
+  ended = run.ended;
+  names = run.names;
+  now = run.now;
+}
+
+-- where the device was told nothing the session goes on
+abbrev pub after_cut : Run → State → Turn → CutChoice → List Call → Run
+after_cut run s turn choice [] = in_session run s (after_all s turn.added) turn (step.Cut choice)
+after_cut run s turn choice (call ∷ calls) = cut_off run s turn
+
+-- a run of which behind a turn only this is known: that the device at hand made the calls of that turn
+abbrev pub with_calls_of : Run → Turn → Run
+with_calls_of run turn = record run { calls = calls_in turn ++ run.calls }
+
 -- the moment is set, and all else stays
 abbrev pub at_moment : Run → ℕ → Run
 at_moment run at = record run { now = at }
 
--- a format and a moment need no session; without one no other step changes anything
+-- a format and a moment need no session; without one any other step is at most a call of a bare device
 abbrev pub behind : Run → Turn → Option State → Step → Run
 behind run turn state (step.Format name segments buckets content agg reach fragment generation alternates) =
     after_format run turn name (first_refusal segments buckets content agg reach fragment alternates)
 behind run turn state (step.Now moment) = at_moment run moment
+behind run turn (Some s) (step.Cut choice) = after_cut run s turn choice turn.told
 behind run turn (Some s) step = in_session run s (after_all s turn.added) turn step
-behind run turn None step = run
+behind run turn None step = with_calls_of run turn
 
 -- the run behind a step, by the session that it has before it
 abbrev pub after_step : Run → Turn → Step → Run

@@ -3,6 +3,7 @@ use Rattle.std.specs.Prelude.{ℕ, ◌≡◌, Bool, false, true, is_none, List, 
 use Rattle.tape_base.specs.declared.geometries.Geometry.{Geometry}
 use Rattle.tape_base.specs.declared.geometries.BadGeometry.{BadGeometry}
 use Rattle.tape_base.specs.Limits.{first_refusal}
+use Rattle.device_log.specs.declared.choice.CutChoice.{CutChoice}
 use Rattle.cache_model.specs.declared.record.Rec.TheVariants as rec
 use Rattle.cache_model.specs.State.{State, after_all}
 use Rattle.cache_model.specs.Legal.{format_records}
@@ -12,9 +13,10 @@ use Rattle.script_grammar.specs.declared.answer.StepAnswer.{StepAnswer}
 use Rattle.script_grammar.specs.declared.answer.StepAnswer.TheVariants as answer
 use Rattle.script_run.specs.Run.{Run}
 use Rattle.script_run.specs.Turn.{Turn, no_turn}
-use Rattle.script_run.specs.Answers.{format_said, session_said, tried_said}
-use Rattle.script_run.specs.Behind.{at_moment, in_session, with_format, without_session}
-use Rattle.script_run.specs.Takes.{RefusesCall, SessionTakes}
+use Rattle.script_run.specs.Answers.{bare_said, format_said, session_said, tried_said}
+use Rattle.script_run.specs.Behind.{at_moment, cut_off, in_session, with_calls_of, with_format, without_session}
+use Rattle.script_run.specs.Takes.{BareTakes, RefusesCall, SessionTakes}
+use Rattle.script_run.specs.Switch.{CutsPower, OnlyTells}
 
 -- a format whose numbers are accepted ends the session before it, and begins another where its device refuses no call
 abbrev pub begins_session : Step → Bool
@@ -32,6 +34,12 @@ pub data StepGoes (run : Run) (turn : Turn) : Step → StepAnswer → Run → Ty
   -- the session makes one step
   works : {asks : Step} (s : State) → begins_session asks ≡ false → run.state ≡ Some s → SessionTakes run s turn asks
       → StepGoes run turn asks (session_said run s (after_all s turn.added) turn asks) (in_session run s (after_all s turn.added) turn asks)
+  -- a cut ends the session, and leaves a bare device
+  cuts_off : (choice : CutChoice) (s : State) → run.state ≡ Some s → CutsPower choice turn
+      → StepGoes run turn (step.Cut choice) answer.Cut (cut_off run s turn)
+  -- a bare device is told something, or has no switch
+  tells_bare : {asks : Step} (t : State) → begins_session asks ≡ false → run.state ≡ None → run.last ≡ Some t → BareTakes turn (Some t) asks → OnlyTells turn
+      → StepGoes run turn asks (bare_said turn asks) (with_calls_of run turn)
   -- another session begins, on the device of this name
   begins : {asks : Step} (name : List ℕ) (g : Geometry) → begins_session asks ≡ true → turn.added ≡ format_records g
       → StepGoes run turn asks (tried_said turn.added None) (with_format run name turn.device.events turn.added)

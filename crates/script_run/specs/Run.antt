@@ -50,8 +50,10 @@ pub record Run : Type 0 where
   pub actors : List (List ℕ)
   -- what each actor has, by its number
   pub held : ℕ → Option Holding
-  -- the calls that the session's device made since it was attached, the newest first
+  -- the calls that the device at hand made since it was attached, the newest first
   pub calls : List Call
+  -- what the records of a session stood for that a cut ended, whose device is at hand, with no session on it
+  pub last : Option State
   -- what was told of each device that was given back
   pub ended : List Harm
   -- the name of each device that was attached
@@ -65,7 +67,12 @@ no_stream = record { bytes = []; sealed = false }
 
 -- before the first line: no session, no actor, no device, and the moment 0
 abbrev pub fresh : Run
-fresh = record { state = None; streams = λ put. no_stream; actors = []; held = λ actor. None; calls = []; ended = []; names = []; now = 0 }
+fresh = record { state = None; streams = λ put. no_stream; actors = []; held = λ actor. None; calls = []; last = None; ended = []; names = []; now = 0 }
+
+-- what the records stand for of the session, or of the last one on a bare device
+abbrev pub at_hand : Option State → Option State → Option State
+at_hand None last = last
+at_hand (Some s) last = Some s
 
 -- a function with another value at one number
 abbrev pub with_value : {X : Type 0} → (ℕ → X) → ℕ → X → ℕ → X

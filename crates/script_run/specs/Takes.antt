@@ -1,10 +1,11 @@
 -- What a line may do: all that it must, and no more.
-use Rattle.std.specs.Prelude.{ℕ, ◌≡◌, ◌<◌, ◌+◌, ◌*◌, ⊤, false, true, if◌then◌else◌, List, [], ◌∷◌, ◌++◌, Option, Some, None, length}
+use Rattle.std.specs.Prelude.{ℕ, ◌≡◌, ◌<◌, ◌+◌, ◌*◌, ◌⊎◌, ⊤, false, true, if◌then◌else◌, List, [], ◌∷◌, ◌++◌, Option, Some, None, length}
 use Rattle.tape_base.specs.declared.geometries.Geometry.{Geometry}
 use Rattle.tape_base.specs.declared.geometries.BadGeometry.{BadGeometry}
 use Rattle.tape_base.specs.Geometry.{HasNumbers}
 use Rattle.tape_base.specs.Limits.{first_refusal}
 use Rattle.tape_base.specs.Place.{directory_blocks_of}
+use Rattle.device_log.specs.declared.choice.CutChoice.{CutChoice}
 use Rattle.device_log.specs.Calls.{Call}
 use Rattle.device_log.specs.Along.{Stopped, Went}
 use Rattle.stripe_copies.specs.Format.{format_calls}
@@ -17,6 +18,7 @@ use Rattle.step_laws.specs.StepLaws.{IsRefusalCount}
 use Rattle.cache_model.specs.State.{State, ReaderRow, reader_of}
 use Rattle.cache_model.specs.Legal.{IsStep, format_records}
 use Rattle.cache_model.specs.Pair.{ShowsPair}
+use Rattle.cache_answers.specs.declared.answers.SwitchOrder.TheVariants as order
 use Rattle.script_grammar.specs.declared.step.Step.{Step}
 use Rattle.script_grammar.specs.declared.step.Step.TheVariants as step
 use Rattle.script_grammar.specs.declared.line.LineAnswer.{LineAnswer}
@@ -27,7 +29,7 @@ use Rattle.script_run.specs.Run.{Run, Stream, put_written_by, reader_by, with_va
 use Rattle.script_run.specs.Asked.{asked}
 use Rattle.script_run.specs.Ledger.{IsLeftAlone}
 use Rattle.script_run.specs.Turn.{Turn, lookup_in, no_turn, told_in}
-use Rattle.script_run.specs.Switch.{TreatsSwitch, order_of_step}
+use Rattle.script_run.specs.Switch.{CutsNothing, CutsPower, OnlyTells, TreatsSwitch, order_of_step}
 use Rattle.script_run.specs.Answers.{step_answer}
 use Rattle.script_run.specs.Behind.{Streams, after_line, of_put, with_bytes}
 use Rattle.script_run.specs.Own.{IsPlacedAs, piece_of}
@@ -104,13 +106,30 @@ pub record TakesBehind (calls : List Call) (run : Run) (s : State) (turn : Turn)
 abbrev pub SessionTakes : Run → State → Turn → Step → Type 0
 SessionTakes run = TakesBehind run.calls run
 
--- a format and a moment need no session; all other steps work on one
+-- a cut of a device that has no switch is refused, and the session goes on; else it ends
+abbrev pub CutTakes : Run → State → Turn → CutChoice → Type 0
+CutTakes run s turn choice = SessionTakes run s turn (step.Cut choice) ⊎ CutsPower choice turn
+
+-- where a cut left a device, by what its session stood for
+abbrev pub IfBare : Option State → (State → Type 0) → Type 0
+IfBare None takes = ⊥
+IfBare (Some t) takes = takes t
+
+-- what is for the switch alone goes to a bare device too
+abbrev pub BareTakes : Turn → Option State → Step → Type 0
+BareTakes turn last (step.Fail nth) = IfBare last (λ t. OnlyTells turn × TreatsSwitch t.geometry (Some (order.Fail nth)) turn)
+BareTakes turn last (step.StopAfter calls) = IfBare last (λ t. OnlyTells turn × TreatsSwitch t.geometry (Some (order.StopAfter calls)) turn)
+BareTakes turn last (step.Cut choice) = IfBare last (λ t. CutsPower choice turn ⊎ CutsNothing turn)
+BareTakes turn last step = ⊥
+
+-- a format and a moment need no session; all other steps work on one, or on a bare device
 abbrev pub Takes : Run → Turn → Option State → Step → Type 0
 Takes run turn state (step.Format name segments buckets content agg reach fragment generation alternates) =
     FormatTakes turn segments buckets content agg reach fragment generation alternates (first_refusal segments buckets content agg reach fragment alternates)
 Takes run turn state (step.Now moment) = turn ≡ no_turn
+Takes run turn (Some s) (step.Cut choice) = CutTakes run s turn choice
 Takes run turn (Some s) step = SessionTakes run s turn step
-Takes run turn None step = ⊥
+Takes run turn None step = BareTakes turn run.last step
 
 -- a step does all that it must, and no more
 abbrev pub StepTakes : Run → Turn → Step → Type 0

@@ -10,4 +10,5 @@ is_on_session (step.Now moment) = false
 is_on_session (step.Fail nth) = false
 is_on_session (step.StopAfter calls) = false
 is_on_session (step.Flip place byte) = false
+is_on_session (step.Cut choice) = false
 is_on_session _ = true

@@ -23,7 +23,8 @@ impl JobStep {
             | Step::Now { .. }
             | Step::Fail { .. }
             | Step::StopAfter { .. }
-            | Step::Flip { .. } => None,
+            | Step::Flip { .. }
+            | Step::Cut { .. } => None,
             other => Some(JobStep { step: other }),
         }
     }

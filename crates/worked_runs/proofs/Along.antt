@@ -1,5 +1,5 @@
 -- What is said of lines is said of the steps as which they are read.
-use Rattle.std.proofs.Common.{◌≡◌, ◌∙◌, ℕ, zero, suc, ◌+◌, ◌<◌, List, [], ◌∷◌, refl, sym, ap, subst}
+use Rattle.std.proofs.Common.{◌≡◌, ◌∙◌, ℕ, zero, suc, ◌+◌, ◌<◌, List, [], ◌∷◌, ◌++◌, refl, sym, ap, subst}
 use Rattle.std.specs.Prelude.{take, if◌then◌else◌, false, Option, Some, ⊤}
 use Rattle.std.specs.List.{AllByRecursion}
 use Rattle.script_grammar.specs.declared.line.LineAnswer.{LineAnswer}
@@ -16,6 +16,7 @@ use Rattle.run_promise.specs.Lines.{AreAnswered, IsReadAs, answers_of, outline_o
 use Rattle.run_promise.specs.Needs.{NeedsSession}
 use Rattle.run_promise.specs.Outline.{IsAnswered, Outline, outline_after}
 use Rattle.script_run.specs.Goes.{begins_session}
+use Rattle.script_run.specs.Switch.{is_of_switch}
 use Rattle.line_laws.specs.Along.{AreOfSession, KeepsSession}
 use Rattle.headline.specs.Account.{begun_in}
 use Rattle.headline.specs.Endings.{AreTakeable, MayBeTaken}
@@ -170,3 +171,25 @@ are_of_session [] (asks ∷ steps) reads none = absurd reads
 are_of_session (bytes ∷ lines) [] reads none = absurd reads
 are_of_session (bytes ∷ lines) (asks ∷ steps) reads none =
     (subst KeepsSession (sym reads.0) none.0, are_of_session lines steps reads.1 none.1)
+
+-- ---- no line is for a switch
+
+abbrev pub HasNoSwitch : LineAnswer → Type 0
+HasNoSwitch (line.Step asks) = is_of_switch asks ≡ false
+HasNoSwitch _ = ⊤
+
+-- lines that are read as such steps
+pub are_switchless : (lines : List (List ℕ)) (steps : List Step) → AreRead lines steps
+    → AllByRecursion (λ (asks : Step). is_of_switch asks ≡ false) steps
+    → AllByRecursion (λ (bytes : List ℕ). HasNoSwitch (reading_of bytes)) lines
+are_switchless [] [] reads none = tt
+are_switchless [] (asks ∷ steps) reads none = absurd reads
+are_switchless (bytes ∷ lines) [] reads none = absurd reads
+are_switchless (bytes ∷ lines) (asks ∷ steps) reads none =
+    (subst HasNoSwitch (sym reads.0) none.0, are_switchless lines steps reads.1 none.1)
+
+-- and so is each one of them
+pub switchless_at : (before : List (List ℕ)) (bytes : List ℕ) (later : List (List ℕ))
+    → AllByRecursion (λ (bytes : List ℕ). HasNoSwitch (reading_of bytes)) (before ++ bytes ∷ later) → HasNoSwitch (reading_of bytes)
+switchless_at [] bytes later none = none.0
+switchless_at (first ∷ before) bytes later none = switchless_at before bytes later none.1

@@ -22,7 +22,8 @@ taken_at n (first ∷ lines) bytes later may =
 module _ (law : SpelledAreLines) (all : List (List ℕ)) (each : AreLines all) (short : length (spelled all) ≤ MAX_LINE_BYTES)
     (few : length all < MAX_LINES)
     (may : AreTakeable 0 all) where
-  lines_are : (lines : List (List ℕ)) (behind : List ℕ) → spelled all ≡ spelled lines ++ behind → AreLines lines
+  -- whichever lines a front of the text is, they are the first ones
+  pub lines_are : (lines : List (List ℕ)) (behind : List ℕ) → spelled all ≡ spelled lines ++ behind → AreLines lines
       → all ≡ lines ++ lines_of behind
   lines_are lines behind text front =
       let whole : lines_of (spelled all ++ []) ≡ all ++ [] = law all [] each in

@@ -1,10 +1,11 @@
 -- The laws of `headline` at the script.
-use Rattle.std.proofs.Common.{◌≡◌, ◌∙◌, ℕ, List, [], ◌∷◌, ◌++◌, length, refl, sym, ap, subst, lit<, lit≤, inl, inr}
+use Rattle.std.proofs.Common.{◌≡◌, ◌∙◌, ℕ, List, [], ◌∷◌, ◌++◌, append_assoc, length, refl, sym, ap, subst, lit<, lit≤, inl, inr}
 use Rattle.std.specs.Prelude.{Option, Some, take, drop}
 use Rattle.std.specs.List.{AllByRecursion}
 use Rattle.device_log.specs.Streams.{taken_by}
 use Rattle.edge_io.specs.Laws.{SpelledAreLines}
-use Rattle.edge_io.specs.Text.{spelled}
+use Rattle.edge_io.specs.Lines.{lines_of}
+use Rattle.edge_io.specs.Text.{spelled, text_read}
 use Rattle.logged_disk.specs.Device.{DeviceState as Device, TellsAll, has_flip}
 use Rattle.script_grammar.specs.declared.line.LineAnswer.TheVariants as line
 use Rattle.script_grammar.specs.declared.step.Step.{Step}
@@ -17,10 +18,11 @@ use Rattle.script_run.specs.Takes.{IsRun}
 use Rattle.cache_model.specs.declared.cause.Cause.TheVariants as cause
 use Rattle.cache_model.specs.declared.record.Rec.TheVariants as rec
 use Rattle.line_laws.specs.Along.{AreOfSession}
-use Rattle.headline.specs.Account.{Account, AllTell, HistoryTells, HonestRunsAreWhole}
+use Rattle.run_promise.specs.declared.status.Status.{Status}
+use Rattle.headline.specs.Account.{Account, AllTell, HistoryTells, HonestRunsAreWhole, RunLogs}
 use Rattle.headline.specs.Answered.{AnsweredPutWasCompleted, AnsweredRemovalWasRecorded, CompletedWasAnswered, RecordsBehind, RemovalWasAnswered}
 use Rattle.headline.specs.Bodies.{GotIsTheBody, PutTookItsBody}
-use Rattle.headline.specs.Endings.{DoneWhereFine, IsFine}
+use Rattle.headline.specs.Endings.{DoneWhereFine, IsFine, LostItsPower}
 use Rattle.headline.specs.Fixed.{AreSteady, SourceFixesSink}
 use Rattle.headline.specs.Misses
 use Rattle.headline.specs.Misses.{NeverPutWasNone}
@@ -34,8 +36,8 @@ use Rattle.worked_runs.specs.History.{TheScriptIsAnswered, script_answers, scrip
 use Rattle.worked_runs.specs.Script.{alternate_of_a, body_of_a, key_of_a, line_to_put, line_to_remove, name_of_reader, script_lines, script_turns, turn_at_last, turn_of_put, turn_of_removal}
 use Rattle.worked_runs.specs.Sentences.{EachRunIsDone, EachRunPrintsIt, ItWasRemoved, NothingWasPut, TheEndIsRead, TheGetIsWhole, TheGotIsTheBody, TheHistoryIsWhole, TheHitIsWhole, TheMissIsCaused, ThePutIsListed, ThePutTookItsBody, ThePutWasAnswered, ThePutWasCompleted, TheRemovalWasAnswered, TheRemovalWasRecorded}
 use Rattle.worked_runs.specs.Told.{TellsScript, TheScriptIsConcluded, script_device, script_logs, script_writes}
-use Rattle.worked_runs.proofs.Along.{are_of_session, are_run, reads_front, takes_front}
-use Rattle.worked_runs.proofs.Fine.{is_fine}
+use Rattle.worked_runs.proofs.Along.{HasNoSwitch, are_of_session, are_run, are_switchless, reads_front, switchless_at, takes_front}
+use Rattle.worked_runs.proofs.Fine.{is_fine, lines_are}
 use Rattle.worked_runs.proofs.Readings.{get_is_read, next_is_read, opening_is_read, put_is_read, removal_is_read}
 use Rattle.worked_runs.proofs.Script.{are_read, are_taken, steps_with}
 use Rattle.worked_runs.proofs.Tells.{lines_are_takeable, taken_lines}
@@ -222,6 +224,26 @@ each_run_prints law concluded first m concluded_too same steady = elim (law scri
 text_is_fine : SpelledAreLines → IsFine (spelled script_lines)
 text_is_fine law = is_fine law script_lines taken_lines.each (lit≤ tt) (lit< tt) lines_are_takeable
 
+-- no line of the script cuts a power
+no_cut : SpelledAreLines → (m : RunLogs) (s : Status) (lost : LostItsPower m s) → text_read lost.reads ≡ spelled script_lines → ⊥
+no_cut law m s lost text =
+    let cut = lost.cut in
+    let all : script_lines ≡ lost.lines ++ lines_of lost.held =
+    lines_are law script_lines taken_lines.each (lit≤ tt) (lit< tt) lines_are_takeable lost.lines lost.held (sym text ∙ lost.taken.all)
+    lost.taken.each in
+    let here : lost.lines ++ lines_of lost.held ≡ cut.before ++ cut.bytes ∷ (cut.later ++ lines_of lost.held) =
+    ap (λ (lines : List (List ℕ)). lines ++ lines_of lost.held) cut.are ∙ append_assoc cut.before (cut.bytes ∷ cut.later) (lines_of lost.held) in
+    let none =
+    subst (AllByRecursion (λ (bytes : List ℕ). HasNoSwitch (reading_of bytes))) (all ∙ here)
+    (are_switchless script_lines (steps_with key_of_a) are_read (refl, (refl, (refl, (refl, (refl, (refl, (refl, (refl, (refl, tt)))))))))) in
+    let told : HasNoSwitch (line.Step (step.Cut cut.choice)) =
+    subst HasNoSwitch cut.cuts (switchless_at cut.before cut.bytes (cut.later ++ lines_of lost.held) none) in
+    cc
+
 pub each_run_is_done : DoneWhereFine → SpelledAreLines → EachRunIsDone
 each_run_is_done law lines m s concluded failed begun memory read wrote attached texts =
-    law m s concluded failed begun memory read wrote attached (λ reads since. subst IsFine (sym (texts reads since)) (text_is_fine lines))
+    elim (law m s concluded failed begun memory read wrote attached (λ reads since. subst IsFine (sym (texts reads since)) (text_is_fine lines))) [
+      | inl done ↦ inl done
+      | inr (inl lost) ↦ inr lost
+      | inr (inr lost) ↦ absurd (no_cut lines m s lost (texts lost.reads lost.since))
+    ]

@@ -87,22 +87,22 @@ what_was_said =
 
 each_is_answered : (key : Key) → AreAnsweredBy blank_outline (steps_with key) what_was_said
 each_is_answered key = (
-  record { session = λ needs. absurd needs; fixed = inl refl },
+  record { session = λ needs. absurd needs; stands = λ needs. absurd needs; fixed = inl refl },
   (
-    record { session = λ needs. refl; fixed = tt },
+    record { session = λ needs. refl; stands = λ needs other. refl; fixed = tt },
     (
-      record { session = λ needs. refl; fixed = tt },
+      record { session = λ needs. refl; stands = λ needs other. refl; fixed = tt },
       (
-        record { session = λ needs. refl; fixed = tt },
+        record { session = λ needs. refl; stands = λ needs other. refl; fixed = tt },
         (
-          record { session = λ needs. refl; fixed = tt },
+          record { session = λ needs. refl; stands = λ needs other. refl; fixed = tt },
           (
-            record { session = λ needs. refl; fixed = tt },
+            record { session = λ needs. refl; stands = λ needs other. refl; fixed = tt },
             (
-              record { session = λ needs. refl; fixed = tt },
+              record { session = λ needs. refl; stands = λ needs other. refl; fixed = tt },
               (
-                record { session = λ needs. refl; fixed = tt },
-                (record { session = λ needs. refl; fixed = tt }, tt),
+                record { session = λ needs. refl; stands = λ needs other. refl; fixed = tt },
+                (record { session = λ needs. refl; stands = λ needs other. refl; fixed = tt }, tt),
               ),
             ),
           ),

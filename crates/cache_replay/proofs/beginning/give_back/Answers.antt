@@ -1,21 +1,16 @@
-use Rattle.std.proofs.Common.{◌∷◌, ◌≤◌, ◌∙◌, length, ap, sym, subst}
-use Rattle.device_bay.specs.Calls.{TookBack, out_of}
-use Rattle.cache_replay.specs.Deals.{GivesBack}
-use Rattle.cache_replay.specs.Session.{at_in, return_of}
-use Rattle.cache_replay.proofs.GivingBack.{gives_nothing, gives_one}
+use Rattle.std.proofs.Common.{arith, length-append}
+use Rattle.cache_replay.specs.Replay.{bare_return}
+use Rattle.cache_replay.specs.Session.{return_of}
+use Rattle.cache_replay.proofs.GivingBack.{gives_then}
 use Rattle.cache_replay.proofs.beginning.give_back.Goals as goal
 
-pub returns-in-Some : goal.returns-in-Some
-returns-in-Some g c =
-    let old = g.B.Bay.past c.args.bay.now in
-    let new = g.B.Bay.past c.give_back.new.self in
-    record {
-      gives = subst (λ part. GivesBack (return_of part) old new) (sym c.in-Some.is)
-          (gives_one (at_in c.in-Some.part).device old new (subst (λ part. length (return_of part) ≤ out_of old) c.in-Some.is c.requires.held)
-          (c.give_back.ensures.took ∙ ap (λ d. TookBack d ∷ old) c.into_device.ensures));
-    }
+pub give_back_part-requires : goal.give_back_part-requires
+give_back_part-requires g c = record { held = omega (arith, c.requires.held, length-append (return_of c.args.part) (bare_return c.args.bare)) }
 
-pub returns-in-None : goal.returns-in-None
-returns-in-None g c =
-    let past = g.B.Bay.past c.args.bay.now in
-    record { gives = subst (λ part. GivesBack (return_of part) past past) (sym c.in-None.is) (gives_nothing past) }
+pub give_back_bare-requires : goal.give_back_bare-requires
+give_back_bare-requires g c = record { held = omega (arith, c.requires.held, length-append (return_of c.args.part) (bare_return c.args.bare), c.give_back_part.ensures.gives.out) }
+
+pub returns : goal.returns
+returns g c = record {
+  gives = gives_then (return_of c.args.part) (bare_return c.args.bare) _ _ _ c.give_back_part.ensures.gives c.give_back_bare.ensures.gives;
+}

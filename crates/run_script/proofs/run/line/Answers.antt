@@ -1,7 +1,7 @@
 use Rattle.std.proofs.Common.{sym, ◌∙◌, [], refl}
 use Rattle.edge_io.specs.LineReader.{lines_given, held, source_of}
 use Rattle.edge_io.specs.Text.{text_after}
-use Rattle.cache_replay.specs.Session.{devices_of, return_in}
+use Rattle.cache_replay.specs.Replay.{IsOutlined, devices_in, returns_in}
 use Rattle.script_run.specs.Ledger.{AreReached}
 use Rattle.device_bay.specs.Calls.{refusals_of}
 use Rattle.cache_replay.proofs.Order.{order_same}
@@ -19,7 +19,7 @@ returns-in-End-clause-ends g c =
     let next = c.in-End.ensures in
     let more = next.draws.more in
     let unread = text_after (held c.args.reader.now) more in
-    λ first told back story. done_ends first new told _ back _ unread given _ _ (λ harms. AreReached harms (return_in c.args.session.now)) (devices_of c.args.session.now) (λ o is. is) (plays_reach c.args.session.now c.requires.session) (read_more first old new more (held c.args.reader.now) given _ _ _ _ next.draws.grew story)
+    λ first told back story. done_ends first new told _ back _ unread given (λ o. IsOutlined o c.args.replay.now) _ (λ harms. AreReached harms (returns_in c.args.replay.now)) (devices_in c.args.replay.now) (λ o is. is.reached) (plays_reach c.args.replay.now c.requires.replay) (read_more first old new more (held c.args.reader.now) given _ _ _ _ next.draws.grew story)
     (refusals_around [] []) (read_through given more old new unread (held c.next_reading.new.reader) next.draws.grew next.answers)
 
 pub returns-in-Fault-clause-ends : goal.returns-in-Fault-clause-ends
@@ -32,7 +32,7 @@ returns-in-Fault-clause-ends g c =
     let unread = text_after (held c.args.reader.now) more in
     let bay = refusals_around (refusals_of (g.B.Bay.past c.args.bay.now)) (refusals_of (g.B.Bay.past c.args.bay.now)) in
     rw c.last_of.ensures
-    (λ first told back story. fault_ends first new told _ back _ unread given _ _ (λ harms. AreReached harms (return_in c.args.session.now)) (devices_of c.args.session.now) (λ o is. is) (plays_reach c.args.session.now c.requires.session) (read_more first old new more (held c.args.reader.now) given _ _ _ _ next.draws.grew story)
+    (λ first told back story. fault_ends first new told _ back _ unread given (λ o. IsOutlined o c.args.replay.now) _ (λ harms. AreReached harms (returns_in c.args.replay.now)) (devices_in c.args.replay.now) (λ o is. is.reached) (plays_reach c.args.replay.now c.requires.replay) (read_more first old new more (held c.args.reader.now) given _ _ _ _ next.draws.grew story)
     (held c.args.reader.now) old more (held c.next_reading.new.reader) bay c.in-Fault.fault refl next.draws.grew next.needed next.failed next.answers)
 
 pub returns-in-Fault-clause-begun : goal.returns-in-Fault-clause-begun
@@ -49,7 +49,7 @@ returns-in-Memory-clause-ends g c =
     let next = c.in-Memory.ensures.1 in
     let more = next.draws.more in
     let unread = text_after (held c.args.reader.now) more in
-    λ first told back story. memory_ends first new told _ back _ unread given _ _ (λ harms. AreReached harms (return_in c.args.session.now)) (devices_of c.args.session.now) (λ o is. is) (plays_reach c.args.session.now c.requires.session) (read_more first old new more (held c.args.reader.now) given _ _ _ _ next.draws.grew story)
+    λ first told back story. memory_ends first new told _ back _ unread given (λ o. IsOutlined o c.args.replay.now) _ (λ harms. AreReached harms (returns_in c.args.replay.now)) (devices_in c.args.replay.now) (λ o is. is.reached) (plays_reach c.args.replay.now c.requires.replay) (read_more first old new more (held c.args.reader.now) given _ _ _ _ next.draws.grew story)
     (refusals_around [] [])
 
 pub returns-in-Line-Nothing-clause-goes : goal.returns-in-Line-Nothing-clause-goes
@@ -74,7 +74,7 @@ returns-in-Line-Bad-clause-ends g c =
     let unread = text_after (held c.args.reader.now) more in
     let bay = refusals_around (refusals_of (g.B.Bay.past c.args.bay.now)) (refusals_of (g.B.Bay.past c.args.bay.now)) in
     rw c.lines_given.ensures
-    (λ first told back story. bad_ends first new told _ back _ unread given _ _ (λ harms. AreReached harms (return_in c.args.session.now)) (devices_of c.args.session.now) (λ o is. is) (plays_reach c.args.session.now c.requires.session) (read_more first old new more (held c.args.reader.now) given _ _ _ _ next.draws.grew story)
+    (λ first told back story. bad_ends first new told _ back _ unread given (λ o. IsOutlined o c.args.replay.now) _ (λ harms. AreReached harms (returns_in c.args.replay.now)) (devices_in c.args.replay.now) (λ o is. is.reached) (plays_reach c.args.replay.now c.requires.replay) (read_more first old new more (held c.args.reader.now) given _ _ _ _ next.draws.grew story)
     read.0 (held c.next_reading.new.reader) (lines_given c.next_reading.new.reader) next.answers next.given bay c.in-Line-Bad.fault (sym read.1 ∙ c.in-Line-Bad.field-0-is))
 
 pub returns-in-Ok-clause-goes : goal.returns-in-Ok-clause-goes
@@ -88,8 +88,8 @@ returns-in-Ok-clause-goes g c =
     let unread = text_after (held c.args.reader.now) more in
     let asks = sym read.1 ∙ c.in-Line-Step.field-0-is in
     λ first told back story.
-    step_goes c.args.session.now first new told _ back _ unread (held c.next_reading.new.reader) given (lines_given c.next_reading.new.reader) (read_more first old new more (held c.args.reader.now) given _ _ _ _ next.draws.grew story)
-    read.0 next.answers next.given c.in-Line-Step.asked asks c.take_step.new.session _ _ c.requires.session c.in-Ok.ensures.done
+    step_goes c.args.replay.now first new told _ back _ unread (held c.next_reading.new.reader) given (lines_given c.next_reading.new.reader) (read_more first old new more (held c.args.reader.now) given _ _ _ _ next.draws.grew story)
+    read.0 next.answers next.given c.in-Line-Step.asked asks c.take_step.new.replay _ _ c.requires.replay c.in-Ok.ensures.done
 
 pub returns-in-Err-clause-ends : goal.returns-in-Err-clause-ends
 returns-in-Err-clause-ends g c =
@@ -103,8 +103,8 @@ returns-in-Err-clause-ends g c =
     let asks = sym read.1 ∙ c.in-Line-Step.field-0-is in
     rw (c.ending_of.ensures, c.lines_given-in-Err.ensures)
     (λ first told back story.
-    step_ends c.args.session.now first new told _ back _ unread (held c.next_reading.new.reader) given (lines_given c.next_reading.new.reader) (read_more first old new more (held c.args.reader.now) given _ _ _ _ next.draws.grew story)
-    read.0 next.answers next.given c.in-Line-Step.asked asks c.take_step.new.session _ _ c.requires.session c.take_step.ensures.session (g.B.Bay.past c.args.bay.now) (g.B.Bay.past c.take_step.new.bay) c.in-Err.halt c.in-Err.ensures.halted)
+    step_ends c.args.replay.now first new told _ back _ unread (held c.next_reading.new.reader) given (lines_given c.next_reading.new.reader) (read_more first old new more (held c.args.reader.now) given _ _ _ _ next.draws.grew story)
+    read.0 next.answers next.given c.in-Line-Step.asked asks c.take_step.new.replay _ _ c.requires.replay c.take_step.ensures.replay (g.B.Bay.past c.args.bay.now) (g.B.Bay.past c.take_step.new.bay) c.in-Err.halt c.in-Err.ensures.halted)
 
 pub returns-in-Err-clause-begun : goal.returns-in-Err-clause-begun
 returns-in-Err-clause-begun g c = rw c.ending_of.ensures (ending_of-begun _ c.in-Err.halt)
@@ -125,4 +125,4 @@ pub returns-in-Line-Bad-clause-order : goal.returns-in-Line-Bad-clause-order
 returns-in-Line-Bad-clause-order g c = order_same _ _
 
 pub returns-in-Fault-clause-order : goal.returns-in-Fault-clause-order
-returns-in-Fault-clause-order g c = order_same (return_in c.args.session.now) (g.B.Bay.past c.args.bay.now)
+returns-in-Fault-clause-order g c = order_same (returns_in c.args.replay.now) (g.B.Bay.past c.args.bay.now)

@@ -12,7 +12,7 @@ use Rattle.run_script.proofs.run.run_lines.Goals as goal
 pub lines-init : goal.lines-init
 lines-init g c = record {
   goes = begins (g.S.Source.reads (source_of c.args.reader.now).now) (g.K.Sink.writes c.args.sink.now) (ledger_of g.B.Bay c.args.bay.now) _ _ _ _ c.requires.held c.requires.given c.requires.blank c.requires.fresh;
-  session = c.requires.session;
+  replay = c.requires.replay;
   few = omega (arith, ap length c.requires.names);
   out = omega (arith, c.requires.none);
   source = refl;
@@ -28,7 +28,7 @@ lines-preserved g c =
     let before = c.lines.invariant in
     record {
       goes = c.in-Ok.ensures.goes _ _ _ before.goes;
-      session = c.line.ensures.session;
+      replay = c.line.ensures.replay;
       few = c.in-Ok.ensures.few;
       out = omega (arith, c.line.ensures.out, before.out);
       source = c.line.ensures.source ∙ before.source;

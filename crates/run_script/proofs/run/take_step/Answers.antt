@@ -12,7 +12,7 @@ returns-in-Ok-clause-done g c =
 pub returns-in-Ok-clause-halted : goal.returns-in-Ok-clause-halted
 returns-in-Ok-clause-halted g c =
     IfErr-map c.write_answer.result _ _
-    (λ halt unwritten. unwritten_halts c.args.session.now c.args.asked c.step.new.session c.in-Ok.said _ _ _ _
+    (λ halt unwritten. unwritten_halts c.args.replay.now c.args.asked c.step.new.replay c.in-Ok.said _ _ _ _
     (g.B.Bay.past c.args.bay.now) (g.B.Bay.past c.step.new.bay) c.in-Ok.ensures.answers.outline c.in-Ok.ensures.answers.ends halt unwritten)
     c.write_answer.ensures.failed
 

@@ -2,7 +2,7 @@ use Rattle.std.proofs.Common.{◌≡◌, [], inl, refl, sym, ◌∙◌, List, le
 use Rattle.edge_io.proofs.Draws.{draws_nothing}
 use Rattle.edge_io.specs.LineReader.{source_of}
 use Rattle.device_bay.specs.Calls.{gifts_of, refusals_of}
-use Rattle.cache_replay.specs.Session.{return_in}
+use Rattle.cache_replay.specs.Replay.{returns_in}
 use Rattle.cache_replay.proofs.Order.{none_back, none_out, order_closed, order_then}
 use Rattle.logged_disk.specs.Device.{DeviceState as Device}
 use Rattle.script_run.specs.Ledger.{AreLast, AreReached, ledger_of}
@@ -28,11 +28,11 @@ returns-clause-ends g c =
     let bay = refusals_around (refusals_of (g.B.Bay.past c.args.bay.now)) (refusals_of (g.B.Bay.past c.run_lines-ending.new.bay)) in
     let ledger = ledger_of g.B.Bay c.args.bay.now in
     let closed = ledger_of g.B.Bay c.close.new.bay in
-    let settle : (t : DevicesTold) → Owes ledger (ledger_of g.B.Bay c.run_lines-ending.new.bay) (λ harms. AreReached harms (return_in c.run_lines-ending.new.session)) t → EachBack ledger closed t =
+    let settle : (t : DevicesTold) → Owes ledger (ledger_of g.B.Bay c.run_lines-ending.new.bay) (λ harms. AreReached harms (returns_in c.run_lines-ending.new.replay)) t → EachBack ledger closed t =
     λ t owes. Deals-settled _ _ _ t.ended _ t.names owes.deals (c.close.ensures.back t.own owes.reached) c.close.ensures.gives.names in
     let ends = Ends-settled bay (g.S.Source.reads (source_of reader).now) (g.S.Source.reads (source_of after).now) (g.K.Sink.writes c.args.sink.now) (g.K.Sink.writes c.run_lines-ending.new.sink) _ (EachBack ledger closed)
     _ (EachBackOrMore ledger closed) settle
-    (λ held given t. wants_settled ledger _ closed _ _ held given t settle (λ none gave. gave_settled c.run_lines-ending.new.session _ _ _ held given t c.close.ensures.back c.close.ensures.gives.names none gave)) c.run_lines-ending.result c.run_lines-ending.ensures.ends in
+    (λ held given t. wants_settled ledger _ closed _ _ held given t settle (λ none gave. gave_settled c.run_lines-ending.new.replay _ _ _ held given t c.close.ensures.back c.close.ensures.gives.names none gave)) c.run_lines-ending.result c.run_lines-ending.ensures.ends in
     rw (back, c.close.ensures.gives.refusals, ← c.with_buffer-reader.ensures.now) ends
 
 pub returns-clause-reads : goal.returns-clause-reads
@@ -61,7 +61,7 @@ returns-in_default-clause-order g c = none_back _ [] _ _ refl (none_out (g.B.Bay
 pub returns-clause-order : goal.returns-clause-order
 returns-clause-order g c =
     let past = g.B.Bay.past c.args.bay.now in
-    let none = none_own (return_in c.begin-session.result) c.begin-session.ensures.devices in
+    let none = none_own (returns_in c.begin-replay.result) c.begin-replay.ensures.devices in
     order_then _ _ _ _ _ _ c.run_lines-ending.ensures.order (order_closed _ [] _ _ (c.close.ensures.gives.order [])) _
     (subst (λ (own : List Device). AreLast (length (gifts_of past)) own past) (sym none) (none_out past))
 
