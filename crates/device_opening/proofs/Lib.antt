@@ -4,3 +4,12 @@ pub mod ReadingCopies
 pub mod Choosing
 pub mod Spans
 pub mod Stripes
+pub mod Elements
+pub mod Stretches
+pub mod Windows
+pub mod WindowReads
+pub mod Looking
+pub mod Searching
+pub mod BothLaps
+pub mod Keeping
+pub mod Opened

@@ -60,7 +60,7 @@ module _ (s t : Device) where
     room = laid.room
 
     refused_as : (f : OpenFault) → Reads 1 (content_of a) 3 t u (λ c. IsOpenFault a c f) → StaysShut s u f
-    refused_as f reads = (a, reads_then 0 1 (content_of a) 1 3 s t u Lies (λ c. IsOpenFault a c f) first reads)
+    refused_as f reads = (a, laid, reads_then 0 1 (content_of a) 1 3 s t u Lies (λ c. IsOpenFault a c f) first reads)
 
     stops_as : (e : ReadFault) → Fails 1 (content_of a) 3 t u e → Fails 0 s.size 4 s u e
     stops_as e fails = fails_as 0 (content_of a) s.size 4 4 s u e (omega (arith, room)) (omega arith) (fails_then 0 1 (content_of a) 1 3 s t u Lies e first fails)

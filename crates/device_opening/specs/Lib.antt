@@ -1,2 +1,5 @@
 pub mod Copies
 pub mod Faults
+pub mod Kept
+pub mod Opening
+pub mod Tape

@@ -1,8 +1,8 @@
 // The newest copy of the stripe that lies on a device.
-ghost use Rattle.std.specs.Prelude.{◌≡◌, IfErr, IfOk, OnOk};
+ghost use Rattle.std.specs.Prelude.{◌≡◌, IfErr, IfOk};
 ghost use Rattle.stripe_header.specs.Layout.{content_of};
 ghost use Rattle.device_opening.specs.Copies.{IsChosen, IsLaid, IsNewestRead, TakenSays};
-ghost use Rattle.device_opening.specs.Faults.{IsFaultIn, IsFaultOf};
+ghost use Rattle.device_opening.specs.Faults.{IsFaultIn, IsFaultOf, WhereRead};
 ghost use Rattle.device_reads.specs.Reads.{Reads};
 
 use crate::copies::read_copies;
@@ -26,7 +26,7 @@ fn read_chosen<D: Disk>(alloc: Global, disk: &mut D, area: &Area) -> Result<Chos
     ensures chosen { IfOk result (λ chosen. Reads 1 (content_of area.now) 3 (D.state disk.old) (D.state disk.new)
         (λ c. IsChosen area.now c chosen)) }
     ensures says { IfOk result (λ chosen. TakenSays area.now chosen.taken) }
-    ensures unrefused { OnOk result ((D.state disk.new).faults ≡ (D.state disk.old).faults) }
+    ensures unrefused { WhereRead result ((D.state disk.new).faults ≡ (D.state disk.old).faults) }
     ensures fault { IfErr result (IsFaultIn area.now (D.state disk.old) (D.state disk.new)) }
 {
     let copies = read_copies(alloc, disk, area)?;
@@ -40,7 +40,7 @@ pub fn read_newest<D: Disk>(alloc: Global, disk: &mut D) -> Result<NewestRead, O
         Reads 0 (content_of r.area) 4 (D.state disk.old) (D.state disk.new) (IsNewestRead size r)) }
     ensures laid { IfOk result (λ r. IsLaid (D.state disk.old).size r.area) }
     ensures says { IfOk result (λ r. TakenSays r.area r.chosen.taken) }
-    ensures unrefused { OnOk result ((D.state disk.new).faults ≡ (D.state disk.old).faults) }
+    ensures unrefused { WhereRead result ((D.state disk.new).faults ≡ (D.state disk.old).faults) }
     ensures fault { IfErr result (IsFaultOf (D.state disk.old) (D.state disk.new)) }
 {
     let area = match read_area(disk)? {

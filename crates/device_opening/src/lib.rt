@@ -4,9 +4,17 @@
 mod copies;
 mod device;
 mod fault;
+mod head;
+mod kept;
 mod newest;
+mod opening;
+mod search;
 mod span;
+mod standing;
+mod stretch;
+mod window;
 
 pub use device::{NewestRead, read_newest};
 pub use fault::OpeningFault;
 pub use newest::{Chosen, Taken};
+pub use opening::{OpeningRead, read_opening};
