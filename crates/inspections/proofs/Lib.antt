@@ -1,3 +1,4 @@
 pub mod Opening
 pub mod Copying
 pub mod Answering
+pub mod Checking

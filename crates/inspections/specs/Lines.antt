@@ -16,7 +16,7 @@ use Rattle.inspections.specs.declared.copies.CopyRead.{CopyRead}
 use Rattle.inspections.specs.declared.copies.CopyRead.TheVariants.{Refused, Told}
 
 -- a line's newline
-abbrev newline : List ℕ
+abbrev pub newline : List ℕ
 newline = codes "\n"
 
 -- the numbers of a span by which the directory lies

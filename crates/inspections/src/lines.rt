@@ -74,7 +74,7 @@ fn fault_number(fault: &CopyFault) -> u32
     }
 }
 
-fn clean_text(clean: bool) -> &'static str
+pub(crate) fn clean_text(clean: bool) -> &'static str
     ensures { result.now ≡ clean_text clean }
 {
     if clean { " clean" } else { "" }
