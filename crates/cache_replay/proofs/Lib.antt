@@ -5,7 +5,7 @@ mod BareLines
 mod Beginnings
 mod Closings
 mod Counts
-mod Dispatch
+pub mod Dispatch
 mod DoneLine
 mod Fed
 mod FeedEnds
@@ -23,7 +23,7 @@ mod OpenLine
 mod Openings
 pub mod Order
 mod OtherNext
-mod Outlines
+pub mod Outlines
 mod Plain
 mod PlainTurns
 mod PutEnds

@@ -18,5 +18,5 @@ mod writer_lines;
 
 pub use beginning::{begin, close, plays_reach};
 pub use session::{Replay, Session};
-pub use stepping::{in_session, step, takes_actors};
+pub use stepping::{has_cache, in_session, step, takes_actors};
 pub use stop::Stop;

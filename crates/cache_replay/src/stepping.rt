@@ -114,6 +114,13 @@ fn now_line<S: Calls>(session: &mut Session<S>, moment: u64) -> StepAnswer
     StepAnswer::Now { moment }
 }
 
+/// Whether there is a cache: a format began one, and it stands.
+pub fn has_cache<S: Calls>(session: &Session<S>) -> bool
+    ensures { (result ≡ false) ↔ (devices_of session.entry.now ≡ 0) }
+{
+    session.part.is_some()
+}
+
 /// Whether an actor more may have its first step.
 pub fn takes_actors<S: Calls>(session: &Session<S>) -> bool
     ensures { (result ≡ true) ↔ (length (names_in session.entry.now) < 2 ^ 32 - 1) }
