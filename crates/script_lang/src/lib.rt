@@ -13,7 +13,7 @@ mod tokens;
 mod verbs;
 mod words;
 
-pub use jobs::{JobLine, read_job_line};
+pub use jobs::{JobLine, read_job_line, read_split};
 pub use last::{last_line_text, usage_text};
 pub use laws::{answers_are_lines, last_lines_are_lines, spelled_is_read};
 pub use reader::read_line;
