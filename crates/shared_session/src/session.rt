@@ -2,9 +2,10 @@
 ghost use Rattle.std.specs.Prelude.{◌≡◌, ◌<◌, [], ◌∷◌, IfOk, IfErr, map, vec_len};
 ghost use Rattle.lock_workers.specs.Workers.{IsShared};
 ghost use Rattle.shared_steps.specs.declared.shared.StepRecord.TheVariants.{Began};
-ghost use Rattle.shared_steps.specs.Histories.{records_of, turns_of};
+ghost use Rattle.shared_steps.specs.Histories.{Goes, records_of, turns_of};
 ghost use Rattle.shared_steps.specs.Orders.{StepFits, step_number};
 ghost use Rattle.script_run.specs.Run.{Run};
+ghost use Rattle.cache_replay.specs.OneLine.{AnswersLine};
 ghost use Rattle.cache_replay.specs.Plays.{Plays};
 ghost use Rattle.cache_replay.specs.Session.{AreLater, IsSession, devices_of, return_in};
 ghost use Rattle.shared_session.specs.Runs.{RunsOn};
@@ -71,6 +72,8 @@ pub fn share_session<
 ) -> Result<Answered<SharedSession<S>>, (AllocError, SharedSession<S>)>
     requires session { IsSession shared.session }
     requires few { vec_len jobs < 64 }
+    ensures goes { IfOk result (λ r. Goes (λ old step new said. AnswersLine step.step old.session
+        new.session said) shared (records_of (turns_of r.rows.items)) r.state) }
     ensures runs { IfOk result (λ r. (run : Run) → Plays run shared.session
         → RunsOn run (records_of (turns_of r.rows.items)) r.state) }
     ensures order { IfOk result (λ r. IsShared step_number StepFits (Began shared ∷ [])
