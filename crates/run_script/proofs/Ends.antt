@@ -56,7 +56,7 @@ not_same old older count is same =
     absurd (omega (arith, more, ap length same))
 
 -- a read that failed was made where nothing was decided
-holds_none : (given : ℕ) (before : List ℕ) (more old now : List SourceRead) (count : ℕ) → now ≡ more ++ old → LastReadFailed old now count → AreNeeded given before more → IsDecided given (text_after before more) → ⊥
+pub holds_none : (given : ℕ) (before : List ℕ) (more old now : List SourceRead) (count : ℕ) → now ≡ more ++ old → LastReadFailed old now count → AreNeeded given before more → IsDecided given (text_after before more) → ⊥
 holds_none given before [] old now count grew failed needed = λ decided. not_same old failed.older count (sym grew ∙ failed.is) failed.others
 holds_none given before (GaveBytes bytes ∷ more) old now count grew failed needed = let no : GaveBytes bytes ∷ (more ++ old) ≡ RefusedRead count ∷ failed.older = sym grew ∙ failed.is in absurd cc
 holds_none given before (CameToEnd ∷ more) old now count grew failed needed = let no : CameToEnd ∷ (more ++ old) ≡ RefusedRead count ∷ failed.older = sym grew ∙ failed.is in absurd cc

@@ -1,0 +1,3 @@
+pub mod JobSteps
+pub mod Lanes
+pub mod Read

@@ -1,0 +1,4 @@
+pub mod Owned
+pub mod Lanes
+pub mod Asked
+pub mod Reading
