@@ -5,5 +5,5 @@ pub mod Ends
 pub mod Tops
 mod Witnesses
 pub mod Steady
-mod Commands
+pub mod Commands
 pub mod Inspecting

@@ -1,0 +1,9 @@
+pub mod BeforeSplit
+pub mod Ending
+pub mod Taking
+pub mod Running
+pub mod Printing
+pub mod Rows
+pub mod Concluding
+pub mod Finishing
+pub mod Unread
