@@ -17,6 +17,6 @@ mod switch_lines;
 mod writer_lines;
 
 pub use beginning::{begin, close, plays_reach};
-pub use session::{Replay, Session};
+pub use session::{Bare, Replay, Session};
 pub use stepping::{has_cache, in_session, step, takes_actors};
 pub use stop::Stop;

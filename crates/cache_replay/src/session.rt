@@ -1,5 +1,5 @@
 // A session: a cache on a device, and the actors of the script with what they have.
-ghost use Rattle.std.specs.Prelude.{◌≤◌};
+ghost use Rattle.std.specs.Prelude.{◌≡◌, ◌≤◌};
 
 use actor_table::Actors;
 use cache_calls::Calls;
@@ -23,9 +23,27 @@ pub struct Replay<D: Disk, S: Calls> {
     pub(crate) bare: Option<Bare<D>>,
 }
 
+impl<D: Disk, S: Calls> Replay<D, S> {
+    /// The session, and the bare device beside it.
+    pub fn into_parts(self) -> (Session<S>, Option<Bare<D>>)
+        ensures session { result.0 ≡ self.session }
+        ensures bare { result.1 ≡ self.bare }
+    {
+        (self.session, self.bare)
+    }
+
+    /// A session with the bare device that was beside it.
+    pub fn of_parts(session: Session<S>, bare: Option<Bare<D>>) -> Replay<D, S>
+        ensures session { result.session ≡ session }
+        ensures bare { result.bare ≡ bare }
+    {
+        Replay { session, bare }
+    }
+}
+
 /// A device with no session on it.
 #[derive(Drop)]
-pub(crate) struct Bare<D: Disk> {
+pub struct Bare<D: Disk> {
     pub(crate) device: D,
     // Of any device: with it the type carries what `D` tells of itself.
     ghost told: { 0 ≤ (D.state device).faults },

@@ -1,5 +1,5 @@
 // The steps of a script, whatever they are.
-ghost use Rattle.std.specs.Prelude.{◌≡◌, ◌-◌, ◌^◌, ◌<◌, ◌≤◌, ◌↔◌, true, false, length};
+ghost use Rattle.std.specs.Prelude.{◌≡◌, ◌-◌, ◌^◌, ◌<◌, ◌≤◌, ◌↔◌, is_some, true, false, length};
 ghost use Rattle.device_bay.specs.Calls.{out_of};
 ghost use Rattle.script_grammar.specs.declared.answer.StepAnswer.TheVariants as answer;
 ghost use Rattle.script_grammar.specs.declared.step.Step.TheVariants as step;
@@ -25,6 +25,7 @@ use crate::writer_lines::{abort_line, close_line, data_line, open_write_line};
 use cache_calls::{Calls, Formats, Powered, SwitchOrder};
 use device_bay::Bay;
 use device_log::CutChoice;
+use logged_disk::Disk;
 use script_grammar::{Refused, Step, StepAnswer};
 
 /// Does a step, and says what came of it.
@@ -114,11 +115,11 @@ fn now_line<S: Calls>(session: &mut Session<S>, moment: u64) -> StepAnswer
     StepAnswer::Now { moment }
 }
 
-/// Whether there is a cache: a format began one, and it stands.
-pub fn has_cache<S: Calls>(session: &Session<S>) -> bool
-    ensures { (result ≡ false) ↔ (devices_of session.entry.now ≡ 0) }
+/// Whether there is a cache: a format began one, and no cut ended its session.
+pub fn has_cache<D: Disk, S: Calls>(replay: &Replay<D, S>) -> bool
+    ensures { result ≡ is_some replay.now.session.part }
 {
-    session.part.is_some()
+    replay.session.part.is_some()
 }
 
 /// Whether an actor more may have its first step.

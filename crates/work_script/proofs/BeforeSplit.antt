@@ -12,7 +12,7 @@ use Rattle.script_grammar.specs.declared.step.Step.{Step}
 use Rattle.script_grammar.specs.Grammar.{reading_of}
 use Rattle.script_lang.specs.Jobs.{split_of}
 use Rattle.script_run.specs.Run.{Harm, Run}
-use Rattle.script_run.specs.Behind.{harm_of}
+use Rattle.script_run.specs.Behind.{own_harm}
 use Rattle.script_run.specs.Ledger.{Ledger}
 use Rattle.cache_replay.specs.declared.stop.Stop.TheVariants as stop
 use Rattle.run_promise.specs.Outline.{Outline, told_of}
@@ -92,7 +92,7 @@ module _ (bay : Refusals) (first now : List SourceRead) (old new : List SinkWrit
 
 -- a line that is not in the grammar
 module _ (first now : List SourceRead) (taken_first taken : List SinkWrite) (ledger_first ledger : Ledger) (unread : List ℕ) (given : ℕ) (Outlined : Outline → Type 0) (Plays' : Run → Type 0)
-    (Reached : List Harm → Type 0) (devices : ℕ) (reach : (o : Outline) → Outlined o → Reached (told_of o.session)) (reach_run : (run : Run) → Plays' run → Reached (harm_of run.calls run.state))
+    (Reached : List Harm → Type 0) (devices : ℕ) (reach : (o : Outline) → Outlined o → Reached (told_of o.session)) (reach_run : (run : Run) → Plays' run → Reached (own_harm run))
     (story : GoesOn first taken_first ledger_first now unread given taken ledger Outlined Plays') where
   pub bad_before : (bytes unread' : List ℕ) (given' : ℕ) → GivesLine given unread bytes unread' → given' ≡ given + 1 → (bay : Refusals) (bad : BadLine) → reading_before bytes ≡ Some (line.Bad bad)
       → EndsBy (BeforeBecause bay) first now taken_first taken (Owes ledger_first ledger Reached) (OwesOrGave ledger_first ledger devices Reached) (ending.Stopped (last.BadScript given' bad))

@@ -1,5 +1,5 @@
 -- What a run of `work` has come to where its script was read, and how it ends.
-use Rattle.std.proofs.Common.{◌≡◌, ℕ, ◌+◌, ◌≤◌, List, [], ◌∷◌, ◌++◌, length, Option, Some, None, refl, sym, ◌∙◌, ap, subst, inl, inr, arith, append_assoc}
+use Rattle.std.proofs.Common.{◌≡◌, ℕ, ◌+◌, ◌≤◌, false, List, [], ◌∷◌, ◌++◌, length, Some, refl, sym, ◌∙◌, ap, subst, inl, inr, arith, append_assoc}
 use Rattle.device_log.specs.Streams.{SourceRead, SinkWrite}
 use Rattle.logged_disk.specs.Device.{DeviceState as Device}
 use Rattle.edge_io.specs.Lines.{GivesLine}
@@ -9,7 +9,7 @@ use Rattle.edge_io.specs.declared.reader.TheConstants.{MAX_LINES}
 use Rattle.script_grammar.specs.declared.last_line.LastLine.{LastLine}
 use Rattle.script_grammar.specs.declared.last_line.LastLine.TheVariants as last
 use Rattle.script_run.specs.Run.{Harm, Run}
-use Rattle.script_run.specs.Behind.{harm_of}
+use Rattle.script_run.specs.Behind.{own_harm}
 use Rattle.script_run.specs.Ledger.{AreReached, Deals, Ledger}
 use Rattle.run_promise.specs.Outline.{Outline, told_of}
 use Rattle.run_promise.specs.Story.{DevicesTold, GoesOn, IsReadThrough, Owes, OwesOrGave, Refusals, SendsAll, Story}
@@ -63,7 +63,7 @@ module _ (workers : ℕ) (first old now : List SourceRead) (taken_first taken : 
     jobs = has_jobs workers split.behind split.held split.bytes unread split.splits split.next old now given a.lines unread' a.read split.counted _ (through, a.lanes);
   }
 
-  module _ (Reached : List Harm → Type 0) (devices : ℕ) (reach : (o : Outline) → Outlined o → Reached (told_of o.session)) (reach_run : (run : Run) → Plays' run → Reached (harm_of run.calls run.state)) (bay : Refusals) where
+  module _ (Reached : List Harm → Type 0) (devices : ℕ) (reach : (o : Outline) → Outlined o → Reached (told_of o.session)) (reach_run : (run : Run) → Plays' run → Reached (own_harm run)) (bay : Refusals) where
     abbrev Ends : Ending → Type 0
     Ends = EndsBy (WorkBecause workers bay now) first now taken_first taken (Owes ledger_first ledger Reached) (OwesOrGave ledger_first ledger devices Reached)
 
@@ -97,20 +97,11 @@ module _ (workers : ℕ) (first old now : List SourceRead) (taken_first taken : 
 
     -- or there is a job, and no cache
     pub lacks_cache : (unread' : List ℕ) (given' number : ℕ) (asked : Asked) → AreAsked workers given unread old now unread' given' asked → IsReadThrough now unread' → asked.first ≡ Some number
-        → ((o : Outline) → Outlined o → o.session ≡ None) → Ends (ending.Stopped (last.NoCache number))
+        → ((o : Outline) → Outlined o → o.stands ≡ false) → Ends (ending.Stopped (last.NoCache number))
     lacks_cache unread' given' number asked a through some none =
         stopped (last.NoCache number) a.read.more a.read.grew
         (λ o out. inr (has_jobs workers split.behind split.held split.bytes unread split.splits split.next old now given a.lines unread' a.read split.counted (BehindBecause workers split.behind now o (last.NoCache number))
         (record { through = through; first = subst (λ (n : ℕ). first_job workers n a.lines ≡ Some number) split.counted (sym a.first ∙ some); none = none o out })))
-
--- without a device there is no session in the outline
-none_told : (told : Option Harm) (devices : List Device) → length devices ≡ 0 → AreReached (told_of told) devices → told ≡ None
-none_told None devices none h = refl
-none_told (Some harm) [] none h = absurd h
-none_told (Some harm) (d ∷ devices) none h = absurd (omega arith)
-
-pub no_session : (o : Outline) (devices : List Device) → length devices ≡ 0 → AreReached (told_of o.session) devices → o.session ≡ None
-no_session o devices none h = none_told o.session devices none h
 
 -- ---- the same ends in other words
 

@@ -7,9 +7,10 @@ use Rattle.device_bay.specs.Calls.{BayCall}
 use Rattle.cache_calls.specs.declared.calls.Calls.{Ghosts as CallsGhosts}
 use Rattle.script_run.specs.Run.{Harm, loosened}
 use Rattle.script_run.specs.Ledger.{AreReached, ComeBack, Deals, Ledger, ledger_behind}
-use Rattle.cache_replay.specs.declared.session.Session.{Session}
-use Rattle.cache_replay.specs.Session.{AreLater, IsSession, devices_of, return_in}
-use Rattle.cache_replay.specs.Plays.{IsOutlined, Plays}
+use Rattle.logged_disk.specs.declared.device.Disk.{Ghosts as DiskGhosts}
+use Rattle.cache_replay.specs.declared.session.Replay.{Replay}
+use Rattle.cache_replay.specs.Replay.{IsReplay, devices_in, returns_in, IsOutlined, PlaysOn}
+use Rattle.cache_replay.specs.Session.{AreLater}
 use Rattle.cache_replay.proofs.Outlines.{reached_later}
 use Rattle.run_promise.specs.declared.status.Status.{Status}
 use Rattle.run_promise.specs.Story.{DevicesTold, Owes, OwesOrGave, Refusals, SendsAll, own_loosened}
@@ -63,49 +64,53 @@ has_with workers given held Here Here' f h = record {
 
 -- ---- the session's device came back
 
-module _ {S W R : Type 0} {c : CallsGhosts S W R} (workers : ℕ) (first read : List SourceRead) (old mid new : List SinkWrite) (bay : Refusals) (before closed : Ledger) (past : List BayCall) (last : Session S W R c) (is_last : IsSession last)
-    (back : (harms : List Harm) → AreReached harms (return_in last) → ComeBack (ledger_behind past).returned closed.returned harms) (names : closed.names ≡ (ledger_behind past).names) where
+module _ {D S W R : Type 0} {d : DiskGhosts D} {c : CallsGhosts S W R} (workers : ℕ) (first read : List SourceRead) (old mid new : List SinkWrite) (bay : Refusals) (before closed : Ledger) (past : List BayCall) (last : Replay D S W R d c) (is_last : IsReplay last)
+    (back : (harms : List Harm) → AreReached harms (returns_in last) → ComeBack (ledger_behind past).returned closed.returned harms) (names : closed.names ≡ (ledger_behind past).names) where
   -- a run that ended before its jobs were done
   pub finish_early : (e : Ending) → IsOfRun e
-      → EndsBy (WorkBecause workers bay read) first read old mid (Owes before (ledger_behind past) (λ harms. AreReached harms (return_in last))) (OwesOrGave before (ledger_behind past) (devices_of last) (λ harms. AreReached harms (return_in last))) e
+      → EndsBy (WorkBecause workers bay read) first read old mid (Owes before (ledger_behind past) (λ harms. AreReached harms (returns_in last))) (OwesOrGave before (ledger_behind past) (devices_in last) (λ harms. AreReached harms (returns_in last))) e
       → EndsBy (WorkBecause workers bay read) first read old mid (EachBack before closed) (EachBackOrMore before closed) e
   finish_early e begun ends =
-      let settle : (t : DevicesTold) → Owes before (ledger_behind past) (λ harms. AreReached harms (return_in last)) t → EachBack before closed t =
+      let settle : (t : DevicesTold) → Owes before (ledger_behind past) (λ harms. AreReached harms (returns_in last)) t → EachBack before closed t =
       λ t owes. Deals-settled _ _ _ t.ended _ t.names owes.deals (back t.own owes.reached) names in
-      ends_with (WorkBecause workers bay read) (WorkBecause workers bay read) (λ held given o w b. b) first read old mid (Owes before (ledger_behind past) (λ harms. AreReached harms (return_in last))) (EachBack before closed)
-      (OwesOrGave before (ledger_behind past) (devices_of last) (λ harms. AreReached harms (return_in last))) (EachBackOrMore before closed) settle
+      ends_with (WorkBecause workers bay read) (WorkBecause workers bay read) (λ held given o w b. b) first read old mid (Owes before (ledger_behind past) (λ harms. AreReached harms (returns_in last))) (EachBack before closed)
+      (OwesOrGave before (ledger_behind past) (devices_in last) (λ harms. AreReached harms (returns_in last))) (EachBackOrMore before closed) settle
       (λ held given t. wants_settled before _ closed _ _ held given t settle (λ none gave. gave_settled last _ _ _ held given t back names none gave)) e ends
 
-  module _ (session : Session S W R c) (is : IsSession session) (lanes : List Lane)
-      (comes : ComesToJobs workers first old before read mid (ledger_behind past) (λ o. IsOutlined o session) (λ run. Plays run session) lanes) where
+  module _ (session : Replay D S W R d c) (is : IsReplay session) (same : last.bare ≡ session.bare) (lanes : List Lane)
+      (comes : ComesToJobs workers first old before read mid (ledger_behind past) (λ o. IsOutlined o session) (λ run. PlaysOn run session) lanes) where
+    -- what holds of the replay before them holds beside what is bare behind them
+    beside_last : (P : Replay D S W R d c → Type 0) → P session → P (record { session = session.session; bare = last.bare })
+    beside_last P h = subst (λ b. P (record { session = session.session; bare = b })) (sym same) h
+
     -- or behind them
-    pub finish_turns : (turns : List WorkTurn) → length lanes ≡ workers → TakesTurns session turns last → AreUnder 1 lanes turns → AreWorkers workers turns
+    pub finish_turns : (turns : List WorkTurn) → length lanes ≡ workers → TakesTurns session.session turns last.session → AreUnder 1 lanes turns → AreWorkers workers turns
         → (s : Status) → SaysTurns mid new (Some turns) s → ConcludesWork workers first read old new bay before closed s
     finish_turns turns many takes under each s says =
-        let settle : (t : DevicesTold) → Deals before (ledger_behind past) t.ended t.names → AreReached t.own (return_in last) → EachBack before closed t =
+        let settle : (t : DevicesTold) → Deals before (ledger_behind past) t.ended t.names → AreReached t.own (returns_in last) → EachBack before closed t =
         λ t deals reached. Deals-settled _ _ _ t.ended _ t.names deals (back t.own reached) names in
         let done : AreDone workers comes.given comes.held read turns =
         has_with workers comes.given comes.held _ _ (λ lines unread count here. (here.0, jobs_are workers lines turns lanes many here.1 under each)) comes.jobs in
         concludes_turns workers first read old mid new bay before closed comes.held comes.given turns done
         (story_on first read comes.held comes.given (SendsAll old mid) (SendsAll old mid) (λ t. Deals before (ledger_behind past) t.ended t.names) (λ o. IsOutlined o session) (λ o. AnswersOn o turns (EachBack before closed))
-        (λ run. Plays run session) (λ run. RunsOn run turns (EachBack before closed)) (λ out all text. text)
-        (λ o deals out. answers_on before past last is_last (EachBack before closed) settle turns session o is takes out deals)
-        (λ run deals plays. runs_on before past last is_last (EachBack before closed) settle turns session run is takes plays deals) comes.goes) s says
+        (λ run. PlaysOn run session) (λ run. RunsOn run turns (EachBack before closed)) (λ out all text. text)
+        (λ o deals out. answers_on before past last.bare last.session is_last (EachBack before closed) settle turns session.session o (beside_last IsReplay is) takes (beside_last (IsOutlined o) out) deals)
+        (λ run deals plays. runs_on before past last.bare last.session is_last (EachBack before closed) settle turns session.session run (beside_last IsReplay is) takes (beside_last (PlaysOn run) plays) deals) comes.goes) s says
 
     -- or memory was wanting for a turn
-    pub finish_short : AreLater (return_in session) (return_in last) → new ≡ mid → WantsInTurns first read old new before closed
+    pub finish_short : AreLater (returns_in session) (returns_in last) → new ≡ mid → WantsInTurns first read old new before closed
     finish_short later keeps = record {
       held = comes.held;
       given = comes.given;
-      story = still first read old mid before (ledger_behind past) comes.held comes.given _ _ (λ harms. AreReached harms (return_in session)) 0 (λ o out. out) (plays_reach session is) comes.goes
+      story = still first read old mid before (ledger_behind past) comes.held comes.given _ _ (λ harms. AreReached harms (returns_in session)) 0 (λ o out. out.reached) (plays_reach session is) comes.goes
           (SendsAll old new) (λ t. EachBack before closed (own_loosened t)) (λ o. Unit {0}) (Took-kept old mid new _ comes.goes.text keeps)
-          (λ t deals reached. Deals-settled _ _ _ t.ended _ t.names deals (back (map loosened t.own) (reached_later t.own (return_in session) (return_in last) later reached)) names)
+          (λ t deals reached. Deals-settled _ _ _ t.ended _ t.names deals (back (map loosened t.own) (reached_later t.own (returns_in session) (returns_in last) later reached)) names)
           (λ o out. tt);
     }
 
     -- whichever it was
-    pub finish : (rows : Option (Vec Row Global)) → length lanes ≡ workers → IfSome rows (λ all. TakesTurns session (turns_in all.items) last) → IfSome rows (λ all. AreUnder 1 lanes (turns_in all.items))
-        → IfSome rows (λ all. AreWorkers workers (turns_in all.items)) → AreLater (return_in session) (return_in last) → (s : Status) → SaysTurns mid new (option_map (λ all. turns_in all.items) rows) s
+    pub finish : (rows : Option (Vec Row Global)) → length lanes ≡ workers → IfSome rows (λ all. TakesTurns session.session (turns_in all.items) last.session) → IfSome rows (λ all. AreUnder 1 lanes (turns_in all.items))
+        → IfSome rows (λ all. AreWorkers workers (turns_in all.items)) → AreLater (returns_in session) (returns_in last) → (s : Status) → SaysTurns mid new (option_map (λ all. turns_in all.items) rows) s
         → ConcludesWork workers first read old new bay before closed s
     finish None many takes under each later s says =
         subst (ConcludesWork workers first read old new bay before closed) (sym says.0) (inr (inl (finish_short later says.1)))

@@ -1,5 +1,5 @@
 -- What the status of `work` says.
-use Rattle.std.specs.Prelude.{◌≡◌, ℕ, ◌+◌, ◌≤◌, ◌⊎◌, List, ◌∷◌, ◌++◌, length, None, Some, ⊤}
+use Rattle.std.specs.Prelude.{◌≡◌, ℕ, ◌+◌, false, ◌≤◌, ◌⊎◌, List, ◌∷◌, ◌++◌, length, None, Some, ⊤}
 use Rattle.device_log.specs.Streams.{SourceRead, SinkWrite}
 use Rattle.edge_io.specs.declared.reader.TheConstants.{MAX_LINES}
 use Rattle.edge_io.specs.Lines.{AreLines}
@@ -37,7 +37,7 @@ pub record HasJobs (workers given : ℕ) (held : List ℕ) (Here : List (List �
 pub record LacksCacheForJobs (workers given : ℕ) (read : List SourceRead) (o : Outline) (lines : List (List ℕ)) (unread : List ℕ) (number : ℕ) : Type 0 where
   pub through : IsReadThrough read unread
   pub first : first_job workers (given + 1) lines ≡ Some number
-  pub none : o.session ≡ None
+  pub none : o.stands ≡ false
 
 -- why a run ends behind its line `split` with this last line
 abbrev pub BehindBecause : (workers given : ℕ) → (read : List SourceRead) → Outline → LastLine → (lines : List (List ℕ)) → (unread : List ℕ) → ℕ → Type 0

@@ -3,9 +3,9 @@ use Rattle.std.specs.Prelude.{◌≡◌, ℕ, ◌≤◌, ◌⊎◌, List, [], �
 use Rattle.script_run.specs.Run.{Run}
 use Rattle.script_run.specs.Turn.{Turn}
 use Rattle.script_run.specs.Answers.{step_answer}
-use Rattle.script_run.specs.Behind.{after_step}
+use Rattle.script_run.specs.Behind.{after_step, with_calls_of}
 use Rattle.script_run.specs.Takes.{StepShows, StepTakes}
-use Rattle.run_promise.specs.Outline.{IsAnswered, Outline, doubted, outline_after, outline_in, with_calls_of}
+use Rattle.run_promise.specs.Outline.{IsAnswered, Outline, doubted, outline_after, outline_in}
 use Rattle.run_promise.specs.Story.{DevicesTold, told_by, told_by_records}
 use Rattle.job_lines.specs.Lanes.{numbered, steps_for}
 use Rattle.work_script.specs.Turns.{WorkTurn, jobs_under}

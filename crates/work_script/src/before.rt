@@ -9,8 +9,7 @@ ghost use Rattle.script_run.specs.Run.{fresh};
 ghost use Rattle.script_run.specs.Ledger.{AreReached, KeepsOrder, Ledger, ledger_of};
 ghost use Rattle.run_promise.specs.Outline.{blank_outline};
 ghost use Rattle.run_promise.specs.Story.{GoesOn, Owes, OwesOrGave, refusals_around};
-ghost use Rattle.cache_replay.specs.Session.{IsSession, devices_of, names_in, return_in};
-ghost use Rattle.cache_replay.specs.Plays.{IsOutlined, Plays};
+ghost use Rattle.cache_replay.specs.Replay.{IsReplay, devices_in, actors_in, returns_in, IsOutlined, PlaysOn};
 ghost use Rattle.cache_replay.specs.Stop.{RefusesNone};
 ghost use Rattle.run_script.specs.Ending.{FailedReads, IsOfRun, is_bay_ending};
 ghost use Rattle.work_script.specs.Before.{BeforeBecause, ComesToSplit, EndsBy};
@@ -18,7 +17,7 @@ ghost use Rattle.work_script.specs.Working.{GoesOrSplits};
 
 use crate::lines::{Reading, next_reading};
 use cache_calls::{Formats, Powered};
-use cache_replay::Session;
+use cache_replay::Replay;
 use device_bay::Bay;
 use edge_io::{LineReader, MAX_LINES, Sink, Source};
 use run_script::{Ending, ending_of, last_of, take_step};
@@ -38,39 +37,39 @@ fn line<S: Source, K: Sink, B: Bay, C: Formats<B::Dev> + Powered>(
     reader: &mut LineReader<'_, S>,
     sink: &mut K,
     bay: &mut B,
-    session: &mut Session<C>,
+    replay: &mut Replay<B::Dev, C>,
 ) -> Result<Next, Ending>
-    requires session { IsSession session.old }
-    requires held { devices_of session.old ≤ out_of (B.past bay.old) }
-    requires few { length (names_in session.old) ≤ lines_given reader.old }
+    requires replay { IsReplay replay.old }
+    requires held { devices_in replay.old ≤ out_of (B.past bay.old) }
+    requires few { length (actors_in replay.old) ≤ lines_given reader.old }
     ensures goes { IfOk result (λ next. (first : List SourceRead) (told : List SinkWrite) (back : Ledger)
         → GoesOn first told back (S.reads (source_of reader.old).now) (held reader.old)
         (lines_given reader.old) (K.writes sink.old) (ledger_of B.Bay bay.old)
-        (λ o. IsOutlined o session.old) (λ run. Plays run session.old)
+        (λ o. IsOutlined o replay.old) (λ run. PlaysOn run replay.old)
         → GoesOrSplits first told back (S.reads (source_of reader.new).now) (held reader.new)
         (lines_given reader.new) (K.writes sink.new) (ledger_of B.Bay bay.new)
-        (λ o. IsOutlined o session.new) (λ run. Plays run session.new) next) }
+        (λ o. IsOutlined o replay.new) (λ run. PlaysOn run replay.new) next) }
     ensures ends { IfErr result (λ ending. (first : List SourceRead) (told : List SinkWrite)
         (back : Ledger) → GoesOn first told back (S.reads (source_of reader.old).now)
         (held reader.old) (lines_given reader.old) (K.writes sink.old) (ledger_of B.Bay bay.old)
-        (λ o. IsOutlined o session.old) (λ run. Plays run session.old)
+        (λ o. IsOutlined o replay.old) (λ run. PlaysOn run replay.old)
         → EndsBy (BeforeBecause (refusals_around (refusals_of (B.past bay.old)) (refusals_of (B.past bay.new)))) first (S.reads (source_of reader.new).now) told (K.writes sink.new)
         (Owes back (ledger_of B.Bay bay.new)
-        (λ harms. AreReached harms (return_in session.new)))
-        (OwesOrGave back (ledger_of B.Bay bay.new) (devices_of session.new)
-        (λ harms. AreReached harms (return_in session.new))) ending) }
+        (λ harms. AreReached harms (returns_in replay.new)))
+        (OwesOrGave back (ledger_of B.Bay bay.new) (devices_in replay.new)
+        (λ harms. AreReached harms (returns_in replay.new))) ending) }
     ensures begun { IfErr result IsOfRun }
     ensures reads { MatchResult result (λ _. NoReadFailed (S.reads (source_of reader.old).now) (S.reads (source_of reader.new).now))
         (FailedReads (S.reads (source_of reader.old).now) (S.reads (source_of reader.new).now)) }
     ensures nearer { OnOk result ((lines_given reader.old < MAX_LINES) × (lines_given reader.new ≡ lines_given reader.old + 1)) }
-    ensures session { IsSession session.new }
-    ensures few { OnOk result (length (names_in session.new) ≤ lines_given reader.new) }
+    ensures replay { IsReplay replay.new }
+    ensures few { OnOk result (length (actors_in replay.new) ≤ lines_given reader.new) }
     ensures source { (source_of reader.new).ghost_name ≡ (source_of reader.old).ghost_name }
-    ensures out { out_of (B.past bay.new) + devices_of session.old ≡ out_of (B.past bay.old) + devices_of session.new }
+    ensures out { out_of (B.past bay.new) + devices_in replay.old ≡ out_of (B.past bay.old) + devices_in replay.new }
     ensures draws { Draws S.reads S.left (source_of reader.old).now (source_of reader.new).now }
     ensures sink { Grows (K.writes sink.old) (K.writes sink.new) }
-    ensures order { KeepsOrder (return_in session.old) (B.past bay.old)
-        (return_in session.new) (B.past bay.new) }
+    ensures order { KeepsOrder (returns_in replay.old) (B.past bay.old)
+        (returns_in replay.new) (B.past bay.new) }
     ensures refusals { MatchResult result (λ _. RefusesNone (B.past bay.old) (B.past bay.new))
         (λ ending. is_bay_ending ending ≡ false → RefusesNone (B.past bay.old) (B.past bay.new)) }
 {
@@ -85,7 +84,7 @@ fn line<S: Source, K: Sink, B: Bay, C: Formats<B::Dev> + Powered>(
             fault,
         })),
         Reading::Line(LineAnswer::Step(asked)) => match take_step(
-            alloc, sink, bay, session, asked,
+            alloc, sink, bay, replay, asked,
         ) {
             Ok(()) => Ok(Next::Line),
             Err(halt) => Err(ending_of(reader.lines_given(), halt)),
@@ -99,43 +98,43 @@ pub(crate) fn run_before<S: Source, K: Sink, B: Bay, C: Formats<B::Dev> + Powere
     reader: &mut LineReader<'_, S>,
     sink: &mut K,
     bay: &mut B,
-    session: &mut Session<C>,
+    replay: &mut Replay<B::Dev, C>,
 ) -> Result<(), Ending>
     requires given { lines_given reader.old ≡ 0 }
     requires held { held reader.old ≡ [] }
-    requires session { IsSession session.old }
-    requires fresh { Plays fresh session.old }
-    requires blank { IsOutlined blank_outline session.old }
-    requires none { devices_of session.old ≡ 0 }
-    requires names { names_in session.old ≡ [] }
+    requires replay { IsReplay replay.old }
+    requires fresh { PlaysOn fresh replay.old }
+    requires blank { IsOutlined blank_outline replay.old }
+    requires none { devices_in replay.old ≡ 0 }
+    requires names { actors_in replay.old ≡ [] }
     ensures splits { OnOk result (ComesToSplit (S.reads (source_of reader.old).now) (K.writes sink.old) (ledger_of B.Bay bay.old)
         (S.reads (source_of reader.new).now) (held reader.new) (lines_given reader.new) (K.writes sink.new) (ledger_of B.Bay bay.new)
-        (λ o. IsOutlined o session.new) (λ run. Plays run session.new)) }
+        (λ o. IsOutlined o replay.new) (λ run. PlaysOn run replay.new)) }
     ensures ends { IfErr result (EndsBy
         (BeforeBecause (refusals_around (refusals_of (B.past bay.old)) (refusals_of (B.past bay.new))))
         (S.reads (source_of reader.old).now) (S.reads (source_of reader.new).now)
         (K.writes sink.old) (K.writes sink.new)
         (Owes (ledger_of B.Bay bay.old) (ledger_of B.Bay bay.new)
-        (λ harms. AreReached harms (return_in session.new)))
-        (OwesOrGave (ledger_of B.Bay bay.old) (ledger_of B.Bay bay.new) (devices_of session.new)
-        (λ harms. AreReached harms (return_in session.new)))) }
+        (λ harms. AreReached harms (returns_in replay.new)))
+        (OwesOrGave (ledger_of B.Bay bay.old) (ledger_of B.Bay bay.new) (devices_in replay.new)
+        (λ harms. AreReached harms (returns_in replay.new)))) }
     ensures begun { IfErr result IsOfRun }
     ensures reads { MatchResult result (λ _. NoReadFailed (S.reads (source_of reader.old).now) (S.reads (source_of reader.new).now))
         (FailedReads (S.reads (source_of reader.old).now) (S.reads (source_of reader.new).now)) }
-    ensures session { IsSession session.new }
-    ensures few { OnOk result (length (names_in session.new) ≤ lines_given reader.new) }
+    ensures replay { IsReplay replay.new }
+    ensures few { OnOk result (length (actors_in replay.new) ≤ lines_given reader.new) }
     ensures within { OnOk result (lines_given reader.new ≤ MAX_LINES) }
     ensures source { (source_of reader.new).ghost_name ≡ (source_of reader.old).ghost_name }
-    ensures out { out_of (B.past bay.new) ≡ out_of (B.past bay.old) + devices_of session.new }
+    ensures out { out_of (B.past bay.new) ≡ out_of (B.past bay.old) + devices_in replay.new }
     ensures draws { Draws S.reads S.left (source_of reader.old).now (source_of reader.new).now }
     ensures sink { Grows (K.writes sink.old) (K.writes sink.new) }
-    ensures order { KeepsOrder (return_in session.old) (B.past bay.old)
-        (return_in session.new) (B.past bay.new) }
+    ensures order { KeepsOrder (returns_in replay.old) (B.past bay.old)
+        (returns_in replay.new) (B.past bay.new) }
     ensures refusals { MatchResult result (λ _. RefusesNone (B.past bay.old) (B.past bay.new))
         (λ ending. is_bay_ending ending ≡ false → RefusesNone (B.past bay.old) (B.past bay.new)) }
 {
     'lines: loop {
-        match line(alloc, reader, sink, bay, session) {
+        match line(alloc, reader, sink, bay, replay) {
             Ok(Next::Line) => {}
             Ok(Next::Jobs) => return Ok(()),
             Err(ending) => return Err(ending),

@@ -1,5 +1,6 @@
 // The jobs of workers, on a session.
 ghost use Rattle.std.specs.Prelude.{◌≡◌, ◌<◌, IfSome, map, vec_len};
+ghost use Rattle.cache_replay.specs.Replay.{IsReplay, devices_in, returns_in};
 ghost use Rattle.cache_replay.specs.Session.{AreLater, IsSession, devices_of, return_in};
 ghost use Rattle.job_lines.specs.Lanes.{lane_of};
 ghost use Rattle.work_script.specs.Jobs.{AreWorkers};
@@ -8,8 +9,9 @@ ghost use Rattle.work_script.specs.Turns.{AreSaid, turns_in};
 
 use crate::turns::{Row, are_said};
 use cache_calls::Calls;
-use cache_replay::Session;
+use cache_replay::{Replay, Session};
 use lock_workers::Gate;
+use logged_disk::Disk;
 use shared_session::{JobStep, SharedSession, share_session};
 use shared_steps::{Answered, StepJob};
 use std::alloc::Global;
@@ -18,7 +20,7 @@ use std::thread::Threads;
 
 /// Lets workers do their jobs on a session, each as a turn; the turns are there where there was
 /// memory for all of them.
-pub(crate) fn do_jobs<
+fn do_jobs<
     V: Drop + Send,
     R: Drop + Send,
     C: Calls<Writer = V, Reader = R> + Send,
@@ -55,4 +57,37 @@ pub(crate) fn do_jobs<
             (session, None)
         }
     }
+}
+
+/// Lets workers do their jobs on the session of a replay, as `do_jobs` does.
+pub(crate) fn do_jobs_beside<
+    D: Disk,
+    V: Drop + Send,
+    R: Drop + Send,
+    C: Calls<Writer = V, Reader = R> + Send,
+    H: Threads + Wait + Sync,
+    G: Gate + Sync,
+>(
+    rt: &H,
+    alloc: Global,
+    replay: Replay<D, C>,
+    lanes: Vec<Vec<StepJob<JobStep>>>,
+    gate: &G,
+) -> (Replay<D, C>, Option<Vec<Row>>)
+    requires replay { IsReplay replay }
+    requires few { vec_len lanes < 64 }
+    ensures takes { IfSome result.1 (λ rows.
+        TakesTurns replay.session (turns_in rows.items) result.0.session) }
+    ensures bare { result.0.bare ≡ replay.bare }
+    ensures said { IfSome result.1 (λ rows. AreSaid rows.items) }
+    ensures order { IfSome result.1 (λ rows.
+        AreUnder 1 (map lane_of (map (λ lane. lane.items) lanes.items)) (turns_in rows.items)) }
+    ensures workers { IfSome result.1 (λ rows. AreWorkers (vec_len lanes) (turns_in rows.items)) }
+    ensures replay { IsReplay result.0 }
+    ensures device { AreLater (returns_in replay) (returns_in result.0) }
+    ensures devices { devices_in result.0 ≡ devices_in replay }
+{
+    let (session, bare) = replay.into_parts();
+    let (session, rows) = do_jobs(rt, alloc, session, lanes, gate);
+    (Replay::of_parts(session, bare), rows)
 }

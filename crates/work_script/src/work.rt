@@ -1,5 +1,5 @@
 // A run of `work`: the lines before the jobs, the jobs, and what is printed of them.
-ghost use Rattle.std.specs.Prelude.{◌≡◌, ◌≢◌, ◌⊎◌, ◌+◌, ◌≤◌, [], false, Some, None, IfNone, length, IfOk, IfErr, IfSome, MatchResult, option_map, vec_len};
+ghost use Rattle.std.specs.Prelude.{◌≡◌, ◌≢◌, ◌⊎◌, ◌+◌, ◌≤◌, [], true, false, is_some, Some, None, IfNone, length, IfOk, IfErr, IfSome, MatchResult, option_map, vec_len};
 ghost use Rattle.edge_io.specs.Source.{Draws, NoReadFailed};
 ghost use Rattle.edge_io.specs.Sink.{Grows};
 ghost use Rattle.edge_io.specs.LineReader.{held, lines_given, source_of};
@@ -9,8 +9,7 @@ ghost use Rattle.script_run.specs.Ledger.{AreReached, InOrder, KeepsOrder, ledge
 ghost use Rattle.run_promise.specs.Outline.{blank_outline};
 ghost use Rattle.run_promise.specs.Story.{Owes, OwesOrGave, refusals_around};
 ghost use Rattle.run_promise.specs.Top.{AttachesRefused, ComeBackSteady, ReadsFailed};
-ghost use Rattle.cache_replay.specs.Session.{IsSession, devices_of, names_in, return_in};
-ghost use Rattle.cache_replay.specs.Plays.{IsOutlined, Plays};
+ghost use Rattle.cache_replay.specs.Replay.{IsReplay, devices_in, actors_in, returns_in, IsOutlined, PlaysOn};
 ghost use Rattle.cache_replay.specs.Stop.{RefusesNone};
 ghost use Rattle.run_script.specs.Ending.{FailedReads, IsOfRun, is_bay_ending};
 ghost use Rattle.job_lines.specs.Asked.{lanes_in};
@@ -20,14 +19,15 @@ ghost use Rattle.work_script.specs.Printing.{Says, SaysTurns};
 ghost use Rattle.work_script.specs.Ending.{ComesToJobs, ConcludesWork, WorkBecause};
 
 use crate::before::run_before;
-use crate::jobs::do_jobs;
+use crate::jobs::do_jobs_beside;
 use crate::turns::{Row, print_turns};
 use cache_calls::{Calls, Formats, Powered};
-use cache_replay::{Session, begin, close, has_cache};
+use cache_replay::{Replay, begin, close, has_cache};
 use device_bay::Bay;
 use edge_io::{LineBuffer, LineReader, Sink, Source};
 use job_lines::{Asked, read_jobs};
 use lock_workers::Gate;
+use logged_disk::Disk;
 use run_promise::Status;
 use run_script::{Ending, conclude};
 use script_grammar::LastLine;
@@ -36,12 +36,12 @@ use std::sync::Wait;
 use std::thread::Threads;
 
 /// The line of the first job, where there is one and no cache.
-fn uncached<C: Calls>(asked: &Asked, session: &Session<C>) -> Option<u64>
-    ensures some { IfSome result (λ line. (asked.now.first ≡ Some line) × (devices_of session.entry.now ≡ 0)) }
-    ensures none { IfNone result ((asked.now.first ≡ None) ⊎ (devices_of session.entry.now ≢ 0)) }
+fn uncached<D: Disk, C: Calls>(asked: &Asked, replay: &Replay<D, C>) -> Option<u64>
+    ensures some { IfSome result (λ line. (asked.now.first ≡ Some line) × (is_some replay.now.session.part ≡ false)) }
+    ensures none { IfNone result ((asked.now.first ≡ None) ⊎ (is_some replay.now.session.part ≡ true)) }
 {
     match asked.first {
-        Some(line) if !has_cache(session) => Some(line),
+        Some(line) if !has_cache(replay) => Some(line),
         _ => None,
     }
 }
@@ -53,47 +53,47 @@ fn read_script<S: Source, K: Sink, B: Bay, C: Formats<B::Dev> + Powered>(
     reader: &mut LineReader<'_, S>,
     sink: &mut K,
     bay: &mut B,
-    session: &mut Session<C>,
+    replay: &mut Replay<B::Dev, C>,
 ) -> Result<Asked, Ending>
     requires few { workers ≤ 16 }
     requires given { lines_given reader.old ≡ 0 }
     requires held { held reader.old ≡ [] }
-    requires session { IsSession session.old }
-    requires fresh { Plays fresh session.old }
-    requires blank { IsOutlined blank_outline session.old }
-    requires none { devices_of session.old ≡ 0 }
-    requires names { names_in session.old ≡ [] }
+    requires replay { IsReplay replay.old }
+    requires fresh { PlaysOn fresh replay.old }
+    requires blank { IsOutlined blank_outline replay.old }
+    requires none { devices_in replay.old ≡ 0 }
+    requires names { actors_in replay.old ≡ [] }
     ensures comes { IfOk result (λ asked. ComesToJobs workers (S.reads (source_of reader.old).now) (K.writes sink.old) (ledger_of B.Bay bay.old)
         (S.reads (source_of reader.new).now) (K.writes sink.new) (ledger_of B.Bay bay.new)
-        (λ o. IsOutlined o session.new) (λ run. Plays run session.new) (lanes_in asked)) }
+        (λ o. IsOutlined o replay.new) (λ run. PlaysOn run replay.new) (lanes_in asked)) }
     ensures width { IfOk result (λ asked. vec_len asked.lanes ≡ workers) }
     ensures ends { IfErr result (EndsBy
         (WorkBecause workers (refusals_around (refusals_of (B.past bay.old)) (refusals_of (B.past bay.new))) (S.reads (source_of reader.new).now))
         (S.reads (source_of reader.old).now) (S.reads (source_of reader.new).now)
         (K.writes sink.old) (K.writes sink.new)
         (Owes (ledger_of B.Bay bay.old) (ledger_of B.Bay bay.new)
-        (λ harms. AreReached harms (return_in session.new)))
-        (OwesOrGave (ledger_of B.Bay bay.old) (ledger_of B.Bay bay.new) (devices_of session.new)
-        (λ harms. AreReached harms (return_in session.new)))) }
+        (λ harms. AreReached harms (returns_in replay.new)))
+        (OwesOrGave (ledger_of B.Bay bay.old) (ledger_of B.Bay bay.new) (devices_in replay.new)
+        (λ harms. AreReached harms (returns_in replay.new)))) }
     ensures begun { IfErr result IsOfRun }
     ensures reads { MatchResult result (λ _. NoReadFailed (S.reads (source_of reader.old).now) (S.reads (source_of reader.new).now))
         (FailedReads (S.reads (source_of reader.old).now) (S.reads (source_of reader.new).now)) }
-    ensures session { IsSession session.new }
+    ensures replay { IsReplay replay.new }
     ensures source { (source_of reader.new).ghost_name ≡ (source_of reader.old).ghost_name }
-    ensures out { out_of (B.past bay.new) ≡ out_of (B.past bay.old) + devices_of session.new }
+    ensures out { out_of (B.past bay.new) ≡ out_of (B.past bay.old) + devices_in replay.new }
     ensures draws { Draws S.reads S.left (source_of reader.old).now (source_of reader.new).now }
     ensures sink { Grows (K.writes sink.old) (K.writes sink.new) }
-    ensures order { KeepsOrder (return_in session.old) (B.past bay.old)
-        (return_in session.new) (B.past bay.new) }
+    ensures order { KeepsOrder (returns_in replay.old) (B.past bay.old)
+        (returns_in replay.new) (B.past bay.new) }
     ensures refusals { MatchResult result (λ _. RefusesNone (B.past bay.old) (B.past bay.new))
         (λ ending. is_bay_ending ending ≡ false → RefusesNone (B.past bay.old) (B.past bay.new)) }
 {
-    match run_before(alloc, reader, sink, bay, session) {
+    match run_before(alloc, reader, sink, bay, replay) {
         Ok(()) => {}
         Err(ending) => return Err(ending),
     }
     match read_jobs(alloc, workers, reader) {
-        Ok(asked) => match uncached(&asked, session) {
+        Ok(asked) => match uncached(&asked, replay) {
             Some(line) => Err(Ending::Stopped(LastLine::NoCache { line })),
             None => Ok(asked),
         },
@@ -108,34 +108,34 @@ fn begin_work<S: Source, K: Sink, B: Bay, C: Formats<B::Dev> + Powered>(
     source: &mut S,
     sink: &mut K,
     bay: &mut B,
-    session: &mut Session<C>,
+    replay: &mut Replay<B::Dev, C>,
 ) -> Result<Asked, Ending>
     requires few { workers ≤ 16 }
-    requires session { IsSession session.old }
-    requires fresh { Plays fresh session.old }
-    requires blank { IsOutlined blank_outline session.old }
-    requires none { devices_of session.old ≡ 0 }
-    requires names { names_in session.old ≡ [] }
+    requires replay { IsReplay replay.old }
+    requires fresh { PlaysOn fresh replay.old }
+    requires blank { IsOutlined blank_outline replay.old }
+    requires none { devices_in replay.old ≡ 0 }
+    requires names { actors_in replay.old ≡ [] }
     ensures comes { IfOk result (λ asked. ComesToJobs workers (S.reads source.old) (K.writes sink.old)
         (ledger_of B.Bay bay.old) (S.reads source.new) (K.writes sink.new) (ledger_of B.Bay bay.new)
-        (λ o. IsOutlined o session.new) (λ run. Plays run session.new) (lanes_in asked)) }
+        (λ o. IsOutlined o replay.new) (λ run. PlaysOn run replay.new) (lanes_in asked)) }
     ensures width { IfOk result (λ asked. vec_len asked.lanes ≡ workers) }
     ensures ends { IfErr result (EndsBy
         (WorkBecause workers (refusals_around (refusals_of (B.past bay.old)) (refusals_of (B.past bay.new))) (S.reads source.new))
         (S.reads source.old) (S.reads source.new) (K.writes sink.old) (K.writes sink.new)
         (Owes (ledger_of B.Bay bay.old) (ledger_of B.Bay bay.new)
-        (λ harms. AreReached harms (return_in session.new)))
-        (OwesOrGave (ledger_of B.Bay bay.old) (ledger_of B.Bay bay.new) (devices_of session.new)
-        (λ harms. AreReached harms (return_in session.new)))) }
+        (λ harms. AreReached harms (returns_in replay.new)))
+        (OwesOrGave (ledger_of B.Bay bay.old) (ledger_of B.Bay bay.new) (devices_in replay.new)
+        (λ harms. AreReached harms (returns_in replay.new)))) }
     ensures begun { IfErr result IsOfRun }
     ensures reads { MatchResult result (λ _. NoReadFailed (S.reads source.old) (S.reads source.new))
         (FailedReads (S.reads source.old) (S.reads source.new)) }
-    ensures session { IsSession session.new }
-    ensures out { out_of (B.past bay.new) ≡ out_of (B.past bay.old) + devices_of session.new }
+    ensures replay { IsReplay replay.new }
+    ensures out { out_of (B.past bay.new) ≡ out_of (B.past bay.old) + devices_in replay.new }
     ensures source { Draws S.reads S.left source.old source.new }
     ensures sink { Grows (K.writes sink.old) (K.writes sink.new) }
-    ensures order { KeepsOrder (return_in session.old) (B.past bay.old)
-        (return_in session.new) (B.past bay.new) }
+    ensures order { KeepsOrder (returns_in replay.old) (B.past bay.old)
+        (returns_in replay.new) (B.past bay.new) }
     ensures refusals { MatchResult result (λ _. RefusesNone (B.past bay.old) (B.past bay.new))
         (λ ending. is_bay_ending ending ≡ false → RefusesNone (B.past bay.old) (B.past bay.new)) }
 {
@@ -143,7 +143,7 @@ fn begin_work<S: Source, K: Sink, B: Bay, C: Formats<B::Dev> + Powered>(
         return Err(Ending::OutOfMemory);
     };
     let mut reader = LineReader::with_buffer(source, buffer);
-    let asked = read_script(alloc, workers, &mut reader, sink, bay, session);
+    let asked = read_script(alloc, workers, &mut reader, sink, bay, replay);
     let _source = reader.into_source();
     asked
 }
@@ -210,15 +210,15 @@ pub fn run_work<
     ensures refusals { AttachesRefused (refusals_of (B.past bay.old)) (refusals_of (B.past bay.new)) result }
     ensures steady { ComeBackSteady (returned_by (B.past bay.old)) (returned_by (B.past bay.new)) }
 {
-    let mut session: Session<C> = begin(alloc);
-    match begin_work(alloc, workers, source, sink, bay, &mut session) {
+    let mut replay: Replay<B::Dev, C> = begin(alloc);
+    match begin_work(alloc, workers, source, sink, bay, &mut replay) {
         Ok(Asked { lanes, first: _ }) => {
-            let (session, rows) = do_jobs(rt, alloc, session, lanes, gate);
-            close(session, bay);
+            let (replay, rows) = do_jobs_beside(rt, alloc, replay, lanes, gate);
+            close(replay, bay);
             say_turns(alloc, sink, rows)
         }
         Err(ending) => {
-            close(session, bay);
+            close(replay, bay);
             say(alloc, sink, ending)
         }
     }

@@ -1,7 +1,7 @@
 use Rattle.std.proofs.Common.{[], refl}
 use Rattle.edge_io.specs.LineReader.{lines_given, held, source_of}
 use Rattle.edge_io.specs.Text.{text_after}
-use Rattle.cache_replay.specs.Session.{devices_of, return_in}
+use Rattle.cache_replay.specs.Replay.{devices_in, returns_in}
 use Rattle.script_run.specs.Ledger.{AreReached, ledger_of}
 use Rattle.device_bay.specs.Calls.{refusals_of}
 use Rattle.cache_replay.proofs.Order.{order_same}
@@ -20,7 +20,7 @@ returns-in-End-clause-ends g c =
     let next = c.in-End.ensures in
     let more = next.draws.more in
     let unread = text_after (held c.args.reader.now) more in
-    λ first told back story. done_ends first new told _ back _ unread given _ _ (λ harms. AreReached harms (return_in c.args.session.now)) (devices_of c.args.session.now) (λ o is. is) (plays_reach c.args.session.now c.requires.session) (read_more first old new more (held c.args.reader.now) given _ _ _ _ next.draws.grew story)
+    λ first told back story. done_ends first new told _ back _ unread given _ _ (λ harms. AreReached harms (returns_in c.args.replay.now)) (devices_in c.args.replay.now) (λ o is. is) (plays_reach c.args.replay.now c.requires.replay) (read_more first old new more (held c.args.reader.now) given _ _ _ _ next.draws.grew story)
     (refusals_around [] []) (read_through given more old new unread (held c.next_reading.new.reader) next.draws.grew next.answers)
 
 pub returns-in-Fault-clause-ends : goal.returns-in-Fault-clause-ends
@@ -33,7 +33,7 @@ returns-in-Fault-clause-ends g c =
     let unread = text_after (held c.args.reader.now) more in
     let bay = refusals_around (refusals_of (g.B.Bay.past c.args.bay.now)) (refusals_of (g.B.Bay.past c.args.bay.now)) in
     rw c.last_of.ensures
-    (λ first told back story. fault_as bay first new told _ (Owes back (ledger_of g.B.Bay c.args.bay.now) (λ harms. AreReached harms (return_in c.args.session.now))) (OwesOrGave back (ledger_of g.B.Bay c.args.bay.now) (devices_of c.args.session.now) (λ harms. AreReached harms (return_in c.args.session.now))) c.in-Fault.fault (fault_ends first new told _ back _ unread given _ _ (λ harms. AreReached harms (return_in c.args.session.now)) (devices_of c.args.session.now) (λ o is. is) (plays_reach c.args.session.now c.requires.session) (read_more first old new more (held c.args.reader.now) given _ _ _ _ next.draws.grew story)
+    (λ first told back story. fault_as bay first new told _ (Owes back (ledger_of g.B.Bay c.args.bay.now) (λ harms. AreReached harms (returns_in c.args.replay.now))) (OwesOrGave back (ledger_of g.B.Bay c.args.bay.now) (devices_in c.args.replay.now) (λ harms. AreReached harms (returns_in c.args.replay.now))) c.in-Fault.fault (fault_ends first new told _ back _ unread given _ _ (λ harms. AreReached harms (returns_in c.args.replay.now)) (devices_in c.args.replay.now) (λ o is. is) (plays_reach c.args.replay.now c.requires.replay) (read_more first old new more (held c.args.reader.now) given _ _ _ _ next.draws.grew story)
     (held c.args.reader.now) old more (held c.next_reading.new.reader) bay c.in-Fault.fault refl next.draws.grew next.needed next.failed next.answers))
 
 pub returns-in-Fault-clause-begun : goal.returns-in-Fault-clause-begun
@@ -50,7 +50,7 @@ returns-in-Memory-clause-ends g c =
     let next = c.in-Memory.ensures.1 in
     let more = next.draws.more in
     let unread = text_after (held c.args.reader.now) more in
-    λ first told back story. memory_ends first new told _ back _ unread given _ _ (λ harms. AreReached harms (return_in c.args.session.now)) (devices_of c.args.session.now) (λ o is. is) (plays_reach c.args.session.now c.requires.session) (read_more first old new more (held c.args.reader.now) given _ _ _ _ next.draws.grew story)
+    λ first told back story. memory_ends first new told _ back _ unread given _ _ (λ harms. AreReached harms (returns_in c.args.replay.now)) (devices_in c.args.replay.now) (λ o is. is) (plays_reach c.args.replay.now c.requires.replay) (read_more first old new more (held c.args.reader.now) given _ _ _ _ next.draws.grew story)
     (refusals_around [] [])
 
 pub returns-in-Line-Nothing-clause-goes : goal.returns-in-Line-Nothing-clause-goes
@@ -75,7 +75,7 @@ returns-in-Line-Bad-clause-ends g c =
     let unread = text_after (held c.args.reader.now) more in
     let bay = refusals_around (refusals_of (g.B.Bay.past c.args.bay.now)) (refusals_of (g.B.Bay.past c.args.bay.now)) in
     rw c.lines_given.ensures
-    (λ first told back story. bad_before first new told _ back _ unread given _ _ (λ harms. AreReached harms (return_in c.args.session.now)) (devices_of c.args.session.now) (λ o is. is) (plays_reach c.args.session.now c.requires.session) (read_more first old new more (held c.args.reader.now) given _ _ _ _ next.draws.grew story)
+    (λ first told back story. bad_before first new told _ back _ unread given _ _ (λ harms. AreReached harms (returns_in c.args.replay.now)) (devices_in c.args.replay.now) (λ o is. is) (plays_reach c.args.replay.now c.requires.replay) (read_more first old new more (held c.args.reader.now) given _ _ _ _ next.draws.grew story)
     read.0 (held c.next_reading.new.reader) (lines_given c.next_reading.new.reader) next.answers next.given bay c.in-Line-Bad.fault (rw c.in-Line-Bad.field-0-is at read.1))
 
 pub returns-in-Ok-clause-goes : goal.returns-in-Ok-clause-goes
@@ -89,8 +89,8 @@ returns-in-Ok-clause-goes g c =
     let unread = text_after (held c.args.reader.now) more in
     let asks = step_before read.0 c.in-Line-Step.asked (rw c.in-Line-Step.field-0-is at read.1) in
     λ first told back story.
-    step_goes c.args.session.now first new told _ back _ unread (held c.next_reading.new.reader) given (lines_given c.next_reading.new.reader) (read_more first old new more (held c.args.reader.now) given _ _ _ _ next.draws.grew story)
-    read.0 next.answers next.given c.in-Line-Step.asked asks c.take_step.new.session _ _ c.requires.session c.in-Ok.ensures.done
+    step_goes c.args.replay.now first new told _ back _ unread (held c.next_reading.new.reader) given (lines_given c.next_reading.new.reader) (read_more first old new more (held c.args.reader.now) given _ _ _ _ next.draws.grew story)
+    read.0 next.answers next.given c.in-Line-Step.asked asks c.take_step.new.replay _ _ c.requires.replay c.in-Ok.ensures.done
 
 pub returns-in-Err-clause-ends : goal.returns-in-Err-clause-ends
 returns-in-Err-clause-ends g c =
@@ -104,8 +104,8 @@ returns-in-Err-clause-ends g c =
     let asks = step_before read.0 c.in-Line-Step.asked (rw c.in-Line-Step.field-0-is at read.1) in
     rw (c.ending_of.ensures, c.lines_given-in-Err.ensures)
     (λ first told back story.
-    halt_as (refusals_around (refusals_of (g.B.Bay.past c.args.bay.now)) (refusals_of (g.B.Bay.past c.take_step.new.bay))) first new told _ _ _ _ c.in-Err.halt (step_ends c.args.session.now first new told _ back _ unread (held c.next_reading.new.reader) given (lines_given c.next_reading.new.reader) (read_more first old new more (held c.args.reader.now) given _ _ _ _ next.draws.grew story)
-    read.0 next.answers next.given c.in-Line-Step.asked asks c.take_step.new.session _ _ c.requires.session c.take_step.ensures.session (g.B.Bay.past c.args.bay.now) (g.B.Bay.past c.take_step.new.bay) c.in-Err.halt c.in-Err.ensures.halted))
+    halt_as (refusals_around (refusals_of (g.B.Bay.past c.args.bay.now)) (refusals_of (g.B.Bay.past c.take_step.new.bay))) first new told _ _ _ _ c.in-Err.halt (step_ends c.args.replay.now first new told _ back _ unread (held c.next_reading.new.reader) given (lines_given c.next_reading.new.reader) (read_more first old new more (held c.args.reader.now) given _ _ _ _ next.draws.grew story)
+    read.0 next.answers next.given c.in-Line-Step.asked asks c.take_step.new.replay _ _ c.requires.replay c.take_step.ensures.replay (g.B.Bay.past c.args.bay.now) (g.B.Bay.past c.take_step.new.bay) c.in-Err.halt c.in-Err.ensures.halted))
 
 pub returns-in-Err-clause-begun : goal.returns-in-Err-clause-begun
 returns-in-Err-clause-begun g c = rw c.ending_of.ensures (ending_of-begun _ c.in-Err.halt)
@@ -126,7 +126,7 @@ pub returns-in-Line-Bad-clause-order : goal.returns-in-Line-Bad-clause-order
 returns-in-Line-Bad-clause-order g c = order_same _ _
 
 pub returns-in-Fault-clause-order : goal.returns-in-Fault-clause-order
-returns-in-Fault-clause-order g c = order_same (return_in c.args.session.now) (g.B.Bay.past c.args.bay.now)
+returns-in-Fault-clause-order g c = order_same (returns_in c.args.replay.now) (g.B.Bay.past c.args.bay.now)
 
 pub returns-in-Split-clause-goes : goal.returns-in-Split-clause-goes
 returns-in-Split-clause-goes g c =

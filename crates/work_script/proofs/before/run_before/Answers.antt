@@ -8,14 +8,14 @@ use Rattle.run_promise.specs.Story.{Owes, OwesOrGave, refusals_around}
 use Rattle.run_script.proofs.Ends.{begins, failed_earlier}
 use Rattle.device_bay.specs.Calls.{AttachRefusal}
 use Rattle.work_script.specs.Before.{BeforeBecause, EndsBy}
-use Rattle.cache_replay.specs.Session.{devices_of, return_in}
+use Rattle.cache_replay.specs.Replay.{devices_in, returns_in}
 use Rattle.run_script.proofs.Halts.{grows_more}
 use Rattle.work_script.proofs.before.run_before.Goals as goal
 
 pub lines-init : goal.lines-init
 lines-init g c = record {
   goes = begins (g.S.Source.reads (source_of c.args.reader.now).now) (g.K.Sink.writes c.args.sink.now) (ledger_of g.B.Bay c.args.bay.now) _ _ _ _ c.requires.held c.requires.given c.requires.blank c.requires.fresh;
-  session = c.requires.session;
+  session = c.requires.replay;
   few = omega (arith, ap length c.requires.names);
   out = omega (arith, c.requires.none);
   source = refl;
@@ -31,7 +31,7 @@ lines-preserved g c =
     let before = c.lines.invariant in
     record {
       goes = rw c.in-Ok-Line.field-0-is at (c.in-Ok-Line.ensures.goes _ _ _ before.goes);
-      session = c.line.ensures.session;
+      session = c.line.ensures.replay;
       few = c.in-Ok-Line.ensures.few;
       out = omega (arith, c.line.ensures.out, before.out);
       source = c.line.ensures.source ∙ before.source;
@@ -47,8 +47,8 @@ returns-in-Err-clause-ends g c =
     let before = c.lines.invariant in
     let now = refusals_of (g.B.Bay.past c.line.new.bay) in
     subst (λ (old : List AttachRefusal). EndsBy (BeforeBecause (refusals_around old now)) (g.S.Source.reads (source_of c.args.reader.now).now) (g.S.Source.reads (source_of c.line.new.reader).now) (g.K.Sink.writes c.args.sink.now) (g.K.Sink.writes c.line.new.sink)
-    (Owes (ledger_of g.B.Bay c.args.bay.now) (ledger_of g.B.Bay c.line.new.bay) (λ harms. AreReached harms (return_in c.line.new.session)))
-    (OwesOrGave (ledger_of g.B.Bay c.args.bay.now) (ledger_of g.B.Bay c.line.new.bay) (devices_of c.line.new.session) (λ harms. AreReached harms (return_in c.line.new.session))) c.in-Err.ending)
+    (Owes (ledger_of g.B.Bay c.args.bay.now) (ledger_of g.B.Bay c.line.new.bay) (λ harms. AreReached harms (returns_in c.line.new.replay)))
+    (OwesOrGave (ledger_of g.B.Bay c.args.bay.now) (ledger_of g.B.Bay c.line.new.bay) (devices_in c.line.new.replay) (λ harms. AreReached harms (returns_in c.line.new.replay))) c.in-Err.ending)
     before.refusals (c.in-Err.ensures.ends _ _ _ before.goes)
 
 pub returns-in-Err-clause-reads : goal.returns-in-Err-clause-reads

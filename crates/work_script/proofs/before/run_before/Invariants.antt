@@ -4,8 +4,7 @@ use Rattle.edge_io.specs.declared.reader.TheConstants.{MAX_LINES}
 use Rattle.edge_io.specs.Source.{Draws, NoReadFailed}
 use Rattle.edge_io.specs.Sink.{Grows}
 use Rattle.edge_io.specs.LineReader.{held, lines_given, source_of}
-use Rattle.cache_replay.specs.Session.{IsSession, devices_of, names_in, return_in}
-use Rattle.cache_replay.specs.Plays.{IsOutlined, Plays}
+use Rattle.cache_replay.specs.Replay.{IsReplay, devices_in, actors_in, returns_in, IsOutlined, PlaysOn}
 use Rattle.device_bay.specs.Calls.{out_of, refusals_of}
 use Rattle.script_run.specs.Ledger.{KeepsOrder, ledger_of}
 use Rattle.run_promise.specs.Story.{GoesOn}
@@ -14,16 +13,16 @@ use Rattle.work_script.proofs.before.run_before.Given as goal
 abbrev pub invariant-lines : goal.invariant-lines
 invariant-lines g l = record {
   goes : GoesOn (g.S.Source.reads (source_of l.initial.reader).now) (g.K.Sink.writes l.initial.sink) (ledger_of g.B.Bay l.initial.bay) (g.S.Source.reads (source_of l.reader).now) (held l.reader) (lines_given l.reader) (g.K.Sink.writes l.sink) (ledger_of g.B.Bay l.bay)
-      (λ o. IsOutlined o l.session) (λ run. Plays run l.session);
-  session : IsSession l.session;
-  few : length (names_in l.session) ≤ lines_given l.reader;
-  out : out_of (g.B.Bay.past l.bay) ≡ out_of (g.B.Bay.past l.initial.bay) + devices_of l.session;
+      (λ o. IsOutlined o l.session) (λ run. PlaysOn run l.session);
+  session : IsReplay l.session;
+  few : length (actors_in l.session) ≤ lines_given l.reader;
+  out : out_of (g.B.Bay.past l.bay) ≡ out_of (g.B.Bay.past l.initial.bay) + devices_in l.session;
   source : (source_of l.reader).ghost_name ≡ (source_of l.initial.reader).ghost_name;
   draws : Draws g.S.Source.reads g.S.Source.left (source_of l.initial.reader).now (source_of l.reader).now;
   failed : NoReadFailed (g.S.Source.reads (source_of l.initial.reader).now) (g.S.Source.reads (source_of l.reader).now);
   sink : Grows (g.K.Sink.writes l.initial.sink) (g.K.Sink.writes l.sink);
-  order : KeepsOrder (return_in l.initial.session) (g.B.Bay.past l.initial.bay)
-      (return_in l.session) (g.B.Bay.past l.bay);
+  order : KeepsOrder (returns_in l.initial.session) (g.B.Bay.past l.initial.bay)
+      (returns_in l.session) (g.B.Bay.past l.bay);
   refusals : refusals_of (g.B.Bay.past l.bay) ≡ refusals_of (g.B.Bay.past l.initial.bay);
 }
 

@@ -2,7 +2,7 @@ use Rattle.std.proofs.Common.{◌≡◌, [], sym, ◌∙◌}
 use Rattle.edge_io.specs.LineReader.{source_of}
 use Rattle.edge_io.proofs.Draws.{draws_nothing}
 use Rattle.script_run.specs.Ledger.{AreReached, ledger_of}
-use Rattle.cache_replay.specs.Session.{devices_of, return_in}
+use Rattle.cache_replay.specs.Replay.{devices_in, returns_in}
 use Rattle.run_promise.specs.Story.{Owes, OwesOrGave, refusals_around}
 use Rattle.run_script.proofs.Ends.{nothing_ends}
 use Rattle.work_script.proofs.Ending.{nothing_owed}
@@ -11,10 +11,10 @@ use Rattle.work_script.proofs.work.begin_work.Goals as goal
 pub returns-in_default-clause-ends : goal.returns-in_default-clause-ends
 returns-in_default-clause-ends g c =
     let ledger = ledger_of g.B.Bay c.args.bay.now in
-    let session = c.args.session.now in
-    nothing_ends (g.S.Source.reads c.args.source.now) (g.K.Sink.writes c.args.sink.now) (Owes ledger ledger (λ harms. AreReached harms (return_in session)))
-    (OwesOrGave ledger ledger (devices_of session) (λ harms. AreReached harms (return_in session)))
-    (nothing_owed ledger (return_in session) (devices_of session) c.requires.none) (refusals_around [] [])
+    let session = c.args.replay.now in
+    nothing_ends (g.S.Source.reads c.args.source.now) (g.K.Sink.writes c.args.sink.now) (Owes ledger ledger (λ harms. AreReached harms (returns_in session)))
+    (OwesOrGave ledger ledger (devices_in session) (λ harms. AreReached harms (returns_in session)))
+    (nothing_owed ledger (returns_in session) (devices_in session) c.requires.none) (refusals_around [] [])
 
 pub returns-in_default-clause-source : goal.returns-in_default-clause-source
 returns-in_default-clause-source g c = draws_nothing g.S.Source.reads g.S.Source.left c.args.source.now
