@@ -22,7 +22,7 @@ use stripe_calls::StripeCache;
 type Cache<D> = StripeCache<D, PackedDirectory, FullChronicle>;
 
 /// Runs the command that the words give, by the cache of the program: `replay` runs the script that the source holds, and
-/// `inspect` reads a device.
+/// `inspect` and `check` read a device.
 pub fn cache_main<S: Source, K: Sink, B: Bay>(
     alloc: Global,
     words: &[String],

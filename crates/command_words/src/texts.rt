@@ -10,6 +10,7 @@ pub fn help_text() -> &'static str
     "cache_tool: a disk cache that is proved\n\n\
      cache_tool replay < SCRIPT      runs a script: one line of output for each step\n\
      cache_tool inspect NAME         prints the span of a device and both copies of its directory, and writes nothing\n\
+     cache_tool check NAME           prints what a device opens to, and writes nothing\n\
      cache_tool --help, -h           prints this\n\
      cache_tool --version, -V        prints the version, and the toolchain that it is proved with\n\n\
      NAME is the path of a file, or begins with mem:, and one that begins with - stands behind --.\n\

@@ -18,7 +18,7 @@ module _ (first : List SourceRead) (old : List SinkWrite) (bay : Refusals) (befo
   unread_words (Some version) may = absurd may
   unread_words (Some replay) may = nothing_ends first old (EachBack before before) (EachBackOrMore before before) (λ t none own names. inl (nothing_back before t none own names)) bay
   unread_words (Some (work workers)) may = (inr (refl, refl), (refl, refl))
-  unread_words (Some (check name)) may = (inr (refl, refl), (refl, refl))
+  unread_words (Some (check name)) may = (refl, inr (inr (record { wants = (refl, refl); unattached = refl })))
   unread_words (Some (inspect name)) may = (refl, inr (inr (record { wants = (refl, refl); unattached = refl })))
 
 pub unread_usage : (wish : Option Wish) → IsUsageBy wish status.OutOfMemory
@@ -27,7 +27,7 @@ unread_usage (Some help) = λ e. cc
 unread_usage (Some version) = λ e. cc
 unread_usage (Some replay) = λ e. cc
 unread_usage (Some (work workers)) = inr refl
-unread_usage (Some (check name)) = inr refl
+unread_usage (Some (check name)) = λ e. cc
 unread_usage (Some (inspect name)) = λ e. cc
 
 -- no attach was refused

@@ -11,7 +11,7 @@ use Rattle.run_promise.specs.declared.status.Status.TheVariants as status
 use Rattle.run_promise.specs.Story.{Refusals, SendsFront, SinkTook}
 use Rattle.run_promise.specs.Top.{AttachesRefused, Concludes, RefusedOne, WentOut}
 use Rattle.device_bay.specs.Calls.{AttachRefusal}
-use Rattle.run_script.specs.Inspects.{Inspects}
+use Rattle.run_script.specs.Inspects.{Checks, Inspects}
 
 -- a text of the program itself went out; or its write failed, and a front of it did
 abbrev pub PrintsText : (old new : List SinkWrite) → (text : List ℕ) → Status → Type 0
@@ -25,26 +25,30 @@ RefusesWords old new s = ((s ≡ status.Usage) × WentOut old new [] (last_line 
 abbrev pub LeavesAlone : (first read : List SourceRead) → (before now : Ledger) → Type 0
 LeavesAlone first read before now = (read ≡ first) × (now ≡ before)
 
--- What a status says, by what the words ask for: `replay` as `Concludes` has it, and an inspection as `Inspects` does. The
--- program runs no `work` and no `check`.
+-- What a status says, by what the words ask for: `replay` as `Concludes` has it, an inspection as `Inspects` does, and a check
+-- as `Checks`. The program runs no `work`.
 abbrev pub ConcludesAs : Option Wish → (first read : List SourceRead) → (old new : List SinkWrite) → (bay : Refusals) → (before now : Ledger) → Status → Type 0
 ConcludesAs None first read old new bay before now s = RefusesWords old new s × LeavesAlone first read before now
 ConcludesAs (Some help) first read old new bay before now s = PrintsText old new help_text s × LeavesAlone first read before now
 ConcludesAs (Some version) first read old new bay before now s = PrintsText old new version_text s × LeavesAlone first read before now
 ConcludesAs (Some replay) first read old new bay before now s = Concludes first read old new bay before now s
 ConcludesAs (Some (work workers)) first read old new bay before now s = RefusesWords old new s × LeavesAlone first read before now
-ConcludesAs (Some (check name)) first read old new bay before now s = RefusesWords old new s × LeavesAlone first read before now
+ConcludesAs (Some (check name)) first read old new bay before now s = (read ≡ first) × Checks name old new bay before now s
 ConcludesAs (Some (inspect name)) first read old new bay before now s = (read ≡ first) × Inspects name old new bay before now s
 
 -- the status is Usage where the words are no command that the program runs, or else that of want of memory; and nowhere else
 abbrev pub IsUsageBy : Option Wish → Status → Type 0
 IsUsageBy None s = (s ≡ status.Usage) ⊎ (s ≡ status.OutOfMemory)
 IsUsageBy (Some (work workers)) s = (s ≡ status.Usage) ⊎ (s ≡ status.OutOfMemory)
-IsUsageBy (Some (check name)) s = (s ≡ status.Usage) ⊎ (s ≡ status.OutOfMemory)
 IsUsageBy (Some wish) s = s ≢ status.Usage
 
--- Which attaches were refused, by what the words ask for. An inspection ends with BayFault where its attach was, and also
--- where a read of its device was.
+-- Which attaches were refused where a device is looked at: with BayFault its attach was, or a read of it was.
+abbrev pub RefusesLook : (before now : List AttachRefusal) → Status → Type 0
+RefusesLook before now status.BayFault = (now ≡ before) ⊎ RefusedOne before now
+RefusesLook before now s = AttachesRefused before now s
+
+-- so by what the words ask for
 abbrev pub RefusesAs : Option Wish → (before now : List AttachRefusal) → Status → Type 0
-RefusesAs (Some (inspect name)) before now status.BayFault = (now ≡ before) ⊎ RefusedOne before now
+RefusesAs (Some (inspect name)) before now s = RefusesLook before now s
+RefusesAs (Some (check name)) before now s = RefusesLook before now s
 RefusesAs wish before now s = AttachesRefused before now s

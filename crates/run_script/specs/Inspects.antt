@@ -1,5 +1,6 @@
--- What an inspection of a device concludes.
-use Rattle.std.specs.Prelude.{◌≡◌, ◌≤◌, ◌⊎◌, ℕ, Bool, true, false, List, [], ◌∷◌, ◌++◌, length, Result, Ok, Err, string_bytes}
+-- What an inspection of a device concludes, and what a check does.
+use Rattle.std.specs.Prelude.{◌≡◌, ◌≤◌, ◌⊎◌, ℕ, Bool, true, false, List, [], ◌∷◌, ◌++◌, length, Result, Ok, Err, string_bytes, ⊤}
+use Rattle.device_log.specs.Image.{Image}
 use Rattle.device_log.specs.Streams.{SinkWrite}
 use Rattle.logged_disk.specs.Device.{DeviceState as Device}
 use Rattle.script_grammar.specs.declared.last_line.LastLine.TheVariants as last
@@ -9,6 +10,7 @@ use Rattle.device_reads.specs.declared.reads.ReadFault.{ReadFault}
 use Rattle.device_reads.specs.declared.reads.ReadFault.TheVariants.{DeviceFault, Memory}
 use Rattle.device_reads.specs.Reads.{AreReads, Tell, WasLast}
 use Rattle.inspections.specs.declared.device.Inspection.{Inspection}
+use Rattle.inspections.specs.Check.{SaysOpening}
 use Rattle.inspections.specs.Inspect.{Says}
 use Rattle.inspections.specs.Lines.{nothing_line}
 use Rattle.run_promise.specs.declared.status.Status.{Status}
@@ -38,12 +40,16 @@ PrintsSaid (Ok said) old new s = PrintsLines (string_bytes said.text) said.opens
 PrintsSaid (Err (DeviceFault count)) old new s = PrintsFault old new s ⊎ WantsInspection old new s
 PrintsSaid (Err (Memory e)) old new s = WantsInspection old new s
 
--- no read failed, and the lines went out that an inspection has of each image with which the reads of the device agree
-pub record PrintsInspection (device : Device) (old new : List SinkWrite) (s : Status) : Type 0 where
+-- what is said of a device of so many blocks with this content: its lines, and whether it opens
+abbrev pub Sayings : Type 1
+Sayings = ℕ → Image → List ℕ → Bool → Type 0
+
+-- no read failed, and the lines went out that are said of each image with which the reads of the device agree
+pub record PrintsInspection (Said : Sayings) (device : Device) (old new : List SinkWrite) (s : Status) : Type 0 where
   pub text : List ℕ
   pub opens : Bool
   pub unrefused : device.faults ≡ 0
-  pub says : Tell device.past (λ c. Says device.size c text opens)
+  pub says : Tell device.past (λ c. Said device.size c text opens)
   pub out : PrintsLines text opens old new s
 
 -- the last read of the device failed
@@ -52,16 +58,16 @@ pub record FaultsInspection (device : Device) (old new : List SinkWrite) (s : St
   pub last_call : WasLast count device
   pub out : PrintsFault old new s
 
--- The device of that name was attached at its own size, read alone, each block at most once, and came back. Its log begins
--- with its attach.
-pub record InspectsDevice (name : List ℕ) (old new : List SinkWrite) (bay : Refusals) (before now : Ledger) (s : Status) : Type 0 where
+-- The device of that name was attached at its own size, read alone, each block at most once, by few calls, and came back. Its
+-- log begins with its attach.
+pub record InspectsDevice (Said : Sayings) (IsFew : ℕ → Type 0) (name : List ℕ) (old new : List SinkWrite) (bay : Refusals) (before now : Ledger) (s : Status) : Type 0 where
   pub device : Device
   pub attached : now.names ≡ before.names ++ name ∷ []
   pub returned : now.returned ≡ before.returned ++ device ∷ []
   pub unrefused : bay.now ≡ bay.before
   pub reads : AreReads 0 device.size device.past
-  pub few : length device.past ≤ 4
-  pub out : PrintsInspection device old new s ⊎ (FaultsInspection device old new s ⊎ WantsInspection old new s)
+  pub few : IsFew (length device.past)
+  pub out : PrintsInspection Said device old new s ⊎ (FaultsInspection device old new s ⊎ WantsInspection old new s)
 
 -- the attach of the device of that name was refused
 pub record RefusesDevice (name : List ℕ) (old new : List SinkWrite) (bay : Refusals) (before now : Ledger) (s : Status) : Type 0 where
@@ -75,7 +81,15 @@ pub record WantsDevice (old new : List SinkWrite) (before now : Ledger) (s : Sta
   pub wants : WantsInspection old new s
   pub unattached : now ≡ before
 
--- what comes of the inspection of the device of that name
+-- what comes of looking at the device of that name
+abbrev pub LooksAt : (Said : Sayings) → (IsFew : ℕ → Type 0) → (name : List ℕ) → (old new : List SinkWrite) → (bay : Refusals) → (before now : Ledger) → Status → Type 0
+LooksAt Said IsFew name old new bay before now s =
+    InspectsDevice Said IsFew name old new bay before now s ⊎ (RefusesDevice name old new bay before now s ⊎ WantsDevice old new before now s)
+
+-- an inspection makes four calls at most
 abbrev pub Inspects : (name : List ℕ) → (old new : List SinkWrite) → (bay : Refusals) → (before now : Ledger) → Status → Type 0
-Inspects name old new bay before now s =
-    InspectsDevice name old new bay before now s ⊎ (RefusesDevice name old new bay before now s ⊎ WantsDevice old new before now s)
+Inspects = LooksAt Says (λ n. n ≤ 4)
+
+-- a check makes any number
+abbrev pub Checks : (name : List ℕ) → (old new : List SinkWrite) → (bay : Refusals) → (before now : Ledger) → Status → Type 0
+Checks = LooksAt SaysOpening (λ n. ⊤)

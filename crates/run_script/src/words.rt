@@ -12,7 +12,7 @@ ghost use Rattle.run_script.specs.Commands.{ConcludesAs, IsUsageBy, PrintsText, 
 ghost use Rattle.run_script.specs.Ending.{EndsRun, FailedReads, IsOfRun, is_bay_ending};
 ghost use Rattle.run_promise.specs.Top.{WentOut, EachBack, EachBackOrMore, ReadsFailed, status_of, AttachesRefused, ComeBackSteady, Concludes};
 
-use crate::inspect::inspect_named;
+use crate::inspect::{check_named, inspect_named};
 use crate::run::{Ending, run_lines};
 use cache_calls::{Formats, Powered};
 use cache_replay::{Replay, begin, close};
@@ -161,12 +161,13 @@ pub fn run_command<S: Source, K: Sink, B: Bay, C: Formats<B::Dev> + Powered>(
         Some(Command::Version) => print(sink, version_text()),
         Some(Command::Replay) => replay_through::<S, K, B, C>(alloc, source, sink, bay),
         Some(Command::Inspect { name }) => inspect_named(alloc, name, sink, bay),
-        Some(Command::Work { .. } | Command::Check { .. }) | None => refuse(sink),
+        Some(Command::Check { name }) => check_named(alloc, name, sink, bay),
+        Some(Command::Work { .. }) | None => refuse(sink),
     }
 }
 
 /// Runs the command that the words give, by a cache of the type `C`: `replay` runs the script that the source holds,
-/// and `inspect` reads a device.
+/// and `inspect` and `check` read a device.
 pub fn run_words<S: Source, K: Sink, B: Bay, C: Formats<B::Dev> + Powered>(
     alloc: Global,
     words: &[String],
