@@ -17,12 +17,12 @@ use Rattle.reopening.specs.Stages.{StaysIn}
 use Rattle.reopening.proofs.Apart.{clean_windows_apart, windows_apart}
 use Rattle.reopening.proofs.Guarded.{images_open, span_stays}
 use Rattle.reopening.proofs.Lasting.{among_more}
-use Rattle.sync_laws.specs.Known.{AreKnown, IsClear, IsKnownBeside, KnownOpen, KnownStay, KnownWiden, Standing, spared_to}
+use Rattle.sync_laws.specs.KnownCopies.{CopiesHold, IsClear, IsKnownBeside, CopiesOpen, CopiesStay, CopiesWiden, KnownCopies, spared_to}
 use Rattle.sync_laws.proofs.Carrying.{barred_on, kept_on, old_on}
 use Rattle.sync_laws.proofs.Watching.{gate_few}
 
-pub known_open : KnownOpen
-known_open w settled first past known c may =
+pub copies_open : CopiesOpen
+copies_open w settled first past known c may =
     let opens = images_open w.copies.area w.marks w.newest settled first past c known.guards may in
     subst (λ (n : ℕ). OpensToOne w.copies.area (TakesUpOne w.marks) n c) known.serial opens.1
 
@@ -46,7 +46,7 @@ apart a from to h clear p q low below behind high = by h.copy.told.clean refl wh
       subst (λ b. to ≤ (if b then h.copy.told.cursor + a.geometry.agg else reach_of a.geometry h.copy.told.cursor)) is clear.reach in
       windows_apart a h.copy.told from p q clear.says is low (omega (arith, below, clear.ends)) behind (omega (arith, high, reach))
 
-module _ (w : Standing) (settled : Bool) (first : Image) (old new : List Call) (known : AreKnown w settled first old)
+module _ (w : KnownCopies) (settled : Bool) (first : Image) (old new : List Call) (known : CopiesHold w settled first old)
     (stays : (j : ℕ) → ((q : ℕ) → w.clear ≤ q → q < spared_to w.copies.area.geometry w.newest.copy.told
     → j ≢ block_of_place w.copies.area q) → StaysIn settled first old new j) where
   abbrev a : Area
@@ -81,7 +81,7 @@ module _ (w : Standing) (settled : Bool) (first : Image) (old new : List Call) (
   beside_stays (OtherNext h side later kept) next =
       (OtherNext h side later (kept_on settled first old new a (TakesUpOne w.marks) h (guarded_stays h next.1) kept), next)
 
-  pub content_stays : AreKnown w settled first new
+  pub content_stays : CopiesHold w settled first new
   content_stays =
       let zero = low_stays 0 (omega arith) in
       let gate = gate_stays w.newest.copy.side in
@@ -103,8 +103,8 @@ module _ (w : Standing) (settled : Bool) (first : Image) (old new : List Call) (
         beside = other.1;
       }
 
-pub known_stay : KnownStay
-known_stay = content_stays
+pub copies_stay : CopiesStay
+copies_stay = content_stays
 
 -- ---- more may be found, and content is clear from a higher place on
 
@@ -130,8 +130,8 @@ module _ (a : Area) (added marks : List Mark) (settled : Bool) (first : Image) (
   beside_widely newest shut from clear le (OtherNext h side later kept) known =
       (OtherNext h side later (kept_widely h kept), (known.0, clear_higher from clear (spared_to a.geometry newest.copy.told) h le known.1))
 
-pub known_widen : KnownWiden
-known_widen w added clear settled first past le known =
+pub copies_widen : CopiesWiden
+copies_widen w added clear settled first past le known =
     let a = w.copies.area in
     let g = known.guards in
     let other = beside_widely a added w.marks settled first past w.newest w.copies.shut w.clear clear le g.other known.beside in

@@ -26,7 +26,7 @@ use Rattle.reopening.specs.Guards.{told_by_body}
 use Rattle.reopening.proofs.Winning.{copy_open}
 use Rattle.stripe_copies.proofs.Copy.{body_length}
 use Rattle.format_laws.proofs.Standing.{directory_seen}
-use Rattle.sync_laws.specs.Known.{with_copy}
+use Rattle.sync_laws.specs.KnownCopies.{with_copy}
 use Rattle.sync_laws.proofs.Watching.{body_high, gate_few}
 
 open_bytes : IsBytes open_block

@@ -2,6 +2,7 @@ mod Beside
 mod Watching
 mod Carrying
 mod Content
+mod Sparing
 mod Laying
 mod Naming
 mod ToCome

@@ -36,7 +36,7 @@ use Rattle.reopening.specs.Named.{NamesAll, StandsNamed, is_row_at}
 use Rattle.reopening.proofs.Alike.{first_block}
 use Rattle.reopening.proofs.Bounds.{in_lap, within}
 use Rattle.reopening.proofs.Found.{recorded_found}
-use Rattle.sync_laws.specs.Known.{IsDue, IsNamed, Standing, copy_to_come, elements_of, with_copy}
+use Rattle.sync_laws.specs.KnownCopies.{IsDue, IsNamed, KnownCopies, copy_to_come, elements_of, with_copy}
 use Rattle.sync_laws.proofs.Laying.{behind_body, directory_is, off_copy, there_is_image}
 use Rattle.sync_laws.proofs.Watching.{gate_few}
 
@@ -96,7 +96,7 @@ module _ (g : Geometry) (s : CopyState) (says : IsTrue (may_say g s)) where
 
 -- ---- what the copy of a sync names
 
-module _ (w : Standing) (s : CopyState) (stored : List StoredRow) (body : List ℕ) (of : IsBodyOf w.copies.area.geometry s stored body)
+module _ (w : KnownCopies) (s : CopyState) (stored : List StoredRow) (body : List ℕ) (of : IsBodyOf w.copies.area.geometry s stored body)
     (directory : w.copies.area.directory ≡ directory_blocks_of w.copies.area.geometry) (c : Image) (image : IsImage c) (bytes : IsBytes body) where
   abbrev k : CopiesState
   k = w.copies

@@ -15,7 +15,7 @@ use Rattle.cache_model.specs.State.{Mark}
 use Rattle.reopening.specs.Guards.{AreGuarded, HeldCopy, IsCopyKept, IsNoHarm, IsOld, OpensToOne, OtherNext, OtherOld, OtherShut}
 use Rattle.reopening.specs.Lasting.{TakesUpOne}
 use Rattle.reopening.specs.Stages.{IsWatched}
-use Rattle.sync_laws.specs.Known.{IsClear, IsKnownBeside, spared_to}
+use Rattle.sync_laws.specs.KnownCopies.{IsClear, IsKnownBeside, spared_to}
 use Rattle.sync_laws.proofs.Beside.{StaysBeside}
 use Rattle.sync_laws.proofs.Carrying.{barred_on, kept_on, old_on}
 use Rattle.sync_laws.proofs.Watching.{IsFree, body_high, calls_beside, gate_few, guarded_high, guards_beside, watched_off}

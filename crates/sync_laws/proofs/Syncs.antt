@@ -19,21 +19,21 @@ use Rattle.cache_model.specs.Contents.{Content}
 use Rattle.cache_model.specs.State.{Mark}
 use Rattle.reopening.specs.Guards.{OpensToOne}
 use Rattle.reopening.specs.Lasting.{TakesUpOne}
-use Rattle.sync_laws.specs.Known.{AreCalls, AreKnown, AreKnownOn, IsDue, KnownOn, OpensKnown, Standing, SyncsBreakOff, SyncsTurn, standing_broken_off, standing_turned}
+use Rattle.sync_laws.specs.KnownCopies.{AreCalls, CopiesHold, CopiesHoldOn, IsDue, PassesTo, OpensToKnown, KnownCopies, SyncsBreakOff, SyncsTurn, known_broken_off, known_turned}
 use Rattle.sync_laws.proofs.Phases.{GuardsPass}
 use Rattle.sync_laws.proofs.Whole.{behind_opening, opening, shutting, stops, turns, writing}
 
 -- what is known by the log of a device holds on it
-known_on : (v : Standing) (old new : Device) → IsAfter old new → AreKnown v old.settled old.first new.past → AreKnownOn v new
+known_on : (v : KnownCopies) (old new : Device) → IsAfter old new → CopiesHold v old.settled old.first new.past → CopiesHoldOn v new
 known_on v old new on known =
-    subst (λ (b : Bool). AreKnown v b new.first new.past) (sym on.settled)
-    (subst (λ (i : Image). AreKnown v old.settled i new.past) (sym on.first) known)
+    subst (λ (b : Bool). CopiesHold v b new.first new.past) (sym on.settled)
+    (subst (λ (i : Image). CopiesHold v old.settled i new.past) (sym on.first) known)
 
 -- from the serial of the newest copy on
-from_finished : (w : Standing) (settled : Bool) (first : Image) (old new : List Call)
+from_finished : (w : KnownCopies) (settled : Bool) (first : Image) (old new : List Call)
     → w.newest.copy.told.serial ≡ w.copies.finished
     → Along (OpensToOne w.copies.area (TakesUpOne w.marks) w.newest.copy.told.serial) settled first old new
-    → Along (OpensKnown w) settled first old new
+    → Along (OpensToKnown w) settled first old new
 from_finished w settled first old new is along =
     subst (λ (n : ℕ). Along (OpensToOne w.copies.area (TakesUpOne w.marks) n) settled first old new) is along
 
@@ -49,15 +49,15 @@ syncs_turn w s stored m content old new on known due went =
     ∙ behind_both (shutting_calls target shut) (writing_calls w.copies.area target body ++ opening_calls target) old.past in
     let all : All IsEntry behind = subst (All IsEntry) is on.log.entries in
     let behind_all = turns w s stored m content old.settled old.first old.past on.image known due body went.of all in
-    let v = standing_turned w s m body (seen_of old.first old.past) in
+    let v = known_turned w s m body (seen_of old.first old.past) in
     record {
       moments = from_finished w old.settled old.first old.past new.past known.serial
           (subst (Along (OpensToOne w.copies.area (TakesUpOne w.marks) w.newest.copy.told.serial) old.settled old.first old.past) (sym is) behind_all.1);
-      known = known_on v old new on.after (subst (AreKnown v old.settled old.first) (sym is) behind_all.0);
+      known = known_on v old new on.after (subst (CopiesHold v old.settled old.first) (sym is) behind_all.0);
     }
 
-module _ (w : Standing) (s : CopyState) (stored : List StoredRow) (m : Mark) (content : PieceId → Content) (stop : SyncStop) (shut : Bool)
-    (old new : Device) (on : AreCalls old new) (known : AreKnownOn w old) (due : IsDue w s stored m content (seen_of old.first old.past))
+module _ (w : KnownCopies) (s : CopyState) (stored : List StoredRow) (m : Mark) (content : PieceId → Content) (stop : SyncStop) (shut : Bool)
+    (old new : Device) (on : AreCalls old new) (known : CopiesHoldOn w old) (due : IsDue w s stored m content (seen_of old.first old.past))
     (broken : IsBrokenOff w.copies s stored stop shut old new) where
   abbrev target : Side
   target = target_of w.copies
@@ -93,12 +93,12 @@ module _ (w : Standing) (s : CopyState) (stored : List StoredRow) (m : Mark) (co
       let part = opening w s stored m content old.settled old.first old.past on.image known due body broken.of new.past on.log.entries made in
       moved false true same durable part.0
 
-  pub breaks_off : KnownOn w (standing_broken_off w s m stop shut) old new
+  pub breaks_off : PassesTo w (known_broken_off w s m stop shut) old new
   breaks_off =
       let p = pass broken.stopped in
       record {
         moments = from_finished w old.settled old.first old.past new.past known.serial p.moments;
-        known = known_on (standing_broken_off w s m stop shut) old new on.after
+        known = known_on (known_broken_off w s m stop shut) old new on.after
             (stops w s stored m content old.settled old.first old.past on.image known due body broken.of stop shut new.past p);
       }
 

@@ -14,11 +14,11 @@ use Rattle.reopening.specs.Guards.{MayOpen}
 use Rattle.reopening.specs.Lasting.{TakesUpOne}
 use Rattle.reopening.proofs.Named.{taken_up}
 use Rattle.reopening.proofs.Whole.{image_is_sound}
-use Rattle.sync_laws.specs.Known.{IsDue, Standing, copy_to_come, held_to_come, with_copy}
+use Rattle.sync_laws.specs.KnownCopies.{IsDue, KnownCopies, copy_to_come, held_to_come, with_copy}
 use Rattle.sync_laws.proofs.Laying.{directory_is, tells, there_is_image}
 use Rattle.sync_laws.proofs.Naming.{ends_by, names_all}
 
-pub may_open : (w : Standing) (s : CopyState) (stored : List StoredRow) (body : List ℕ) (of : IsBodyOf w.copies.area.geometry s stored body)
+pub may_open : (w : KnownCopies) (s : CopyState) (stored : List StoredRow) (body : List ℕ) (of : IsBodyOf w.copies.area.geometry s stored body)
     → w.copies.area.directory ≡ directory_blocks_of w.copies.area.geometry → (c : Image) → IsImage c → IsBytes body
     → (m : Mark) (content : PieceId → Content) → IsDue w s stored m content c
     → MayOpen w.copies.area (TakesUpOne w.marks) (held_to_come w.copies s m.end body c)

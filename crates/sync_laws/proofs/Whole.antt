@@ -30,7 +30,7 @@ use Rattle.reopening.specs.Lasting.{TakesUpOne}
 use Rattle.reopening.proofs.Guarded.{earlier_beaten}
 use Rattle.reopening.proofs.Stages.{next_is_newest}
 use Rattle.reopening.proofs.Winning.{back}
-use Rattle.sync_laws.specs.Known.{AreKnown, IsClear, IsDue, IsKnownBeside, Standing, held_to_come, spared_to, standing_broken_off, standing_turned}
+use Rattle.sync_laws.specs.KnownCopies.{CopiesHold, IsClear, IsDue, IsKnownBeside, KnownCopies, held_to_come, spared_to, known_broken_off, known_turned}
 use Rattle.sync_laws.proofs.Beside.{StaysBeside}
 use Rattle.sync_laws.proofs.Watching.{gate_few, guarded_high}
 use Rattle.sync_laws.proofs.Laying.{long, off_gate}
@@ -45,8 +45,8 @@ seen_shut a marks newest clear settled first past (OtherShut is) known = is.shut
 seen_shut a marks newest clear settled first past (OtherOld is) known = absurd cc
 seen_shut a marks newest clear settled first past (OtherNext h side later kept) known = absurd (let e = known.0 in cc e)
 
-module _ (w : Standing) (s : CopyState) (stored : List StoredRow) (m : Mark) (content : PieceId → Content)
-    (settled : Bool) (first : Image) (old : List Call) (image : IsImage first) (known : AreKnown w settled first old)
+module _ (w : KnownCopies) (s : CopyState) (stored : List StoredRow) (m : Mark) (content : PieceId → Content)
+    (settled : Bool) (first : Image) (old : List Call) (image : IsImage first) (known : CopiesHold w settled first old)
     (due : IsDue w s stored m content (seen_of first old)) (body : List ℕ) (of : IsBodyOf w.copies.area.geometry s stored body) where
   abbrev k : CopiesState
   k = w.copies
@@ -151,7 +151,7 @@ module _ (w : Standing) (s : CopyState) (stored : List StoredRow) (m : Mark) (co
   -- ---- what is known then
 
   pub stops : (stop : SyncStop) (shut : Bool) (new : List Call) → Pass shut (if stop.durable then m.end else w.clear) old new
-      → AreKnown (standing_broken_off w s m stop shut) settled first new
+      → CopiesHold (known_broken_off w s m stop shut) settled first new
   stops stop shut new pass = record {
     directory = known.directory;
     begun = omega (arith, known.begun, due.serial);
@@ -188,7 +188,7 @@ module _ (w : Standing) (s : CopyState) (stored : List StoredRow) (m : Mark) (co
       }
 
   pub turns : All IsEntry behind_opening
-      → AreKnown (standing_turned w s m body (seen_of first old)) settled first behind_opening × Along Opens settled first old behind_opening
+      → CopiesHold (known_turned w s m body (seen_of first old)) settled first behind_opening × Along Opens settled first old behind_opening
   turns all =
       let three = opening behind_opening all (behind_some (opening_calls target) behind_writing) in
       let g = next_is_newest a marks newest h settled first behind_opening three.0.guards beside later three.1 gate_open in

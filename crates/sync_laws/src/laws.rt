@@ -1,5 +1,5 @@
 // Laws for proofs. These functions do nothing when they run.
-ghost use Rattle.sync_laws.specs.Known.{FormatIsKnown, KnownOpen, KnownStay, KnownWiden, SyncsBreakOff, SyncsTurn};
+ghost use Rattle.sync_laws.specs.KnownCopies.{CopiesOpen, CopiesStay, CopiesWiden, EmptyIsDue, FormatHolds, LaterSparesMore, SyncsBreakOff, SyncsTurn};
 
 /// Where it is known how the copies stand, behind each call of a whole sync that is due all that a cut may
 /// leave opens to one of the syncs that may be found, and to none that is older than the last that finished.
@@ -12,8 +12,12 @@ pub fn a_sync_is_guarded()
 
 /// What is known of the copies, between syncs.
 pub fn copies_are_known()
-    ensures first { FormatIsKnown }
-    ensures open { KnownOpen }
-    ensures stay { KnownStay }
-    ensures widen { KnownWiden }
+    ensures first { FormatHolds }
+    ensures open { CopiesOpen }
+    ensures stay { CopiesStay }
+    ensures widen { CopiesWiden }
+    // So a first sync is due.
+    ensures empty { EmptyIsDue }
+    // And a later copy spares content as far.
+    ensures onward { LaterSparesMore }
 {}

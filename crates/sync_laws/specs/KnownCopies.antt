@@ -1,6 +1,6 @@
 -- What is known of the two copies of a stripe; which sync is due; and what a sync leaves.
 use Rattle.std.specs.List.{AllByRecursion}
-use Rattle.std.specs.Prelude.{◌≡◌, ◌≢◌, ◌≤◌, ◌<◌, ◌+◌, ◌++◌, ◌^◌, ℕ, Bool, true, false, if◌then◌else◌, IsTrue, List}
+use Rattle.std.specs.Prelude.{◌≡◌, ◌≢◌, ◌≤◌, ◌<◌, ◌+◌, ◌++◌, ◌^◌, ℕ, Bool, true, false, if◌then◌else◌, IsTrue, List, []}
 use Rattle.device_log.specs.Image.{Image, IsImage, put}
 use Rattle.device_log.specs.Calls.{Call}
 use Rattle.device_log.specs.Faults.{IsLog}
@@ -36,7 +36,7 @@ use Rattle.format_laws.specs.Laid.{IsAreaLaidOut, behind_format, first_copy}
 
 -- what is known of the copies: to the code; which syncs may be found; the newest copy; and from which place on content may
 -- be written
-pub record Standing : Type 0 where
+pub record KnownCopies : Type 0 where
   pub copies : CopiesState
   pub marks : List Mark
   pub newest : HeldCopy
@@ -61,8 +61,8 @@ IsKnownBeside a marks newest shut clear settled first past (OtherOld is) = shut 
 IsKnownBeside a marks newest shut clear settled first past (OtherNext h side later kept) =
     (shut ≡ false) × IsClear a clear (spared_to a.geometry newest.copy.told) h
 
--- what is known holds on the device: the newest copy is guarded, and content is clear of it
-pub record AreKnown (w : Standing) (settled : Bool) (first : Image) (past : List Call) : Type 0 where
+-- what is known stands on the device: the newest copy is guarded, and content is clear of it
+pub record CopiesHold (w : KnownCopies) (settled : Bool) (first : Image) (past : List Call) : Type 0 where
   pub directory : w.copies.area.directory ≡ directory_blocks_of w.copies.area.geometry
   pub begun : w.copies.finished ≤ w.copies.begun
   pub side : w.newest.copy.side ≡ w.copies.newest
@@ -72,8 +72,8 @@ pub record AreKnown (w : Standing) (settled : Bool) (first : Image) (past : List
   pub own : IsClear w.copies.area w.clear (spared_to w.copies.area.geometry w.newest.copy.told) w.newest
   pub beside : IsKnownBeside w.copies.area w.marks w.newest w.copies.shut w.clear settled first past guards.other
 
-abbrev pub AreKnownOn : Standing → Device → Type 0
-AreKnownOn w d = AreKnown w d.settled d.first d.past
+abbrev pub CopiesHoldOn : KnownCopies → Device → Type 0
+CopiesHoldOn w d = CopiesHold w d.settled d.first d.past
 
 -- an image with the body of a copy in its place, behind an open gate
 abbrev pub with_copy : Area → Side → List ℕ → Image → Image
@@ -104,7 +104,7 @@ pub record IsNamed (a : Area) (s : CopyState) (stored : List StoredRow) (c : Ima
 
 -- A sync with this mark is due: a copy with these elements names just the pieces of the mark, and what is seen has them.
 -- They may be pending.
-pub record IsDue (w : Standing) (s : CopyState) (stored : List StoredRow) (m : Mark) (content : PieceId → Content)
+pub record IsDue (w : KnownCopies) (s : CopyState) (stored : List StoredRow) (m : Mark) (content : PieceId → Content)
     (c : Image) : Type 0 where
   pub serial : s.serial ≡ w.copies.begun + 1
   pub among : IsAmong m w.marks
@@ -118,8 +118,8 @@ pub record IsDue (w : Standing) (s : CopyState) (stored : List StoredRow) (m : M
   pub even : AreNotAtOdds m.rows
 
 -- what is known where a sync with this mark and body went: the copy that it wrote is the newest
-abbrev pub standing_turned : Standing → CopyState → Mark → List ℕ → Image → Standing
-standing_turned w s m body c =
+abbrev pub known_turned : KnownCopies → CopyState → Mark → List ℕ → Image → KnownCopies
+known_turned w s m body c =
     record {
       copies = turned w.copies s;
       marks = w.marks;
@@ -128,18 +128,18 @@ standing_turned w s m body c =
     }
 
 -- and where it was broken off: the newest copy is the one that was
-abbrev pub standing_broken_off : Standing → CopyState → Mark → SyncStop → Bool → Standing
-standing_broken_off w s m stop shut =
+abbrev pub known_broken_off : KnownCopies → CopyState → Mark → SyncStop → Bool → KnownCopies
+known_broken_off w s m stop shut =
     record w { copies = broken_off w.copies s shut; clear = if stop.durable then m.end else w.clear }
 
 -- each image opens to one of the syncs, and to none that is older than the last that finished
-abbrev pub OpensKnown : Standing → Image → Type 0
-OpensKnown w = OpensToOne w.copies.area (TakesUpOne w.marks) w.copies.finished
+abbrev pub OpensToKnown : KnownCopies → Image → Type 0
+OpensToKnown w = OpensToOne w.copies.area (TakesUpOne w.marks) w.copies.finished
 
--- behind each call of a sync all that a cut may leave opens so, and what is known behind the last one holds
-pub record KnownOn (w v : Standing) (old new : Device) : Type 0 where
-  pub moments : Elapses (OpensKnown w) old new
-  pub known : AreKnownOn v new
+-- behind each call all that a cut may leave opens so, and behind the last one this stands
+pub record PassesTo (w v : KnownCopies) (old new : Device) : Type 0 where
+  pub moments : Elapses (OpensToKnown w) old new
+  pub known : CopiesHoldOn v new
 
 -- the calls of a sync were made on this device
 pub record AreCalls (old new : Device) : Type 0 where
@@ -149,20 +149,20 @@ pub record AreCalls (old new : Device) : Type 0 where
 
 -- so it is of a sync that went
 abbrev pub SyncsTurn : Type 0
-SyncsTurn = (w : Standing) (s : CopyState) (stored : List StoredRow) (m : Mark) (content : PieceId → Content) (old new : Device)
-    → AreCalls old new → AreKnownOn w old → IsDue w s stored m content (seen old)
-    → (went : IsSynced w.copies s stored old new) → KnownOn w (standing_turned w s m went.body (seen old)) old new
+SyncsTurn = (w : KnownCopies) (s : CopyState) (stored : List StoredRow) (m : Mark) (content : PieceId → Content) (old new : Device)
+    → AreCalls old new → CopiesHoldOn w old → IsDue w s stored m content (seen old)
+    → (went : IsSynced w.copies s stored old new) → PassesTo w (known_turned w s m went.body (seen old)) old new
 
 -- and of one that was broken off
 abbrev pub SyncsBreakOff : Type 0
-SyncsBreakOff = (w : Standing) (s : CopyState) (stored : List StoredRow) (m : Mark) (content : PieceId → Content)
+SyncsBreakOff = (w : KnownCopies) (s : CopyState) (stored : List StoredRow) (m : Mark) (content : PieceId → Content)
     (stop : SyncStop) (shut : Bool) (old new : Device)
-    → AreCalls old new → AreKnownOn w old → IsDue w s stored m content (seen old)
-    → IsBrokenOff w.copies s stored stop shut old new → KnownOn w (standing_broken_off w s m stop shut) old new
+    → AreCalls old new → CopiesHoldOn w old → IsDue w s stored m content (seen old)
+    → IsBrokenOff w.copies s stored stop shut old new → PassesTo w (known_broken_off w s m stop shut) old new
 
 -- what is known behind a format
-abbrev pub first_standing : Area → Device → Standing
-first_standing a d =
+abbrev pub known_first : Area → Device → KnownCopies
+known_first a d =
     record {
       copies = first_copies a;
       marks = (behind_format a.geometry).marks;
@@ -170,26 +170,39 @@ first_standing a d =
       clear = a.geometry.content;
     }
 
--- it holds there
-abbrev pub FormatIsKnown : Type 0
-FormatIsKnown = (a : Area) (old new : Device) → IsAreaLaidOut a old new → a.geometry.generation < 2 ^ 64
-    → IsImage new.first → IsLog new.past → AreKnownOn (first_standing a new) new
+-- it stands there
+abbrev pub FormatHolds : Type 0
+FormatHolds = (a : Area) (old new : Device) → IsAreaLaidOut a old new → a.geometry.generation < 2 ^ 64
+    → IsImage new.first → IsLog new.past → CopiesHoldOn (known_first a new) new
 
--- while it is known all that a cut may leave opens so
-abbrev pub KnownOpen : Type 0
-KnownOpen = (w : Standing) (settled : Bool) (first : Image) (past : List Call)
-    → AreKnown w settled first past → AllLeft (OpensKnown w) settled first past
+-- while that stands, all that a cut may leave opens so
+abbrev pub CopiesOpen : Type 0
+CopiesOpen = (w : KnownCopies) (settled : Bool) (first : Image) (past : List Call)
+    → CopiesHold w settled first past → AllLeft (OpensToKnown w) settled first past
 
 -- it outlives calls that write content alone, from the clear place up to where the newest copy spares it
-abbrev pub KnownStay : Type 0
-KnownStay = (w : Standing) (settled : Bool) (first : Image) (old new : List Call)
-    → AreKnown w settled first old
+abbrev pub CopiesStay : Type 0
+CopiesStay = (w : KnownCopies) (settled : Bool) (first : Image) (old new : List Call)
+    → CopiesHold w settled first old
     → ((j : ℕ) → ((q : ℕ) → w.clear ≤ q → q < spared_to w.copies.area.geometry w.newest.copy.told
     → j ≢ block_of_place w.copies.area q) → StaysIn settled first old new j)
-    → AreKnown w settled first new
+    → CopiesHold w settled first new
 
 -- also where a sync is begun, and where the clear place rises
-abbrev pub KnownWiden : Type 0
-KnownWiden = (w : Standing) (added : List Mark) (clear : ℕ) (settled : Bool) (first : Image) (past : List Call)
-    → w.clear ≤ clear → AreKnown w settled first past
-    → AreKnown (record w { marks = added ++ w.marks; clear = clear }) settled first past
+abbrev pub CopiesWiden : Type 0
+CopiesWiden = (w : KnownCopies) (added : List Mark) (clear : ℕ) (settled : Bool) (first : Image) (past : List Call)
+    → w.clear ≤ clear → CopiesHold w settled first past
+    → CopiesHold (record w { marks = added ++ w.marks; clear = clear }) settled first past
+
+-- the sync of a stripe without a piece is due, where its copy tells the mark
+abbrev pub EmptyIsDue : Type 0
+EmptyIsDue = (w : KnownCopies) (s : CopyState) (m : Mark) (content : PieceId → Content) (c : Image)
+    → s.serial ≡ w.copies.begun + 1 → IsAmong m w.marks → TellsMark w.copies.area (copy_to_come w.copies s) m
+    → m.rows ≡ [] → m.low ≤ m.end → m.end ≤ m.cursor → w.clear ≤ m.end
+    → spared_to w.copies.area.geometry w.newest.copy.told ≤ spared_to w.copies.area.geometry s
+    → IsDue w s [] m content c
+
+-- a copy that is not clean spares content at least as far as one with an earlier cursor
+abbrev pub LaterSparesMore : Type 0
+LaterSparesMore = (g : Geometry) (t u : CopyState) → IsTrue (may_say g t) → u.clean ≡ false → t.cursor ≤ u.cursor
+    → spared_to g t ≤ spared_to g u
