@@ -1,5 +1,5 @@
 -- What a run of `work` has come to where its script was read, and how it ends.
-use Rattle.std.proofs.Common.{◌≡◌, ℕ, ◌+◌, ◌≤◌, false, List, [], ◌∷◌, ◌++◌, length, Some, refl, sym, ◌∙◌, ap, subst, inl, inr, arith, append_assoc}
+use Rattle.std.proofs.Common.{◌≡◌, ℕ, ◌+◌, ◌≤◌, false, List, [], ◌∷◌, ◌++◌, length, None, Some, refl, sym, ◌∙◌, ap, subst, inl, inr, arith, append_assoc}
 use Rattle.device_log.specs.Streams.{SourceRead, SinkWrite}
 use Rattle.logged_disk.specs.Device.{DeviceState as Device}
 use Rattle.edge_io.specs.Lines.{GivesLine}

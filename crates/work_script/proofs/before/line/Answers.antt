@@ -20,7 +20,7 @@ returns-in-End-clause-ends g c =
     let next = c.in-End.ensures in
     let more = next.draws.more in
     let unread = text_after (held c.args.reader.now) more in
-    λ first told back story. done_ends first new told _ back _ unread given _ _ (λ harms. AreReached harms (returns_in c.args.replay.now)) (devices_in c.args.replay.now) (λ o is. is) (plays_reach c.args.replay.now c.requires.replay) (read_more first old new more (held c.args.reader.now) given _ _ _ _ next.draws.grew story)
+    λ first told back story. done_ends first new told _ back _ unread given _ _ (λ harms. AreReached harms (returns_in c.args.replay.now)) (devices_in c.args.replay.now) (λ o is. is.reached) (plays_reach c.args.replay.now c.requires.replay) (read_more first old new more (held c.args.reader.now) given _ _ _ _ next.draws.grew story)
     (refusals_around [] []) (read_through given more old new unread (held c.next_reading.new.reader) next.draws.grew next.answers)
 
 pub returns-in-Fault-clause-ends : goal.returns-in-Fault-clause-ends
@@ -33,7 +33,7 @@ returns-in-Fault-clause-ends g c =
     let unread = text_after (held c.args.reader.now) more in
     let bay = refusals_around (refusals_of (g.B.Bay.past c.args.bay.now)) (refusals_of (g.B.Bay.past c.args.bay.now)) in
     rw c.last_of.ensures
-    (λ first told back story. fault_as bay first new told _ (Owes back (ledger_of g.B.Bay c.args.bay.now) (λ harms. AreReached harms (returns_in c.args.replay.now))) (OwesOrGave back (ledger_of g.B.Bay c.args.bay.now) (devices_in c.args.replay.now) (λ harms. AreReached harms (returns_in c.args.replay.now))) c.in-Fault.fault (fault_ends first new told _ back _ unread given _ _ (λ harms. AreReached harms (returns_in c.args.replay.now)) (devices_in c.args.replay.now) (λ o is. is) (plays_reach c.args.replay.now c.requires.replay) (read_more first old new more (held c.args.reader.now) given _ _ _ _ next.draws.grew story)
+    (λ first told back story. fault_as bay first new told _ (Owes back (ledger_of g.B.Bay c.args.bay.now) (λ harms. AreReached harms (returns_in c.args.replay.now))) (OwesOrGave back (ledger_of g.B.Bay c.args.bay.now) (devices_in c.args.replay.now) (λ harms. AreReached harms (returns_in c.args.replay.now))) c.in-Fault.fault (fault_ends first new told _ back _ unread given _ _ (λ harms. AreReached harms (returns_in c.args.replay.now)) (devices_in c.args.replay.now) (λ o is. is.reached) (plays_reach c.args.replay.now c.requires.replay) (read_more first old new more (held c.args.reader.now) given _ _ _ _ next.draws.grew story)
     (held c.args.reader.now) old more (held c.next_reading.new.reader) bay c.in-Fault.fault refl next.draws.grew next.needed next.failed next.answers))
 
 pub returns-in-Fault-clause-begun : goal.returns-in-Fault-clause-begun
@@ -50,7 +50,7 @@ returns-in-Memory-clause-ends g c =
     let next = c.in-Memory.ensures.1 in
     let more = next.draws.more in
     let unread = text_after (held c.args.reader.now) more in
-    λ first told back story. memory_ends first new told _ back _ unread given _ _ (λ harms. AreReached harms (returns_in c.args.replay.now)) (devices_in c.args.replay.now) (λ o is. is) (plays_reach c.args.replay.now c.requires.replay) (read_more first old new more (held c.args.reader.now) given _ _ _ _ next.draws.grew story)
+    λ first told back story. memory_ends first new told _ back _ unread given _ _ (λ harms. AreReached harms (returns_in c.args.replay.now)) (devices_in c.args.replay.now) (λ o is. is.reached) (plays_reach c.args.replay.now c.requires.replay) (read_more first old new more (held c.args.reader.now) given _ _ _ _ next.draws.grew story)
     (refusals_around [] [])
 
 pub returns-in-Line-Nothing-clause-goes : goal.returns-in-Line-Nothing-clause-goes
@@ -75,7 +75,7 @@ returns-in-Line-Bad-clause-ends g c =
     let unread = text_after (held c.args.reader.now) more in
     let bay = refusals_around (refusals_of (g.B.Bay.past c.args.bay.now)) (refusals_of (g.B.Bay.past c.args.bay.now)) in
     rw c.lines_given.ensures
-    (λ first told back story. bad_before first new told _ back _ unread given _ _ (λ harms. AreReached harms (returns_in c.args.replay.now)) (devices_in c.args.replay.now) (λ o is. is) (plays_reach c.args.replay.now c.requires.replay) (read_more first old new more (held c.args.reader.now) given _ _ _ _ next.draws.grew story)
+    (λ first told back story. bad_before first new told _ back _ unread given _ _ (λ harms. AreReached harms (returns_in c.args.replay.now)) (devices_in c.args.replay.now) (λ o is. is.reached) (plays_reach c.args.replay.now c.requires.replay) (read_more first old new more (held c.args.reader.now) given _ _ _ _ next.draws.grew story)
     read.0 (held c.next_reading.new.reader) (lines_given c.next_reading.new.reader) next.answers next.given bay c.in-Line-Bad.fault (rw c.in-Line-Bad.field-0-is at read.1))
 
 pub returns-in-Ok-clause-goes : goal.returns-in-Ok-clause-goes

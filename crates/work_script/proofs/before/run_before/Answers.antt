@@ -15,7 +15,7 @@ use Rattle.work_script.proofs.before.run_before.Goals as goal
 pub lines-init : goal.lines-init
 lines-init g c = record {
   goes = begins (g.S.Source.reads (source_of c.args.reader.now).now) (g.K.Sink.writes c.args.sink.now) (ledger_of g.B.Bay c.args.bay.now) _ _ _ _ c.requires.held c.requires.given c.requires.blank c.requires.fresh;
-  session = c.requires.replay;
+  replay = c.requires.replay;
   few = omega (arith, ap length c.requires.names);
   out = omega (arith, c.requires.none);
   source = refl;
@@ -31,7 +31,7 @@ lines-preserved g c =
     let before = c.lines.invariant in
     record {
       goes = rw c.in-Ok-Line.field-0-is at (c.in-Ok-Line.ensures.goes _ _ _ before.goes);
-      session = c.line.ensures.replay;
+      replay = c.line.ensures.replay;
       few = c.in-Ok-Line.ensures.few;
       out = omega (arith, c.line.ensures.out, before.out);
       source = c.line.ensures.source ∙ before.source;
