@@ -542,7 +542,7 @@ module _ {D S W R : Type 0} {d : DiskGhosts D} {c : CallsGhosts S W R} where
           let later : Run = in_session run s s turn Cuts in
           record {
             turn = turn;
-            takes = subst (λ x. Takes run turn x Cuts) (sym there.state) (inl (refused_takes run plays));
+            takes = subst (λ x. Takes run turn x Cuts) (sym there.state) (inl (refused_takes run plays, record { only = record { added = refl; refused = refl; given = refl; events = refl }; told = refl }));
             plays = subst (λ x. PlaysOn (behind run turn x Cuts) old) (sym there.state) (record {
               session = record {
                 names = plays.session.names;

@@ -183,7 +183,7 @@ module _ (laws : OfSteps) (n : ℕ) (run : Run) (s : State) (turn : Turn) (stand
   step_line (step.Fail nth) e keeps takes = inl (asked_line (step.Fail nth) takes tt)
   step_line (step.StopAfter calls) e keeps takes = inl (asked_line (step.StopAfter calls) takes tt)
   step_line (step.Flip place byte) e keeps takes = inl (asked_line (step.Flip place byte) takes tt)
-  step_line (step.Cut choice) e keeps (inl takes) = inl (cut_refused choice takes)
+  step_line (step.Cut choice) e keeps (inl takes) = inl (cut_refused choice takes.0)
   step_line (step.Cut choice) e keeps (inr cut) = inr (ap (λ told. (after_cut run s turn choice told).state) cut.told)
 
   -- the session goes on, or the line cuts it

@@ -204,7 +204,7 @@ cuts_told a b (inr none) (inl too) = inr (inr (record { call = too.0; told = too
 cuts_told a b (inr none) (inr none_too) = inl (ap is_empty none ∙ sym (ap is_empty none_too))
 
 session_cut : (run : Run) (s : State) (a : Turn) (choice : CutChoice) → CutTakes run s a choice → CutsPower choice a ⊎ (a.told ≡ [])
-session_cut run s a choice (inl takes) = inr takes.switch
+session_cut run s a choice (inl takes) = inr takes.1.told
 session_cut run s a choice (inr cut) = inl cut
 
 -- of a bare device
@@ -313,16 +313,16 @@ module _ (agree : StepsAgree) (displace : DisplacementsAgree) where
       → CutTakes u s a choice → CutTakes v t b choice → is_empty a.told ≡ is_empty b.told → IsUntroubled a.added → TellNoDeviceTrouble b.added
       → IsUntroubled b.added × IsSame (answer_line (switch_said a.told answer.Cut)) (answer_line (switch_said b.told answer.Cut)) (after_cut u s a choice a.told) (after_cut v t b choice b.told)
   same_cut u v s t a b choice runs states (inl takes) (inl other_takes) switch calm quiet =
-      let same = same_session u v s t a b (step.Cut choice) runs states takes other_takes (takes.switch ∙ sym other_takes.switch) calm quiet in (
+      let same = same_session u v s t a b (step.Cut choice) runs states takes.0 other_takes.0 (takes.1.told ∙ sym other_takes.1.told) calm quiet in (
         same.0,
         record {
           printed = same.1.printed;
-          left = ap (λ told. without_devices (after_cut u s a choice told)) takes.switch
-              ∙ (same.1.left ∙ sym (ap (λ told. without_devices (after_cut v t b choice told)) other_takes.switch));
+          left = ap (λ told. without_devices (after_cut u s a choice told)) takes.1.told
+              ∙ (same.1.left ∙ sym (ap (λ told. without_devices (after_cut v t b choice told)) other_takes.1.told));
         },
       )
-  same_cut u v s t a b choice runs states (inl takes) (inr cut) switch calm quiet = no_truth (sym (ap is_empty takes.switch) ∙ (switch ∙ ap is_empty cut.told))
-  same_cut u v s t a b choice runs states (inr cut) (inl takes) switch calm quiet = no_truth (sym (ap is_empty takes.switch) ∙ (sym switch ∙ ap is_empty cut.told))
+  same_cut u v s t a b choice runs states (inl takes) (inr cut) switch calm quiet = no_truth (sym (ap is_empty takes.1.told) ∙ (switch ∙ ap is_empty cut.told))
+  same_cut u v s t a b choice runs states (inr cut) (inl takes) switch calm quiet = no_truth (sym (ap is_empty takes.1.told) ∙ (sym switch ∙ ap is_empty cut.told))
   same_cut u v s t a b choice runs states (inr one) (inr other) switch calm quiet = (
     subst IsUntroubled (sym other.only.added) tt,
     record {

@@ -46,8 +46,8 @@ format_goes run turn asks name segments buckets content agg reach fragment gener
 cut_goes : (run : Run) (turn : Turn) (choice : CutChoice) (s : State) → run.state ≡ Some s → CutTakes run s turn choice
     → StepGoes run turn (step.Cut choice) (switch_said turn.told answer.Cut) (after_cut run s turn choice turn.told)
 cut_goes run turn choice s e (inl takes) =
-    subst (λ told. StepGoes run turn (step.Cut choice) (switch_said turn.told answer.Cut) (after_cut run s turn choice told)) (sym takes.switch)
-    (works s refl e takes)
+    subst (λ told. StepGoes run turn (step.Cut choice) (switch_said turn.told answer.Cut) (after_cut run s turn choice told)) (sym takes.1.told)
+    (works s refl e takes.0)
 cut_goes run turn choice s e (inr cut) =
     subst (λ told. StepGoes run turn (step.Cut choice) (switch_said told answer.Cut) (after_cut run s turn choice told)) (sym cut.told)
     (cuts_off choice s e cut)

@@ -106,9 +106,9 @@ pub record TakesBehind (calls : List Call) (run : Run) (s : State) (turn : Turn)
 abbrev pub SessionTakes : Run → State → Turn → Step → Type 0
 SessionTakes run = TakesBehind run.calls run
 
--- a cut of a device that has no switch is refused, and the session goes on; else it ends
+-- a cut of a device that has no switch does nothing, and the session goes on; else it ends
 abbrev pub CutTakes : Run → State → Turn → CutChoice → Type 0
-CutTakes run s turn choice = SessionTakes run s turn (step.Cut choice) ⊎ CutsPower choice turn
+CutTakes run s turn choice = (SessionTakes run s turn (step.Cut choice) × CutsNothing turn) ⊎ CutsPower choice turn
 
 -- where a cut left a device, by what its session stood for
 abbrev pub IfBare : Option State → (State → Type 0) → Type 0
