@@ -135,6 +135,7 @@ module _ (workers : ℕ) (first read : List SourceRead) (old mid new : List Sink
     }))
     concludes_turns turns done story status.OutOfMemory says = inr (inr (works turns (SendsSome old new) done story (λ all sent. record {
       earlier = says.earlier;
+      turn = says.turn;
       later = says.later;
       is = says.is;
       sent = Took-trans old mid new all (turn_texts 1 says.earlier) sent says.sent;

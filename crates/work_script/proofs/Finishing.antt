@@ -13,7 +13,7 @@ use Rattle.cache_replay.specs.Replay.{IsReplay, devices_in, returns_in, IsOutlin
 use Rattle.cache_replay.specs.Session.{AreLater}
 use Rattle.cache_replay.proofs.Outlines.{reached_later}
 use Rattle.run_promise.specs.declared.status.Status.{Status}
-use Rattle.run_promise.specs.Story.{DevicesTold, Owes, OwesOrGave, Refusals, SendsAll, own_loosened}
+use Rattle.run_promise.specs.Story.{DevicesTold, IsReadThrough, Owes, OwesOrGave, Refusals, SendsAll, own_loosened}
 use Rattle.run_promise.specs.Top.{EachBack, EachBackOrMore}
 use Rattle.run_script.specs.declared.run.Ending.{Ending}
 use Rattle.run_script.specs.Ending.{IsOfRun}
@@ -98,14 +98,14 @@ module _ {D S W R : Type 0} {d : DiskGhosts D} {c : CallsGhosts S W R} (workers 
         (λ run deals plays. runs_on before past last.bare last.session is_last (EachBack before closed) settle turns session.session run (beside_last IsReplay is) takes (beside_last (PlaysOn run) plays) deals) comes.goes) s says
 
     -- or memory was wanting for a turn
-    pub finish_short : AreLater (returns_in session) (returns_in last) → new ≡ mid → WantsInTurns first read old new before closed
+    pub finish_short : AreLater (returns_in session) (returns_in last) → new ≡ mid → WantsInTurns workers first read old new before closed
     finish_short later keeps = record {
       held = comes.held;
       given = comes.given;
       story = still first read old mid before (ledger_behind past) comes.held comes.given _ _ (λ harms. AreReached harms (returns_in session)) 0 (λ o out. out.reached) (plays_reach session is) comes.goes
-          (SendsAll old new) (λ t. EachBack before closed (own_loosened t)) (λ o. Unit {0}) (Took-kept old mid new _ comes.goes.text keeps)
+          (SendsAll old new) (λ t. EachBack before closed (own_loosened t)) (λ o. HasJobs workers comes.given comes.held (λ lines unread count. IsReadThrough read unread)) (Took-kept old mid new _ comes.goes.text keeps)
           (λ t deals reached. Deals-settled _ _ _ t.ended _ t.names deals (back (map loosened t.own) (reached_later t.own (returns_in session) (returns_in last) later reached)) names)
-          (λ o out. tt);
+          (λ o out. has_with workers comes.given comes.held _ _ (λ lines unread count here. here.0) comes.jobs);
     }
 
     -- whichever it was

@@ -45,7 +45,7 @@ module _ (old now new : List SinkWrite) (turns left : List WorkTurn) (t : WorkTu
     cut = let same : count + 1 ≡ length p.earlier + 1 = omega (arith, p.counted) in
         front_more old now new (turn_texts 1 p.earlier) (turn_text (length p.earlier + 1) t) p.sent (subst (λ (m : ℕ). SendsFront now new [] (turn_text m t)) same w);
   }
-  printed_ends T ending.OutOfMemory w = record { earlier = p.earlier; later = t ∷ left; is = p.is; sent = Took-kept old now new (turn_texts 1 p.earlier) p.sent w }
+  printed_ends T ending.OutOfMemory w = record { earlier = p.earlier; turn = t; later = left; is = p.is; sent = Took-kept old now new (turn_texts 1 p.earlier) p.sent w }
 
 pub printed_none : (old : List SinkWrite) (turns : List WorkTurn) → Printed old old turns turns 0
 printed_none old turns = record { earlier = []; is = refl; counted = refl; sent = Took-nothing old }

@@ -86,14 +86,15 @@ pub record CutsTurn (old new : List SinkWrite) (turns : List WorkTurn) (all : Li
 -- some of them did, and memory was wanting for the next
 pub record SendsSome (old new : List SinkWrite) (turns : List WorkTurn) (all : List ℕ) : Type 0 where
   pub earlier : List WorkTurn
+  pub turn : WorkTurn
   pub later : List WorkTurn
-  pub is : turns ≡ earlier ++ later
+  pub is : turns ≡ earlier ++ turn ∷ later
   pub sent : SinkTook old new (all ++ turn_texts 1 earlier)
 
--- memory was wanting for a turn, and none went out; the device of the session may have made calls
-abbrev pub WantsInTurns : (first read : List SourceRead) → (old new : List SinkWrite) → (before now : Ledger) → Type 0
-WantsInTurns first read old new before now =
-    StoryUpTo first read (SendsAll old new) (λ held given t. EachBack before now (own_loosened t)) (λ held given o. ⊤)
+-- all lines were read, memory was wanting for a job, and none went out; the device of the session may have made calls
+abbrev pub WantsInTurns : (workers : ℕ) → (first read : List SourceRead) → (old new : List SinkWrite) → (before now : Ledger) → Type 0
+WantsInTurns workers first read old new before now =
+    StoryUpTo first read (SendsAll old new) (λ held given t. EachBack before now (own_loosened t)) (λ held given o. HasJobs workers given held (λ lines unread count. IsReadThrough read unread))
 
 -- a run that ended early: the answers of the lines before went out, and behind them the last line or a front of it
 pub record WorkEndsEarly (workers : ℕ) (first read : List SourceRead) (old new : List SinkWrite) (bay : Refusals) (before now : Ledger) (s : Status) : Type 0 where
@@ -115,6 +116,6 @@ ConcludesWork workers first read old new bay before now status.WriteFault =
     ⊎ Works workers first read before now (CutsTurn old new)
 ConcludesWork workers first read old new bay before now status.OutOfMemory =
     WantsMemory first read old new (EachBack before now) (EachBackOrMore before now)
-    ⊎ WantsInTurns first read old new before now
+    ⊎ WantsInTurns workers first read old new before now
     ⊎ Works workers first read before now (SendsSome old new)
 ConcludesWork workers first read old new bay before now s = WorkEndsEarly workers first read old new bay before now s
