@@ -83,9 +83,7 @@ fn line<S: Source, K: Sink, B: Bay, C: Formats<B::Dev> + Powered>(
             line: reader.lines_given(),
             fault,
         })),
-        Reading::Line(LineAnswer::Step(asked)) => match take_step(
-            alloc, sink, bay, replay, asked,
-        ) {
+        Reading::Line(LineAnswer::Step(asked)) => match take_step(alloc, sink, bay, replay, asked) {
             Ok(()) => Ok(Next::Line),
             Err(halt) => Err(ending_of(reader.lines_given(), halt)),
         },
