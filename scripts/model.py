@@ -901,6 +901,10 @@ class Copies:
         self.newest, self.shut = 0, {1}
         self.durable = self.written = 0
 
+    def open_at(self, side, serial, cursor, shut):
+        self.newest, self.shut = side, shut - {side}
+        self.serial, self.next_serial, self.cursor = serial, serial + 1, cursor
+
     def sync_device(self, device):
         device.sync()
         self.durable = self.written
@@ -936,6 +940,250 @@ def lay_out(stripe):
     device.sync()
     device.write(1, b"\1" + bytes(BLOCK - 1))
     device.sync()
+
+
+# ---- Openings
+
+
+class NoStripe(Exception):
+    """What a device holds opens to no stripe."""
+
+
+def needs(holds):
+    if not holds:
+        raise NoStripe
+
+
+def read_span(data, blocks):
+    """The geometry of a span, on a device of so many blocks."""
+    version, *numbers = struct.unpack_from("<6I", data, 8)
+    segments, buckets, agg, fragment, alternates = numbers
+    content, reach, generation, first, length = struct.unpack_from("<5Q", data, 32)
+    needs(data[:8] == b"TSCSPAN1" and version in (1, 2) and data[72:104] == sha(data[:72]))
+    needs(version == 2 or alternates == 0)
+    most = alternates if version == 2 else 5
+    try:
+        g = geometry_of([segments, buckets, content, agg, reach, fragment, generation, most])
+    except Refused:
+        raise NoStripe from None
+    needs(not any(data[104:]) and first == 1 and length == 2 * directory_blocks(g) + content + 6 and blocks > length)
+    return g
+
+
+def read_copy(g, body):
+    """Serial, cursor, next put and floor of a copy (no floor where it is not clean), or None where it is refused."""
+    head, foot = body[:BLOCK], body[-BLOCK:]
+    version, serial, cursor, put, clean, floor = *struct.unpack_from("<I", head, 8), *struct.unpack_from("<5Q", head, 56)
+    if head[:8] != b"TSCHEAD1" or foot[:8] != b"TSCFOOT1" or version not in (1, 2):
+        return None
+    if foot[8:16] != head[56:64] or foot[16:48] != sha(body[:-BLOCK]) or any(foot[48:]):
+        return None
+    if head[12:56] != spelled_geometry(g, 0) or any(head[96 if version == 2 else 80 :]):
+        return None
+    if not g.content <= cursor < NUMBERS or cursor % g.content + g.agg > g.content:
+        return None
+    if not 0 < serial < NUMBERS or not 0 < put < NUMBERS or clean > 1:
+        return None
+    least, most = cursor + g.agg - g.content, reach_of(g, cursor) - g.content
+    if (clean and not least <= floor <= most) or (not clean and floor):
+        return None
+    return serial, cursor, put, floor if clean else None
+
+
+def read_links(g, data):
+    """The chains of a segment's bytes, as slots, and its free slots."""
+    words = [int.from_bytes(data[4 + 10 * i : 14 + 10 * i], "little") for i in range(4 * g.buckets)]
+    offsets = [word % (1 << 24) | (word >> 64) << 24 for word in words]
+    seen = set()
+
+    def walk(slot, is_free, by_link):
+        slots = []
+        while slot or not by_link:
+            needs(slot < len(words) and not (by_link and slot % 4 == 0) and (offsets[slot] == 0) == is_free and slot not in seen)
+            seen.add(slot)
+            slots.append(slot)
+            slot, by_link = words[slot] >> 48 & 0xFFFF, True
+        return slots
+
+    chains = {}
+    for root in range(0, len(words), 4):
+        if offsets[root] == 0 and words[root] >> 48 & 0xFFFF == 0:
+            seen.add(root)
+        else:
+            chains[root // 4] = walk(root, False, False)
+    first, count = struct.unpack_from("<HH", data)
+    free = walk(first, True, True)
+    needs(count == len(free) and len(seen) == len(words))
+    return chains, free, words, offsets
+
+
+def place_of(g, cursor, word, offset):
+    """The place for which an entry stands, or None."""
+    lap = cursor // g.content
+    if offset > g.content:
+        return None
+    if word >> 44 & 1 == lap % 2:
+        place = lap * g.content + offset - 1
+        return place if place < cursor else None
+    return (lap - 1) * g.content + offset - 1
+
+
+def read_doc(g, data, place):
+    """The piece of a document and its payload, or None where it is refused."""
+    if data[:8] != b"TSCDOCM1" or data[8:12] != b"\1\0\0\0":
+        return None
+    length, first, put, index, blocks = struct.unpack_from("<I16sQII", data, 12)
+    if blocks != blocks_of(length) or len(data) < blocks * BLOCK or data[112:HEAD] != sha(data[:112])[:16]:
+        return None
+    stated, generation, pin, start = struct.unpack_from("<4Q", data, 48)
+    payload = data[HEAD : HEAD + length]
+    if generation != g.generation or stated != place or data[80:112] != sha(payload):
+        return None
+    piece = Piece(first, put, index, pin, start)
+    piece.place, piece.blocks, piece.digest, piece.length = place, blocks, sha(data[: HEAD + length]), length
+    piece.payload = payload
+    return piece
+
+
+class Bytes:
+    """Bytes that are read from the front."""
+
+    def __init__(self, data):
+        self.data, self.at = data, 0
+
+    def take(self, count):
+        needs(self.at + count <= len(self.data))
+        self.at += count
+        return self.data[self.at - count : self.at]
+
+    def number(self, width):
+        return int.from_bytes(self.take(width), "little")
+
+    def fields(self):
+        fields, count = [], self.number(2)
+        needs(count <= 128)
+        for _ in range(count):
+            name, value = self.number(2), self.number(4)
+            name, value = self.take(name), self.take(value)
+            needs(FIELD_NAME.fullmatch(name) and name == name.lower() and (not fields or fields[-1][0] <= name))
+            needs(VALUE.fullmatch(value) and len(value) <= 8192)
+            fields.append((name, value))
+        return fields
+
+    def alternate(self):
+        put, pin, length = (self.number(8) for _ in range(3))
+        request, response = self.fields(), self.fields()
+        count = self.number(4)
+        needs(count <= 4096)
+        rows = [(self.number(4), self.take(32)) for _ in range(count)]
+        needs(all(row[0] for row in rows) and sum(row[0] for row in rows) == length)
+        return Alternate(put, pin, length, request, response, rows)
+
+
+def read_vector(data):
+    """The alternates that bytes spell, or None."""
+    try:
+        source = Bytes(data)
+        count = source.number(4)
+        needs(1 <= count <= 16)
+        alternates = [source.alternate() for _ in range(count)]
+        needs(source.at == len(data))
+        return alternates
+    except NoStripe:
+        return None
+
+
+def stands_alone(g, piece, home, cursor, put):
+    """Whether a document passes the tests that look at no other one."""
+    end = piece.place + piece.blocks
+    if piece.blocks > g.agg // 2 or end > lap_end(g, piece.place):
+        return False
+    if piece.place // g.content == cursor // g.content and end > cursor:
+        return False
+    if home_of(g, piece.key()) != home or (piece.index <= 4096 and not 0 < piece.put < put):
+        return False
+    if piece.index == 0:
+        piece.alternates = read_vector(piece.payload)
+        return piece.alternates is not None and all(0 < it.put < put for it in piece.alternates)
+    return True
+
+
+def kept_of(pieces):
+    """Those of documents that no later one replaces, and whose fragments have the lengths that they list."""
+    last = {}
+    for piece in sorted(pieces, key=lambda piece: piece.place):
+        last[piece.first, None if piece.index == 0 else piece.put, piece.index] = piece
+    fragments = {(piece.first, piece.put, piece.index): piece for piece in last.values() if piece.index}
+
+    def fits(piece):
+        listed = [(it.put, i, row[0]) for it in piece.alternates or [] for i, row in enumerate(it.rows, 1)]
+        found = [(fragments.get((piece.first, put, i)), length) for put, i, length in listed]
+        return all(fragment is None or fragment.length == length for fragment, length in found)
+
+    return {id(piece) for piece in last.values() if fits(piece)}
+
+
+def read_segment(stripe, data, number, bounds, reads):
+    """A segment as an image has it, with what passes alone. Gives how many entries stand at or above the floor."""
+    g, (cursor, floor, put) = stripe.g, bounds
+    chains, free, words, offsets = read_links(g, data)
+    segment, count = stripe.directory.segment(number), 0
+    segment.free = free[::-1]
+    for bucket, slots in chains.items():
+        segment.chains[bucket] = chain = []
+        for slot in slots:
+            place, piece = place_of(g, cursor, words[slot], offsets[slot]), None
+            if place is not None and place >= floor:
+                count += 1
+                piece = reads(place)
+                home = number, bucket, words[slot] >> 32 & 0xFFF
+                piece = piece if piece and stands_alone(g, piece, home, cursor, put) else None
+            chain.append([slot, piece])
+    return count
+
+
+def newest_copy(device, g):
+    """The side, body and state of the newest copy, and which gates are shut."""
+    gates, copies, shut = device.read(1, 2), [], set()
+    for side in (0, 1):
+        if gates[side * BLOCK] != 1:
+            shut.add(side)
+            continue
+        body = device.read(first_of_copy(g, side), directory_blocks(g) + 2)
+        state = read_copy(g, body)
+        copies += [(state, -side, body)] if state else []
+    needs(copies)
+    state, side, body = max(copies, key=lambda copy: (copy[0][0], copy[1]))
+    return -side, body, state, shut
+
+
+def open_stripe(device):
+    """The stripe that a device opens to, how many pieces were found, and how many entries were not kept."""
+    needs(device.blocks)
+    g = read_span(device.read(0, 1), device.blocks)
+    side, body, (serial, cursor, put, clean), shut = newest_copy(device, g)
+    stripe = Stripe(device, g, True)
+    stripe.cursor, stripe.next_put, stripe.opened = cursor, put, serial
+    stripe.least = reach_of(g, cursor) - g.content if clean is None else clean
+    stripe.copies.open_at(side, serial, cursor, shut)
+
+    def reads(place):
+        if place < g.content:
+            return None
+        return read_doc(g, device.read(content_block(g, place), lap_end(g, place) - place), place)
+
+    size, count = 4 + 40 * g.buckets, 0
+    for number in range(g.segments):
+        data = body[BLOCK + number * size :][:size]
+        count += read_segment(stripe, data, number, (cursor, stripe.least, put), reads)
+    kept = kept_of([piece for piece in stripe.directory.pieces() if piece])
+    for segment in stripe.directory.segments.values():
+        segment.clean(lambda piece: id(piece) in kept)
+    for piece in stripe.directory.pieces():
+        stripe.pieces[piece.first, piece.put, piece.index] = piece
+        if piece.index == 0:
+            stripe.vectors[piece.first] = piece
+    return stripe, len(kept), count - len(kept), clean is not None
 
 
 # ---- Runs
@@ -992,10 +1240,10 @@ class Run:
 
     def do_reopen(self):
         self.stripe, self.actors = None, {}
-        self.stripe, found = open_stripe(self.device)
-        copies = self.stripe.copies
+        self.stripe, found, _, is_clean = open_stripe(self.device)
+        copies, mark = self.stripe.copies, " clean" if is_clean else ""
         floor = self.stripe.floor()
-        return f"opened serial {copies.serial} cursor {copies.cursor} floor {floor} found {found}"
+        return f"opened serial {copies.serial} cursor {copies.cursor} floor {floor} found {found}{mark}"
 
     def switch(self):
         if not self.device.has_switch:
@@ -1142,14 +1390,6 @@ class Run:
         self.stripe.readers.remove(self.reader_of(actor))
         del self.actors[actor]
         return "done"
-
-
-class NoStripe(Exception):
-    """What a device holds opens to no stripe."""
-
-
-def open_stripe(device):
-    raise NoStripe
 
 
 def answers(script, stage):
