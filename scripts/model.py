@@ -11,7 +11,8 @@ be compared: scripts/fuzz does that. The stages are
     openings    the lines `open` and `reopen` too
 
 Devices are in memory, whatever their name; one whose name is a path has no switch. What comes near 2^62 is left out, and
-so are want of memory, faults of standard input and output, and all words but `replay`.
+so are want of memory, faults of standard input and output, and all words but `replay`. The mark of a clean copy is read; no
+line writes one.
 """
 import hashlib
 import re
