@@ -3,36 +3,37 @@
 ghost use Rattle.std.specs.Prelude.{◌≡◌};
 
 use std::alloc::{AllocError, AllocFailed};
+use thiserror::Error;
 
 /// Why a field line was not added: the first that applies.
-#[derive(Clone, Copy, Debug, PartialEq, Eq)]
+#[derive(Clone, Copy, Debug, PartialEq, Eq, Error)]
 pub enum FieldFault {
-    /// The name is no field name, or longer than 256 bytes.
+    #[error("the name is no field name, or is longer than 256 bytes")]
     Name,
-    /// The value has a byte that no value may have, or is longer than 8,192 bytes.
+    #[error("the value has a byte that no value may have, or is longer than 8192 bytes")]
     Value,
-    /// There are 128 lines already.
+    #[error("there are 128 field lines already")]
     TooMany,
-    /// Memory ran out.
+    #[error("out of memory")]
     Memory(AllocError),
 }
 
 /// What is wrong with a vector's bytes: the first fault from the front.
-#[derive(Clone, Copy, Debug, PartialEq, Eq)]
+#[derive(Clone, Copy, Debug, PartialEq, Eq, Error)]
 pub enum VectorFault {
-    /// The bytes end within an item.
+    #[error("the bytes end within an item")]
     Short,
-    /// There is no alternate or more than 16, or more than 128 field lines.
+    #[error("there is no alternate or more than 16, or more than 128 field lines")]
     Count,
-    /// A name is no field name, is longer than 256 bytes, is not in lower case or is out of order.
+    #[error("a name is no field name, is longer than 256 bytes, is not in lower case or is out of order")]
     Name,
-    /// A value has a byte that no value may have, or is longer than 8,192 bytes.
+    #[error("a value has a byte that no value may have, or is longer than 8192 bytes")]
     Value,
-    /// A fragment table has too many rows, or another sum than the alternate's length.
+    #[error("a fragment table has too many rows, or another sum than the length of its alternate")]
     Table,
-    /// Bytes follow the last alternate.
+    #[error("bytes follow the last alternate")]
     Rest,
-    /// Memory ran out.
+    #[error("out of memory")]
     Memory(AllocError),
 }
 

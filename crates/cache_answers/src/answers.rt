@@ -2,26 +2,29 @@
 
 use cache_model::Cause;
 use std::alloc::AllocError;
+use thiserror::Error;
 
 /// Why a call did less than it was asked.
-#[derive(Clone, Copy, Debug, PartialEq, Eq)]
+#[derive(Clone, Copy, Debug, PartialEq, Eq, Error)]
 pub enum Refusal {
-    /// As many writers are open as may be.
+    #[error("as many writers are open as may be")]
     TooManyWriters,
-    /// A put would have more fragments than may be.
+    #[error("the put would have more fragments than may be")]
     TooManyFragments,
-    /// The vector of the new alternate alone would have so many bytes.
+    #[error("the vector of the new alternate alone would have {bytes} bytes")]
     VectorTooLarge { bytes: u64 },
-    /// The fragment of this index is not live any more.
+    #[error("fragment {index} is not live any more")]
     Lost { index: u32, cause: Cause },
-    /// The device refused a call, and its count of faults then stood at `count`.
+    /// Its count of faults then stood at `count`.
+    #[error("the device refused a call")]
     DeviceFault { count: u64 },
-    /// The writer was closed in vain, and takes no more bytes.
+    #[error("the writer was closed in vain, and takes no more bytes")]
     Sealed,
-    /// This place or number would reach the limit.
+    #[error("{number} would reach the limit of places or numbers")]
     Exhausted { number: u64 },
-    /// No writer of that put is open.
+    #[error("no writer of that put is open")]
     NoSuchWriter,
+    #[error("out of memory")]
     Memory(AllocError),
 }
 

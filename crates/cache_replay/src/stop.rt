@@ -1,11 +1,14 @@
 // Why a step ends the run.
 use std::alloc::AllocError;
+use thiserror::Error;
 
-#[derive(Debug, Drop)]
+#[derive(Debug, Drop, Error)]
 pub enum Stop {
-    /// There is no session for it.
+    #[error("there is no session for it")]
     NoCache,
+    #[error("no device was attached")]
     BayFault,
+    #[error("out of memory")]
     Memory,
 }
 

@@ -5,12 +5,15 @@ ghost use Rattle.device_bay.specs.Bay.{IsNewDevice, Refuses};
 
 use logged_disk::PowerDisk;
 use std::alloc::{AllocError, Global};
+use thiserror::Error;
 
 /// Why a device was not attached.
-#[derive(Clone, Copy, Debug)]
+#[derive(Clone, Copy, Debug, Error)]
 pub enum BayFault {
     /// This is the bay's count of faults.
+    #[error("no device was attached")]
     Failed { count: u64 },
+    #[error("out of memory")]
     Memory(AllocError),
 }
 

@@ -9,14 +9,14 @@ use thiserror::Error;
 /// Why a device does not open: the first fault of what was read, or why it was not read to the end.
 #[derive(Debug, Drop, Error)]
 pub enum OpeningFault {
-    #[error("no stripe lies on the device: the first fault of its span is {0:?}")]
+    #[error("no stripe lies on the device: {0}")]
     BadSpan(SpanFault),
-    #[error("neither copy of the directory is accepted: the first fault of copy A is {a:?}, that of copy B {b:?}")]
+    #[error("neither copy of the directory is accepted: of copy A, {a}; of copy B, {b}")]
     NoCopy {
         a: CopyFault,
         b: CopyFault,
     },
-    #[error("copy {side:?} is the newest, and segment {segment} of its directory is refused: its first fault is {fault:?}")]
+    #[error("copy {side:?} is the newest, and segment {segment} of its directory is refused: {fault}")]
     BadDirectory {
         side: Side,
         segment: u32,

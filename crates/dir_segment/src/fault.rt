@@ -1,15 +1,18 @@
 // What is wrong with the bytes of a segment.
 use std::alloc::AllocError;
+use thiserror::Error;
 
 /// The first fault of an image, by the slot at which a walk met it.
-#[derive(Debug, Drop)]
+#[derive(Debug, Drop, Error)]
 pub enum SegmentFault {
-    /// The slot that a link leads to may not stand there.
+    #[error("a link leads to slot {slot}, which may not stand there")]
     BadLink { slot: u32 },
-    /// The slot was reached before.
+    #[error("slot {slot} is reached twice")]
     Loop { slot: u32 },
-    /// The number of free slots, or of all slots, is not the number that was reached.
+    /// Of the free slots, or of all slots.
+    #[error("the image counts {kept} slots, and {found} are reached")]
     FreeListCount { kept: u32, found: u32 },
+    #[error("out of memory")]
     Memory(AllocError),
 }
 

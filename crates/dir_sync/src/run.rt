@@ -15,6 +15,7 @@ use edge_io::Failed;
 use logged_disk::Disk;
 use std::marker::Model;
 use stripe_header::{Area, CopyState, Side, write_body};
+use thiserror::Error;
 
 // The blocks that a step writes at most.
 const STEP: u64 = 64;
@@ -102,9 +103,11 @@ fn bar<D: Disk>(
     shut_gate(disk, side, shut)
 }
 
-/// Why a sync did not go on: the count of the device's faults.
-#[derive(Clone, Copy, Debug, Drop, PartialEq, Eq)]
+/// Why a sync did not go on.
+#[derive(Clone, Copy, Debug, Drop, PartialEq, Eq, Error)]
+#[error("the device refused a call of the sync")]
 pub struct SyncFault {
+    /// The device's count of faults.
     pub count: u64,
 }
 

@@ -1,5 +1,6 @@
 // Documents, and why bytes are none.
 use tape_base::{Digest, PieceId};
+use thiserror::Error;
 
 /// What the header of a document says of its payload.
 #[derive(Clone, Copy, Debug, PartialEq, Eq)]
@@ -23,17 +24,22 @@ pub struct DocRef<'a> {
 }
 
 /// The first fault of given bytes.
-#[derive(Clone, Copy, Debug, PartialEq, Eq)]
+#[derive(Clone, Copy, Debug, PartialEq, Eq, Error)]
 pub enum DocFault {
-    /// Fewer than the 128 bytes of a header are given.
+    #[error("it has fewer than the 128 bytes of a header")]
     Short,
+    #[error("it does not begin as a document")]
     Magic,
+    #[error("its version is not 1")]
     Version,
-    /// The blocks are not those of the length, or fewer bytes than these blocks are given.
+    #[error("its blocks are not those of its length, or not all of them are there")]
     Length,
+    #[error("its header is not the one whose check it has")]
     HeaderCheck,
+    #[error("it is of generation {found}")]
     Generation { found: u64 },
+    #[error("it is that of place {found}")]
     Place { found: u64 },
-    /// The payload is not the one whose digest the header keeps.
+    #[error("its payload is not the one whose digest its header has")]
     Digest { kept: Digest, found: Digest },
 }

@@ -7,6 +7,7 @@ ghost use mir.Syntax.{named};
 use crate::buffer::LineBuffer;
 use crate::{Failed, Source};
 use std::alloc::{AllocError, Global};
+use thiserror::Error;
 
 /// The longest line that is read, without its newline.
 pub const MAX_LINE_BYTES: usize = 1_048_576;
@@ -14,12 +15,15 @@ pub const MAX_LINE_BYTES: usize = 1_048_576;
 /// How many lines are read.
 pub const MAX_LINES: u64 = 16_777_216;
 
-#[derive(Clone, Copy, Debug, PartialEq, Eq)]
+#[derive(Clone, Copy, Debug, PartialEq, Eq, Error)]
 pub enum LineFault {
     /// The first line has the number 1.
+    #[error("line {line} has more than {most} bytes", most = MAX_LINE_BYTES)]
     LineTooLong { line: u64 },
+    #[error("there are more than {most} lines", most = MAX_LINES)]
     TooManyLines,
-    /// A read failed; this is the source's count of faults.
+    /// This is the source's count of faults.
+    #[error("a read failed")]
     ReadFault { count: u64 },
 }
 

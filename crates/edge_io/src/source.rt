@@ -6,8 +6,11 @@ ghost use Rattle.hex.specs.Hex.{IsBytes};
 ghost use Rattle.device_log.specs.Streams.{SourceRead, given_by, read_faults};
 ghost use Rattle.edge_io.specs.Source.{NotesRead};
 
+use thiserror::Error;
+
 /// A call of a source, a sink or a device did not do its work, and its count of faults says so.
-#[derive(Clone, Copy, Debug, PartialEq, Eq)]
+#[derive(Clone, Copy, Debug, PartialEq, Eq, Error)]
+#[error("a call did not do its work")]
 pub struct Failed;
 
 /// Each read is in its log.

@@ -4,17 +4,18 @@ ghost use Rattle.std.specs.Prelude.{◌≡◌};
 ghost use Rattle.fragment_table.specs.declared.fault.TableFault.TheVariants.{Memory};
 
 use std::alloc::AllocError;
+use thiserror::Error;
 
 /// What is wrong with a table's bytes: the first that applies.
-#[derive(Clone, Copy, Debug, PartialEq, Eq)]
+#[derive(Clone, Copy, Debug, PartialEq, Eq, Error)]
 pub enum TableFault {
-    /// The bytes end within the table.
+    #[error("the bytes end within the table")]
     Short,
-    /// There are more than 4,096 rows.
+    #[error("the table has more than 4096 rows")]
     Count,
-    /// A row has no bytes, or the rows' lengths have another sum than was asked for.
+    #[error("a row has no bytes, or the lengths of the rows have another sum than was asked for")]
     Sum,
-    /// Memory ran out.
+    #[error("out of memory")]
     Memory(AllocError),
 }
 

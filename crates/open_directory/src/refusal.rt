@@ -3,15 +3,16 @@
 ghost use Rattle.std.specs.Prelude.{◌≡◌};
 
 use std::alloc::{AllocError, AllocFailed};
+use thiserror::Error;
 
 /// Why a call changed nothing.
-#[derive(Clone, Copy, Debug, PartialEq, Eq)]
+#[derive(Clone, Copy, Debug, PartialEq, Eq, Error)]
 pub enum OpenRefusal {
-    /// As many writers are open as may be.
+    #[error("as many writers are open as may be")]
     TooManyWriters,
-    /// No writer of that put is open.
+    #[error("no writer of that put is open")]
     NoSuchWriter,
-    /// Memory ran out.
+    #[error("out of memory")]
     Memory(AllocError),
 }
 

@@ -3,11 +3,14 @@ ghost use Rattle.std.specs.Prelude.{◌≡◌};
 
 use dir_segment::SegmentFault;
 use std::alloc::AllocError;
+use thiserror::Error;
 
 /// The first fault of an image, with the number of its segment.
-#[derive(Debug, Drop)]
+#[derive(Debug, Drop, Error)]
 pub enum ImageFault {
+    #[error("segment {number}: {fault}")]
     Segment { number: u32, fault: SegmentFault },
+    #[error("out of memory")]
     Memory(AllocError),
 }
 

@@ -4,6 +4,7 @@ ghost use Rattle.std.specs.Prelude.{◌≡◌};
 use cache_answers::Refusal;
 use cache_model::Cause;
 use tape_base::Digest;
+use thiserror::Error;
 
 /// A piece that was placed.
 #[derive(Clone, Copy, Debug, PartialEq, Eq)]
@@ -22,12 +23,14 @@ pub enum Found {
 }
 
 /// Why the tape was not written on.
-#[derive(Clone, Copy, Debug, PartialEq, Eq)]
+#[derive(Clone, Copy, Debug, PartialEq, Eq, Error)]
 pub enum Stop {
-    /// The device refused a call, and its count of faults then stood at `count`.
+    /// Its count of faults then stood at `count`.
+    #[error("the device refused a call")]
     DeviceFault { count: u64 },
     /// This place would reach the end of the tape: that at which a piece would end, or, where the
     /// buffer was to be written out, the latest at which its copies end.
+    #[error("place {number} would reach the end of the tape")]
     Exhausted { number: u64 },
 }
 

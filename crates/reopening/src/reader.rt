@@ -18,6 +18,7 @@ use dir_table::StoredRow;
 use packed_directory::ImageFault;
 use std::alloc::{AllocError, Global};
 use stripe_header::{Area, CopyFault, CopyState, Side};
+use thiserror::Error;
 
 /// What an image opens to.
 #[derive(Debug, Drop)]
@@ -32,19 +33,20 @@ pub struct Opened {
 }
 
 /// Why an image does not open.
-#[derive(Debug, Drop)]
+#[derive(Debug, Drop, Error)]
 pub enum OpenFault {
-    /// Neither copy is accepted.
+    #[error("neither copy of the directory is accepted: of copy A, {a}; of copy B, {b}")]
     NoCopy {
         a: CopyFault,
         b: CopyFault,
     },
-    /// The first fault of the newest copy's directory, and its segment.
+    #[error("copy {side:?} is the newest, and segment {segment} of its directory is refused: {fault}")]
     BadDirectory {
         side: Side,
         segment: u32,
         fault: SegmentFault,
     },
+    #[error("out of memory")]
     Memory(AllocError),
 }
 

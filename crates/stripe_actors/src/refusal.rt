@@ -1,14 +1,15 @@
 // Why no put is opened.
 
 use std::alloc::AllocError;
+use thiserror::Error;
 
 /// Why no put was opened.
-#[derive(Clone, Copy, Debug, PartialEq, Eq)]
+#[derive(Clone, Copy, Debug, PartialEq, Eq, Error)]
 pub enum OpenPutRefusal {
-    /// As many writers are open as may be.
+    #[error("as many writers are open as may be")]
     TooManyWriters,
-    /// The put behind the next one would have this number, which no put may have.
+    #[error("the put behind the next one would be number {number}, which no put may have")]
     Exhausted { number: u64 },
-    /// Memory ran out.
+    #[error("out of memory")]
     Memory(AllocError),
 }

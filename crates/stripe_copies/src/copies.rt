@@ -16,6 +16,7 @@ use std::marker::Model;
 use std::mem;
 use stripe_header::{Area, CopyState, Side};
 use tape_base::{BLOCK, Geometry, directory_blocks};
+use thiserror::Error;
 
 /// The two copies of the directory as a stripe knows them, with the memory of one body.
 #[derive(Drop)]
@@ -85,7 +86,8 @@ fn with_directory<R: PacksEntries>(
 }
 
 /// Why a sync was broken off.
-#[derive(Clone, Copy, Debug, PartialEq, Eq)]
+#[derive(Clone, Copy, Debug, PartialEq, Eq, Error)]
+#[error("the device refused a call of the sync")]
 pub struct SyncStop {
     /// The device's count of faults.
     pub count: u64,

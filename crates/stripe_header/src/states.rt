@@ -1,5 +1,6 @@
 // What a span and a copy say, and why bytes are none.
 use tape_base::{Digest, Geometry};
+use thiserror::Error;
 
 /// What the first block of a device says of its stripe.
 #[derive(Clone, Copy, Debug, PartialEq, Eq)]
@@ -10,15 +11,17 @@ pub struct Span {
 }
 
 /// The first fault of the block of a span.
-#[derive(Clone, Copy, Debug, PartialEq, Eq)]
+#[derive(Clone, Copy, Debug, PartialEq, Eq, Error)]
 pub enum SpanFault {
+    #[error("its first block does not begin as that of a stripe")]
     Magic,
-    /// Neither version 1 nor 2.
+    #[error("the version of its first block is neither 1 nor 2")]
     Version,
-    /// The fields are not those whose digest stands behind them.
+    #[error("its first block has other fields than those whose digest stands behind them")]
     Digest { kept: Digest, found: Digest },
     /// A geometry that is refused, too few blocks, a stripe that does not begin at block 1, or
     /// bytes that have to be zero and are not.
+    #[error("the numbers of its first block are those of no stripe that fits into it")]
     Geometry,
 }
 
@@ -38,18 +41,20 @@ pub struct CopyState {
 }
 
 /// The first fault of a copy.
-#[derive(Clone, Copy, Debug, PartialEq, Eq)]
+#[derive(Clone, Copy, Debug, PartialEq, Eq, Error)]
 pub enum CopyFault {
+    #[error("its gate is shut")]
     GateShut,
-    /// That of the header or of the footer.
+    #[error("its header or its footer does not begin as that of a copy")]
     Magic,
-    /// Neither version 1 nor 2.
+    #[error("its version is neither 1 nor 2")]
     Version,
-    /// Header and footer are of two syncs.
+    #[error("its header is of sync {head}, and its footer of sync {foot}")]
     Serials { head: u64, foot: u64 },
-    /// The header and the directory are not those whose digest the footer keeps.
+    #[error("its header and its directory are not those whose digest its footer has")]
     Digest { kept: Digest, found: Digest },
     /// Another geometry than the span's, a state that no copy has, or bytes that have to be zero
     /// and are not.
+    #[error("its numbers are those of no copy of this stripe")]
     Geometry,
 }

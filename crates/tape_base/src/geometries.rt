@@ -4,6 +4,7 @@ ghost use Rattle.std.specs.Result.{result_err};
 ghost use Rattle.tape_base.specs.Limits.{AlternatesAreLast, IsGeometry, MayKeep, alternates_refusal, first_refusal};
 
 use crate::blocks::blocks_of_document;
+use thiserror::Error;
 
 // What the content area and the reach stay below, in blocks.
 const LIMIT: u64 = 1 << 40;
@@ -35,14 +36,21 @@ pub struct Geometry {
 }
 
 /// The number that is refused.
-#[derive(Clone, Copy, Debug, PartialEq, Eq)]
+#[derive(Clone, Copy, Debug, PartialEq, Eq, Error)]
 pub enum BadGeometry {
+    #[error("a directory has 1 to 4096 segments")]
     Segments,
+    #[error("a segment has 1 to 16383 buckets")]
     Buckets,
+    #[error("a buffer has 8 to 8192 blocks, and an even number of them")]
     Agg,
+    #[error("the content has at least four buffers of blocks, and fewer than 2^40 blocks")]
     Content,
+    #[error("the reach has at least a buffer of blocks, and fewer than 2^40 blocks")]
     Reach,
+    #[error("a fragment has at least one byte, and its document at most half a buffer of blocks")]
     Fragment,
+    #[error("1 to 16 alternates are kept of an object")]
     Alternates,
 }
 
