@@ -8,6 +8,7 @@ use Rattle.stripe_read.proofs.Comparing.{other_piece, unlike_adds}
 use Rattle.stripe_read.proofs.Staying.{found_nothing}
 use Rattle.logged_disk.proofs.GoingOn.{stays_as}
 use Rattle.stripe_core.proofs.Continuing.{no_less, proceeds_same}
+use Rattle.power_cuts.proofs.Surviving.{kept_left, survives_still}
 use Rattle.stripe_read.proofs.fetching.compare.Goals as goal
 
 pub returns-in-Some : goal.returns-in-Some
@@ -20,6 +21,7 @@ returns-in-Some g c =
       proceeds = record {
         goes = stays_as _ _ c.mark_damaged.ensures.still;
         accounted = accounted_quiet _ _ _ _ _ (ap (λ (d : Device). d.past) c.mark_damaged.ensures.still) adds refl;
+        survives = survives_still _ _ _ _ c.mark_damaged.ensures.still (kept_left _ _ _ adds (refl, tt));
         contents = c.mark_damaged.ensures.contents;
         later = no_less _ _ c.mark_damaged.ensures.still;
       };
