@@ -1,5 +1,5 @@
 -- How a cache begins.
-use Rattle.std.specs.Prelude.{◌≡◌}
+use Rattle.std.specs.Prelude.{◌≡◌, ◌<◌, ◌^◌}
 use Rattle.tape_base.specs.declared.geometries.Geometry.{Geometry}
 use Rattle.logged_disk.specs.Device.{DeviceState as Device}
 use Rattle.stripe_header.specs.declared.area.Area.{Area}
@@ -19,5 +19,6 @@ pub record Begins {S : Type 0} (at : S → At) (holds : S → Type 0) (stands : 
   pub laid : IsLaidOut geometry device (at cache).device
   pub contents : (contents : Contents) → stands cache contents
   pub setting : (at cache).setting ≡ plain_setting
-  -- all that a power cut may leave opens to the sync of the format, as the calls to come keep it (`Goes.survives`)
-  pub held : (a : Area) → IsAreaOf a geometry → HoldsSyncOn a (state_of (at cache).kept) (at cache).device
+  -- all that a power cut may leave opens to the sync of the format, as the calls to come keep it (`Goes.survives`); each
+  -- geometry has such a generation by its type
+  pub held : geometry.generation < 2 ^ 64 → (a : Area) → IsAreaOf a geometry → HoldsSyncOn a (state_of (at cache).kept) (at cache).device
