@@ -29,7 +29,7 @@ returns-in-Some g c =
       proceeds = record {
         goes = stays_as _ _ c.mark_damaged.ensures.still;
         accounted = accounted_quiet _ _ _ _ _ (ap (λ (d : Device). d.past) c.mark_damaged.ensures.still) adds refl;
-        survives = survives_still _ _ _ _ c.mark_damaged.ensures.still (kept_left _ _ _ adds (damage_leaves _ _ _ _));
+        survives = survives_still _ _ _ _ c.mark_damaged.ensures.still (kept_left _ _ _ adds (damage_leaves c.args.id u.place c.args.listed u.found));
         contents = c.mark_damaged.ensures.contents;
         later = no_less _ _ c.mark_damaged.ensures.still;
       };
