@@ -10,6 +10,7 @@ use Rattle.cache_model.specs.Kept.{state_of}
 use Rattle.cache_model.specs.Legal.{IsQuiet}
 use Rattle.cache_model.specs.Permit.{Setting}
 use Rattle.cache_model.specs.Tape.{IsSound}
+use Rattle.power_cuts.specs.Surviving.{Survives}
 use Rattle.call_laws.specs.Moments.{At, Encloses, permit_of}
 
 -- what the records of a cache stand for
@@ -60,11 +61,13 @@ pub record IsUnharmed (a : At) : Type 0 where
 abbrev pub StaysUnharmed : (old new : At) → Type 0
 StaysUnharmed old new = IsUnharmed old → IsUnharmed new
 
--- a cache goes on: the same holds between calls, its setting is the same, and so is its device, which counts no less
+-- a cache goes on: the same holds between calls, its setting is the same, and so is its device, which counts no less; where its
+-- session held a sync, behind each call of the device all that a power cut may leave opens to a sync of the session
 pub record Goes {S : Type 0} (at : S → At) (holds : S → Type 0) (old new : S) : Type 0 where
   pub holds_then : holds new
   pub setting : (at new).setting ≡ (at old).setting
   pub goes : IsAfter (at old).device (at new).device
+  pub survives : Survives (at old).device (at new).device (state_at (at old)) (state_at (at new))
   pub later : (at old).device.faults ≤ (at new).device.faults
 
 -- a cache rests on: the same holds between calls, its setting is the same, and nothing was recorded

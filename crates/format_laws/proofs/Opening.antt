@@ -141,6 +141,10 @@ module _ (a : Area) (settled : Bool) (first : Image) (old : List Call) (image : 
             ∙ body_seen first told written old (a.directory + 2) long;
       }
 
+  none_listed : IsImage (seen_of first past) → rows_at a (seen_of first past) (first_copy a.geometry) ≡ []
+  none_listed whole =
+      no_row a image (seen_of first past) blocks empty (left (seen_of first past) (record { image = whole; still = λ j none. refl }))
+
   opens : OpensNow a (behind_format a.geometry) settled first past
   opens c may = one_opens a image c blocks empty (left c may)
 
@@ -166,6 +170,15 @@ made a old new first is =
     is.laid.made.went
     ∙ (ap (λ d. formatted first (span d) is.laid.body old.past) (sym is.directory)
     ∙ ap (λ b. formatted first (span a.directory) b old.past) body.is)
+
+-- its copy has no entry
+pub format_lists_none : (a : Area) (old new : Device) (settled : Bool) (first : Image) → IsAreaLaidOut a old new
+    → IsImage (seen_of first new.past) → rows_at a (seen_of first new.past) (first_copy a.geometry) ≡ []
+format_lists_none a old new settled first is whole =
+    let same = made a old new first is in
+    subst (λ p. rows_at a (seen_of first p) (first_copy a.geometry) ≡ []) (sym same)
+    (none_listed a settled first old.past is.laid.first.image is.directory is.laid.first.empty
+    (subst (λ p. IsImage (seen_of first p)) same whole))
 
 pub format_opens : FormattedOpensNow
 format_opens a old new settled first is =

@@ -1,6 +1,8 @@
 pub mod Covering
 pub mod Effects
 pub mod RecordsAdded
+pub mod Leaving
+pub mod SyncsLeft
 pub mod Flushes
 pub mod Uses
 pub mod SamePuts

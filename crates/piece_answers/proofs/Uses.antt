@@ -2,6 +2,7 @@
 use Rattle.std.proofs.Common.{◌≡◌, ℕ, ◌+◌, ◌≤◌, refl, sym, ◌∙◌, ap, subst, arith}
 use Rattle.logged_disk.specs.Device.{DeviceState as Device, IsAfter, Keeps}
 use Rattle.logged_disk.proofs.GoingOn.{asked_nothing, stays_put}
+use Rattle.power_cuts.specs.Surviving.{LeaveCopies, NoneMade}
 use Rattle.cyclone.specs.Cyclone.{SameButRows, Seen}
 use Rattle.piece_answers.specs.Covers.{Uses}
 
@@ -14,6 +15,7 @@ still_uses records entries room left old new geometry still few spare = record {
   of_entries = spare;
   device = subst (Keeps 0 0 old.device) (sym still) (asked_nothing old.device).keeps;
   goes = subst (IsAfter old.device) (sym still) (stays_put old.device);
+  leaves = subst (λ (d : Device). LeaveCopies old.geometry old.device.past d.past) (sym still) NoneMade;
   later = let same : new.device.faults ≡ old.device.faults = ap (λ (d : Device). d.faults) still in omega (arith, same);
 }
 
@@ -32,6 +34,7 @@ uses_behind records entries more others all_records all_entries calls blocks roo
   of_entries = omega (arith, first.of_entries, last.of_entries, few);
   device = subst (Keeps calls blocks a.device) (sym still) first.device;
   goes = subst (IsAfter a.device) (sym still) first.goes;
+  leaves = subst (λ (d : Device). LeaveCopies a.geometry a.device.past d.past) (sym still) first.leaves;
   later = let same : c.device.faults ≡ b.device.faults = ap (λ (d : Device). d.faults) still in omega (arith, same, first.later);
 }
 
@@ -44,6 +47,7 @@ uses_more records entries all_records all_entries calls blocks room left a b use
   of_entries = omega (arith, uses.of_entries, few);
   device = uses.device;
   goes = uses.goes;
+  leaves = uses.leaves;
   later = uses.later;
 }
 
@@ -56,5 +60,6 @@ nothing_used records entries calls blocks room c =
       of_entries = omega arith;
       device = record { size = refl; trust = omega arith; number = refl; switch = refl; settled = refl; first = refl; calls = omega arith; blocks = omega arith };
       goes = stays_put c.device;
+      leaves = NoneMade;
       later = omega arith;
     }

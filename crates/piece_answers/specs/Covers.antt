@@ -4,6 +4,7 @@ use Rattle.std.specs.List.{AllByRecursion}
 use Rattle.device_log.specs.Image.{span}
 use Rattle.device_log.specs.Calls.{Call, Read}
 use Rattle.logged_disk.specs.Device.{DeviceState as Device, IsAfter, IsTrusted, Keeps, seen as content_of}
+use Rattle.power_cuts.specs.Surviving.{LeaveCopies}
 use Rattle.cyclone.specs.Cyclone.{Seen}
 use Rattle.cache_model.specs.declared.record.Rec.{Rec}
 use Rattle.cache_model.specs.State.{State}
@@ -32,11 +33,12 @@ AllReadIsSeen old new = (made : List Call) → new.past ≡ made ++ old.past →
 abbrev pub SpendsFirst : Permit → State → Intent → List Rec → End → Type 0
 SpendsFirst p s i added e = (rest : List Intent) (why : Option Reason) → MayGrow p s (record { intents = i ∷ rest; refused = why }) added (work_after i rest why e)
 
--- what a call uses up at most: records, entries, and calls of the device with their blocks
+-- what a call uses up at most: records, entries, and calls of the device with their blocks, each of which leaves the copies
 pub record Uses (records entries calls blocks : ℕ) (room left : ℕ) (old new : Seen) : Type 0 where
   pub same : new.geometry ≡ old.geometry
   pub of_records : room ≤ left + records
   pub of_entries : old.spare ≤ new.spare + entries
   pub device : Keeps calls blocks old.device new.device
   pub goes : IsAfter old.device new.device
+  pub leaves : LeaveCopies old.geometry old.device.past new.device.past
   pub later : old.device.faults ≤ new.device.faults

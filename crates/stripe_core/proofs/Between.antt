@@ -14,6 +14,8 @@ use Rattle.cache_model.specs.Legal.{answer_record}
 use Rattle.cache_model.specs.Kept.{Kept, state_of, with_records}
 use Rattle.cache_model.proofs.Steps.{after_all-append}
 use Rattle.cache_model.specs.Damage.{TellNoDamage, tells_damage, has_damage}
+use Rattle.power_cuts.specs.Surviving.{AllLeaveSyncs, LeaveCopies, NoneMade}
+use Rattle.power_cuts.proofs.Surviving.{calls_survive, kept_left, survives_on}
 use Rattle.stripe_answers.specs.Unharmed.{StripeIsUnharmed}
 use Rattle.piece_answers.specs.Faults.{IsAccounted, HasEffects}
 use Rattle.piece_answers.specs.Covers.{calls_since}
@@ -55,6 +57,7 @@ between-trans a b c k l m first next = record {
   goes = goes_further a b c first.goes next.goes;
   accounted = accounted_then a.past b.past c.past k l m first.accounted next.accounted;
   unharmed = λ (h : StripeIsUnharmed a (state_of k)). next.unharmed (first.unharmed h);
+  survives = survives_on a b c (state_of k) (state_of l) (state_of m) next.goes first.survives next.survives;
 }
 
 -- ---- records that tell no damage
@@ -72,8 +75,8 @@ after_records s (r ∷ recs) none h = after_records (state_after s r) recs none.
 
 -- a call that adds records which tell no damage, where its device tells its content
 pub between-adds : (a b : Device) (old new : Kept) (recs : List Rec) → new ≡ with_records old recs → IsAfter a b → HasEffects a.past b.past (effects_told recs)
-    → (TellsAll b → TellNoDamage recs) → IsBetween a b old new
-between-adds a b old new recs is goes faults none = record {
+    → (TellsAll b → TellNoDamage recs) → LeaveCopies (state_of old).geometry a.past b.past → AllLeaveSyncs recs → IsBetween a b old new
+between-adds a b old new recs is goes faults none leaves syncs = record {
   goes = goes;
   accounted = record { added = recs; adds = is; faults = faults };
   unharmed = λ (h : StripeIsUnharmed a (state_of old)). record {
@@ -81,16 +84,19 @@ between-adds a b old new recs is goes faults none = record {
         let before : TellsAll a = told_before a b goes told in
         subst (λ s. has_damage s ≡ false) (sym (ap state_of is ∙ after_all-append old.base old.since recs)) (after_records (state_of old) recs (none told) (h.unharmed before));
   };
+  survives = calls_survive a b (state_of old) (state_of new) goes leaves (kept_left old new recs is syncs);
 }
 
 -- a call that adds no record and asks no device
 pub between-none : (a b : Device) (old new : Kept) → new ≡ old → IsAfter a b → b.past ≡ a.past → IsBetween a b old new
 between-none a b old new same goes past = between-adds a b old new [] (same ∙ with_none old) goes (effects_none a.past b.past past) (λ told. tt)
+    (subst (LeaveCopies (state_of old).geometry a.past) (sym past) NoneMade) tt
 
 -- a call that adds records which tell neither damage nor an effect, and asks no device
-pub between-tells : (a b : Device) (old new : Kept) (recs : List Rec) → b ≡ a → new ≡ with_records old recs → effects_told recs ≡ [] → TellNoDamage recs → IsBetween a b old new
-between-tells a b old new recs same is quiet none =
+pub between-tells : (a b : Device) (old new : Kept) (recs : List Rec) → b ≡ a → new ≡ with_records old recs → effects_told recs ≡ [] → TellNoDamage recs → AllLeaveSyncs recs → IsBetween a b old new
+between-tells a b old new recs same is quiet none syncs =
     between-adds a b old new recs is (stays_as a b same) (subst (HasEffects a.past b.past) (sym quiet) (effects_none a.past b.past (ap (λ (d : Device). d.past) same))) (λ told. none)
+    (subst (λ (d : Device). LeaveCopies (state_of old).geometry a.past d.past) (sym same) NoneMade) syncs
 
 -- what a reader was answered tells no damage
 pub answer_tells_none : (reader : ℕ) (answer : NextAnswer) → tells_damage (answer_record reader answer) ≡ false

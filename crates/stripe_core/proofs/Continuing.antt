@@ -17,6 +17,7 @@ use Rattle.cyclone.specs.Cyclone.{Seen}
 use Rattle.piece_answers.specs.Ahead.{IsMadeFor}
 use Rattle.held_pieces.specs.Held.{IsHeld}
 use Rattle.piece_answers.specs.Standing.{AreStanding}
+use Rattle.power_cuts.proofs.Surviving.{survives_on, survives_still}
 use Rattle.stripe_answers.specs.Named.{IsNamed}
 use Rattle.stripe_core.specs.Stripe.{IsSpared, IsStripe, kept_in, seen_in, state_in}
 use Rattle.stripe_core.proofs.Between.{accounted_none, accounted_then, between-trans, between_same}
@@ -186,6 +187,7 @@ module _ {D R C : Type 0} {d : DiskGhosts D} {r : DirectoryGhosts R} {c : Chroni
   proceeds_same t = record {
     goes = stays_as (seen_in t).device (seen_in t).device refl;
     accounted = accounted_none (seen_in t).device.past (seen_in t).device.past (kept_in t) (kept_in t) refl refl;
+    survives = survives_still (seen_in t).device (seen_in t).device (state_in t) (state_in t) refl (record { geometry = refl; marks = refl; finished = refl });
     contents = λ contents told stands. stands;
     later = omega arith;
   }
@@ -196,13 +198,14 @@ module _ {D R C : Type 0} {d : DiskGhosts D} {r : DirectoryGhosts R} {c : Chroni
     accounted =
         accounted_then (seen_in s).device.past (seen_in t).device.past (seen_in u).device.past (kept_in s) (kept_in t) (kept_in u)
         first.accounted next.accounted;
+    survives = survives_on (seen_in s).device (seen_in t).device (seen_in u).device (state_in s) (state_in t) (state_in u) next.goes first.survives next.survives;
     contents = λ contents told stands. next.contents contents tt (first.contents contents tt stands);
     later = omega (arith, first.later, next.later);
   }
 
   pub continues_proceeds : (s t : Stripe D R C d r c) → Continues s t → Proceeds s t
   continues_proceeds s t continues =
-      record { goes = continues.between.goes; accounted = continues.between.accounted; contents = continues.contents; later = continues.later }
+      record { goes = continues.between.goes; accounted = continues.between.accounted; survives = continues.between.survives; contents = continues.contents; later = continues.later }
 
   pub rests_proceeds : (s t : Stripe D R C d r c) → Rests s t → Proceeds s t
-  rests_proceeds s t rests = record { goes = rests.between.goes; accounted = rests.between.accounted; contents = rests.contents; later = rests.later }
+  rests_proceeds s t rests = record { goes = rests.between.goes; accounted = rests.between.accounted; survives = rests.between.survives; contents = rests.contents; later = rests.later }

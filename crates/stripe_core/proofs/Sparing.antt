@@ -172,6 +172,7 @@ spent_calm u f room left records entries c new h uses r e =
       of_entries = uses.of_entries;
       device = subst (λ k. Keeps 0 k c.device new.device) (none_of c.geometry.agg) uses.device;
       goes = uses.goes;
+      leaves = uses.leaves;
       later = uses.later;
     }) r e (omega arith))
   where
@@ -210,6 +211,7 @@ spent_by true u f n room left records entries c new is h uses r e still = subst 
   of_entries = uses.of_entries;
   device = subst (λ k. Keeps 1 k c.device new.device) (one_of c.geometry.agg) uses.device;
   goes = uses.goes;
+  leaves = uses.leaves;
   later = uses.later;
 }) r e (omega arith))
   where
@@ -221,6 +223,7 @@ spent_by false u f n room left records entries c new is h uses r e still = subst
   of_entries = uses.of_entries;
   device = subst (λ d. Keeps 0 0 c.device d) (sym (still refl)) (asked_nothing c.device).keeps;
   goes = uses.goes;
+  leaves = uses.leaves;
   later = uses.later;
 }) r e)
 

@@ -4,6 +4,7 @@ use Rattle.logged_disk.specs.Device.{DeviceState as Device, IsAfter}
 use Rattle.logged_disk.specs.declared.device.Disk.{Ghosts as DiskGhosts}
 use Rattle.dir_table.specs.declared.directory.Directory.{Ghosts as DirectoryGhosts}
 use Rattle.cache_chronicle.specs.declared.chronicle.Chronicle.{Ghosts as ChronicleGhosts}
+use Rattle.power_cuts.specs.Surviving.{Survives}
 use Rattle.cache_model.specs.Kept.{Kept, state_of}
 use Rattle.cache_model.specs.Legal.{IsQuiet}
 use Rattle.cache_model.specs.Contents.{AnyContents, Contents}
@@ -13,12 +14,13 @@ use Rattle.stripe_core.specs.Stripe.{IsStripe, kept_in, seen_in, state_in}
 use Rattle.piece_answers.specs.Standing.{AreStanding}
 use Rattle.stripe_answers.specs.Unharmed.{StripeIsUnharmed}
 
--- what a call keeps: the device goes on, what it took and refused is told, and where it tells its content no more pieces are told as
--- damaged
+-- what a call keeps: the device goes on, what it took and refused is told, where it tells its content no more pieces are told as
+-- damaged, and behind each of its calls all that a power cut may leave opens to a sync of the session
 pub record IsBetween (old_device new_device : Device) (old new : Kept) : Type 0 where
   pub goes : IsAfter old_device new_device
   pub accounted : IsAccounted old_device.past new_device.past old new
   pub unharmed : StripeIsUnharmed old_device (state_of old) → StripeIsUnharmed new_device (state_of new)
+  pub survives : Survives old_device new_device (state_of old) (state_of new)
 
 -- so it is of a stripe before a call and behind it
 module _ {D R C : Type 0} {d : DiskGhosts D} {r : DirectoryGhosts R} {c : ChronicleGhosts C} where
@@ -63,5 +65,6 @@ module _ {D R C : Type 0} {d : DiskGhosts D} {r : DirectoryGhosts R} {c : Chroni
   pub record Proceeds (old new : Stripe D R C d r c) : Type 0 where
     pub goes : IsAfter (seen_in old).device (seen_in new).device
     pub accounted : IsAccounted (seen_in old).device.past (seen_in new).device.past (kept_in old) (kept_in new)
+    pub survives : Survives (seen_in old).device (seen_in new).device (state_in old) (state_in new)
     pub contents : StayStanding AnyContents old new
     pub later : (seen_in old).device.faults ≤ (seen_in new).device.faults

@@ -3,6 +3,7 @@ use Rattle.std.proofs.Common.{ℕ, [], refl, sym, arith}
 use Rattle.logged_disk.specs.declared.device.Disk.{Ghosts as DiskGhosts}
 use Rattle.logged_disk.proofs.GoingOn.{asked_nothing}
 use Rattle.dir_table.specs.declared.directory.Directory.{Ghosts as DirectoryGhosts}
+use Rattle.power_cuts.specs.Surviving.{NoneMade}
 use Rattle.cache_chronicle.specs.declared.chronicle.Chronicle.{Ghosts as ChronicleGhosts}
 use Rattle.cache_model.specs.Contents.{Contents}
 use Rattle.piece_answers.specs.declared.ahead.Ahead.{Ahead}
@@ -43,6 +44,7 @@ module _ {D R C : Type 0} {d : DiskGhosts D} {r : DirectoryGhosts R} {c : Chroni
     chronicle = refl;
     same = refl;
     asked = asked_nothing (seen_now p).device;
+    leaves = NoneMade;
     seen = λ j. refl;
   }
 

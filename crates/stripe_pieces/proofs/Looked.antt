@@ -14,6 +14,9 @@ use Rattle.tape_base.specs.Geometry.{budget_of}
 use Rattle.logged_disk.specs.Device.{DeviceState as Device, IsAfter, IsAsked, TellsAll, seen as content_of}
 use Rattle.logged_disk.proofs.GoingOn.{goes_further, told_before}
 use Rattle.cyclone.proofs.Calls.{write_goes_on}
+use Rattle.power_cuts.specs.Surviving.{LeaveCopies}
+use Rattle.power_cuts.proofs.Surviving.{leave_further}
+use Rattle.piece_answers.proofs.Leaving.{write_leaves_copies}
 use Rattle.cache_model.specs.declared.record.Rec.{Rec}
 use Rattle.cache_model.specs.declared.record.Rec.TheVariants as rec
 use Rattle.cache_model.specs.State.{Row, State, after_all, cursor_next, floor_next, live_rows, state_after}
@@ -384,11 +387,12 @@ stop_asked now old new before mid after a sound able low first looks left rose i
 -- ---- what it uses up
 
 pub flush_uses : (n e records entries room left : ℕ) (c mid out new : Seen) (result : Result (Unit {0}) Failed) → SameTape c mid → IsAsked c.device mid.device
-    → SameTape mid out → WritesBuffer mid out result → filled_of c.buffer ≤ c.geometry.agg → Uses n e 0 0 room left out new → n ≤ records → e ≤ entries
+    → LeaveCopies c.geometry c.device.past mid.device.past → SameTape mid out → WritesBuffer mid out result → filled_of c.buffer ≤ c.geometry.agg → Uses n e 0 0 room left out new → n ≤ records → e ≤ entries
     → Uses records entries 1 c.geometry.agg room left c new
-flush_uses n e records entries room left c mid out new result first asked second wrote few uses fits enters =
+flush_uses n e records entries room left c mid out new result first asked leaves second wrote few uses fits enters =
     let read = asked.keeps in
-    let geometry : out.geometry ≡ c.geometry = ap (λ (y : Seen). y.geometry) second ∙ ap (λ (y : Seen). y.geometry) first in
+    let still : mid.geometry ≡ c.geometry = ap (λ (y : Seen). y.geometry) first in
+    let geometry : out.geometry ≡ c.geometry = ap (λ (y : Seen). y.geometry) second ∙ still in
     let spare : out.spare ≡ c.spare = ap (λ (y : Seen). y.spare) second ∙ ap (λ (y : Seen). y.spare) first in
     let filled : filled_of mid.buffer ≡ filled_of c.buffer = ap (λ (y : Seen). filled_of y.buffer) first in
     record {
@@ -406,5 +410,9 @@ flush_uses n e records entries room left c mid out new result first asked second
         blocks = omega (arith, uses.device.blocks, wrote.keeps.blocks, read.blocks, filled, few);
       };
       goes = goes_further c.device mid.device new.device asked.goes (goes_further mid.device out.device new.device (write_goes_on mid out result wrote) uses.goes);
+      leaves = leave_further c.geometry c.device.past mid.device.past new.device.past leaves
+          (leave_further c.geometry mid.device.past out.device.past new.device.past
+          (subst (λ g. LeaveCopies g mid.device.past out.device.past) still (write_leaves_copies mid out result wrote))
+          (subst (λ g. LeaveCopies g out.device.past new.device.past) geometry uses.leaves));
       later = omega (arith, uses.later, wrote.cause.later, asked.later);
     }

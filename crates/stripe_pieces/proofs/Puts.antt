@@ -27,6 +27,7 @@ use Rattle.cache_model.specs.Room.{doc_at, has_room}
 use Rattle.cache_model.proofs.Sound.{later_leaves}
 use Rattle.cache_model.specs.Contents.{Contents}
 use Rattle.piece_answers.specs.Covers.{Uses}
+use Rattle.power_cuts.specs.Surviving.{LeaveCopies, NoneMade}
 use Rattle.cache_model.specs.Displacing.{PushesOut}
 use Rattle.held_pieces.specs.Displaced.{displaced_of}
 use Rattle.held_pieces.specs.Held.{IsHeld}
@@ -237,5 +238,6 @@ put_uses purges c new doc payload records room left put few = record {
   of_entries = put.spare;
   device = subst (Keeps 0 0 c.device) (sym put.device) (asked_nothing c.device).keeps;
   goes = subst (IsAfter c.device) (sym put.device) (stays_put c.device);
+  leaves = subst (λ (d : Device). LeaveCopies c.geometry c.device.past d.past) (sym put.device) NoneMade;
   later = let same : new.device.faults ≡ c.device.faults = ap (λ (d : Device). d.faults) put.device in omega (arith, same);
 }

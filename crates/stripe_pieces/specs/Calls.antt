@@ -5,6 +5,7 @@ use Rattle.tape_base.specs.declared.pieces.PieceId.{PieceId}
 use Rattle.logged_disk.specs.Device.{Affords, DeviceState as Device, IsAsked, Keeps, SeenStays, TellsAll}
 use Rattle.logged_disk.specs.declared.device.Disk.{Ghosts as DiskGhosts}
 use Rattle.dir_table.specs.declared.directory.Directory.{Ghosts as DirectoryGhosts}
+use Rattle.power_cuts.specs.Surviving.{LeaveCopies}
 use Rattle.cyclone.specs.Cyclone.{HasBuffer, SameButRoom, SameButRows, SameTape}
 use Rattle.cache_model.specs.declared.record.Rec.{Rec}
 use Rattle.cache_model.specs.Damage.{TellNoDamage}
@@ -85,6 +86,7 @@ module _ {D R C : Type 0} {d : DiskGhosts D} {r : DirectoryGhosts R} {c : Chroni
     pub chronicle : new.chronicle ≡ old.chronicle
     pub same : SameTape (seen_now old) (seen_now new)
     pub asked : IsAsked (seen_now old).device (seen_now new).device
+    pub leaves : LeaveCopies (seen_now old).geometry (seen_now old).device.past (seen_now new).device.past
     pub seen : SeenStays (seen_now old).device (seen_now new).device
 
   -- of a call that looks for a piece: what it found, and what it recorded where it found none

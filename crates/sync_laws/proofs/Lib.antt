@@ -1,6 +1,6 @@
 mod Beside
-mod Watching
-mod Carrying
+pub mod Watching
+pub mod Carrying
 mod Content
 mod Sparing
 mod Laying

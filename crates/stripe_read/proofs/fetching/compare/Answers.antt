@@ -1,4 +1,8 @@
-use Rattle.std.proofs.Common.{◌∙◌, ap, arith, inl, inr, refl}
+use Rattle.std.proofs.Common.{ℕ, [], ◌∷◌, ◌∙◌, ap, arith, inl, inr, refl}
+use Rattle.tape_base.specs.declared.digests.Digest.{Digest}
+use Rattle.tape_base.specs.declared.pieces.PieceId.{PieceId}
+use Rattle.cache_model.specs.declared.record.Rec.TheVariants as rec
+use Rattle.power_cuts.specs.Surviving.{AllLeaveSyncs}
 use Rattle.cache_model.specs.Kept.{with_records}
 use Rattle.cache_model.specs.State.{live_row_of}
 use Rattle.logged_disk.specs.Device.{DeviceState as Device}
@@ -8,7 +12,12 @@ use Rattle.stripe_read.proofs.Comparing.{other_piece, unlike_adds}
 use Rattle.stripe_read.proofs.Staying.{found_nothing}
 use Rattle.logged_disk.proofs.GoingOn.{stays_as}
 use Rattle.stripe_core.proofs.Continuing.{no_less, proceeds_same}
+use Rattle.power_cuts.proofs.Surviving.{kept_left, survives_still}
 use Rattle.stripe_read.proofs.fetching.compare.Goals as goal
+
+-- a damage is none of a sync
+damage_leaves : (piece : PieceId) (place : ℕ) (kept found : Digest) → AllLeaveSyncs (rec.Damaged piece place kept found ∷ [])
+damage_leaves piece place kept found = (refl, tt)
 
 pub returns-in-Some : goal.returns-in-Some
 returns-in-Some g c =
@@ -20,6 +29,7 @@ returns-in-Some g c =
       proceeds = record {
         goes = stays_as _ _ c.mark_damaged.ensures.still;
         accounted = accounted_quiet _ _ _ _ _ (ap (λ (d : Device). d.past) c.mark_damaged.ensures.still) adds refl;
+        survives = survives_still _ _ _ _ c.mark_damaged.ensures.still (kept_left _ _ _ adds (damage_leaves c.args.id u.place c.args.listed u.found));
         contents = c.mark_damaged.ensures.contents;
         later = no_less _ _ c.mark_damaged.ensures.still;
       };

@@ -53,7 +53,7 @@ returns g c =
           numbered = numbered_by kept after (told ∷ []) 0 c.commit.ensures.adds (omega (arith, reader)) (omega arith)
               c.requires.stripe.numbered;
         };
-        between = between-tells _ _ kept after (told ∷ []) c.commit.ensures.still c.commit.ensures.adds refl (refl, tt);
+        between = between-tells _ _ kept after (told ∷ []) c.commit.ensures.still c.commit.ensures.adds refl (refl, tt) (refl, tt);
         contents = c.commit.ensures.pieces.contents;
         later = no_less _ _ c.commit.ensures.still;
       };

@@ -44,7 +44,7 @@ returns g c =
           numbered = numbered_by kept after (told ∷ []) 0 c.read_closed.ensures.kept (omega (arith, reader)) (omega arith)
               c.requires.stripe.numbered;
         };
-        between = between-tells _ _ kept after (told ∷ []) refl c.read_closed.ensures.kept refl (refl, tt);
+        between = between-tells _ _ kept after (told ∷ []) refl c.read_closed.ensures.kept refl (refl, tt) (refl, tt);
         contents = standing_behind kept after before told c.read_closed.ensures.kept tt leaves c.requires.stripe.pieces;
         later = omega arith;
       };

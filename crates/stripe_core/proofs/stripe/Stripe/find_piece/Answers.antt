@@ -18,6 +18,8 @@ use Rattle.piece_answers.proofs.NoneDisplaced.{find_displaces, none_with}
 use Rattle.stripe_core.proofs.Ready.{ready_with}
 use Rattle.stripe_core.proofs.Stills.{still_shows}
 use Rattle.piece_answers.proofs.Documents.{documents_stay}
+use Rattle.power_cuts.specs.Surviving.{LeaveCopies}
+use Rattle.piece_answers.proofs.SyncsLeft.{find_left}
 use Rattle.stripe_core.proofs.stripe.Stripe.find_piece.Goals as goal
 
 pub returns-in_err-take_unit : goal.returns-in_err-take_unit
@@ -63,7 +65,10 @@ returns g c =
               c.take_unit.ensures.continues.stripe.numbered;
         };
         between = between-trans _ _ _ _ _ _ c.take_unit.ensures.continues.between
-            (between-adds _ _ kept _ adds c.find.ensures.adds c.find.ensures.uses.goes c.find.ensures.finds.faults c.find.ensures.unharmed);
+            (between-adds _ _ kept _ adds c.find.ensures.adds c.find.ensures.uses.goes c.find.ensures.finds.faults c.find.ensures.unharmed
+            (subst (λ h. LeaveCopies h (seen_in c.take_unit.new.self).device.past (seen_now c.find.new.self).device.past)
+            c.take_unit.ensures.continues.stripe.pieces.geometry c.find.ensures.uses.leaves)
+            (find_left taken c.args.id c.find.result));
         contents = λ contents told stands.
             c.find.ensures.pieces.contents contents tt (c.take_unit.ensures.continues.contents contents tt stands);
         later = omega (arith, c.take_unit.ensures.continues.later, c.find.ensures.uses.later);

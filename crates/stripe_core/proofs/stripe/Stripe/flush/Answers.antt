@@ -18,6 +18,8 @@ use Rattle.piece_answers.proofs.NoneDisplaced.{flush_displaces, none_with}
 use Rattle.stripe_core.proofs.Ready.{ready_to_flush}
 use Rattle.stripe_core.proofs.Stills.{still_as, still_then}
 use Rattle.piece_answers.proofs.Documents.{documents_stay}
+use Rattle.power_cuts.specs.Surviving.{LeaveCopies}
+use Rattle.piece_answers.proofs.SyncsLeft.{flush_left}
 use Rattle.stripe_core.proofs.stripe.Stripe.flush.Goals as goal
 
 pub returns-in_err-take_unit : goal.returns-in_err-take_unit
@@ -72,7 +74,9 @@ returns-in-Ok g c =
           numbered = numbered_others kept _ does.added does.adds others c.take_unit.ensures.continues.stripe.numbered;
         };
         between = between-trans _ _ _ _ _ _ c.take_unit.ensures.continues.between
-            (between-adds _ _ kept _ does.added does.adds c.flush.ensures.keeps.uses.goes does.faults does.unharmed);
+            (between-adds _ _ kept _ does.added does.adds c.flush.ensures.keeps.uses.goes does.faults does.unharmed
+            (subst (λ h. LeaveCopies h before.device.past after.device.past) c.take_unit.ensures.continues.stripe.pieces.geometry c.flush.ensures.keeps.uses.leaves)
+            (flush_left does.added does.kinds));
         contents = λ contents told stands.
             c.flush.ensures.keeps.pieces.contents contents tt (c.take_unit.ensures.continues.contents contents tt stands);
         later = omega (arith, c.take_unit.ensures.continues.later, c.flush.ensures.keeps.uses.later);
@@ -131,7 +135,9 @@ returns-in-Err g c =
           numbered = numbered_others kept _ does.added does.adds others c.take_unit.ensures.continues.stripe.numbered;
         };
         between = between-trans _ _ _ _ _ _ c.take_unit.ensures.continues.between
-            (between-adds _ _ kept _ does.added does.adds c.flush.ensures.keeps.uses.goes does.faults does.unharmed);
+            (between-adds _ _ kept _ does.added does.adds c.flush.ensures.keeps.uses.goes does.faults does.unharmed
+            (subst (λ h. LeaveCopies h before.device.past after.device.past) c.take_unit.ensures.continues.stripe.pieces.geometry c.flush.ensures.keeps.uses.leaves)
+            (flush_left does.added does.kinds));
         contents = λ contents told stands.
             c.flush.ensures.keeps.pieces.contents contents tt (c.take_unit.ensures.continues.contents contents tt stands);
         later = omega (arith, c.take_unit.ensures.continues.later, c.flush.ensures.keeps.uses.later);

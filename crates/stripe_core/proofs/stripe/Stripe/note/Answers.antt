@@ -11,6 +11,7 @@ use Rattle.stripe_answers.proofs.Naming.{answer_leaves_names, named_behind}
 use Rattle.stripe_core.proofs.Between.{answer_tells_no_fault, answer_tells_none, between-tells}
 use Rattle.piece_answers.proofs.NoneDisplaced.{answer_displaces, none_behind}
 use Rattle.piece_answers.proofs.Documents.{documents_stay}
+use Rattle.piece_answers.proofs.SyncsLeft.{answer_left}
 use Rattle.stripe_core.proofs.stripe.Stripe.note.Goals as goal
 
 pub returns : goal.returns
@@ -50,7 +51,7 @@ returns g c =
         };
         between = between-tells before.device before.device kept (g.C.Chronicle.kept c.answered.new.chronicle) (told ∷ []) refl
             c.answered.ensures.kept
-            (answer_tells_no_fault c.args.reader c.args.answer) (answer_tells_none c.args.reader c.args.answer, tt);
+            (answer_tells_no_fault c.args.reader c.args.answer) (answer_tells_none c.args.reader c.args.answer, tt) (answer_left c.args.reader c.args.answer, tt);
         contents = standing_behind kept (g.C.Chronicle.kept c.answered.new.chronicle) before told c.answered.ensures.kept
             (answer_leaves_tape c.args.reader c.args.answer) leaves c.requires.stripe.pieces;
         later = omega arith;

@@ -128,7 +128,7 @@ returns-in-Ok g c =
               (λ contents. standing_behind kept after before told is tt leaves c.requires.resting.stripe.pieces contents tt);
           numbered = numbered_by kept after (told ∷ []) 0 is (omega (arith, reader)) (omega arith) c.requires.resting.stripe.numbered;
         };
-        between = between-tells _ _ kept after (told ∷ []) refl is refl (refl, tt);
+        between = between-tells _ _ kept after (told ∷ []) refl is refl (refl, tt) (refl, tt);
         contents = standing_behind kept after before told is tt leaves c.requires.resting.stripe.pieces;
         later = omega arith;
       };

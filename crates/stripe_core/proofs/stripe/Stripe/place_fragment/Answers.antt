@@ -1,5 +1,5 @@
 use Rattle.std.specs.Prelude.{nat_lt, Option, Some, option_map, unwrap_or}
-use Rattle.std.proofs.Common.{◌≡◌, ◌++◌, Err, sym, ◌∙◌, ap, subst, refl, arith, length, true, false}
+use Rattle.std.proofs.Common.{◌≡◌, ◌++◌, Err, sym, ◌∙◌, ap, subst, refl, arith, length, true, false, Ok}
 use Rattle.std.proofs.lemmas.Result.{err_from_is_err_and}
 use Rattle.cache_model.specs.State.{State, after_all}
 use Rattle.cache_model.specs.Kept.{state_of}
@@ -24,6 +24,8 @@ use Rattle.piece_answers.proofs.Documents.{documents_placed, documents_stay}
 use Rattle.cache_model.specs.State.{PutRow}
 use Rattle.cache_model.specs.Verdict.{is_open}
 use Rattle.stripe_actors.proofs.Telling.{writing_is_open}
+use Rattle.power_cuts.specs.Surviving.{LeaveCopies}
+use Rattle.piece_answers.proofs.SyncsLeft.{cut_or_stop_left, flush_left}
 use Rattle.stripe_core.proofs.stripe.Stripe.place_fragment.Goals as goal
 
 -- the put of a fragment that comes next is open
@@ -111,7 +113,9 @@ returns-in-Ok g c =
               shape.kinds kind shape.are in
               numbered_by kept new does.added 0 does.adds (omega (arith, same)) (omega arith) c.requires.taken.stripe.numbered;
         };
-        between = between-adds _ _ kept _ does.added does.adds c.place_fragment.ensures.keeps.uses.goes does.faults does.unharmed;
+        between = between-adds _ _ kept _ does.added does.adds c.place_fragment.ensures.keeps.uses.goes does.faults does.unharmed
+            (subst (λ h. LeaveCopies h before.device.past after.device.past) c.requires.taken.stripe.pieces.geometry c.place_fragment.ensures.keeps.uses.leaves)
+            (cut_or_stop_left purges s after.device.faults id c.args.pin c.args.start payload does.added (Ok c.in-Ok.placed) does.shape);
         contents = c.in-Ok.ensures.keeps.pieces.contents;
         later = c.place_fragment.ensures.keeps.uses.later;
       };
@@ -155,7 +159,9 @@ returns-in-Err g c =
           documents = documents_stay c.requires.taken.stripe.documents (λ contents. c.in-Err.ensures.keeps.pieces.contents contents tt);
           numbered = numbered_others kept _ does.added does.adds others c.requires.taken.stripe.numbered;
         };
-        between = between-adds _ _ kept _ does.added does.adds c.place_fragment.ensures.keeps.uses.goes does.faults does.unharmed;
+        between = between-adds _ _ kept _ does.added does.adds c.place_fragment.ensures.keeps.uses.goes does.faults does.unharmed
+            (subst (λ h. LeaveCopies h before.device.past after.device.past) c.requires.taken.stripe.pieces.geometry c.place_fragment.ensures.keeps.uses.leaves)
+            (flush_left does.added shape.kinds);
         contents = c.in-Err.ensures.keeps.pieces.contents;
         later = c.place_fragment.ensures.keeps.uses.later;
       };

@@ -19,6 +19,7 @@ use Rattle.stripe_core.proofs.Continuing.{no_less}
 use Rattle.piece_answers.proofs.NoneDisplaced.{none_placed, none_with}
 use Rattle.stripe_core.proofs.Ready.{ready_with}
 use Rattle.piece_answers.proofs.Documents.{documents_placed, documents_stay}
+use Rattle.piece_answers.proofs.SyncsLeft.{place_left}
 use Rattle.stripe_core.proofs.stripe.Stripe.place_vector.Goals as goal
 
 pub returns-in-Ok : goal.returns-in-Ok
@@ -65,7 +66,8 @@ returns-in-Ok g c =
         };
         between = between-tells _ _ kept _ places.added c.place.ensures.keeps.still places.adds
             (place_quiet purges s id c.args.pin c.args.start payload (Ok c.in-Ok.placed) places.added are)
-            (no_damage_adds purges s id c.args.pin c.args.start payload (Ok c.in-Ok.placed) places.added are);
+            (no_damage_adds purges s id c.args.pin c.args.start payload (Ok c.in-Ok.placed) places.added are)
+            (place_left purges s id c.args.pin c.args.start payload (Ok c.in-Ok.placed) places.added are);
         contents = c.in-Ok.ensures.keeps.pieces.contents;
         later = no_less _ _ c.place.ensures.keeps.still;
       };
@@ -110,7 +112,7 @@ returns-in-Err g c =
           documents = documents_stay stripe.documents (λ contents. c.in-Err.ensures.keeps.pieces.contents contents tt);
           numbered = numbered_others kept _ [] nothing tt stripe.numbered;
         };
-        between = between-tells _ _ kept _ [] c.place.ensures.keeps.still nothing refl tt;
+        between = between-tells _ _ kept _ [] c.place.ensures.keeps.still nothing refl tt tt;
         contents = c.in-Err.ensures.keeps.pieces.contents;
         later = no_less _ _ c.place.ensures.keeps.still;
       };

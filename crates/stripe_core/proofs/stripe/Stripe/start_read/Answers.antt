@@ -93,7 +93,7 @@ returns g c =
               c.take_unit.ensures.continues.stripe.numbered;
         };
         between = between-trans _ _ _ _ _ _ c.take_unit.ensures.continues.between
-            (between-tells (seen_in c.take_unit.new.self).device _ kept after (told ∷ []) refl c.read_opened.ensures.kept refl (refl, tt));
+            (between-tells (seen_in c.take_unit.new.self).device _ kept after (told ∷ []) refl c.read_opened.ensures.kept refl (refl, tt) (refl, tt));
         contents = λ contents any stands.
             standing_behind kept after (seen_in c.take_unit.new.self) told c.read_opened.ensures.kept tt leaves
             c.take_unit.ensures.continues.stripe.pieces contents any

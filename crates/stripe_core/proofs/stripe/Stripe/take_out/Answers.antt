@@ -34,7 +34,7 @@ returns g c =
           documents = documents_stay c.requires.resting.stripe.documents (λ contents. c.remove-put.ensures.keeps.pieces.contents contents tt);
           numbered = numbered_others kept _ (told ∷ []) c.remove-put.ensures.keeps.adds (refl, tt) c.requires.resting.stripe.numbered;
         };
-        between = between-tells _ _ kept _ (told ∷ []) c.remove-put.ensures.keeps.still c.remove-put.ensures.keeps.adds refl (refl, tt);
+        between = between-tells _ _ kept _ (told ∷ []) c.remove-put.ensures.keeps.still c.remove-put.ensures.keeps.adds refl (refl, tt) (refl, tt);
         contents = c.remove-put.ensures.keeps.pieces.contents;
         later = no_less _ _ c.remove-put.ensures.keeps.still;
       };

@@ -188,7 +188,7 @@ returns-in-Ok-clause-keeps g c =
           subst (λ n. Uses (2 * most_passed before.geometry + 1) (budget_of before.geometry) 1 before.geometry.agg n (g.C.Chronicle.room c.go_on.new.self.chronicle) before after)
           (ap (λ x. g.C.Chronicle.room x) c.look_ahead.ensures.keeps.chronicle)
           (flush_uses _ _ _ _ _ _ before (seen_now c.look_ahead.new.self) (seen_cyclone c.write_out.new.self) after c.write_out.result
-          c.look_ahead.ensures.keeps.same c.look_ahead.ensures.keeps.asked c.write_out.ensures.same c.write_out.ensures.device c.requires.ready.pieces.turning.few c.go_on.ensures.uses fits enters);
+          c.look_ahead.ensures.keeps.same c.look_ahead.ensures.keeps.asked c.look_ahead.ensures.keeps.leaves c.write_out.ensures.same c.write_out.ensures.device c.requires.ready.pieces.turning.few c.go_on.ensures.uses fits enters);
     }
 
 pub returns-in-Ok-clause-does : goal.returns-in-Ok-clause-does
@@ -261,7 +261,7 @@ returns-in-Err-clause-keeps g c =
           subst (λ n. Uses (2 * most_passed before.geometry + 1) (budget_of before.geometry) 1 before.geometry.agg n (g.C.Chronicle.room c.stop.new.self.chronicle) before after)
           (ap (λ x. g.C.Chronicle.room x) c.look_ahead.ensures.keeps.chronicle)
           (flush_uses _ _ _ _ _ _ before (seen_now c.look_ahead.new.self) (seen_cyclone c.write_out.new.self) after c.write_out.result
-          c.look_ahead.ensures.keeps.same c.look_ahead.ensures.keeps.asked c.write_out.ensures.same c.write_out.ensures.device c.requires.ready.pieces.turning.few c.stop.ensures.keeps.uses fits (omega arith));
+          c.look_ahead.ensures.keeps.same c.look_ahead.ensures.keeps.asked c.look_ahead.ensures.keeps.leaves c.write_out.ensures.same c.write_out.ensures.device c.requires.ready.pieces.turning.few c.stop.ensures.keeps.uses fits (omega arith));
     }
 
 pub returns-in-Err-clause-does : goal.returns-in-Err-clause-does

@@ -34,7 +34,7 @@ read_kept-requires-clause-candidates g c =
 pub returns-clause-keeps : goal.returns-clause-keeps
 returns-clause-keeps g c =
     let keeps = c.read_kept.ensures.keeps in
-    record { pieces = keeps.pieces; chronicle = keeps.chronicle; same = keeps.same; asked = keeps.asked; seen = keeps.seen }
+    record { pieces = keeps.pieces; chronicle = keeps.chronicle; same = keeps.same; asked = keeps.asked; leaves = keeps.leaves; seen = keeps.seen }
 
 pub returns-clause-ahead : goal.returns-clause-ahead
 returns-clause-ahead g c = c.read_kept.ensures.made.ahead

@@ -6,6 +6,7 @@ use Rattle.held_pieces.proofs.HeldBehindFaults.{read_spares}
 use Rattle.held_pieces.proofs.Going.{device_may_change}
 use Rattle.stripe_pieces.proofs.ReadAhead.{comes_of, comes_refused, has_blocks, is_stored, reads_row}
 use Rattle.cyclone.proofs.Calls.{reads_ask, reads_same}
+use Rattle.piece_answers.proofs.Leaving.{read_leaves}
 use Rattle.stripe_pieces.proofs.pieces.Pieces.read_ahead.Goals as goal
 
 pub load-requires : goal.load-requires
@@ -33,6 +34,7 @@ returns-in-Ok-clause-keeps g c = record {
   chronicle = refl;
   same = c.load.ensures.same;
   asked = reads_ask _ _ _ _ _ _ c.load.ensures.reads;
+  leaves = read_leaves _ _ _ _ _ _ c.load.ensures.reads;
   seen = reads_same _ _ _ _ _ _ c.load.ensures.reads;
 }
 
@@ -50,6 +52,7 @@ returns-in-Err-clause-keeps g c = record {
   chronicle = refl;
   same = c.load.ensures.same;
   asked = reads_ask _ _ _ _ _ _ c.load.ensures.reads;
+  leaves = read_leaves _ _ _ _ _ _ c.load.ensures.reads;
   seen = reads_same _ _ _ _ _ _ c.load.ensures.reads;
 }
 

@@ -9,6 +9,9 @@ use Rattle.piece_answers.specs.Looks.{HasCandidateRows, HasCandidates, HasLooked
 use Rattle.stripe_pieces.specs.Pieces.{seen_now, state_now}
 use Rattle.piece_answers.proofs.Kept.{IsNext, choice_there, next_row, tape_on, taken_on}
 use Rattle.logged_disk.proofs.GoingOn.{asked_further, asked_nothing}
+use Rattle.power_cuts.specs.Surviving.{LeaveCopies, NoneMade}
+use Rattle.power_cuts.proofs.Surviving.{leave_further}
+use Rattle.cyclone.specs.Cyclone.{Seen}
 use Rattle.piece_answers.proofs.OneMore.{looked_more, looked_none}
 use Rattle.stripe_pieces.proofs.pieces.Pieces.read_kept.Goals as goal
 
@@ -21,6 +24,7 @@ loop-i-init g c =
       chronicle = refl;
       same = refl;
       asked = asked_nothing before.device;
+      leaves = NoneMade;
       seen = λ j. refl;
       made = record { due = c.requires.candidates.ahead.due; kept = c.requires.candidates.ahead.kept; fates = omega (arith, c.requires.candidates.ahead.fates, c.clear.ensures.capacity); bytes = c.requires.candidates.ahead.bytes };
       due = refl;
@@ -78,6 +82,8 @@ loop-i-preserved g c =
       chronicle = e.keeps.chronicle ∙ inv.chronicle;
       same = tape_on before mid after inv.same e.keeps.same;
       asked = asked_further before.device mid.device after.device inv.asked e.keeps.asked;
+      leaves = leave_further before.geometry before.device.past mid.device.past after.device.past inv.leaves
+          (subst (λ h. LeaveCopies h mid.device.past after.device.past) (ap (λ (y : Seen). y.geometry) inv.same) e.keeps.leaves);
       seen = λ j. e.keeps.seen j ∙ inv.seen j;
       made = subst (λ (t : State). IsMadeFor t.geometry c.look_at-at.new.ahead) same e.made.ahead;
       due = e.made.due ∙ inv.due;
@@ -96,7 +102,7 @@ loop-i-preserved g c =
 pub returns-clause-keeps : goal.returns-clause-keeps
 returns-clause-keeps g c =
     let inv = c.loop-i.invariant in
-    record { pieces = inv.pieces; chronicle = inv.chronicle; same = inv.same; asked = inv.asked; seen = inv.seen }
+    record { pieces = inv.pieces; chronicle = inv.chronicle; same = inv.same; asked = inv.asked; leaves = inv.leaves; seen = inv.seen }
 
 pub returns-clause-made : goal.returns-clause-made
 returns-clause-made g c = let inv = c.loop-i.invariant in record { ahead = inv.made; due = inv.due; kept = inv.kept }

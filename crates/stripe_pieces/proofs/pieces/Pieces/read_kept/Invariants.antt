@@ -1,6 +1,7 @@
 use Rattle.std.proofs.Common.{◌≡◌, ◌≤◌, List, length, take}
 use Rattle.tape_base.specs.Geometry.{budget_of}
 use Rattle.logged_disk.specs.Device.{IsAsked, SeenStays}
+use Rattle.power_cuts.specs.Surviving.{LeaveCopies}
 use Rattle.cyclone.specs.Cyclone.{SameTape}
 use Rattle.evacuator.specs.Choice.{blocks_of_all, kept_blocks}
 use Rattle.cache_model.specs.State.{Row}
@@ -19,6 +20,7 @@ invariant-loop-i g l =
       chronicle : l.self.chronicle ≡ l.fn.self.chronicle;
       same : SameTape before after;
       asked : IsAsked before.device after.device;
+      leaves : LeaveCopies before.geometry before.device.past after.device.past;
       seen : SeenStays before.device after.device;
       made : IsMadeFor s.geometry l.ahead;
       due : l.ahead.due ≡ l.fn.ahead.due;

@@ -1,0 +1,2 @@
+pub mod Surviving
+pub mod Formatted

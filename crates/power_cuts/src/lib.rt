@@ -1,0 +1,6 @@
+//! What a power cut may leave of a session, along the calls that its device makes.
+#![tactic(auto)]
+
+mod laws;
+
+pub use laws::sessions_survive;
