@@ -1,2 +1,3 @@
 mod Turning
 pub mod Calls
+pub mod Rest

@@ -1,5 +1,6 @@
 pub mod Cyclone
 pub mod Switch
+pub mod Syncing
 pub use Rattle.logged_disk.specs.Device
 pub use Rattle.agg_buffer.specs.Buffer
 pub use Rattle.dir_table.specs.Rows

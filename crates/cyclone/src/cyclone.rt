@@ -32,8 +32,8 @@ pub struct Cyclone<D: Disk, R: Directory + Drop> {
     // The least place that may be read, wherever the buffer begins.
     least: u64,
     pub(crate) disk: D,
-    directory: R,
-    buffer: AggBuffer,
+    pub(crate) directory: R,
+    pub(crate) buffer: AggBuffer,
     // Of any device: with it the type carries what `D` and `R` tell of themselves.
     ghost told: { 0 ≤ (D.state disk).faults },
 }

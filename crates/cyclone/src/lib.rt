@@ -3,5 +3,6 @@
 
 mod cyclone;
 mod switching;
+mod syncing;
 
 pub use cyclone::Cyclone;

@@ -17,7 +17,7 @@ use Rattle.cache_model.specs.declared.record.Rec.TheVariants as rec
 use Rattle.cache_model.specs.State.{State, Row, cursor_next, floor_next, floor_now, live_row_of, nothing_yet, place_now, row_of, after_all, state_after, without}
 use Rattle.cache_model.specs.Legal.{format_records}
 use Rattle.device_log.specs.Image.{SameBut, span}
-use Rattle.logged_disk.specs.Device.{DeviceState as Device, IsAfter, seen as content_of}
+use Rattle.logged_disk.specs.Device.{DeviceState as Device, IsAfter, TellsAll, seen as content_of}
 use Rattle.cache_model.specs.Tape.{IsSound}
 use Rattle.cache_model.specs.Slots.{AllFit, HasSlotForCopy}
 use Rattle.dir_table.specs.Displacement.{AreFew}
@@ -75,10 +75,10 @@ MovedIsHeld = (packed : Bool) (s : State) (c new : Seen) (id : PieceId) (row : R
 abbrev pub HeldFit : Type 0
 HeldFit = (s : State) (c : Seen) → IsHeld s c → AreFew c.window.geometry c.rows → AllFit s
 
--- what is in the buffer is seen on the device, in whole blocks
+-- what is in the buffer is seen on the device, in whole blocks, where that tells its content
 pub record IsWrittenOut (c : Seen) : Type 0 where
   pub whole : (block : ℕ) → length ((content_of c.device) block) ≡ 512
-  pub written : span (content_of c.device) (block_of c.geometry c.buffer.cursor) (filled_of c.buffer) ≡ c.buffer.bytes
+  pub written : TellsAll c.device → span (content_of c.device) (block_of c.geometry c.buffer.cursor) (filled_of c.buffer) ≡ c.buffer.bytes
 
 -- where the next buffer begins, and is recorded, what may still be read is held
 abbrev pub BegunIsHeld : Type 0

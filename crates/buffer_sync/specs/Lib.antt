@@ -1,0 +1,3 @@
+pub mod OnDevice
+pub use Rattle.cyclone.specs.Cyclone
+pub use Rattle.cyclone.specs.Syncing

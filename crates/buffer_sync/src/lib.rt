@@ -1,0 +1,6 @@
+//! A buffer on its device: how much of it is durable, and a sync behind it.
+#![tactic(auto)]
+
+mod buffer;
+
+pub use buffer::{BufferOnDevice, Halt, sync_buffer, write_and_sync, write_buffer};
