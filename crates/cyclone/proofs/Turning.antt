@@ -4,16 +4,17 @@ use Rattle.std.specs.Prelude.{All, IsPermutation, MatchBool}
 use Rattle.std.specs.Bool.{OnTrue}
 use Rattle.std.proofs.lemmas.List.Elements.{All-filter}
 use Rattle.std.proofs.lemmas.List.Sorted.{All-permutation}
-use Rattle.std.proofs.lemmas.List.Elements.{All-cons, All-tail}
+use Rattle.std.proofs.lemmas.List.Elements.{All-cons, All-map, All-tail}
 use Rattle.doc_header.specs.declared.documents.Doc.{Doc}
 use Rattle.doc_header.specs.Document.{document_bytes}
 use Rattle.doc_header.specs.Moving.{moved_to}
 use Rattle.tape_base.specs.Blocks.{blocks_of}
 use Rattle.agg_buffer.specs.Buffer.{Buffer, AddsPiece, empty_buffer, next_place_of, blocks_in}
-use Rattle.dir_table.specs.Rows.{has_row, plain_rows, LosesPlain}
+use Rattle.dir_table.specs.Rows.{has_row, plain_row, plain_rows, LosesPlain}
 use Rattle.tape_base.specs.declared.pieces.PieceId.{PieceId}
 use Rattle.dir_table.specs.declared.window.Window.{Window}
-use Rattle.cyclone.specs.Cyclone.{Seen, IsTurning, IsPut, IsMoved, TakesOut, TakesOutStored, BeginsNext, SameButRows, row_of_piece, next_buffer_cursor}
+use Rattle.logged_disk.specs.Device.{DeviceState}
+use Rattle.cyclone.specs.Cyclone.{Seen, BufferMayBegin, IsMadeOf, IsTurning, IsPut, IsMoved, TakesOut, TakesOutStored, BeginsNext, SameButRows, row_of_piece, next_buffer_cursor, window_from}
 use Rattle.dir_table.specs.Entering.{TakesRow}
 use Rattle.dir_table.proofs.Plainly.{all_stored}
 use Rattle.dir_table.specs.Wrap.{rows_at_or_above}
@@ -104,6 +105,30 @@ next_turns old new t b fits behind below =
       lap = rw (b.geometry, cursor) fits;
       sized = rw (b.geometry, b.device) t.sized;
       entered = below_from _ (next_place_of old.buffer) (next_place_of new.buffer) old.rows new.rows (omega arith) b.rows t.entered;
+    }
+
+-- and where it was made of parts
+pub made_turns : (g : Geometry) (cursor low : ℕ) (entries : List StoredRow) (before : DeviceState) (c : Seen) → IsMadeOf g cursor low entries before c
+    → BufferMayBegin g cursor low → c.window ≡ window_from g cursor low → device_blocks_of g ≤ before.size
+    → All (λ r. r.place < c.window.end) entries → IsTurning c
+made_turns g cursor low entries before c made begins window sized ended =
+    let at : c.buffer.cursor ≡ cursor = ap (λ (b : Buffer). b.cursor) made.buffer in
+    let next : next_place_of c.buffer ≡ cursor = ap next_place_of made.buffer ∙ begun cursor g.agg in
+    let end : c.window.end ≡ next_place_of c.buffer = ap (λ (w : Window). w.end) window ∙ sym next in
+    record {
+      geometry = ap (λ (w : Window). w.geometry) window ∙ sym made.geometry;
+      cursor = ap (λ (w : Window). w.cursor) window ∙ sym at;
+      floor = rw (made.geometry, made.least, at) (ap (λ (w : Window). w.floor) window);
+      end = end;
+      reserved = rw made.geometry (ap (λ (b : Buffer). b.reserved) made.buffer);
+      few = rw made.buffer (omega arith);
+      from = rw (made.geometry, at) begins.from;
+      least = rw (made.least, at) begins.least;
+      below = rw at begins.below;
+      lap = rw (made.geometry, at) begins.lap;
+      sized = rw (made.geometry, made.device) sized;
+      entered = subst (AllBelow (next_place_of c.buffer)) (sym made.rows)
+          (subst (λ (n : ℕ). AllBelow n (plain_rows entries)) end (All-map (λ (r : DirRow). r.place < c.window.end) plain_row entries ended));
     }
 
 -- the blocks of a buffer lie in the content area

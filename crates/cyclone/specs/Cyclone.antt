@@ -93,6 +93,26 @@ pub record IsFresh (c : Seen) (g : Geometry) : Type 0 where
   pub rows : c.rows ≡ []
   pub displaced : c.displaced ≡ none_displaced
 
+-- a buffer may begin at this place, behind a least one
+pub record BufferMayBegin (g : Geometry) (cursor low : ℕ) : Type 0 where
+  pub from : g.content ≤ cursor
+  pub least : low ≤ cursor
+  pub below : cursor < 2 ^ 62
+  pub lap : FitsInLap g cursor
+
+-- the range of a directory beside such a buffer, while nothing is put in it
+abbrev pub window_from : Geometry → ℕ → ℕ → Window
+window_from g cursor low = record { geometry = g; cursor = cursor; floor = max low (floor_of g cursor); end = cursor }
+
+-- so it goes on with a directory of these rows, on that device: nothing is put yet
+pub record IsMadeOf (g : Geometry) (cursor low : ℕ) (entries : List StoredRow) (before : DeviceState) (c : Seen) : Type 0 where
+  pub geometry : c.geometry ≡ g
+  pub least : c.least ≡ low
+  pub buffer : c.buffer ≡ empty_buffer cursor g.agg
+  pub stored : c.stored ≡ entries
+  pub rows : c.rows ≡ plain_rows entries
+  pub device : c.device ≡ before
+
 -- a document is in the buffer, and its piece in the directory
 pub record IsPut (purges : Bool) (old new : Seen) (doc : Doc) (payload : List ℕ) : Type 0 where
   pub geometry : new.geometry ≡ old.geometry

@@ -39,7 +39,7 @@ pub struct Cyclone<D: Disk, R: Directory + Drop> {
 }
 
 impl<D: Disk, R: Directory + Drop> Cyclone<D, R> {
-    ghost use Rattle.cyclone.specs.Cyclone.{IsCyclone, HasBuffer, IsFresh, IsPut, EntersDoc, IsMoved, EntersCopy, TakesOutStored, BeginsNext, BlocksStand, ReadsBlocks, SameButRoom, SameButRows, SameTape, WritesBuffer, row_of_piece, floor_in, next_buffer_cursor, next_floor, seen_cyclone};
+    ghost use Rattle.cyclone.specs.Cyclone.{IsCyclone, HasBuffer, IsFresh, IsPut, EntersDoc, IsMoved, EntersCopy, TakesOutStored, BeginsNext, BlocksStand, BufferMayBegin, IsMadeOf, ReadsBlocks, SameButRoom, SameButRows, SameTape, WritesBuffer, row_of_piece, floor_in, next_buffer_cursor, next_floor, seen_cyclone, window_from};
 
     /// Lays a device out, and begins an empty cyclone on it, from the start of its second lap on. A
     /// refusal gives the device back.
@@ -65,6 +65,38 @@ impl<D: Disk, R: Directory + Drop> Cyclone<D, R> {
                 buffer,
             }),
             Err(fault) => Err((fault, disk)),
+        }
+    }
+
+    /// Goes on with the pieces of a directory, on a device that was laid out: the next buffer begins empty
+    /// at its cursor, and nothing below a least place may be read. The device is not asked. Where
+    /// memory is wanting, it comes back.
+    pub fn of_parts(
+        alloc: Global,
+        disk: D,
+        directory: R,
+        g: Geometry,
+        cursor: u64,
+        least: u64,
+    ) -> Result<Cyclone<D, R>, (AllocError, D)>
+        requires sized { device_blocks_of g ≤ (D.state disk).size }
+        requires begins { BufferMayBegin g cursor least }
+        requires window { R.window directory ≡ window_from g cursor least }
+        ensures ok { IfOk result (λ c. IsCyclone c) }
+        ensures made { IfOk result (λ c.
+            IsMadeOf g cursor least (R.rows directory) (D.state disk) (seen_cyclone c)) }
+        ensures back { IfErr result (λ refused. D.state refused.1 ≡ D.state disk) }
+    {
+        directory.rows_fit();
+        match AggBuffer::new(alloc, &g, cursor) {
+            Ok(buffer) => Ok(Cyclone {
+                geometry: g,
+                least,
+                disk,
+                directory,
+                buffer,
+            }),
+            Err(e) => Err((e, disk)),
         }
     }
 

@@ -8,6 +8,7 @@ pub mod Placements
 pub mod Beginning
 pub mod Going
 pub mod Starting
+pub mod Opened
 pub mod Candidates
 pub mod HeldBehindFaults
 pub mod Rooms

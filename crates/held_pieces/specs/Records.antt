@@ -1,5 +1,6 @@
 -- How what a cyclone holds follows the records: the laws of the two together.
-use Rattle.std.specs.Prelude.{ℕ, ◌≡◌, ◌+◌, ◌*◌, ◌<◌, ◌≤◌, Bool, true, List, ◌∷◌, length, IsPermutation, Some, None}
+use Rattle.std.specs.Prelude.{ℕ, ◌≡◌, ◌+◌, ◌*◌, ◌<◌, ◌≤◌, Bool, true, List, ◌∷◌, length, map, IsPermutation, Some, None}
+use Rattle.std.specs.List.{AllByRecursion}
 use Rattle.tape_base.specs.declared.geometries.Geometry.{Geometry}
 use Rattle.tape_base.specs.declared.pieces.PieceId.{PieceId}
 use Rattle.tape_base.specs.declared.digests.Digest.{Digest}
@@ -10,18 +11,20 @@ use Rattle.doc_header.specs.declared.documents.Doc.{Doc}
 use Rattle.doc_header.specs.Document.{document_bytes}
 use Rattle.doc_header.specs.Moving.{moved_to}
 use Rattle.doc_header.specs.Reading.{document_digest}
-use Rattle.agg_buffer.specs.Buffer.{blocks_in, filled_of}
+use Rattle.agg_buffer.specs.Buffer.{blocks_in, empty_buffer, filled_of}
 use Rattle.cyclone.specs.Cyclone.{Seen, IsFresh, IsMoved, IsTurning, IsPut, BeginsNext, SameButRoom, SameButRows, SameTape, row_of_piece}
 use Rattle.cache_model.specs.declared.record.Rec.{Rec}
 use Rattle.cache_model.specs.declared.record.Rec.TheVariants as rec
-use Rattle.cache_model.specs.State.{State, Row, cursor_next, floor_next, floor_now, live_row_of, nothing_yet, place_now, row_of, after_all, state_after, without}
+use Rattle.cache_model.specs.State.{State, Row, cursor_next, floor_next, floor_now, live_row_of, nothing_yet, place_now, row_of, row_of_found, after_all, state_after, without}
 use Rattle.cache_model.specs.Legal.{format_records}
-use Rattle.device_log.specs.Image.{SameBut, span}
+use Rattle.cache_model.specs.Opening.{Opening}
+use Rattle.cache_model.specs.Openings.{IsOpening, opened_records}
+use Rattle.device_log.specs.Image.{Image, SameBut, span}
 use Rattle.logged_disk.specs.Device.{DeviceState as Device, IsAfter, TellsAll, seen as content_of}
 use Rattle.cache_model.specs.Tape.{IsSound}
 use Rattle.cache_model.specs.Slots.{AllFit, HasSlotForCopy}
 use Rattle.dir_table.specs.Displacement.{AreFew}
-use Rattle.held_pieces.specs.Held.{IsHeld}
+use Rattle.held_pieces.specs.Held.{IsHeld, SameRows, entry_of_piece}
 use Rattle.cache_model.specs.Displacing.{PushesOut}
 use Rattle.held_pieces.specs.Displaced.{displaced_of}
 
@@ -131,6 +134,24 @@ DeviceMayChange = (s : State) (c new : Seen) → IsHeld s c → SameTape c new �
 -- a cyclone that is fresh holds what a format begins with
 abbrev pub FreshIsHeld : Type 0
 FreshIsHeld = (g : Geometry) (c : Seen) → IsFresh c g → IsTurning c → IsHeld (after_all nothing_yet (format_records g)) c
+
+-- a piece stands with its recorded digest
+abbrev pub HasItsDigest : Geometry → Image → Row → Type 0
+HasItsDigest g content row = document_digest (span content (block_of g row.place) row.blocks) ≡ row.digest
+
+-- a cyclone goes on with what an opening found: its directory has just the entries of these pieces, which stand on a device that
+-- tells its content, and the buffer begins empty at the cursor of the copy
+pub record HasFound (g : Geometry) (o : Opening) (c : Seen) : Type 0 where
+  pub geometry : c.geometry ≡ g
+  pub least : c.least ≡ o.floor
+  pub buffer : c.buffer ≡ empty_buffer o.cursor g.agg
+  pub entries : SameRows c.rows (map (entry_of_piece g) (map row_of_found o.found))
+  pub stand : TellsAll c.device → AllByRecursion (HasItsDigest g (content_of c.device)) (map row_of_found o.found)
+
+-- then it holds what the opening begins with
+abbrev pub OpenedIsHeld : Type 0
+OpenedIsHeld = (packed : Bool) (g : Geometry) (o : Opening) (c : Seen) → IsOpening packed g o → HasFound g o c → IsTurning c
+    → IsHeld (after_all nothing_yet (opened_records g o)) c
 
 -- more room changes nothing of what is held
 abbrev pub RoomMayGrow : Type 0

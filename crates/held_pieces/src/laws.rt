@@ -1,6 +1,6 @@
 // Laws of what a cyclone holds and what the records say of it. These functions do nothing when they
 // run.
-ghost use Rattle.held_pieces.specs.Records.{PlacedIsHeld, MovedIsHeld, HeldFit, BegunIsHeld, TakenIsHeld, PassedIsHeld, AlikeIsHeld, DeviceMayChange, FreshIsHeld, RoomMayGrow};
+ghost use Rattle.held_pieces.specs.Records.{PlacedIsHeld, MovedIsHeld, HeldFit, BegunIsHeld, TakenIsHeld, PassedIsHeld, AlikeIsHeld, DeviceMayChange, FreshIsHeld, OpenedIsHeld, RoomMayGrow};
 
 /// A piece that is put and recorded as placed, behind what it displaced, is held.
 pub fn placed_is_held()
@@ -45,6 +45,11 @@ pub fn device_may_change()
 /// A fresh cyclone holds what a format begins with.
 pub fn fresh_is_held()
     ensures { FreshIsHeld }
+{}
+
+/// A cyclone that goes on with what an opening found holds what that begins with.
+pub fn opened_is_held()
+    ensures { OpenedIsHeld }
 {}
 
 /// More room changes nothing of what is held.

@@ -24,6 +24,13 @@ begun_numbered held puts readers = record {
   below = omega arith;
 }
 
+pub behind_numbered : (held : Held) (next_put : ℕ) → held.puts ≡ [] → held.readers ≡ [] → 1 ≤ next_put → next_put < limit → HasGivenNumbers (seen_of held next_put 1)
+behind_numbered held next_put puts readers some below = record {
+  puts = subst (λ (es : List (ℕ × KeptPut)). RiseWithin 1 next_put es) (sym puts) some;
+  readers = subst (λ (es : List (ℕ × Reader)). RiseWithin 1 1 es) (sym readers) (omega arith);
+  below = below;
+}
+
 pub opened_numbered : (held new : Held) (put next_reader room : ℕ) (writer : Writer) → writer.put ≡ put → put + 1 < limit → new ≡ with_open_writer writer room held
     → HasGivenNumbers (seen_of held put next_reader) → HasGivenNumbers (seen_of new (put + 1) next_reader)
 opened_numbered held new put next_reader room writer numbered below is h =

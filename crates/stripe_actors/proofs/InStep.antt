@@ -1,5 +1,5 @@
 -- Each call keeps the actors in step with the records.
-use Rattle.std.proofs.Common.{◌≡◌, ℕ, ◌+◌, ◌-◌, true, false, cond, List, [], ◌∷◌, ◌++◌, Option, Some, None, refl, sym, ap, subst, ◌∙◌, arith}
+use Rattle.std.proofs.Common.{◌≡◌, ◌≤◌, ℕ, ◌+◌, ◌-◌, true, false, cond, List, [], ◌∷◌, ◌++◌, Option, Some, None, refl, sym, ap, subst, ◌∙◌, arith}
 use Rattle.std.specs.Prelude.{Bool, not, ◌==◌, OnErr, Result, Ok, Err, option_map}
 use Rattle.std.specs.Map.{lookup}
 use Rattle.tape_base.specs.declared.keys.Key.{Key}
@@ -18,6 +18,8 @@ use Rattle.cache_model.specs.declared.answer.ReadAnswer.TheVariants as read
 use Rattle.cache_model.specs.declared.record.Rec.TheVariants as rec
 use Rattle.cache_model.specs.State.{PutRow, ReaderRow, State, Writing, Closed, GivenUp, after_all, change_put, nothing_yet, opened_put, put_of, reader_of, state_after, table_of_hit, with_writing, with_cut as cut_row}
 use Rattle.cache_model.specs.Verdict.{is_open as is_open_row}
+use Rattle.cache_model.specs.Opening.{Opening}
+use Rattle.cache_model.specs.Openings.{opened_records}
 use Rattle.cache_model.specs.Legal.{format_records}
 use Rattle.stripe_actors.specs.Actors.{ActorsSeen, AreActors, IsKeptAs, IsPutOf, IsReaderOfRow, NumbersFallBelow, RiseWithin, phase_of_put, put_numbers, reader_numbers}
 use Rattle.open_directory.proofs.Rising.{found_inserted, found_removed}
@@ -52,6 +54,19 @@ begun_in_step geometry held writers puts readers = record {
   puts = λ q. subst (λ (es : List (ℕ × KeptPut)). IsKeptAs None (kept_put q es)) (sym puts) tt;
   readers = λ q. reader_along None None None (lookup (is_number q) held.readers) refl (ap (λ (es : List (ℕ × Reader)). lookup (is_number q) es) readers) tt;
   puts_fall = omega arith;
+  readers_fall = omega arith;
+}
+
+-- so at the beginning that an opening makes: it knows no put and no reader
+pub behind_in_step : (geometry : Geometry) (o : Opening) (held : Held) (next_put : ℕ) → held.writers ≡ [] → held.puts ≡ [] → held.readers ≡ [] → 1 ≤ next_put
+    → o.next_put ≡ next_put → AreActors (after_all nothing_yet (opened_records geometry o)) (seen_of held next_put 1)
+behind_in_step geometry o held next_put writers puts readers some same = record {
+  next_put = sym same;
+  next_reader = refl;
+  writers = writers;
+  puts = λ q. subst (λ (es : List (ℕ × KeptPut)). IsKeptAs None (kept_put q es)) (sym puts) tt;
+  readers = λ q. reader_along None None None (lookup (is_number q) held.readers) refl (ap (λ (es : List (ℕ × Reader)). lookup (is_number q) es) readers) tt;
+  puts_fall = omega (arith, some, same);
   readers_fall = omega arith;
 }
 

@@ -11,6 +11,8 @@ use Rattle.cache_model.specs.declared.answer.ReadAnswer.TheVariants as read
 use Rattle.cache_model.specs.declared.record.Rec.{Rec}
 use Rattle.cache_model.specs.declared.record.Rec.TheVariants as rec
 use Rattle.cache_model.specs.State.{State, after_all, nothing_yet, state_after}
+use Rattle.cache_model.specs.Opening.{Opening}
+use Rattle.cache_model.specs.Openings.{opened_records}
 use Rattle.cache_model.specs.Legal.{format_records, most_writers, open_writers}
 use Rattle.cache_model.specs.Room.{limit}
 use Rattle.open_directory.specs.Directory.{is_kept_open, with_reader_room, with_room}
@@ -37,6 +39,11 @@ with_room_of_readers room a = record a { held = with_reader_room room a.held }
 -- nobody, at the beginning of a session that a format began
 abbrev pub BeginInStep : ActorsSeen → Type 0
 BeginInStep new = (geometry : Geometry) → AreActors (after_all nothing_yet (format_records geometry)) new
+
+-- nobody, at the beginning of a session that an opening began, whose copy tells this next put number
+abbrev pub BeginBehind : ℕ → ActorsSeen → Type 0
+BeginBehind next_put new = (geometry : Geometry) (o : Opening) → o.next_put ≡ next_put
+    → AreActors (after_all nothing_yet (opened_records geometry o)) new
 
 -- the put has the number that was next, and its writer is open
 pub record OpensPut (key : Key) (request response : List Field) (old new : ActorsSeen) (put : ℕ) : Type 0 where

@@ -4,7 +4,7 @@ ghost use Rattle.std.specs.Prelude.{◌≡◌, ◌+◌, ◌<◌, ◌≤◌, ◌^
 ghost use Rattle.fragment_table.specs.Table.{CanGrow};
 ghost use Rattle.open_directory.specs.Directory.{IsHeldDirectory, is_kept_open, kept_cuts, room_for_fragments};
 ghost use Rattle.cache_model.specs.declared.record.Rec.TheVariants as rec;
-ghost use Rattle.stripe_actors.specs.Calls.{AnswersPut, BeginInStep, Commits, CutsNext, GaveFragment, KeepUpWith, Misses, OpensPut, PutIsGivenUp, ReaderOpens, StayInStep, with_room_of, with_room_of_readers};
+ghost use Rattle.stripe_actors.specs.Calls.{AnswersPut, BeginBehind, BeginInStep, Commits, CutsNext, GaveFragment, KeepUpWith, Misses, OpensPut, PutIsGivenUp, ReaderOpens, StayInStep, with_room_of, with_room_of_readers};
 ghost use Rattle.stripe_actors.specs.Actors.{HasGivenNumbers, reader_room_of};
 
 use crate::refusal::OpenPutRefusal;
@@ -41,6 +41,20 @@ impl Actors {
         Actors {
             open: OpenDirectory::new(alloc),
             next_put: 1,
+            next_reader: 1,
+        }
+    }
+
+    /// Nobody, at the beginning of a session that an opening began, whose next put has this number. It
+    /// takes no memory.
+    pub fn behind(alloc: Global, next_put: u64) -> Actors
+        requires some { 1 ≤ next_put }
+        requires below { next_put < 2 ^ 62 }
+        ensures { BeginBehind next_put result }
+    {
+        Actors {
+            open: OpenDirectory::new(alloc),
+            next_put,
             next_reader: 1,
         }
     }
