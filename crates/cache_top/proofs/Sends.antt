@@ -10,6 +10,8 @@ use Rattle.cache_chronicle.specs.contracts.full.FullChronicle.TheInside as Talli
 use Rattle.cache_chronicle.specs.contracts.records.GhostRecords as GhostRecords
 use Rattle.cache_chronicle.specs.declared.chronicle.Chronicle as chronicle
 use Rattle.logged_disk.specs.declared.device.Disk as disk
+use Rattle.packed_directory.proofs.packed.PackedDirectory.TheSendSync as packed
+use Rattle.packed_directory.specs.contracts.packed.PackedDirectory as PackedDirectory
 use Rattle.stripe_calls.below.dir_table.specs.declared.directory.Directory as directory
 use Rattle.stripe_calls.below.open_directory.proofs.kept.KeptPut.TheSendSync as put
 use Rattle.stripe_calls.below.open_directory.proofs.kept.Writer.TheSendSync as writer
@@ -33,6 +35,9 @@ records_send = owning_send GhostRecords.the_type (search sendable, tt) (λ d. tt
 
 tallied_send : IsSend Tallied.the_row
 tallied_send = declared_send Tallied.the_type (search (records_send, sendable), (search sendable, (tables.the_send, tt)))
+
+pub packed_send : IsSend PackedDirectory.the_row
+packed_send = packed.the_send
 
 pub chronicle_send : IsSend FullChronicle.the_row
 chronicle_send = search (tallied_send, sendable)

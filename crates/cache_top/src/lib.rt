@@ -5,4 +5,4 @@ mod blank;
 mod top;
 
 pub use blank::Blank;
-pub use top::cache_main;
+pub use top::{Cache, cache_main};

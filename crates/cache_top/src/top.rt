@@ -7,32 +7,36 @@ ghost use Rattle.script_run.specs.Ledger.{InOrder, ledger_of};
 ghost use Rattle.run_promise.specs.Story.{refusals_around};
 ghost use Rattle.run_promise.specs.Top.{ReadsFailed, ComeBackSteady};
 ghost use Rattle.command_words.specs.Words.{asked_in_words};
-ghost use Rattle.run_script.specs.Commands.{ConcludesAs, IsUsageBy, RefusesAs};
+ghost use Rattle.run_script.specs.Commands.{RefusesAs};
+ghost use Rattle.work_script.specs.Commands.{ConcludesAll, IsUsageOf};
 
 use cache_chronicle::FullChronicle;
 use device_bay::Bay;
 use edge_io::{Sink, Source};
+use logged_disk::PowerDisk;
 use packed_directory::PackedDirectory;
 use run_promise::Status;
-use run_script::run_words;
 use std::alloc::Global;
+use std::sync::Wait;
+use std::thread::Threads;
 use stripe_calls::StripeCache;
+use work_script::run_words;
 
-// The cache of the program: its directory has packed entries, and its chronicle forgets nothing.
-type Cache<D> = StripeCache<D, PackedDirectory, FullChronicle>;
+/// The cache of the program: its directory has packed entries, and its chronicle forgets nothing.
+pub type Cache<D> = StripeCache<D, PackedDirectory, FullChronicle>;
 
-/// Runs the command that the words give, by the cache of the program: `replay` runs the script that the source holds, and
-/// `inspect` and `check` read a device.
-pub fn cache_main<S: Source, K: Sink, B: Bay>(
-    alloc: Global,
-    words: &[String],
-    source: &mut S,
-    sink: &mut K,
-    bay: &mut B,
-) -> Status
-    ensures concludes { ConcludesAs (asked_in_words words.now) (S.reads source.old) (S.reads source.new) (K.writes sink.old) (K.writes sink.new)
+/// Runs the command that the words give, by the cache of the program: `replay` runs the script that the source holds,
+/// `work` has its jobs done by workers in threads, and `inspect` and `check` read a device.
+pub fn cache_main<
+    S: Source,
+    K: Sink,
+    D: PowerDisk + Send,
+    B: Bay<Dev = D>,
+    H: Threads + Wait + Sync,
+>(rt: &H, alloc: Global, words: &[String], source: &mut S, sink: &mut K, bay: &mut B) -> Status
+    ensures concludes { ConcludesAll (asked_in_words words.now) (S.reads source.old) (S.reads source.new) (K.writes sink.old) (K.writes sink.new)
         (refusals_around (refusals_of (B.past bay.old)) (refusals_of (B.past bay.new))) (ledger_of B.Bay bay.old) (ledger_of B.Bay bay.new) result }
-    ensures usage { IsUsageBy (asked_in_words words.now) result }
+    ensures usage { IsUsageOf (asked_in_words words.now) result }
     ensures reads { ReadsFailed (S.reads source.old) (S.reads source.new) result }
 
     // Every device was given back.
@@ -54,5 +58,5 @@ pub fn cache_main<S: Source, K: Sink, B: Bay>(
     // the end.
     ensures steady { ComeBackSteady (returned_by (B.past bay.old)) (returned_by (B.past bay.new)) }
 {
-    run_words::<S, K, B, Cache<B::Dev>>(alloc, words, source, sink, bay)
+    run_words::<S, K, B, _, _, Cache<D>, H>(rt, alloc, words, source, sink, bay)
 }

@@ -21,27 +21,31 @@ use logged_disk::{BLOCK_BYTES, Disk, MemDisk, PowerDisk};
 use run_promise::Status;
 use std::alloc::{AllocError, Global};
 use std::cell::Cell;
+use std::sync::Wait;
 use std::test::Fail;
+use std::thread::Threads;
 
 /// The status of a run.
-fn status_of<S: Source, K: Sink, B: Bay>(
+fn status_of<S: Source, K: Sink, D: PowerDisk + Send, B: Bay<Dev = D>, H: Threads + Wait + Sync>(
+    rt: &H,
     alloc: Global,
     source: &mut S,
     sink: &mut K,
     bay: &mut B,
 ) -> Result<Status, AllocError> {
     let word = String::from_str(alloc, "replay")?;
-    Ok(cache_main(alloc, &[word], source, sink, bay))
+    Ok(cache_main(rt, alloc, &[word], source, sink, bay))
 }
 
 /// The status of a run over devices in memory.
-fn status_in_memory<S: Source, K: Sink>(
+fn status_in_memory<S: Source, K: Sink, H: Threads + Wait + Sync>(
+    rt: &H,
     alloc: Global,
     source: &mut S,
     sink: &mut K,
 ) -> Result<Status, AllocError> {
     let mut bay = MemBay::new(alloc, Vec::new(alloc));
-    status_of(alloc, source, sink, &mut bay)
+    status_of(rt, alloc, source, sink, &mut bay)
 }
 
 #[test]
@@ -66,7 +70,7 @@ fn a_stream_that_fails_ends_the_run(rt: HostRuntime) -> Result<(), Fail> {
         let source = MemSource::new(script.to_vec(rt.alloc())?, fail_at);
         let mut source = source.in_pieces_of(piece);
         let mut sink = MemSink::new(rt.alloc(), room)?;
-        let status = status_in_memory(rt.alloc(), &mut source, &mut sink)?;
+        let status = status_in_memory(&rt, rt.alloc(), &mut source, &mut sink)?;
         assert_eq!(rt; status, want, "{piece} bytes a read");
         assert_eq!(rt; sink.taken(), answers.as_bytes(), "{piece} bytes a read");
     }
@@ -143,7 +147,7 @@ fn each_answer_is_out_before_the_next_line_is_read(rt: HostRuntime) -> Result<()
         sink: MemSink::new(rt.alloc(), 99)?,
         answered: &answered,
     };
-    let status = status_in_memory(rt.alloc(), &mut source, &mut sink)?;
+    let status = status_in_memory(&rt, rt.alloc(), &mut source, &mut sink)?;
     assert_eq!(rt; status, Status::Done);
     assert_eq!(rt; sink.sink.taken(), b"now 1\nnow 2\nnow 3\n".as_slice());
     assert_eq!(rt; source.lines, 3);
@@ -332,6 +336,21 @@ impl Bay for FailingBay {
     ghost is_log = { λ bay. bay.is_register.is_log };
 }
 
+/// The status of a run over devices that fail their call of this number.
+fn status_in_failing<S: Source, K: Sink, H: Threads + Wait + Sync>(
+    rt: &H,
+    alloc: Global,
+    source: &mut S,
+    sink: &mut K,
+    nth: u64,
+) -> Result<Status, AllocError> {
+    let mut bay = FailingBay {
+        nth,
+        register: Register::new(),
+    };
+    status_of(rt, alloc, source, sink, &mut bay)
+}
+
 // The count is told, no session stands, and the run goes on.
 #[test]
 fn a_call_of_a_format_that_fails_leaves_no_session(rt: HostRuntime) -> Result<(), Fail> {
@@ -339,11 +358,7 @@ fn a_call_of_a_format_that_fails_leaves_no_session(rt: HostRuntime) -> Result<()
         let script = b"format mem:a 1 64 64 8 16 4 7\nnow 7\n".to_vec(rt.alloc())?;
         let mut source = MemSource::new(script, Vec::new(rt.alloc()));
         let mut sink = MemSink::new(rt.alloc(), 99)?;
-        let mut bay = FailingBay {
-            nth,
-            register: Register::new(),
-        };
-        let status = status_of(rt.alloc(), &mut source, &mut sink, &mut bay)?;
+        let status = status_in_failing(&rt, rt.alloc(), &mut source, &mut sink, nth)?;
         assert_eq!(rt; status, Status::Done, "call {}", nth);
         assert_eq!(rt;
             sink.taken(),
