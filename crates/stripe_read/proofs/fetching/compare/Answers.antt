@@ -29,7 +29,8 @@ returns-in-Some g c =
       proceeds = record {
         goes = stays_as _ _ c.mark_damaged.ensures.still;
         accounted = accounted_quiet _ _ _ _ _ (ap (λ (d : Device). d.past) c.mark_damaged.ensures.still) adds refl;
-        survives = survives_still _ _ _ _ c.mark_damaged.ensures.still (kept_left _ _ _ adds (damage_leaves c.args.id u.place c.args.listed u.found));
+        survives = survives_still _ _ _ _ c.mark_damaged.ensures.still (kept_left (kept_in c.args.stripe.now) (kept_in c.mark_damaged.new.self)
+            (rec.Damaged c.args.id u.place c.args.listed u.found ∷ []) adds (damage_leaves c.args.id u.place c.args.listed u.found));
         contents = c.mark_damaged.ensures.contents;
         later = no_less _ _ c.mark_damaged.ensures.still;
       };
