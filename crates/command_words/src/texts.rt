@@ -9,6 +9,7 @@ pub fn help_text() -> &'static str
 {
     "cache_tool: a disk cache that is proved\n\n\
      cache_tool replay < SCRIPT      runs a script: one line of output for each step\n\
+     cache_tool work N < SCRIPT      runs a script whose lines behind split are jobs of N workers, 1 to 16\n\
      cache_tool inspect NAME         prints the span of a device and both copies of its directory, and writes nothing\n\
      cache_tool check NAME           prints what a device opens to, and writes nothing\n\
      cache_tool --help, -h           prints this\n\
@@ -24,5 +25,5 @@ pub fn help_text() -> &'static str
 pub fn version_text() -> &'static str
     ensures { result.now ≡ version_text }
 {
-    "cache_tool 0.9 (rattle-kit-13b logic dac8208d650f15bf)\n"
+    "cache_tool 0.9 (rattle-kit-13f logic dac8208d650f15bf)\n"
 }

@@ -26,7 +26,7 @@ abbrev pub LeavesAlone : (first read : List SourceRead) → (before now : Ledger
 LeavesAlone first read before now = (read ≡ first) × (now ≡ before)
 
 -- What a status says, by what the words ask for: `replay` as `Concludes` has it, an inspection as `Inspects` does, and a check
--- as `Checks`. The program runs no `work`.
+-- as `Checks`. Of `work` it says what it does of no command: `work_script` runs that.
 abbrev pub ConcludesAs : Option Wish → (first read : List SourceRead) → (old new : List SinkWrite) → (bay : Refusals) → (before now : Ledger) → Status → Type 0
 ConcludesAs None first read old new bay before now s = RefusesWords old new s × LeavesAlone first read before now
 ConcludesAs (Some help) first read old new bay before now s = PrintsText old new help_text s × LeavesAlone first read before now
@@ -36,7 +36,7 @@ ConcludesAs (Some (work workers)) first read old new bay before now s = RefusesW
 ConcludesAs (Some (check name)) first read old new bay before now s = (read ≡ first) × Checks name old new bay before now s
 ConcludesAs (Some (inspect name)) first read old new bay before now s = (read ≡ first) × Inspects name old new bay before now s
 
--- the status is Usage where the words are no command that the program runs, or else that of want of memory; and nowhere else
+-- the status is Usage, or that of want of memory, where the words are no command, or `work`; and nowhere else is it Usage
 abbrev pub IsUsageBy : Option Wish → Status → Type 0
 IsUsageBy None s = (s ≡ status.Usage) ⊎ (s ≡ status.OutOfMemory)
 IsUsageBy (Some (work workers)) s = (s ≡ status.Usage) ⊎ (s ≡ status.OutOfMemory)

@@ -1,4 +1,4 @@
--- What each command concludes, where workers may run.
+-- What each command of the program concludes.
 use Rattle.std.specs.Prelude.{◌≢◌, List, Option, Some}
 use Rattle.device_log.specs.Streams.{SourceRead, SinkWrite}
 use Rattle.script_run.specs.Ledger.{Ledger}
