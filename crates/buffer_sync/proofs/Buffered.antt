@@ -17,7 +17,7 @@ use Rattle.buffer_sync.specs.OnDevice.{IsOnDevice, WroteLast}
 use Rattle.buffer_sync.proofs.Last.{all_told, refused_rest, written_rest}
 use Rattle.buffer_sync.proofs.Writing.{stopped_leaves, went_leaves}
 
-either_side : (a b : ℕ) → ((a < b) ⊎ (b ≤ a))
+pub either_side : (a b : ℕ) → ((a < b) ⊎ (b ≤ a))
 either_side a b = grind arith
 
 -- ---- a write

@@ -1,6 +1,6 @@
 -- What the calls wrote last: behind a write, a refused one and calls that write elsewhere; and that a device shows it that tells
 -- its content.
-use Rattle.std.proofs.Common.{◌≡◌, ℕ, ◌+◌, ◌-◌, ◌*◌, ◌/◌, ◌<◌, ◌≤◌, ◌⊎◌, Bool, true, false, List, [], ◌∷◌, ◌++◌, Some, None, inl, inr, length, take, drop, zero, suc, refl, sym, ◌∙◌, ap, arith, if◌then◌else◌, Option}
+use Rattle.std.proofs.Common.{◌≡◌, ℕ, ◌+◌, ◌-◌, ◌*◌, ◌/◌, ◌^◌, ◌<◌, ◌≤◌, ◌⊎◌, Bool, true, false, List, [], ◌∷◌, ◌++◌, Some, None, inl, inr, length, take, drop, zero, suc, refl, sym, ◌∙◌, ap, arith, if◌then◌else◌, Option}
 use Rattle.std.specs.Prelude.{◌&&◌, nat_le}
 use Rattle.std.specs.List.{AllByRecursion}
 use Rattle.std.proofs.lemmas.Bool.{le-leb, le-ltb, lt-leb, lt-ltb}
@@ -9,7 +9,9 @@ use Rattle.std.proofs.Math.Seq.{take-add}
 use Rattle.device_log.specs.Image.{Image, in_range, span}
 use Rattle.device_log.specs.Calls.{ToRead, ToWrite, ToSync, Call, Read, Wrote, Synced, RefusedCall, Told, PowerCut, Flipped}
 use Rattle.device_log.specs.Along.{Stopped, WasRefused, Went}
+use Rattle.device_log.specs.Faults.{faults_of}
 use Rattle.device_log.specs.Seen.{seen_of}
+use Rattle.device_log.proofs.SeenLaws.{refused_others, synced_same, wrote_others}
 use Rattle.device_log.proofs.Spans.{span_none, span_push}
 use Rattle.logged_disk.specs.Device.{has_flip}
 use Rattle.cache_model.specs.Given.{written_of}
@@ -134,3 +136,56 @@ pub stopped_ends : (low j count : ℕ) (calls : List Call) (old new : List Call)
 stopped_ends low j count [] old new all stopped above = absurd stopped
 stopped_ends low j count (call ∷ calls) old new all (inl refused) above = refused_ends low j count call old new all.0 refused above
 stopped_ends low j count (call ∷ calls) old new all (inr later) above = stopped_ends low j count calls (call ∷ old) new all.1 later above ∙ one_ends low j call old all.0 above
+
+-- ---- and so it is of what is seen
+
+one_shows : (first : Image) (low j : ℕ) (call : Call) (older : List Call) → EndsBy low call → low ≤ j → seen_of first (call ∷ older) j ≡ seen_of first older j
+one_shows first low j (Wrote at bytes) older ends above = wrote_others first older at bytes j (λ from to. omega (arith, to, ends, above))
+one_shows first low j Synced older ends above = ap (λ (c : Image). c j) (synced_same first older)
+one_shows first low j _ older ends above = absurd ends
+
+refused_shows : (first : Image) (low j count : ℕ) (call : Call) (older new : List Call) → EndsBy low call → WasRefused call count older new → low ≤ j
+    → seen_of first new j ≡ seen_of first older j
+unfolding seen_of
+refused_shows first low j count (Wrote at bytes) older new ends refused above =
+    ap (λ past. seen_of first past j) refused.1
+    ∙ refused_others first older at (length bytes / 512) refused.0 count j (λ from to. omega (arith, to, ends, above))
+refused_shows first low j count Synced older new ends refused above = ap (λ past. seen_of first past j) refused
+refused_shows first low j count _ older new ends refused above = absurd ends
+
+pub went_shows : (first : Image) (low j : ℕ) (calls : List Call) (old new : List Call) → AllByRecursion (EndsBy low) calls → Went calls old new → low ≤ j
+    → seen_of first new j ≡ seen_of first old j
+went_shows first low j [] old new all went above = ap (λ past. seen_of first past j) went
+went_shows first low j (call ∷ calls) old new all went above = went_shows first low j calls (call ∷ old) new all.1 went above ∙ one_shows first low j call old all.0 above
+
+pub stopped_shows : (first : Image) (low j count : ℕ) (calls : List Call) (old new : List Call) → AllByRecursion (EndsBy low) calls → Stopped calls count old new → low ≤ j
+    → seen_of first new j ≡ seen_of first old j
+stopped_shows first low j count [] old new all stopped above = absurd stopped
+stopped_shows first low j count (call ∷ calls) old new all (inl refused) above = refused_shows first low j count call old new all.0 refused above
+stopped_shows first low j count (call ∷ calls) old new all (inr later) above =
+    stopped_shows first low j count calls (call ∷ old) new all.1 later above ∙ one_shows first low j call old all.0 above
+
+-- ---- the count of faults
+
+faults_fit : (past : List Call) → faults_of past ≤ 2 ^ 64 - 1
+unfolding faults_of
+faults_fit [] = omega arith
+faults_fit (Read at bytes ∷ older) = faults_fit older
+faults_fit (Wrote at bytes ∷ older) = faults_fit older
+faults_fit (Synced ∷ older) = faults_fit older
+faults_fit (RefusedCall what count ∷ older) = omega arith
+faults_fit (Told act ∷ older) = faults_fit older
+faults_fit (PowerCut choice left ∷ older) = faults_fit older
+faults_fit (Flipped at byte ∷ older) = faults_fit older
+
+-- it does not fall
+pub faults_rise : (made old : List Call) → faults_of old ≤ faults_of (made ++ old)
+unfolding faults_of
+faults_rise [] old = omega arith
+faults_rise (Read at bytes ∷ made) old = faults_rise made old
+faults_rise (Wrote at bytes ∷ made) old = faults_rise made old
+faults_rise (Synced ∷ made) old = faults_rise made old
+faults_rise (RefusedCall what count ∷ made) old = omega (arith, faults_rise made old, faults_fit (made ++ old))
+faults_rise (Told act ∷ made) old = faults_rise made old
+faults_rise (PowerCut choice left ∷ made) old = faults_rise made old
+faults_rise (Flipped at byte ∷ made) old = faults_rise made old

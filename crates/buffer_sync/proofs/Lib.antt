@@ -1,3 +1,5 @@
 pub mod Last
 pub mod Writing
 pub mod Buffered
+pub mod Standing
+pub mod Holding

@@ -2,6 +2,8 @@
 use Rattle.std.proofs.Common.{◌≡◌, ℕ, ◌+◌, ◌*◌, ◌≤◌, Bool, true, false, List, length, refl, sym, ◌∙◌, ap, arith}
 use Rattle.std.specs.List.{AllByRecursion}
 use Rattle.device_log.specs.Calls.{Wrote}
+use Rattle.device_log.specs.Image.{Image}
+use Rattle.device_log.specs.Seen.{seen_of}
 use Rattle.tape_base.specs.Place.{content_block_of, directory_blocks_of}
 use Rattle.stripe_header.specs.declared.area.Area.{Area}
 use Rattle.stripe_header.specs.declared.area.Side.{Side}
@@ -18,7 +20,7 @@ use Rattle.stripe_copies.specs.Copies.{CopiesState, IsBodyOf, IsBrokenOff, IsSyn
 use Rattle.stripe_copies.proofs.Calls.{stops_all}
 use Rattle.stripe_copies.proofs.Copy.{body_length}
 use Rattle.cache_model.specs.Given.{written_of}
-use Rattle.buffer_sync.proofs.Last.{EndsBy, stopped_ends, went_ends}
+use Rattle.buffer_sync.proofs.Last.{EndsBy, stopped_ends, stopped_shows, went_ends, went_shows}
 
 shut_length : length shut_block ≡ 512
 unfolding shut_block
@@ -57,5 +59,20 @@ pub stopped_leaves : (k : CopiesState) (s : CopyState) (rows : List StoredRow) (
     → content_block_of k.area.geometry ≤ j → IsBrokenOff k s rows stop shut old new → written_of new.past j ≡ written_of old.past j
 stopped_leaves k s rows stop shut old new j is above broken =
     stopped_ends (7 + 2 * k.area.directory) j stop.count (sync_calls k.area (target_of k) k.shut broken.body) old.past new.past
+    (sync_ends k.area (target_of k) broken.body (body_whole k.area s rows broken.body is broken.of) k.shut)
+    (stops_all k.area (target_of k) k.shut broken.body stop shut old.past new.past broken.stopped) (omega (arith, is, above))
+
+-- what is seen of the content stays too
+pub went_stays : (k : CopiesState) (s : CopyState) (rows : List StoredRow) (first : Image) (old new : Device) (j : ℕ) → k.area.directory ≡ directory_blocks_of k.area.geometry
+    → content_block_of k.area.geometry ≤ j → IsSynced k s rows old new → seen_of first new.past j ≡ seen_of first old.past j
+went_stays k s rows first old new j is above synced =
+    went_shows first (7 + 2 * k.area.directory) j (sync_calls k.area (target_of k) k.shut synced.body) old.past new.past
+    (sync_ends k.area (target_of k) synced.body (body_whole k.area s rows synced.body is synced.of) k.shut) synced.made.went (omega (arith, is, above))
+
+pub stopped_stays : (k : CopiesState) (s : CopyState) (rows : List StoredRow) (stop : SyncStop) (shut : Bool) (first : Image) (old new : Device) (j : ℕ)
+    → k.area.directory ≡ directory_blocks_of k.area.geometry
+    → content_block_of k.area.geometry ≤ j → IsBrokenOff k s rows stop shut old new → seen_of first new.past j ≡ seen_of first old.past j
+stopped_stays k s rows stop shut first old new j is above broken =
+    stopped_shows first (7 + 2 * k.area.directory) j stop.count (sync_calls k.area (target_of k) k.shut broken.body) old.past new.past
     (sync_ends k.area (target_of k) broken.body (body_whole k.area s rows broken.body is broken.of) k.shut)
     (stops_all k.area (target_of k) k.shut broken.body stop shut old.past new.past broken.stopped) (omega (arith, is, above))

@@ -3,6 +3,8 @@ ghost use Rattle.std.specs.Prelude.{◌≡◌, ◌+◌, ◌-◌, ◌≤◌, IfSo
 ghost use Rattle.stripe_header.specs.Layout.{body_blocks};
 ghost use Rattle.agg_buffer.specs.Buffer.{filled_of};
 ghost use Rattle.logged_disk.specs.Device.{TellsAll};
+ghost use Rattle.cache_model.specs.State.{State};
+ghost use Rattle.held_pieces.specs.Held.{IsHeld};
 ghost use Rattle.cyclone.specs.Cyclone.{HasBuffer, IsCyclone, SameTape, seen_cyclone};
 ghost use Rattle.cyclone.specs.Syncing.{MaySync, SyncsCopy, WritesRest};
 ghost use Rattle.buffer_sync.specs.OnDevice.{IsOnDevice, WentOut, on_behind_sync, on_behind_write};
@@ -41,6 +43,8 @@ pub fn write_buffer<D: Disk, R: Directory + Drop>(
     ensures on { IsOnDevice on.new (seen_cyclone cyclone.new) }
     ensures numbers { on.new
         ≡ on_behind_write result (filled_of (seen_cyclone cyclone.old).buffer) on.old }
+    ensures held { (s : State) → IsHeld s (seen_cyclone cyclone.old)
+        → IsHeld s (seen_cyclone cyclone.new) }
     ensures whole { OnOk result
         (TellsAll (seen_cyclone cyclone.new).device → HasBuffer (seen_cyclone cyclone.new)) }
 {
@@ -73,6 +77,8 @@ pub fn sync_buffer<D: Disk, R: PacksEntries + Drop>(
         (seen_cyclone cyclone.new) result }
     ensures on { IsOnDevice on.new (seen_cyclone cyclone.new) }
     ensures numbers { on.new ≡ on_behind_sync result on.old }
+    ensures held { (s : State) → IsHeld s (seen_cyclone cyclone.old)
+        → IsHeld s (seen_cyclone cyclone.new) }
 {
     match cyclone.sync_copy(copies, state) {
         Ok(serial) => {
@@ -114,6 +120,8 @@ pub fn write_and_sync<D: Disk, R: PacksEntries + Drop>(
     ensures on { IsOnDevice on.new (seen_cyclone cyclone.new) }
     ensures goes { WentOut due on.old on.new copies.old copies.new (seen_cyclone cyclone.old)
         (seen_cyclone cyclone.new) result }
+    ensures held { (s : State) → IsHeld s (seen_cyclone cyclone.old)
+        → IsHeld s (seen_cyclone cyclone.new) }
     ensures whole { OnOk result
         (TellsAll (seen_cyclone cyclone.new).device → HasBuffer (seen_cyclone cyclone.new)) }
 {

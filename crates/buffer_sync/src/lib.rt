@@ -2,5 +2,7 @@
 #![tactic(auto)]
 
 mod buffer;
+mod laws;
 
 pub use buffer::{BufferOnDevice, Halt, sync_buffer, write_and_sync, write_buffer};
+pub use laws::covered_stands;

@@ -42,17 +42,17 @@ pub next_behind : (s : State) (c : Seen) → IsHeld s c → place_now s ≤ curs
 next_behind s c held = next_above s.geometry s.cursor s.filled held.sound.room held.sound.lap
 
 -- what holds of the bytes of a piece that was written before, or of one that this buffer wrote, holds of those that stand there
-pub was_intact : (P : List ℕ → Type 0) (s : State) (c : Seen) (row : Row) → IsHeld s c → IsWrittenOut c → TellsAll c.device → 0 < row.blocks
+pub was_intact : (P : List ℕ → Type 0) (s : State) (c : Seen) (row : Row) → IsHeld s c → IsWrittenOut c → 0 < row.blocks
     → (floor_now s ≤ row.place → row.place < s.cursor → P (span (content_of c.device) (block_of s.geometry row.place) row.blocks))
     → IsBufferedWhereNew c.buffer row → (c.buffer.cursor ≤ row.place → P (bytes_at c.buffer row.place row.blocks))
     → floor_next s ≤ row.place → P (span (content_of c.device) (block_of s.geometry row.place) row.blocks)
-was_intact P s c row held out told some written buffered new low = by (either_side s.cursor row.place)
+was_intact P s c row held out some written buffered new low = by (either_side s.cursor row.place)
   where
     by : ((s.cursor ≤ row.place) ⊎ (row.place < s.cursor)) → P (span (content_of c.device) (block_of s.geometry row.place) row.blocks)
     by (inl above) =
         let from : c.buffer.cursor ≤ row.place = let same : c.buffer.cursor ≡ s.cursor = held.cursor in omega (arith, same, above) in
         subst (λ g. P (span (content_of c.device) (block_of g row.place) row.blocks)) held.geometry
-        (written_intact P c.geometry c.buffer (content_of c.device) row held.turning.few held.turning.lap out.whole (out.written told) some
+        (written_intact P c.geometry c.buffer (content_of c.device) row held.turning.few held.turning.lap out.whole out.written some
         (buffered from).filled (new from))
     by (inr below) = written (let behind = next_behind s c held in omega (arith, low, behind)) below
 
@@ -106,17 +106,17 @@ module _ (s : State) (c new : Seen) (held : IsHeld s c) (out : IsWrittenOut c) (
   counts : AreCounted after new
   counts = record { each = count_at }
 
-  all_intact : TellsAll c.device → (low : ℕ) (rows : List Row) → AreRising low rows (place_now s) → AllByRecursion (IsIntactWhereWritten s (content_of c.device)) rows
+  all_intact : (low : ℕ) (rows : List Row) → AreRising low rows (place_now s) → AllByRecursion (IsIntactWhereWritten s (content_of c.device)) rows
       → AllByRecursion (IsBufferedWhereNew c.buffer) rows → AllByRecursion (IsIntactWhereWritten after (content_of c.device)) rows
-  all_intact told low [] rising written buffered = tt
-  all_intact told low (row ∷ rows) rising written buffered =
+  all_intact low [] rising written buffered = tt
+  all_intact low (row ∷ rows) rising written buffered =
       let ends : row.place + row.blocks ≤ place_now s = rising.2 in (
         λ from below. record {
           ends = omega (arith, ends, behind);
-          digest = was_intact (λ bytes. document_digest bytes ≡ row.digest) s c row held out told rising.1
+          digest = was_intact (λ bytes. document_digest bytes ≡ row.digest) s c row held out rising.1
               (λ from below. (written.0 from below).digest) buffered.0 (λ new. (buffered.0 new).digest) from;
         },
-        all_intact told (row.place + 1) rows rising.3 written.1 buffered.1,
+        all_intact (row.place + 1) rows rising.3 written.1 buffered.1,
       )
 
   begun_is_held_here : IsHeld after new
@@ -130,7 +130,7 @@ module _ (s : State) (c new : Seen) (held : IsHeld s c) (out : IsWrittenOut c) (
     buffered = none_new (IsBuffered new.buffer) new.buffer.cursor s.geometry.content (place_now s) s.rows held.sound.rising
         (omega (arith, new_cursor, behind));
     intact = subst (λ (d : Device). TellsAll d → AllByRecursion (IsIntactWhereWritten after (content_of d)) s.rows) (sym begins.device)
-        (λ told. all_intact told s.geometry.content s.rows held.sound.rising (held.intact told) held.buffered);
+        (λ told. all_intact s.geometry.content s.rows held.sound.rising (held.intact told) held.buffered);
     laps = held.laps;
     faults = subst (λ n. s.fault ≤ n) (sym (ap (λ (d : Device). d.faults) begins.device)) held.faults;
     least = begins.least ∙ held.least;

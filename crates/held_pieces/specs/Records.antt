@@ -78,10 +78,10 @@ MovedIsHeld = (packed : Bool) (s : State) (c new : Seen) (id : PieceId) (row : R
 abbrev pub HeldFit : Type 0
 HeldFit = (s : State) (c : Seen) → IsHeld s c → AreFew c.window.geometry c.rows → AllFit s
 
--- what is in the buffer is seen on the device, in whole blocks, where that tells its content
+-- what is in the buffer is seen on the device, in whole blocks
 pub record IsWrittenOut (c : Seen) : Type 0 where
   pub whole : (block : ℕ) → length ((content_of c.device) block) ≡ 512
-  pub written : TellsAll c.device → span (content_of c.device) (block_of c.geometry c.buffer.cursor) (filled_of c.buffer) ≡ c.buffer.bytes
+  pub written : span (content_of c.device) (block_of c.geometry c.buffer.cursor) (filled_of c.buffer) ≡ c.buffer.bytes
 
 -- where the next buffer begins, and is recorded, what may still be read is held
 abbrev pub BegunIsHeld : Type 0

@@ -132,14 +132,14 @@ standing_fresh contents g c = record { buffered = λ told. tt; written = λ told
 -- ---- the next buffer begins
 
 -- what stood there, or in the buffer that was written, stands on the device
-each_begun : (contents : Contents) (s : State) (c : Seen) (low : ℕ) (rows : List Row) → IsHeld s c → IsWrittenOut c → TellsAll c.device
+each_begun : (contents : Contents) (s : State) (c : Seen) (low : ℕ) (rows : List Row) → IsHeld s c → IsWrittenOut c
     → AreRising low rows (place_now s) → AllByRecursion (IsBufferedWhereNew c.buffer) rows
     → AllByRecursion (StandsInBuffer contents s.geometry c.buffer) rows → AllByRecursion (StandsOnDevice contents s (content_of c.device)) rows
     → AllByRecursion (StandsOnDevice contents (state_after s (rec.Began (cursor_next s) (floor_next s))) (content_of c.device)) rows
-each_begun contents s c low [] held written told rising filled buffered stands = tt
-each_begun contents s c low (row ∷ rows) held written told rising filled buffered stands = (
-  λ from below. was_intact (HasContent contents s.geometry row) s c row held written told rising.1 stands.0 filled.0 buffered.0 from,
-  each_begun contents s c (row.place + 1) rows held written told rising.3 filled.1 buffered.1 stands.1,
+each_begun contents s c low [] held written rising filled buffered stands = tt
+each_begun contents s c low (row ∷ rows) held written rising filled buffered stands = (
+  λ from below. was_intact (HasContent contents s.geometry row) s c row held written rising.1 stands.0 filled.0 buffered.0 from,
+  each_begun contents s c (row.place + 1) rows held written rising.3 filled.1 buffered.1 stands.1,
 )
 
 pub standing_begun : (contents : Contents) (s : State) (c new : Seen) → IsHeld s c → IsWrittenOut c → BeginsNext c new → AreStanding contents s c
@@ -153,7 +153,7 @@ standing_begun contents s c new held written begins stands = record {
   written =
       let after : State = state_after s (rec.Began (cursor_next s) (floor_next s)) in
       subst (λ (d : Device). TellsAll d → AllByRecursion (StandsOnDevice contents after (content_of d)) s.rows) (sym begins.device)
-      (λ told. each_begun contents s c s.geometry.content s.rows held written told held.sound.rising held.buffered (stands.buffered told)
+      (λ told. each_begun contents s c s.geometry.content s.rows held written held.sound.rising held.buffered (stands.buffered told)
       (stands.written told));
   recorded =
       subst (λ (d : Device). TellsAll d → AllByRecursion (IsRecordedAs contents s.geometry) s.rows) (sym begins.device) stands.recorded;

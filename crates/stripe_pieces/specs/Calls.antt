@@ -45,11 +45,11 @@ module _ {D R C : Type 0} {d : DiskGhosts D} {r : DirectoryGhosts R} {c : Chroni
     pub calls : 1 ≤ (seen_now p).device.calls
     pub blocks : (seen_now p).geometry.agg ≤ (seen_now p).device.blocks
 
-  -- the buffer was written out, as a device shows that tells its content, and this is where the next one begins
+  -- the buffer was written out, and this is where the next one begins
   pub record IsWrittenBefore (cursor : ℕ) (p : Pieces D R C d r c) : Type 0 where
     pub next : cursor ≡ cursor_next (state_now p)
     pub below : cursor < 2 ^ 62
-    pub written : TellsAll (seen_now p).device → HasBuffer (seen_now p)
+    pub written : HasBuffer (seen_now p)
 
   -- ---- what is kept
 

@@ -40,3 +40,9 @@ returns-in-Err-sync_buffer-clause-goes g c =
     let stop = c.in-Err-sync_buffer.field-0 in
     OnDevice.WentOut.stopped c.in-Some.state (seen_cyclone c.write_buffer.new.cyclone) stop c.in-Some.is c.write_buffer.ensures.same c.in-Ok.ensures.device c.in-Err-sync_buffer.ensures.syncs
     (c.in-Err-sync_buffer.ensures.numbers ∙ ap (on_behind_sync (Err stop)) c.in-Ok.ensures.numbers)
+
+pub returns-in-Ok-sync_buffer-clause-held : goal.returns-in-Ok-sync_buffer-clause-held
+returns-in-Ok-sync_buffer-clause-held g c = λ s held. c.sync_buffer.ensures.held s (c.write_buffer.ensures.held s held)
+
+pub returns-in-Err-sync_buffer-clause-held : goal.returns-in-Err-sync_buffer-clause-held
+returns-in-Err-sync_buffer-clause-held g c = λ s held. c.sync_buffer.ensures.held s (c.write_buffer.ensures.held s held)

@@ -3,6 +3,7 @@ use Rattle.logged_disk.proofs.GoingOn.{told_before}
 use Rattle.agg_buffer.specs.Buffer.{filled_of}
 use Rattle.cyclone.specs.Cyclone.{Seen, seen_cyclone}
 use Rattle.buffer_sync.proofs.Buffered.{front_told, on_refused, on_written, rest_goes}
+use Rattle.buffer_sync.proofs.Holding.{rest_held}
 use Rattle.buffer_sync.proofs.buffer.write_buffer.Goals as goal
 
 pub returns-in-Ok-clause-whole : goal.returns-in-Ok-clause-whole
@@ -22,3 +23,13 @@ returns-in-Ok-clause-on g c =
 pub returns-in-Err-clause-on : goal.returns-in-Err-clause-on
 returns-in-Err-clause-on g c =
     on_refused c.args.on.now (seen_cyclone c.args.cyclone.now) (seen_cyclone c.write_rest.new.self) c.requires.on c.write_rest.ensures.same _ _ c.in-Err.ensures.device refl refl
+
+pub returns-in-Ok-clause-held : goal.returns-in-Ok-clause-held
+returns-in-Ok-clause-held g c = λ s held.
+    rest_held c.args.on.now.durable (seen_cyclone c.args.cyclone.now) (seen_cyclone c.write_rest.new.self) c.write_rest.result c.write_rest.ensures.device s
+    c.write_rest.ensures.same c.write_rest.ensures.turns held
+
+pub returns-in-Err-clause-held : goal.returns-in-Err-clause-held
+returns-in-Err-clause-held g c = λ s held.
+    rest_held c.args.on.now.durable (seen_cyclone c.args.cyclone.now) (seen_cyclone c.write_rest.new.self) c.write_rest.result c.write_rest.ensures.device s
+    c.write_rest.ensures.same c.write_rest.ensures.turns held

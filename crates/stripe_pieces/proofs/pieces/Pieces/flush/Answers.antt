@@ -107,7 +107,7 @@ go_on-requires-clause-out g c = record {
   next = subst (λ x. c.next_cursor-next.result ≡ cursor_next (state_of (g.C.Chronicle.kept x))) (sym c.look_ahead.ensures.keeps.chronicle)
       (c.next_cursor-next.ensures ∙ next_is (state_now c.args.self.now) (seen_now c.args.self.now) c.requires.ready.pieces);
   below = omega (arith, c.if-end-ge-LIMIT.false);
-  written = λ told. c.in-Ok.ensures.ok;
+  written = c.in-Ok.ensures.ok;
 }
 
 pub go_on-requires-clause-told : goal.go_on-requires-clause-told

@@ -24,7 +24,7 @@ begin-requires-clause-out g c = record {
       ∙ sym (cursor_stays (kept_now c.args.self.now) (kept_now c.tell.new.self) (seen_now c.args.self.now) (seen_now c.tell.new.self) _ c.requires.ready.pieces
       c.tell.ensures.pieces.held c.tell.ensures.rest c.tell.ensures.adds);
   below = c.requires.out.below;
-  written = subst (λ (y : Seen). TellsAll y.device → HasBuffer y) (sym c.tell.ensures.rest.same) c.requires.out.written;
+  written = subst HasBuffer (sym c.tell.ensures.rest.same) c.requires.out.written;
 }
 
 pub copy-requires-clause-ready : goal.copy-requires-clause-ready
