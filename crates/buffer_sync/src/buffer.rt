@@ -62,7 +62,7 @@ pub fn write_buffer<D: Disk, R: Directory + Drop>(
 
 /// A whole sync: a copy of the directory that says this is written, and is the newest then. All that
 /// was written of the buffer is durable, also where the sync was broken off behind that.
-pub fn sync_buffer<D: Disk, R: PacksEntries + Drop>(
+pub(crate) fn sync_buffer<D: Disk, R: PacksEntries + Drop>(
     cyclone: &mut Cyclone<D, R>,
     on: &mut BufferOnDevice,
     copies: &mut Copies,

@@ -4,5 +4,5 @@
 mod buffer;
 mod laws;
 
-pub use buffer::{BufferOnDevice, Halt, sync_buffer, write_and_sync, write_buffer};
+pub use buffer::{BufferOnDevice, Halt, write_and_sync, write_buffer};
 pub use laws::covered_stands;
