@@ -16,6 +16,6 @@ returns-in-Ok-clause-begins g c = record {
   held = λ generation a of_geometry.
       let t = c.in-Ok.stripe in
       subst (λ k. HoldsSyncOn a (state_of k) (seen_in t).device) (sym c.in-Ok.ensures.formatted.records)
-      (formats_hold a c.args.geometry _ (seen_in t).device of_geometry generation (g.D.Disk.was_image t.pieces.cyclone.disk)
-      (g.D.Disk.is_log t.pieces.cyclone.disk) c.in-Ok.ensures.formatted.device);
+      (formats_hold a c.args.geometry _ (seen_in t).device of_geometry generation (g.met.D.Disk.was_image t.pieces.cyclone.disk)
+      (g.met.D.Disk.is_log t.pieces.cyclone.disk) c.in-Ok.ensures.formatted.device);
 }
