@@ -182,6 +182,21 @@ module _ {S W R : Type 0} {c : CallsGhosts S W R} where
     names = names_within before.names after.names name names;
   }
 
+  -- ---- a line for whose actor memory was wanting, which leaves all as it was
+
+  pub unnamed_line : (now : ℕ) (step : Step) (part : Part S W R c) (before after : TableSeen (ActorHolding W R)) (result : Result StepAnswer Stop)
+      → IsErrAnd result (λ why. why ≡ Memory) → IsActive part (slots_of c before) → after ≡ before → AnswersActor now step part part before after result
+  unnamed_line now step part before after (Ok said) is active same = absurd is
+  unnamed_line now step part before after (Err why) is active same = record {
+    active = subst (λ (t : TableSeen (ActorHolding W R)). IsActive part (slots_of c t)) (sym same) active;
+    goes = goes_still part.cache active.part_is.holds;
+    ends = tt;
+    unharmed = λ run plays. (λ (u : Rattle.cache_calls.specs.Keeping.IsUnharmed (at_in part)). u);
+    counts = tt;
+    stop = is;
+    names = subst (λ (t : TableSeen (ActorHolding W R)). length t.names ≤ length before.names + 1) (sym same) (omega arith);
+  }
+
   -- ---- a line of an actor that does nothing
 
   module _ (part : Part S W R c) (before after : TableSeen (ActorHolding W R)) (step : Step) (name : List ℕ) (actor : actor_of step ≡ Some name)

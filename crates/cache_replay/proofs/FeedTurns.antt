@@ -35,6 +35,13 @@ abbrev pub Onward : (now : ℕ) (old mid : At) (w v : WriterSeen) (bytes : List 
 Onward now old mid w v bytes taken =
     (new : At) (end : WriterSeen) (more : ℕ) (why : Option Refusal) → Ends now mid new v end (drop taken bytes) more why → Ends now old new w end bytes (taken + more) why
 
+-- before the first write
+pub onward_from_none : (now : ℕ) (old : At) (w : WriterSeen) (bytes : List ℕ) → Onward now old old w w bytes 0
+onward_from_none now old w bytes = λ new end more why ends. subst (λ m. Ends now old new w end bytes m why) (none more) ends
+  where
+    none : (a : ℕ) → a ≡ 0 + a
+    none a = omega arith
+
 -- a write that left bytes over
 one_more : (now : ℕ) (old mid next : At) (w v u : WriterSeen) (bytes : List ℕ) (taken n : ℕ) → n < length (drop taken bytes) → Wrote now mid next v u (drop taken bytes) n
     → Onward now old mid w v bytes taken → Onward now old next w u bytes (taken + n)

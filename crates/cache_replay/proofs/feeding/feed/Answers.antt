@@ -1,12 +1,12 @@
-use Rattle.std.proofs.Common.{◌+◌}
+use Rattle.std.proofs.Common.{◌+◌, arith}
 use Rattle.std.specs.Prelude.{Some, None}
 use Rattle.logged_disk.proofs.GoingOn.{told_before}
 use Rattle.step_laws.proofs.ToldGroups.{told_group}
 use Rattle.call_laws.proofs.Kept.{told_serves}
-use Rattle.cache_calls.proofs.Keeping.{keeps_then}
+use Rattle.cache_calls.proofs.Keeping.{keeps_still, keeps_then}
 use Rattle.cache_replay.proofs.FeedEnds.{Ends}
 use Rattle.line_calls.proofs.FeedRounds.{Wrote}
-use Rattle.cache_replay.proofs.FeedTurns.{all_ends, all_stand, bounds, fed_at, goes_on, part, refused_stands, refuses, smaller}
+use Rattle.cache_replay.proofs.FeedTurns.{all_ends, all_stand, bounds, fed_at, goes_on, onward_from_none, part, refused_stands, refuses, smaller}
 use Rattle.line_calls.proofs.KeptPuts.{leave_puts}
 use Rattle.cache_replay.proofs.feeding.feed.Given.{Over}
 use Rattle.cache_replay.proofs.feeding.feed.Goals.{In-Ok}
@@ -85,3 +85,13 @@ pub feed-preserved : goal.feed-preserved
 feed-preserved g c =
     goes_on _ _ g.S.Calls.stands _ _ _ _ _ _ _ _ _ c.feed.invariant c.in-Ok.count (wrote g (goal.at.feed-preserved g c).In-Ok) c.if-taken-bytes.false c.write.ensures.keeps
     (g.met.S.Calls.at_rest c.write.new.self c.write.ensures.keeps.goes_on.holds_then) c.in-Ok.ensures.stands
+
+pub feed-init : goal.feed-init
+feed-init g c = record {
+  keeps = keeps_still c.args.cache.now c.requires.holds;
+  writer = c.requires.writer.writer;
+  writing = c.requires.writer.writing;
+  within = omega arith;
+  onward = onward_from_none c.args.now (g.S.Calls.at c.args.cache.now) (g.S.Calls.written c.args.writer.now) c.args.bytes.now;
+  told = λ contents t later told. ((λ stood. stood), told);
+}

@@ -3,7 +3,7 @@ use Rattle.std.specs.Prelude.{None, Some}
 use Rattle.script_grammar.specs.declared.step.Step.TheVariants as step
 use Rattle.cache_replay.specs.Session.{ReaderHeld, slots_of}
 use Rattle.cache_replay.specs.ReaderLines.{reader_held}
-use Rattle.cache_replay.proofs.ActorLines.{changed_again, changed_to_same, seen_same, seen_set, wanting_line}
+use Rattle.cache_replay.proofs.ActorLines.{changed_again, changed_to_same, seen_same, seen_set, unnamed_line, wanting_line}
 use Rattle.cache_replay.proofs.DoneLine.{done_idle, done_line}
 use Rattle.cache_replay.proofs.ReaderLines.{not_taken, took}
 use Rattle.cache_replay.proofs.reader_lines.done.Goals as goal
@@ -47,3 +47,9 @@ returns-in-Err g c =
           (taken.had ∙ ap (λ x. Some (ReaderHeld (g.S.Calls.reading x))) (sym (c.in-Err.reader-is ∙ c.in-Err.ensures.gives.1))))
           (c.set.ensures.names ∙ (c.in-Some.ensures.names ∙ c.in_ok-number.ensures.names));
     }
+
+pub returns-in_err-number : goal.returns-in_err-number
+returns-in_err-number g c = record {
+  line = unnamed_line c.args.now (step.Done c.args.actor.now) c.args.part.now c.args.actors.now c.number.new.self c.from_residual.result c.from_residual.ensures.1 c.requires.active
+      c.in_err-number.ensures.err;
+}

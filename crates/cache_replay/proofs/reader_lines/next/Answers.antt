@@ -1,7 +1,8 @@
 use Rattle.std.proofs.Common.{◌∙◌, ap}
+use Rattle.script_grammar.specs.declared.step.Step.TheVariants as step
 use Rattle.cache_replay.specs.Session.{slots_of}
 use Rattle.cache_replay.specs.ReaderLines.{reader_held}
-use Rattle.cache_replay.proofs.ActorLines.{refilled, seen_same, seen_set}
+use Rattle.cache_replay.proofs.ActorLines.{refilled, seen_same, seen_set, unnamed_line}
 use Rattle.cache_replay.proofs.ActorReads.{next_idle, next_line}
 use Rattle.cache_replay.proofs.ReaderLines.{not_taken, took}
 use Rattle.cache_replay.proofs.reader_lines.next.Goals as goal
@@ -30,3 +31,9 @@ returns-in-None g c =
           same c.in-None.ensures.slots c.in-None.ensures.reader)
           (c.in-None.ensures.reader ∙ ap reader_held (same c.in_ok-number.number)) c.requires.active;
     }
+
+pub returns-in_err-number : goal.returns-in_err-number
+returns-in_err-number g c = record {
+  line = unnamed_line c.args.now (step.Next c.args.actor.now) c.args.part.now c.args.actors.now c.number.new.self c.from_residual.result c.from_residual.ensures.1 c.requires.active
+      c.in_err-number.ensures.err;
+}

@@ -3,7 +3,7 @@ use Rattle.std.specs.Prelude.{is_some}
 use Rattle.script_grammar.specs.declared.step.Step.TheVariants as step
 use Rattle.cache_replay.specs.Session.{slots_of}
 use Rattle.cache_replay.specs.ReaderLines.{as_held}
-use Rattle.cache_replay.proofs.ActorLines.{changed_from, seen_same, wanting_line}
+use Rattle.cache_replay.proofs.ActorLines.{changed_from, seen_same, unnamed_line, wanting_line}
 use Rattle.cache_replay.proofs.OpenLine.{none_there, open_busy, open_line, seen_opened}
 use Rattle.cache_replay.proofs.reader_lines.open_reader.Goals as goal
 
@@ -37,3 +37,9 @@ returns g c =
           c.requires.active c.in_ok-opened.ensures.keeps (g.met.S.Calls.at_rest _ c.in_ok-opened.ensures.keeps.goes_on.holds_then) c.in_ok-opened.ensures.stands refl
           c.in_ok-opened.ensures.gives c.in_ok-opened.ensures.own c.in_ok-opened.ensures.serves c.args.now c.give_reader.result c.give_reader.ensures.answer;
     }
+
+pub returns-in_err-number : goal.returns-in_err-number
+returns-in_err-number g c = record {
+  line = unnamed_line c.args.now (step.OpenRead c.args.actor.now c.args.key c.args.request) c.args.part.now c.args.actors.now c.number.new.self c.from_residual.result c.from_residual.ensures.1 c.requires.active
+      c.in_err-number.ensures.err;
+}

@@ -1,5 +1,7 @@
 use Rattle.std.proofs.Common.{◌∙◌, refl}
 use Rattle.cache_replay.specs.WriterLines.{GivesUpLine}
+use Rattle.script_grammar.specs.declared.step.Step.TheVariants as step
+use Rattle.cache_replay.proofs.ActorLines.{unnamed_line}
 use Rattle.cache_replay.proofs.ActorWriters.{writer_answers, writer_idles}
 use Rattle.cache_replay.proofs.writer_lines.abort_in.Goals as goal
 
@@ -19,4 +21,9 @@ returns-in-None g c = record {
   line = writer_idles c.args.now GivesUpLine tt c.args.part.now c.args.actors.now c.number.new.self c.take_writer.new.actors c.args.actor.now c.in-Ok.number c.idle.result
       c.idle.ensures
       c.in-Ok.ensures.number c.number.ensures.slots (c.in-None.ensures.names ∙ c.in-Ok.ensures.names) c.requires.active c.in-None.ensures.takes;
+}
+
+pub returns-in-Err : goal.returns-in-Err
+returns-in-Err g c = record {
+  line = unnamed_line c.args.now (step.Abort c.args.actor.now) c.args.part.now c.args.actors.now c.number.new.self _ refl c.requires.active c.in-Err.ensures.err;
 }

@@ -1,4 +1,6 @@
 use Rattle.std.proofs.Common.{◌∙◌, refl, sym}
+use Rattle.script_grammar.specs.declared.step.Step.TheVariants as step
+use Rattle.cache_replay.proofs.ActorLines.{unnamed_line}
 use Rattle.cache_replay.proofs.ActorWriters.{open_answers, open_busy}
 use Rattle.cache_replay.proofs.writer_lines.open_write_in.Goals as goal
 
@@ -17,4 +19,9 @@ returns-in-None g c = record {
       (record { rest = g.met.S.Calls.at_rest; vectors = g.met.S.Calls.vectors_listed; recorded = g.met.S.Calls.recorded })
       c.begin-outcome.ensures.leaves c.begin-outcome.ensures.stands
       c.begin-outcome.ensures.does c.set_back.ensures.said c.set_back.ensures.stop;
+}
+
+pub returns-in-Err : goal.returns-in-Err
+returns-in-Err g c = record {
+  line = unnamed_line c.args.now (step.OpenWrite c.args.actor.now c.args.key c.args.pin c.args.request c.args.response) c.args.part.now c.args.actors.now c.number.new.self _ refl c.requires.active c.in-Err.ensures.err;
 }
